@@ -15,7 +15,8 @@ pub mod records;
 pub mod stop;
 
 pub use crate::records::{
-    Base, BaseList, ClassId, ClassRec, Destructor, FieldType, Function, FunctionList, Member, MemberList,
-    Name, Param, ParamList, PartAt, PartKind, PartOrder, RecordList, ReturnType, Scalar, ValueType,
+    Base, BaseList, ClassId, ClassRec, Destructor, FieldType, Function, FunctionList, Member,
+    MemberList, Name, Param, ParamList, PartAt, PartKind, PartOrder, RecordList, ReturnType,
+    Scalar, ValueType,
 };
 pub use crate::stop::{LimitNo, Rule, Stop};
