@@ -15,9 +15,11 @@ pub mod sink;
 pub mod sinks;
 pub mod source;
 pub mod sources;
+pub mod status;
 pub mod writing;
 
 pub use crate::sink::{Sink, SinkFailed};
 pub use crate::sinks::{BytesSink, StdoutSink, SteadySink};
 pub use crate::source::{Source, SourceFailed};
 pub use crate::sources::{BytesSource, StdinSource, SteadySource};
+pub use crate::status::Status;
