@@ -11,6 +11,7 @@
 #![tactic(auto)]
 
 pub mod reading;
+pub mod run;
 pub mod sink;
 pub mod sinks;
 pub mod source;

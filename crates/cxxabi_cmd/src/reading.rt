@@ -4,6 +4,7 @@ ghost use Rattle.std.specs.Prelude.{ℕ, ◌≡◌, ◌<◌, ◌≤◌, Some, le
 ghost use Rattle.cxxabi_cmd.specs.Streams.{Rose};
 
 use crate::source::Source;
+use foundation::NoMemory;
 use std::alloc::{AllocError, Global};
 
 /// The bytes that a source may have.
@@ -22,6 +23,16 @@ impl From<AllocError> for ReadStop {
     ghost from_gives = { λ _ stop. stop ≡ ReadStop.NoMemory };
 
     fn from(_error: AllocError) -> ReadStop {
+        ReadStop::NoMemory
+    }
+}
+
+impl From<NoMemory> for ReadStop {
+    ghost use Rattle.cxxabi_cmd.specs.declared.reading.ReadStop.{ReadStop};
+
+    ghost from_gives = { λ _ stop. stop ≡ ReadStop.NoMemory };
+
+    fn from(_error: NoMemory) -> ReadStop {
         ReadStop::NoMemory
     }
 }

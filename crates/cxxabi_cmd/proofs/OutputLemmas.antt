@@ -1,0 +1,46 @@
+-- How an output is put together.
+use Rattle.std.proofs.Common.{◌≡◌, ℕ, zero, suc, ◌+◌, ◌<◌, ◌≤◌, ◌⊎◌, inl, inr, ⊎_elim, Option, Some, None, Result, Ok, Err, List, [], ◌∷◌, ◌++◌, take, length, refl, sym, ◌∙◌, ap, subst, arith}
+use Rattle.std.specs.Prelude.{IfSome, IfOk}
+use Rattle.std.proofs.lemmas.List.{length-take}
+use Rattle.foundation.specs.declared.memory.NoMemory.{NoMemory as Want}
+use Rattle.cxx_hierarchy.specs.declared.stop.LimitNo.TheVariants.{L1}
+use Rattle.cxxabi_cmd.specs.declared.run.Reply.{Reply}
+use Rattle.cxxabi_cmd.specs.declared.status.Status.{Status}
+use Rattle.cxxabi_cmd.specs.declared.status.Status.TheVariants.{Usage, Limit, WriteFault}
+use Rattle.cxxabi_cmd.specs.Streams.{IsPartOf}
+use Rattle.cxxabi_cmd.specs.Output.{IsCommand, Output, usage, too_long, Answer, line_alone, Answers, BreaksOff, IsAnswered}
+use Rattle.cxxabi_cmd.specs.Replies.{answer_of}
+
+-- a front that is shorter than was asked for is the whole
+whole_read : (n : ℕ) (bytes all : List ℕ) → bytes ≡ take n all → length bytes < n → bytes ≡ all
+whole_read zero bytes all same short = absurd (omega arith)
+whole_read (suc n) bytes [] same short = same
+whole_read (suc n) [] (b ∷ all) same short = absurd (cc)
+whole_read (suc n) (a ∷ bytes) (b ∷ all) same short =
+    let head : a ≡ b = cc in
+    let tail : bytes ≡ take n all = cc in
+    rw (head, whole_read n bytes all tail (omega arith)) refl
+
+-- more than the limit was read
+pub limit_output : (r : Result Reply Want) (bytes : List ℕ) → IfOk r (λ reply. answer_of reply ≡ line_alone (Limit L1)) → 262144 < length bytes →
+    IfOk r (λ reply. (words : List (List ℕ)) (all : List ℕ) → IsCommand words → bytes ≡ take 262145 all → Output words all (answer_of reply))
+limit_output (Ok reply) bytes alone long =
+    λ words all command same. subst (λ a. Output words all a) (sym alone) (too_long command (let size : length bytes ≡ length (take 262145 all) = ap length same in omega (arith, size, length-take 262145 all)))
+limit_output (Err e) bytes alone long = alone
+
+-- all was read
+pub read_output : (r : Result Reply Want) (bytes : List ℕ) → IfOk r (λ reply. (words : List (List ℕ)) → IsCommand words → Output words bytes (answer_of reply)) → length bytes ≤ 262144 →
+    IfOk r (λ reply. (words : List (List ℕ)) (all : List ℕ) → IsCommand words → bytes ≡ take 262145 all → Output words all (answer_of reply))
+read_output (Ok reply) bytes output short =
+    λ words all command same. subst (λ b. Output words b (answer_of reply)) (whole_read 262145 bytes all same (omega arith)) (output words command)
+read_output (Err e) bytes output short = output
+
+-- the words are no command
+pub usage_output : (words : List (List ℕ)) (bytes : List ℕ) (reply : Reply) → answer_of reply ≡ line_alone Usage → (IsCommand words → ⊥) → Output words bytes (answer_of reply)
+usage_output words bytes reply alone none = subst (λ a. Output words bytes a) (sym alone) (usage none)
+
+-- the answer was written
+pub answers : (words : List (List ℕ)) (bytes : List ℕ) (before after : Option (List ℕ)) (status : Status) (answer : Answer) → Output words bytes answer →
+    (status ≡ answer.status) ⊎ (status ≡ WriteFault) → (status ≡ answer.status → IfSome before (λ taken. after ≡ Some (taken ++ answer.text))) → IsAnswered status → Answers words bytes before after status
+answers words bytes before after status answer output either whole answered =
+    ⊎_elim (λ same. record { answer = answer; output = output; same = same; text = whole same }) (λ fault. absurd (subst IsAnswered fault answered)) either
