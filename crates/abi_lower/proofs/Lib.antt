@@ -1,1 +1,4 @@
 pub mod Paths
+pub mod Ranges
+pub mod Joins
+pub mod Same
