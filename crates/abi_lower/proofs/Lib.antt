@@ -2,3 +2,9 @@ pub mod Paths
 pub mod Ranges
 pub mod Joins
 pub mod Same
+pub mod Variables
+pub mod Places
+pub mod PrintStep
+pub mod ReadStep
+pub mod LeafWrite
+pub mod WriteStep
