@@ -8,3 +8,5 @@ pub mod PrintStep
 pub mod ReadStep
 pub mod LeafWrite
 pub mod WriteStep
+pub mod NewStep
+pub mod StatementStep
