@@ -126,7 +126,7 @@ block_leads x program code s b types sound same typed st within =
 pub turn_agrees : (x : Setup) (program : SimpleProgram) (code : Code) (s : State) (b b' : Bytes) (told : List RawOut) (turn : MachineTurn) → x.types ≡ program.variables → IsSound x.h x.places → code ≡ code_for x program.lines → IsTypedProgram x.h program → StandsFor x s b → s.next ≤ length program.lines → Turns code b [] b' told turn → Agreed x (step x.h x.places.size program s) b b' told turn
 turn_agrees x program code s b b' told turn types sound same typed st within turns =
     let lead = block_leads x program code s b types sound same typed st within in
-    let here : slice_get code.blocks b.block ≡ Some lead.block = rw st.block lead.there in
+    let here : slice_get code.blocks b.block ≡ Some lead.block = ap (slice_get code.blocks) st.block ∙ lead.there in
     let open' : TurnsBy None (nat_eq b.left 0) (slice_get code.blocks b.block) b [] b' told turn = subst (λ a. TurnsBy a (nat_eq b.left 0) (slice_get code.blocks b.block) b [] b' told turn) st.going turns in
     let with_block : TurnsBy None (nat_eq b.left 0) (Some lead.block) b [] b' told turn = subst (λ o. TurnsBy None (nat_eq b.left 0) o b [] b' told turn) here open' in
     by_left lead.block (nat_eq b.left 0) refl lead.leads with_block
@@ -151,8 +151,10 @@ turn_agrees x program code s b b' told turn types sound same typed st within tur
 pub has_turn : (x : Setup) (program : SimpleProgram) (code : Code) (s : State) (b : Bytes) → x.types ≡ program.variables → IsSound x.h x.places → code ≡ code_for x program.lines → IsTypedProgram x.h program → StandsFor x s b → s.next ≤ length program.lines → HasTurn code b []
 has_turn x program code s b types sound same typed st within =
     let lead = block_leads x program code s b types sound same typed st within in
-    let here : slice_get code.blocks b.block ≡ Some lead.block = rw st.block lead.there in
-    rw (st.going, here) (by_left lead.block (nat_eq b.left 0) lead.leads)
+    let here : slice_get code.blocks b.block ≡ Some lead.block = ap (slice_get code.blocks) st.block ∙ lead.there in
+    let known : HasTurnBy None (nat_eq b.left 0) (Some lead.block) b [] = by_left lead.block (nat_eq b.left 0) lead.leads in
+    let there : HasTurnBy None (nat_eq b.left 0) (slice_get code.blocks b.block) b [] = subst (λ o. HasTurnBy None (nat_eq b.left 0) o b []) (sym here) known in
+    subst (λ a. HasTurnBy a (nat_eq b.left 0) (slice_get code.blocks b.block) b []) (sym st.going) there
   where
     by_left : (block : Block) (z : Bool) → Leads block.ops (at_block b [] block.line) (Agrees x (step x.h x.places.size program s)) → HasTurnBy None z (Some block) b []
     by_left block true lead = tt
