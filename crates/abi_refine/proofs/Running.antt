@@ -9,7 +9,7 @@ use Rattle.std.proofs.lemmas.Bool.Decides.{nat_tests}
 use Rattle.cxx_resolve.specs.declared.program.SimpleProgram.{SimpleProgram}
 use Rattle.path_model.specs.Values.{State, Value, Unset, value_in}
 use Rattle.path_model.specs.Steps.{Out, NumberOut, Move, Goes, Refuses, Limits, Ends, step}
-use Rattle.path_model.specs.Runs.{Ran, run_from, ran_by, state_at, next_state, start}
+use Rattle.path_model.specs.Runs.{Ran, run_of, run_from, ran_by, state_at, next_state, start}
 use Rattle.byte_memory.specs.Store.{empty}
 use Rattle.byte_code.specs.declared.code.Code.{Code}
 use Rattle.byte_code.specs.declared.code.Block.{Block}
@@ -31,6 +31,12 @@ pub record Going (x : Setup) (program : SimpleProgram) (all : Ran) (b : Bytes) (
   pub total : b.taken + b.left ≤ 4000000
   pub told : text ++ text_of (run_from x.h x.places.size program b.left (state_at x.h x.places.size program b.taken)).outs ≡ text_of all.outs
   pub ending : (run_from x.h x.places.size program b.left (state_at x.h x.places.size program b.taken)).ending ≡ all.ending
+
+-- before the first turn
+pub Going-start : (x : Setup) (program : SimpleProgram) (b : Bytes) → StandsFor x (start program) b → b.taken ≡ 0 → b.left ≤ 4000000 → Going x program (run_of x.h x.places.size program b.left) b []
+Going-start x program b st first budget =
+    let here : state_at x.h x.places.size program b.taken ≡ start program = ap (state_at x.h x.places.size program) first in
+    record { stands = rw here st; total = omega arith; told = rw here refl; ending = rw here refl }
 
 raw_line-raw : (out : Out) → raw_line (raw_of out) ≡ line_of out
 raw_line-raw (NumberOut z) = refl
