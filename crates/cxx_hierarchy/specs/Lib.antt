@@ -1,2 +1,6 @@
 pub mod Scalars
 pub mod Classes
+pub mod NameTables
+pub mod ClassPass
+pub mod Resolved
+pub mod Hierarchies

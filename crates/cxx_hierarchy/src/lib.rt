@@ -11,8 +11,11 @@
 //! gives the class of a name, and None exactly where no class has it.
 #![tactic(auto)]
 
+mod class_pass;
 pub mod hierarchy;
+mod names;
 pub mod records;
+mod resolution;
 pub mod stop;
 
 pub use crate::hierarchy::Hierarchy;
