@@ -1,5 +1,5 @@
 -- Lists of faults, and where a check of them stops.
-use Rattle.std.proofs.Common.{◌≡◌, ℕ, ◌+◌, ◌<◌, ◌≤◌, Bool, true, false, List, [], ◌∷◌, ◌++◌, length, get_or, take, drop, refl, sym, ◌∙◌, ap, subst, inl, inr, arith, add-one, drop-cons}
+use Rattle.std.proofs.Common.{◌≡◌, ℕ, zero, suc, ◌+◌, ◌<◌, ◌≤◌, Bool, true, false, List, [], ◌∷◌, ◌++◌, length, get_or, take, drop, refl, sym, ◌∙◌, ap, subst, inl, inr, arith, add-one, drop-cons, append_assoc, append-nil}
 use Rattle.std.proofs.Math.Seq.{take-suc}
 use Rattle.std.proofs.Math.ListN.{drop_of_length-le}
 use Rattle.std.specs.Prelude.{◌⊎◌, Some, None, Result, Ok, Err, slice_get, MatchResult}
@@ -58,3 +58,15 @@ stops_at_item faults xs i x stop before h e at =
 
 pub none_at_end : {X : Type 0} (faults : List X → X → List Stop) (xs : List X) (i : ℕ) → NoneBefore faults xs i → length xs ≤ i → in_turn faults [] xs ≡ []
 none_at_end faults xs i before h = before.left ∙ rw (drop_of_length-le xs h) refl
+
+none_after : {X : Type 0} (faults : List X → X → List Stop) (before xs : List X) (i : ℕ) (x : X) → in_turn faults before xs ≡ [] → slice_get xs i ≡ Some x → faults (before ++ take i xs) x ≡ []
+none_after faults before [] i x = λ none h. absurd (cc)
+none_after {X} faults before (y ∷ ys) zero x = λ none h.
+    let e : y ≡ x = cc in
+    subst (λ (zs : List X). faults zs x ≡ []) (sym (append-nil before)) (subst (λ (z : X). faults before z ≡ []) e (none_left _ _ none))
+none_after {X} faults before (y ∷ ys) (suc i) x = λ none h.
+    subst (λ (zs : List X). faults zs x ≡ []) (append_assoc before (y ∷ []) (take i ys)) (none_after faults (before ++ y ∷ []) ys i x (none_right (faults before y) _ none) h)
+
+-- where a list has no fault, no item of it has one
+pub none_at : {X : Type 0} (faults : List X → X → List Stop) (xs : List X) (i : ℕ) (x : X) → in_turn faults [] xs ≡ [] → slice_get xs i ≡ Some x → faults (take i xs) x ≡ []
+none_at faults xs i x = none_after faults [] xs i x

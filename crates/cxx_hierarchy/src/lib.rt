@@ -18,7 +18,7 @@ pub mod records;
 mod resolution;
 pub mod stop;
 
-pub use crate::hierarchy::Hierarchy;
+pub use crate::hierarchy::{Hierarchy, build};
 pub use crate::records::{
     Base, BaseList, ClassId, ClassRec, Destructor, FieldType, Function, FunctionList, Member,
     MemberList, Name, Param, ParamList, PartAt, PartKind, PartOrder, RecordList, ReturnType,
