@@ -9,5 +9,9 @@
 #![tactic(auto)]
 
 pub mod class_layout;
+pub mod component;
+pub mod hierarchy_layout;
+mod rows;
 
 pub use crate::class_layout::{AbiLayout, ClassLayout, PlaceList, Primary};
+pub use crate::hierarchy_layout::lay_out;

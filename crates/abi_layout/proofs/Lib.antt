@@ -1,0 +1,6 @@
+pub mod Placing
+pub mod RowLemmas
+pub mod Complete
+pub mod BaseLemmas
+pub mod PathLemmas
+pub mod SoundLemmas
