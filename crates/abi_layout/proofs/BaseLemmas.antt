@@ -1,6 +1,6 @@
 -- Where the bases and members of one class lie, by its row.
-use Rattle.std.proofs.Common.{◌≡◌, ◌≢◌, ℕ, zero, suc, ◌+◌, ◌*◌, ◌<◌, ◌≤◌, ◌⊎◌, inl, inr, ⊎_elim, Bool, true, false, cond, Option, Some, None, List, [], ◌∷◌, map, length, refl, ap, subst, sym, ◌∙◌, arith, add-mul, mul_assoc}
-use Rattle.std.specs.Prelude.{nat_eq, not, max, filter, position, is_some, IsSome}
+use Rattle.std.proofs.Common.{◌≡◌, ◌≢◌, ℕ, zero, suc, ◌+◌, ◌*◌, ◌<◌, ◌≤◌, ◌⊎◌, inl, inr, ⊎_elim, Bool, true, false, Option, Some, None, List, [], ◌∷◌, length, refl, ap, subst, sym, ◌∙◌, arith, add-mul, mul_assoc}
+use Rattle.std.specs.Prelude.{nat_eq, not, filter, position, IsSome}
 use Rattle.std.specs.List.{slice_get, Contains, position_or_len}
 use Rattle.std.specs.Option.{option_map}
 use Rattle.std.proofs.lemmas.Bool.{cases_order, eq-eqb, eqb-true, lt-ltb}
@@ -11,15 +11,14 @@ use Rattle.cxx_hierarchy.specs.declared.records.Member.{Member}
 use Rattle.cxx_hierarchy.specs.declared.records.ValueType.{ValueType}
 use Rattle.cxx_hierarchy.specs.Classes.{Class, Classes, class_at, bases_of, members_of, bases_in as class_bases_in, members_in as class_members_in, leaf_type, leaf_type_in}
 use Rattle.cxx_subobject.specs.Subobjects.{IsDirectBase, HasVirtualBase, direct, further}
-use Rattle.abi_layout.specs.declared.component.Component.{Component}
 use Rattle.abi_layout.specs.declared.class_layout.ClassLayout.{ClassLayout}
-use Rattle.abi_layout.specs.Places.{size_of_value, number_in, bases_in, members_in, size_in, is_plain_base, place_at, base_place, places_of}
+use Rattle.abi_layout.specs.Places.{size_of_value, number_in, bases_in, members_in, is_plain_base, place_at, base_place, places_of}
 use Rattle.abi_layout.specs.Sound.{Divides}
-use Rattle.abi_layout.specs.Plain.{IsPlain, IsPlainBase, IsPlainMember}
-use Rattle.abi_layout.specs.Laid.{IsNext, ArePlaced, number_at, component, component_in, value_component, base_component, member_component, base_components, member_components, greatest_align, bases_end, data_end, IsLayoutOf, is_pod, IsRow, IsLaid}
+use Rattle.abi_layout.specs.Plain.{IsPlain, IsPlainBase}
+use Rattle.abi_layout.specs.Laid.{number_at, component, component_in, value_component, base_component, member_component, base_components, member_components, bases_end, is_pod, IsRow, IsLaid}
 use Rattle.abi_layout.specs.Alignments.{IsAlignment, byte, two_bytes, four_bytes, eight_bytes, AreWithin}
 use Rattle.abi_layout.proofs.Placing.{end_above, placed_above, placed_within, placed_before}
-use Rattle.abi_layout.proofs.RowLemmas.{number, get_within, has_here, has_later, has_at, data_below, greatest_above, row_known, value_known, align_known, bases_known, members_known}
+use Rattle.abi_layout.proofs.RowLemmas.{number, get_within, has_here, has_later, has_at, data_below, greatest_above, row_known, value_known}
 
 pub split : (b : Bool) (P : Bool → Type 0) → (b ≡ true → P true) → (b ≡ false → P false) → P b
 split b P t f = go b refl
@@ -48,6 +47,7 @@ first_that {X} p (y ∷ xs) x has e = split (p y) (λ b. p y ≡ b → HasFirst 
     others : p y ≡ false → Contains (y ∷ xs) x → Contains xs x
     others f (zero, lt, same) = absurd (let g : p y ≡ true = ap p same ∙ e in let h : true ≡ false = sym g ∙ f in cc)
     others f (suc k, lt, same) = (k, omega arith, same)
+
     later : p y ≡ false → HasFirst p xs → HasFirst p (y ∷ xs)
     later f r = record { index = suc r.index; item = r.item; there = r.there; passes = r.passes; is = let i = r.is in rw f (omega arith) }
 
@@ -121,6 +121,7 @@ pub record IsBasePart (h : Classes) (rows : List ClassLayout) (c b : ClassId) (c
   pub there : slice_get class.bases index ≡ Some base
   pub is : base.class ≡ b
   pub part : slice_get (base_components rows class) index ≡ Some (component_in (slice_get rows b.0))
+  pub position : position (λ (x : Base ClassId). nat_eq x.class.0 b.0) (filter is_plain_base (bases_of h c)) ≡ Some index
   pub place : base_place h rows c b ≡ number_at row.base_places index
 
 pub base_part : (h : Classes) (rows : List ClassLayout) (c b : ClassId) (k : HasRow h rows c) → IsPlain h → IsDirectBase h c false b → IsBasePart h rows c b k.class k.row
@@ -139,6 +140,7 @@ base_part h rows c b k plain d =
       there = first.there;
       is = is;
       part = mapped ∙ (ap (option_map (base_component rows)) first.there ∙ ap (λ (x : ClassId). Some (component_in (slice_get rows x.0))) is);
+      position = at;
       place = ap (place_at (bases_in (slice_get rows c.0))) at ∙ ap (λ (o : Option ClassLayout). number_at (bases_in o) first.index) k.row_there;
     }
 
@@ -217,12 +219,12 @@ bases_apart h rows c b b' laid plain lt d d' differ =
     let x = p.place in
     let y = q.place in
     ⊎_elim
-      (λ e. absurd (differ (same k.class.bases p.index q.index p.base q.base e p.there q.there p.is q.is)))
-      (λ o. ⊎_elim
-        (λ l. inl (let r = placed_before 0 bases k.row.base_places p.index q.index (component_in (slice_get rows b.0)) (component_in (slice_get rows b'.0)) k.laid.bases_placed l p.part q.part in omega arith))
-        (λ g. inr (let r = placed_before 0 bases k.row.base_places q.index p.index (component_in (slice_get rows b'.0)) (component_in (slice_get rows b.0)) k.laid.bases_placed g q.part p.part in omega arith))
-        o)
-      (cases_order p.index q.index)
+    (λ e. absurd (differ (same k.class.bases p.index q.index p.base q.base e p.there q.there p.is q.is)))
+    (λ o. ⊎_elim
+    (λ l. inl (let r = placed_before 0 bases k.row.base_places p.index q.index (component_in (slice_get rows b.0)) (component_in (slice_get rows b'.0)) k.laid.bases_placed l p.part q.part in omega arith))
+    (λ g. inr (let r = placed_before 0 bases k.row.base_places q.index p.index (component_in (slice_get rows b'.0)) (component_in (slice_get rows b.0)) k.laid.bases_placed g q.part p.part in omega arith))
+    o)
+    (cases_order p.index q.index)
   where
     same : (bases : List (Base ClassId)) (i j : ℕ) (x y : Base ClassId) → i ≡ j → slice_get bases i ≡ Some x → slice_get bases j ≡ Some y → x.class ≡ b → y.class ≡ b' → b.0 ≡ b'.0
     same bases i j x y e f g u v =
@@ -320,6 +322,7 @@ takes_some h rows laid plain (suc n) c below lt some =
         let fits = base_fits h rows c base.class laid plain lt (record { base = base; listed = listed; class = refl; way = p.way }) in
         let inner = lower base.class (omega arith) (omega arith) p.some in
         omega arith
+
     member_some : (k : HasRow h rows c) (m : ℕ) (member : Member ClassId) → slice_get k.class.members m ≡ Some member → 1 ≤ takes_as_base rows c
     member_some k m member e = by_type (leaf_type_in (Some member)) refl ((plain.each c k.class k.there).members member (has_at k.class.members m member e)).value
       where
@@ -330,6 +333,7 @@ takes_some h rows laid plain (suc n) c below lt some =
             let fits = member_fits h rows c m type laid lt leaf in
             let positive = alignment_positive (size_of_value type) (value_known (Some type)).align in
             omega arith
+
     by_bases : ((b : ClassId) → b.0 < n → b.0 < length h → 1 ≤ length (bases_of h b) + length (members_of h b) → 1 ≤ takes_as_base rows b) → (k : HasRow h rows c) (bases : List (Base ClassId)) (members : List (Member ClassId)) → bases_of h c ≡ k.class.bases → members_of h c ≡ k.class.members → k.class.bases ≡ bases → k.class.members ≡ members → 1 ≤ takes_as_base rows c
     by_bases lower k (base ∷ bases) members x y e f = base_some lower k base (subst (λ (xs : List (Base ClassId)). Contains xs base) (sym e) (has_here base bases))
     by_bases lower k [] (member ∷ members) x y e f = member_some k zero member (ap (λ (xs : List (Member ClassId)). slice_get xs zero) f)

@@ -1,7 +1,7 @@
 -- There is a layout by the rules, whatever the sizes.
-use Rattle.std.proofs.Common.{◌≡◌, ℕ, zero, suc, ◌+◌, ◌-◌, ◌*◌, ◌/◌, ◌<◌, ◌≤◌, ◌⊎◌, inl, inr, ⊎_elim, Bool, true, false, Option, Some, None, List, [], ◌∷◌, ◌++◌, map, length, refl, ap, subst, sym, ◌∙◌, arith}
-use Rattle.std.specs.Prelude.{if◌then◌else◌, max, nat_eq}
-use Rattle.std.specs.List.{slice_get, Contains}
+use Rattle.std.proofs.Common.{◌≡◌, ℕ, zero, suc, ◌+◌, ◌-◌, ◌*◌, ◌/◌, ◌<◌, ◌≤◌, Bool, Option, Some, None, List, [], ◌∷◌, ◌++◌, map, length, refl, subst, arith}
+use Rattle.std.specs.Prelude.{if◌then◌else◌, max}
+use Rattle.std.specs.List.{slice_get}
 use Rattle.std.proofs.lemmas.Nat.{div-add-mod'}
 use Rattle.std.proofs.lemmas.Option.{slice_get_within}
 use Rattle.std.proofs.Math.Nat.{mul-le-mul_right}
@@ -11,12 +11,11 @@ use Rattle.cxx_hierarchy.specs.Classes.{Class, Classes, class_at}
 use Rattle.abi_layout.specs.declared.component.Component.{Component}
 use Rattle.abi_layout.specs.declared.class_layout.ClassLayout.{ClassLayout}
 use Rattle.abi_layout.specs.declared.class_layout.Primary.TheVariants.{None as NoPrimary}
-use Rattle.abi_layout.specs.Sound.{Divides}
 use Rattle.abi_layout.specs.Plain.{IsPlain}
-use Rattle.abi_layout.specs.Laid.{IsNext, ArePlaced, end_of, component_in, base_component, base_components, member_components, greatest_align, bases_end, data_end, IsLayoutOf, is_pod, IsRow, IsLaid, HasTooLarge}
-use Rattle.abi_layout.specs.Alignments.{IsAlignment, byte, two_bytes, four_bytes, eight_bytes, IsComponent, AreComponents, IsTooLarge}
+use Rattle.abi_layout.specs.Laid.{IsNext, ArePlaced, end_of, component_in, base_component, base_components, member_components, greatest_align, IsLayoutOf, is_pod, IsLaid, HasTooLarge}
+use Rattle.abi_layout.specs.Alignments.{IsAlignment, byte, two_bytes, four_bytes, eight_bytes, AreComponents, IsTooLarge}
 use Rattle.abi_layout.proofs.Placing.{placed_cons, placed_none}
-use Rattle.abi_layout.proofs.RowLemmas.{greatest_positive, greatest_alignment, align_known, value_known, members_known, number, AreLaid, Extends, get_left, get_within, laid_more, row_shrinks, bases_before}
+use Rattle.abi_layout.proofs.RowLemmas.{greatest_positive, members_known, number, AreLaid, Extends, get_left, get_within, laid_more, row_shrinks, bases_before}
 
 abbrev pub rounded : ℕ → ℕ → ℕ
 rounded start align = (start + (align - 1)) / align * align
@@ -92,6 +91,7 @@ bases_positive h n rows class le laid = record { each = at class.bases }
         let count = laid.count in
         let there = get_within h i (omega arith) in
         nvalign_positive (base_components rows there.0) (member_components there.0) (is_pod there.0) row (laid.row (number i) there.0 row there.1 e)
+
     at : (bases : List (Base ClassId)) (i : ℕ) (part : Component) → slice_get (map (base_component rows) bases) i ≡ Some part → 1 ≤ part.align
     at [] i part e = cc
     at (base ∷ bases) zero part e =
@@ -130,3 +130,8 @@ too_large h n rows class plain laid at large =
       there = mine.1;
       large = large.large mine.0 (row_shrinks rows all.all class mine.0 all.extends (bases_before h n (length rows) class plain at (omega arith)) (all.laid.row (number n) class mine.0 at mine.1));
     }
+
+pub layout_of_all : (h : Classes) → IsPlain h → (rows : List ClassLayout) × IsLaid h rows
+layout_of_all h plain =
+    let all = all_rows h (length h) 0 [] plain (omega arith) (record { count = refl; row = λ c class row there e. cc }) in
+    (all.all, all.laid)

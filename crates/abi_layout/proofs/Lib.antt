@@ -4,3 +4,5 @@ pub mod Complete
 pub mod BaseLemmas
 pub mod PathLemmas
 pub mod SoundLemmas
+pub mod Unique
+pub mod PlaceLemmas

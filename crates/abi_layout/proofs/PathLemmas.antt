@@ -1,12 +1,12 @@
 -- Where the subobjects and leaves along paths lie.
-use Rattle.std.proofs.Common.{◌≡◌, ◌≢◌, ℕ, zero, suc, ◌+◌, ◌<◌, ◌≤◌, ◌⊎◌, inl, inr, ⊎_elim, false, Option, Some, None, List, [], ◌∷◌, ◌++◌, length, refl, ap, subst, sym, ◌∙◌, arith}
+use Rattle.std.proofs.Common.{◌≡◌, ◌≢◌, ℕ, ◌+◌, ◌<◌, ◌≤◌, ◌⊎◌, inl, inr, ⊎_elim, false, Some, List, [], ◌∷◌, ◌++◌, length, refl, ap, subst, sym, ◌∙◌, arith}
 use Rattle.std.proofs.lemmas.Bool.{cases_order}
 use Rattle.cxx_hierarchy.specs.declared.records.ClassId.{ClassId}
 use Rattle.cxx_hierarchy.specs.declared.records.ValueType.{ValueType}
 use Rattle.cxx_hierarchy.specs.Classes.{Classes, leaf_type}
 use Rattle.cxx_subobject.specs.Subobjects.{IsDirectBase, Leads, last_of}
 use Rattle.abi_layout.specs.declared.class_layout.ClassLayout.{ClassLayout}
-use Rattle.abi_layout.specs.Places.{Places, size_of_value, base_place, place_along, places_of}
+use Rattle.abi_layout.specs.Places.{size_of_value, base_place, place_along, places_of}
 use Rattle.abi_layout.specs.Sound.{Divides}
 use Rattle.abi_layout.specs.Plain.{IsPlain}
 use Rattle.abi_layout.specs.Laid.{IsLaid}
@@ -54,14 +54,14 @@ path_is_one h rows k c (b ∷ p) [] lt l m last place =
     let e : (last_of b p).0 ≡ c.0 = ap (λ (x : ClassId). x.0) last in absurd (omega arith)
 path_is_one h rows k c (b ∷ p) (a ∷ q) lt l m last place = ⊎_elim
     (λ e.
-      let same = same_class a b (sym e) in
-      let f = base_before h c false b k.plain l.0 in
-      let down : Leads h b q = subst (λ (x : ClassId). Leads h x q) same m.1 in
-      let ends : last_of b p ≡ last_of b q = last ∙ ap (λ (x : ClassId). last_of x q) same in
-      let x = ap (λ (x : ClassId). base_place h rows c x) same in
-      let y = ap (λ (x : ClassId). place_along h rows x q) same in
-      let r = path_is_one h rows k b p q (omega arith) l.1 down ends (omega arith) in
-      ap (λ (x : ClassId). x ∷ p) (sym same) ∙ ap (λ ys. a ∷ ys) r)
+    let same = same_class a b (sym e) in
+    let f = base_before h c false b k.plain l.0 in
+    let down : Leads h b q = subst (λ (x : ClassId). Leads h x q) same m.1 in
+    let ends : last_of b p ≡ last_of b q = last ∙ ap (λ (x : ClassId). last_of x q) same in
+    let x = ap (λ (x : ClassId). base_place h rows c x) same in
+    let y = ap (λ (x : ClassId). place_along h rows x q) same in
+    let r = path_is_one h rows k b p q (omega arith) l.1 down ends (omega arith) in
+    ap (λ (x : ClassId). x ∷ p) (sym same) ∙ ap (λ ys. a ∷ ys) r)
     (λ o. absurd (apart o))
     (cases_order b.0 a.0)
   where
@@ -107,9 +107,9 @@ leaves_apart h rows k c [] [] d e m n type type' lt x y differ =
     let u = ap (λ (z : ClassId). (places_of h rows).member z m) x.last in
     let v = ap (λ (z : ClassId). (places_of h rows).member z n) y.last in
     ⊎_elim (λ same. absurd (differ refl same)) (λ o. ⊎_elim
-      (λ l. inl (let r = members_apart h rows c m n type type' k.laid lt here there l in omega arith))
-      (λ g. inr (let r = members_apart h rows c n m type' type k.laid lt there here g in omega arith)) o)
-      (cases_order m n)
+    (λ l. inl (let r = members_apart h rows c m n type type' k.laid lt here there l in omega arith))
+    (λ g. inr (let r = members_apart h rows c n m type' type k.laid lt there here g in omega arith)) o)
+    (cases_order m n)
 leaves_apart h rows k c [] (b ∷ q) d e m n type type' lt x y differ =
     let here : leaf_type h c m ≡ Some type = ap (λ (z : ClassId). leaf_type h z m) x.last ∙ x.leaf in
     let u = ap (λ (z : ClassId). (places_of h rows).member z m) x.last in
@@ -126,20 +126,20 @@ leaves_apart h rows k c (b ∷ p) [] d e m n type type' lt x y differ =
     inl (omega arith)
 leaves_apart h rows k c (b ∷ p) (a ∷ q) d e m n type type' lt x y differ = ⊎_elim
     (λ s.
-      let same = same_class a b (sym s) in
-      let f = base_before h c false b k.plain x.leads.0 in
-      let down : IsLeafAt h b q e n type' = subst (λ (z : ClassId). IsLeafAt h z q e n type') same (leaf_down h c a q e n type' y) in
-      let u = ap (λ (z : ClassId). base_place h rows c z) same in
-      let v = ap (λ (z : ClassId). place_along h rows z q) same in
-      let r = leaves_apart h rows k b p q d e m n type type' (omega arith) (leaf_down h c b p d m type x) down (λ f g. differ (ap (λ (z : ClassId). z ∷ p) (sym same) ∙ ap (λ ys. a ∷ ys) f) g) in
-      ⊎_elim (λ l. inl (omega arith)) (λ g. inr (omega arith)) r)
+    let same = same_class a b (sym s) in
+    let f = base_before h c false b k.plain x.leads.0 in
+    let down : IsLeafAt h b q e n type' = subst (λ (z : ClassId). IsLeafAt h z q e n type') same (leaf_down h c a q e n type' y) in
+    let u = ap (λ (z : ClassId). base_place h rows c z) same in
+    let v = ap (λ (z : ClassId). place_along h rows z q) same in
+    let r = leaves_apart h rows k b p q d e m n type type' (omega arith) (leaf_down h c b p d m type x) down (λ f g. differ (ap (λ (z : ClassId). z ∷ p) (sym same) ∙ ap (λ ys. a ∷ ys) f) g) in
+    ⊎_elim (λ l. inl (omega arith)) (λ g. inr (omega arith)) r)
     (λ o.
-      let f = base_before h c false b k.plain x.leads.0 in
-      let g = base_before h c false a k.plain y.leads.0 in
-      let u = leaf_ends h rows k b p d m type (omega arith) (leaf_down h c b p d m type x) in
-      let v = leaf_ends h rows k a q e n type' (omega arith) (leaf_down h c a q e n type' y) in
-      let other : b.0 ≢ a.0 = λ s. ⊎_elim (λ x. absurd (omega arith)) (λ y. absurd (omega arith)) o in
-      ⊎_elim (λ l. inl (omega arith)) (λ g. inr (omega arith)) (bases_apart h rows c b a k.laid k.plain lt x.leads.0 y.leads.0 other))
+    let f = base_before h c false b k.plain x.leads.0 in
+    let g = base_before h c false a k.plain y.leads.0 in
+    let u = leaf_ends h rows k b p d m type (omega arith) (leaf_down h c b p d m type x) in
+    let v = leaf_ends h rows k a q e n type' (omega arith) (leaf_down h c a q e n type' y) in
+    let other : b.0 ≢ a.0 = λ s. ⊎_elim (λ x. absurd (omega arith)) (λ y. absurd (omega arith)) o in
+    ⊎_elim (λ l. inl (omega arith)) (λ g. inr (omega arith)) (bases_apart h rows c b a k.laid k.plain lt x.leads.0 y.leads.0 other))
     (cases_order b.0 a.0)
 
 -- a leaf lies aligned

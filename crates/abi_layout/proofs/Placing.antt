@@ -1,14 +1,9 @@
 -- Lemmas on components placed one behind the other.
-use Rattle.std.proofs.Common.{◌≡◌, ℕ, zero, suc, ◌+◌, ◌-◌, ◌*◌, ◌/◌, ◌<◌, ◌≤◌, ◌⊎◌, inl, inr, ⊎_elim, Option, Some, None, List, [], ◌∷◌, ◌++◌, length, drop, refl, ap, subst, sym, ◌∙◌, arith, append_assoc}
-use Rattle.std.proofs.Math.Nat.{mul-le-mul_right}
+use Rattle.std.proofs.Common.{◌≡◌, ℕ, zero, suc, ◌+◌, ◌<◌, ◌≤◌, Some, List, [], ◌∷◌, ◌++◌, length, drop, refl, ap, subst, sym, ◌∙◌, arith, append_assoc}
 use Rattle.std.specs.List.{slice_get}
 use Rattle.std.proofs.lemmas.List.{append-nil}
-use Rattle.std.proofs.lemmas.Bool.{cases_order}
-use Rattle.std.proofs.lemmas.Nat.{div-add-mod'}
 use Rattle.abi_layout.specs.declared.component.Component.{Component}
-use Rattle.abi_layout.specs.Places.{number_in}
-use Rattle.abi_layout.specs.Sound.{Divides}
-use Rattle.abi_layout.specs.Laid.{IsNext, ArePlaced, end_before, end_of, number_at, takes_in}
+use Rattle.abi_layout.specs.Laid.{IsNext, ArePlaced, end_before, end_of, number_at}
 
 -- the least multiple is one
 pub next_is_one : (start align p q : ℕ) → IsNext start align p → IsNext start align q → p ≡ q
@@ -109,13 +104,14 @@ completes_first start parts = record { whole = λ rest a. a; ends = λ rest a. r
 
 pub completes_more : (start : ℕ) (parts : List Component) (places : List ℕ) (end : ℕ) (part : Component) (todo : List Component) (place : ℕ) → Completes start parts places end (part ∷ todo) → IsNext end part.align place → Completes start parts (places ++ place ∷ []) (place + part.takes) todo
 completes_more start parts places end part todo place c next = record {
-    whole = λ rest a. subst (λ xs. ArePlaced start parts xs) (sym (append_assoc places (place ∷ []) rest)) (c.whole (place ∷ rest) (longer rest a));
-    ends = λ rest a. ap (end_of start parts) (append_assoc places (place ∷ []) rest) ∙ (c.ends (place ∷ rest) (longer rest a) ∙ end_cons end part todo place rest);
-    only = λ all a. shorter (end_of start parts all) (c.only all a);
-  }
+  whole = λ rest a. subst (λ xs. ArePlaced start parts xs) (sym (append_assoc places (place ∷ []) rest)) (c.whole (place ∷ rest) (longer rest a));
+  ends = λ rest a. ap (end_of start parts) (append_assoc places (place ∷ []) rest) ∙ (c.ends (place ∷ rest) (longer rest a) ∙ end_cons end part todo place rest);
+  only = λ all a. shorter (end_of start parts all) (c.only all a);
+}
   where
     longer : (rest : List ℕ) → ArePlaced (place + part.takes) todo rest → ArePlaced end (part ∷ todo) (place ∷ rest)
     longer rest a = placed_cons end part todo place rest next a
+
     split : (last : ℕ) (rest : List ℕ) → ArePlaced end (part ∷ todo) rest → end_of end (part ∷ todo) rest ≡ last → HasRest (place + part.takes) todo last
     split last [] a e = let l = a.one_each in absurd (omega arith)
     split last (p ∷ rest) a e =
@@ -125,6 +121,7 @@ completes_more start parts places end part todo place c next = record {
           placed = subst (λ (z : ℕ). ArePlaced (z + part.takes) todo rest) same (placed_rest end part todo p rest a);
           ends = ap (λ (z : ℕ). end_of (z + part.takes) todo rest) (sym same) ∙ (sym (end_cons end part todo p rest) ∙ e);
         }
+
     shorter : (last : ℕ) → HasRest end (part ∷ todo) last → HasRest (place + part.takes) todo last
     shorter last h = split last h.rest h.placed h.ends
 

@@ -1,13 +1,12 @@
 -- Lemmas on the layout of one class, and on the rows of the classes so far.
-use Rattle.std.proofs.Common.{◌≡◌, ℕ, zero, suc, ◌+◌, ◌-◌, ◌*◌, ◌/◌, ◌<◌, ◌≤◌, ◌⊎◌, inl, inr, ⊎_elim, Bool, true, false, Option, Some, None, List, [], ◌∷◌, ◌++◌, map, length, refl, ap, subst, sym, ◌∙◌, arith}
-use Rattle.std.specs.Prelude.{if◌then◌else◌, max, nat_eq}
+use Rattle.std.proofs.Common.{◌≡◌, ℕ, zero, suc, ◌+◌, ◌<◌, ◌≤◌, ◌⊎◌, inl, inr, ⊎_elim, Bool, true, false, Option, Some, None, List, [], ◌∷◌, ◌++◌, map, length, refl, ap, subst, sym, ◌∙◌, arith}
+use Rattle.std.specs.Prelude.{if◌then◌else◌, max}
 use Rattle.std.specs.List.{slice_get, Contains}
 use Rattle.std.proofs.lemmas.Bool.{cases_order}
 use Rattle.std.proofs.lemmas.Option.{slice_get_within}
-use Rattle.std.proofs.Math.Nat.{le-max_left, le-max_right, max-eq_left, max-eq_right}
+use Rattle.std.proofs.Math.Nat.{max-eq_left, max-eq_right}
 use Rattle.cxx_hierarchy.specs.declared.records.ClassId.{ClassId}
 use Rattle.cxx_hierarchy.specs.declared.records.Base.{Base}
-use Rattle.cxx_hierarchy.specs.declared.records.Member.{Member}
 use Rattle.cxx_hierarchy.specs.declared.records.Scalar.{Scalar}
 use Rattle.cxx_hierarchy.specs.declared.records.Scalar.TheVariants.{Bool as TheBool, Char, SChar, UChar, Short, UShort, Int, UInt, Long, ULong, LongLong, ULongLong}
 use Rattle.cxx_hierarchy.specs.declared.records.ValueType.{ValueType}
@@ -15,10 +14,9 @@ use Rattle.cxx_hierarchy.specs.declared.records.ValueType.TheVariants.{Number, P
 use Rattle.cxx_hierarchy.specs.Classes.{Class, Classes, class_at, leaf_type_in}
 use Rattle.abi_layout.specs.declared.component.Component.{Component}
 use Rattle.abi_layout.specs.declared.class_layout.ClassLayout.{ClassLayout}
-use Rattle.abi_layout.specs.Places.{size_of_value}
 use Rattle.abi_layout.specs.Sound.{Divides}
 use Rattle.abi_layout.specs.Plain.{IsPlain}
-use Rattle.abi_layout.specs.Laid.{IsNext, ArePlaced, end_of, component, component_in, value_component, base_component, member_component, base_components, member_components, greatest_align, bases_end, data_end, IsLayoutOf, is_pod, IsRow, IsLaid, AreSmall}
+use Rattle.abi_layout.specs.Laid.{IsNext, ArePlaced, end_of, component_in, value_component, base_component, member_component, base_components, member_components, greatest_align, bases_end, data_end, IsLayoutOf, is_pod, IsRow, IsLaid, AreSmall}
 use Rattle.abi_layout.specs.Alignments.{IsAlignment, byte, two_bytes, four_bytes, eight_bytes, IsComponent, AreComponents, IsWithin, AreWithin, IsPastLimit, IsTooLarge}
 use Rattle.abi_layout.proofs.Placing.{placed_is_one, end_above}
 
@@ -158,25 +156,29 @@ row_within bases members pod row b m l le =
 
 -- the bases of a class pass the limit
 pub bases_too_large : (rows : List ClassLayout) (class : Class) → IsPastLimit 0 (base_components rows class) → IsTooLarge rows class
-bases_too_large rows class past = record { large = λ row l.
-    let bases = base_components rows class in
-    let members = member_components class in
-    let p = past.past row.base_places l.bases_placed in
-    let e = end_above (bases_end bases row) members row.member_places l.members_placed in
-    let s = size_above bases members (is_pod class) row l in
-    omega arith }
+bases_too_large rows class past = record {
+  large = λ row l.
+      let bases = base_components rows class in
+      let members = member_components class in
+      let p = past.past row.base_places l.bases_placed in
+      let e = end_above (bases_end bases row) members row.member_places l.members_placed in
+      let s = size_above bases members (is_pod class) row l in
+      omega arith;
+}
 
 -- the members behind the bases pass it
 pub members_too_large : (rows : List ClassLayout) (class : Class) (places : List ℕ) (end : ℕ) → ArePlaced 0 (base_components rows class) places → end ≡ end_of 0 (base_components rows class) places → IsPastLimit end (member_components class) → IsTooLarge rows class
-members_too_large rows class places end placed is past = record { large = λ row l.
-    let bases = base_components rows class in
-    let members = member_components class in
-    let same : places ≡ row.base_places = placed_is_one 0 bases places row.base_places placed l.bases_placed in
-    let ends : end ≡ bases_end bases row = is ∙ ap (end_of 0 bases) same in
-    let p = past.past row.member_places (subst (λ s. ArePlaced s members row.member_places) (sym ends) l.members_placed) in
-    let q : 500000 < data_end bases members row = subst (λ s. 500000 < end_of s members row.member_places) ends p in
-    let s = size_above bases members (is_pod class) row l in
-    omega arith }
+members_too_large rows class places end placed is past = record {
+  large = λ row l.
+      let bases = base_components rows class in
+      let members = member_components class in
+      let same : places ≡ row.base_places = placed_is_one 0 bases places row.base_places placed l.bases_placed in
+      let ends : end ≡ bases_end bases row = is ∙ ap (end_of 0 bases) same in
+      let p = past.past row.member_places (subst (λ s. ArePlaced s members row.member_places) (sym ends) l.members_placed) in
+      let q : 500000 < data_end bases members row = subst (λ s. 500000 < end_of s members row.member_places) ends p in
+      let s = size_above bases members (is_pod class) row l in
+      omega arith;
+}
 
 -- the number of a class
 abbrev pub number : ℕ → ClassId
@@ -237,27 +239,30 @@ laid_more h n rows class row plain laid at is = record { count = grown; row = ea
   where
     more : Extends rows (rows ++ row ∷ [])
     more = record { each = get_left rows (row ∷ []) }
+
     grown : length (rows ++ row ∷ []) ≡ n + 1
     grown = let e = laid.count in let f = length_one rows in omega arith
       where
         length_one : (xs : List ClassLayout) → length (xs ++ row ∷ []) ≡ length xs + 1
         length_one [] = refl
         length_one (x ∷ xs) = let r = length_one xs in omega arith
+
     last : (xs : List ClassLayout) (i : ℕ) (r : ClassLayout) → slice_get (xs ++ row ∷ []) i ≡ Some r → (slice_get xs i ≡ Some r) ⊎ ((i ≡ length xs) × (row ≡ r))
     last [] zero r e = inr (refl, cc)
     last [] (suc i) r e = cc
     last (x ∷ xs) zero r e = inl e
     last (x ∷ xs) (suc i) r e = ⊎_elim (λ l. inl l) (λ p. let q = p.0 in inr (omega arith, p.1)) (last xs i r e)
+
     each : (c : ClassId) (k : Class) (r : ClassLayout) → class_at h c ≡ Some k → slice_get (rows ++ row ∷ []) c.0 ≡ Some r → IsRow (rows ++ row ∷ []) k r
     each c k r there e = ⊎_elim
-      (λ old. let lt = slice_get_within rows c.0 r old in row_extends rows (rows ++ row ∷ []) k r more (bases_before h c.0 (length rows) k plain there (omega arith)) (laid.row c k r there old))
-      (λ new.
+        (λ old. let lt = slice_get_within rows c.0 r old in row_extends rows (rows ++ row ∷ []) k r more (bases_before h c.0 (length rows) k plain there (omega arith)) (laid.row c k r there old))
+        (λ new.
         let count = laid.count in
         let position : c.0 ≡ n = new.0 ∙ count in
         let same : class ≡ k = let f : slice_get h n ≡ Some k = subst (λ i. slice_get h i ≡ Some k) position there in cc in
         subst (λ (z : Class). IsRow (rows ++ row ∷ []) z r) same (subst (λ (z : ClassLayout). IsRow (rows ++ row ∷ []) class z) new.1
-          (row_extends rows (rows ++ row ∷ []) class row more (bases_before h n (length rows) class plain at (omega arith)) is)))
-      (last rows c.0 r e)
+        (row_extends rows (rows ++ row ∷ []) class row more (bases_before h n (length rows) class plain at (omega arith)) is)))
+        (last rows c.0 r e)
 
 pub within_more : (rows : List ClassLayout) (row : ClassLayout) → AreWithin rows → IsWithin row → AreWithin (rows ++ row ∷ [])
 within_more rows row within here = record { each = at rows within.each }

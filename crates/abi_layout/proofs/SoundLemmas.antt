@@ -1,23 +1,21 @@
 -- A layout by the rules is sound.
-use Rattle.std.proofs.Common.{◌≡◌, ◌≢◌, ℕ, zero, suc, ◌+◌, ◌<◌, ◌≤◌, ◌⊎◌, inl, inr, ⊎_elim, Bool, true, false, Option, Some, None, List, [], ◌∷◌, ◌++◌, length, refl, ap, subst, sym, ◌∙◌, arith}
+use Rattle.std.proofs.Common.{◌≡◌, ℕ, ◌+◌, ◌<◌, ◌≤◌, inl, inr, ⊎_elim, true, false, Some, List, [], ◌∷◌, length, refl, ap, subst, sym, ◌∙◌, arith}
 use Rattle.std.specs.Prelude.{nat_eq, ◌&&◌}
-use Rattle.std.specs.List.{slice_get}
 use Rattle.std.proofs.lemmas.Bool.{eq-eqb}
 use Rattle.cxx_hierarchy.specs.declared.records.ClassId.{ClassId}
 use Rattle.cxx_hierarchy.specs.declared.records.ValueType.{ValueType}
-use Rattle.cxx_hierarchy.specs.Classes.{Classes, leaf_type}
-use Rattle.cxx_subobject.specs.declared.Root.{Root}
-use Rattle.cxx_subobject.specs.declared.Root.TheVariants.{Whole, Shared}
+use Rattle.cxx_hierarchy.specs.Classes.{Classes}
+use Rattle.cxx_subobject.specs.declared.Root.TheVariants.{Whole}
 use Rattle.cxx_subobject.specs.declared.Subobject.{Subobject}
 use Rattle.cxx_subobject.specs.Subobjects.{Leads, IsSubobject, whole, shared, subobject, class_of, last_of, join, same_path, same_subobject}
 use Rattle.abi_layout.specs.declared.class_layout.ClassLayout.{ClassLayout}
-use Rattle.abi_layout.specs.Places.{Places, size_of_value, size_in, align_in, place_along, places_of}
+use Rattle.abi_layout.specs.Places.{size_of_value, size_in, align_in, place_along, places_of}
 use Rattle.abi_layout.specs.Sound.{Divides, IsLeaf, leaf_place, LieApart, IsSound}
 use Rattle.abi_layout.specs.Plain.{IsPlain}
 use Rattle.abi_layout.specs.Laid.{base_components, member_components, is_pod, IsLaid}
 use Rattle.abi_layout.specs.Alignments.{AreWithin}
 use Rattle.abi_layout.proofs.RowLemmas.{nvsize_below, greatest_positive}
-use Rattle.abi_layout.proofs.BaseLemmas.{HasRow, row_of, row_takes, takes_as_base, base_before, no_virtual_base}
+use Rattle.abi_layout.proofs.BaseLemmas.{HasRow, row_of, row_takes, takes_as_base, no_virtual_base}
 use Rattle.abi_layout.proofs.PathLemmas.{IsKnown, place_join, path_fits, last_takes_some, path_is_one, IsLeafAt, leaf_ends, leaves_apart, leaf_multiple}
 
 -- a subobject is a path down from the whole
@@ -127,7 +125,7 @@ apart h rows k c d d' s s' m m' type type' lt leaf leaf' differ =
     let x = leaf_is_down h rows k.plain c s d m type leaf in
     let y = leaf_is_down h rows k.plain c s' d' m' type' leaf' in
     let other : (same_subobject (subobject Whole (c ∷ x.path)) (subobject Whole (c ∷ y.path)) && nat_eq m m') ≡ false =
-        subst (λ (z : Subobject). (same_subobject (subobject Whole (c ∷ x.path)) z && nat_eq m m') ≡ false) (sym y.is) (subst (λ (z : Subobject). (same_subobject z s' && nat_eq m m') ≡ false) (sym x.is) differ) in
+    subst (λ (z : Subobject). (same_subobject (subobject Whole (c ∷ x.path)) z && nat_eq m m') ≡ false) (sym y.is) (subst (λ (z : Subobject). (same_subobject z s' && nat_eq m m') ≡ false) (sym x.is) differ) in
     let r = leaves_apart h rows k c x.path y.path d d' m m' type type' lt x.leaf y.leaf (not_both c x.path y.path m m' other) in
     let p = ap (λ (z : Subobject). (places_of h rows).place c z) x.is in
     let q = ap (λ (z : Subobject). (places_of h rows).place c z) y.is in
@@ -135,14 +133,14 @@ apart h rows k c d d' s s' m m' type type' lt leaf leaf' differ =
 
 pub laid_is_sound : (h : Classes) (rows : List ClassLayout) → IsPlain h → IsLaid h rows → AreWithin rows → IsSound h (places_of h rows)
 laid_is_sound h rows plain laid within = let k : IsKnown h rows = record { plain = plain; laid = laid; within = within } in record {
-    positive = positive h rows k;
-    bounded = bounded h rows k;
-    whole_units = whole_units h rows k;
-    root = λ c. refl;
-    joined = joined h rows plain;
-    below = below h rows k;
-    distinct = distinct h rows k;
-    inside = inside h rows k;
-    aligned = aligned h rows k;
-    apart = apart h rows k;
-  }
+  positive = positive h rows k;
+  bounded = bounded h rows k;
+  whole_units = whole_units h rows k;
+  root = λ c. refl;
+  joined = joined h rows plain;
+  below = below h rows k;
+  distinct = distinct h rows k;
+  inside = inside h rows k;
+  aligned = aligned h rows k;
+  apart = apart h rows k;
+}

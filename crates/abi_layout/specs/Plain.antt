@@ -1,5 +1,5 @@
 -- The hierarchies that have neither virtual functions, virtual bases, arrays nor members of class type.
-use Rattle.std.specs.Prelude.{◌≡◌, ℕ, ◌+◌, ◌<◌, ◌≤◌, true, false, Some, IsSome, Contains, length}
+use Rattle.std.specs.Prelude.{◌≡◌, ◌+◌, ◌<◌, ◌≤◌, true, false, Some, IsSome, Contains, length}
 use Rattle.cxx_hierarchy.specs.declared.records.ClassId.{ClassId}
 use Rattle.cxx_hierarchy.specs.declared.records.Base.{Base}
 use Rattle.cxx_hierarchy.specs.declared.records.Member.{Member}

@@ -40,9 +40,7 @@ pub fn place_all(alloc: Global, start: u32, parts: &[Component]) -> Result<Place
     ensures placed { IfOk result (λ p. ArePlaced start parts.now p.places.items) }
     ensures end { IfOk result (λ p. p.end ≡ end_of start parts.now p.places.items) }
     ensures within { IfOk result (λ p. p.end ≤ 500000) }
-    ensures limit {
-        IfErr result (λ e. (e ≡ Stop.NoMemory) ⊎ ((e ≡ Stop.Limit LimitNo.L6) × IsPastLimit start parts.now))
-    }
+    ensures limit { IfErr result (λ e. (e ≡ Stop.NoMemory) ⊎ ((e ≡ Stop.Limit LimitNo.L6) × IsPastLimit start parts.now)) }
 {
     let mut places = Vec::new(alloc);
     let mut end = start;

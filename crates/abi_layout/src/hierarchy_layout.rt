@@ -1,6 +1,8 @@
 //! The layout of a hierarchy.
 
-ghost use Rattle.std.specs.Prelude.{◌≡◌, ◌⊎◌, IfOk, IfErr};
+ghost use Rattle.std.specs.Prelude.{◌≡◌, ◌⊎◌, IfOk, IfErr, List};
+ghost use Rattle.cxx_hierarchy.specs.Classes.{Classes};
+ghost use Rattle.abi_layout.specs.declared.class_layout.ClassLayout.{ClassLayout};
 ghost use Rattle.cxx_hierarchy.specs.declared.stop.LimitNo.{LimitNo};
 ghost use Rattle.abi_layout.specs.Places.{places_of};
 ghost use Rattle.abi_layout.specs.Sound.{IsSound};
@@ -29,3 +31,13 @@ pub fn lay_out(alloc: Global, h: &Hierarchy) -> Result<AbiLayout, Stop>
     }
     Ok(AbiLayout::from_rows(rows))
 }
+
+/// At most one list of rows is the layout of a plain hierarchy.
+pub fn one_layout()
+    ensures { (h : Classes) → (rows others : List ClassLayout) → IsPlain h → IsLaid h rows → IsLaid h others → rows ≡ others }
+{}
+
+/// Each plain hierarchy has a layout, whatever the sizes.
+pub fn some_layout()
+    ensures { (h : Classes) → IsPlain h → (rows : List ClassLayout) × IsLaid h rows }
+{}

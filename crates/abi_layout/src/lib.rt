@@ -11,6 +11,7 @@
 pub mod class_layout;
 pub mod component;
 pub mod hierarchy_layout;
+pub mod places;
 mod rows;
 
 pub use crate::class_layout::{AbiLayout, ClassLayout, PlaceList, Primary};

@@ -12,7 +12,7 @@ ghost use Rattle.abi_layout.specs.Laid.{base_component, member_component, is_pod
 ghost use Rattle.abi_layout.specs.Alignments.{AreWithin, IsWithin, IsTooLarge};
 
 use crate::class_layout::{ClassLayout, Primary};
-use crate::component::{greatest_align, place_all, round_up, Component, Placed};
+use crate::component::{Component, Placed, greatest_align, place_all, round_up};
 use cxx_hierarchy::{Base, ClassId, ClassRec, FieldType, Member, Scalar, Stop, ValueType};
 use foundation::{NoMemory, Sequence};
 use std::alloc::Global;
@@ -58,7 +58,10 @@ fn member_component(member: &Member<ClassId>) -> Component
     match leaf_type(member) {
         Some(ty) => {
             let size = size_of_value(ty);
-            Component { takes: size, align: size }
+            Component {
+                takes: size,
+                align: size,
+            }
         }
         None => Component { takes: 0, align: 1 },
     }
@@ -69,10 +72,17 @@ fn base_component(rows: &[ClassLayout], base: &Base<ClassId>) -> Component
     ensures { result ≡ base_component rows.now base.now }
 {
     let row = &rows[base.class.0 as usize];
-    Component { takes: row.nvsize, align: row.nvalign }
+    Component {
+        takes: row.nvsize,
+        align: row.nvalign,
+    }
 }
 
-fn base_components(alloc: Global, rows: &[ClassLayout], bases: &[Base<ClassId>]) -> Result<Vec<Component>, NoMemory>
+fn base_components(
+    alloc: Global,
+    rows: &[ClassLayout],
+    bases: &[Base<ClassId>],
+) -> Result<Vec<Component>, NoMemory>
     requires { (base : Base ClassId) → Contains bases.now base → base.class.0 < length rows.now }
     ensures { IfOk result (λ parts. parts.items ≡ map (base_component rows.now) bases.now) }
 {
@@ -101,14 +111,16 @@ fn size_as_base(class: &ClassRec<ClassId>, size: u32, end: u32) -> u32
 }
 
 /// The layout of a class, by the layouts of the classes before it.
-pub fn class_layout(alloc: Global, rows: &[ClassLayout], class: &ClassRec<ClassId>) -> Result<ClassLayout, Stop>
+pub fn class_layout(
+    alloc: Global,
+    rows: &[ClassLayout],
+    class: &ClassRec<ClassId>,
+) -> Result<ClassLayout, Stop>
     requires bases { (base : Base ClassId) → Contains class.now.bases base → base.class.0 < length rows.now }
     requires within { AreWithin rows.now }
     ensures row { IfOk result (λ row. IsRow rows.now class.now row) }
     ensures within { IfOk result (λ row. IsWithin row) }
-    ensures limit {
-        IfErr result (λ e. (e ≡ Stop.NoMemory) ⊎ ((e ≡ Stop.Limit LimitNo.L6) × IsTooLarge rows.now class.now))
-    }
+    ensures limit { IfErr result (λ e. (e ≡ Stop.NoMemory) ⊎ ((e ≡ Stop.Limit LimitNo.L6) × IsTooLarge rows.now class.now)) }
 {
     let base_parts = base_components(alloc, rows, class.bases.as_slice())?;
     let member_parts = member_components(alloc, class.members.as_slice())?;
@@ -117,8 +129,14 @@ pub fn class_layout(alloc: Global, rows: &[ClassLayout], class: &ClassRec<ClassI
     let align = greatest_align(&base_parts).max(greatest_align(&member_parts));
     let size = round_up(members.end.max(1), align);
     let data_size = size_as_base(class, size, members.end);
-    let Placed { places: base_places, end: _ } = bases;
-    let Placed { places: member_places, end: _ } = members;
+    let Placed {
+        places: base_places,
+        end: _,
+    } = bases;
+    let Placed {
+        places: member_places,
+        end: _,
+    } = members;
     Ok(ClassLayout {
         size,
         align,

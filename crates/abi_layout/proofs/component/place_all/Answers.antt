@@ -1,7 +1,6 @@
-use Rattle.std.proofs.Common.{◌≡◌, ◌++◌, ◌+◌, ◌∷◌, [], List, ℕ, arith, drop, subst, sym, ◌∙◌, inr, refl, drop-cons, add-one, get_or, append-nil}
+use Rattle.std.proofs.Common.{◌+◌, ◌∷◌, List, arith, drop, subst, inr, refl, drop-cons, add-one, get_or}
 use Rattle.std.proofs.lemmas.Option.{slice_get-get_or}
 use Rattle.abi_layout.specs.declared.component.Component.{Component}
-use Rattle.abi_layout.specs.Laid.{ArePlaced}
 use Rattle.abi_layout.proofs.Placing.{Completes, completes_more, completes_past, completes_all, completes_end, drop_none}
 use Rattle.abi_layout.proofs.RowLemmas.{next_within}
 use Rattle.abi_layout.proofs.component.place_all.Goals as goal
@@ -21,7 +20,7 @@ returns-then-end-gt-SIZE_LIMIT-clause-limit c =
     let part = get_or c.args.parts.now c.loop-part.part-index d in
     let todo = drop (c.loop-part.part-index + 1) c.args.parts.now in
     let here : Completes c.args.start c.args.parts.now c.loop-part.places.items c.loop-part.end (part ∷ todo) =
-        subst (λ (xs : List Component). Completes c.args.start c.args.parts.now c.loop-part.places.items c.loop-part.end xs) (rw add-one (drop-cons c.args.parts.now c.loop-part.part-index d c.loop-part-test.true)) c.loop-part.invariant.completes in
+    subst (λ (xs : List Component). Completes c.args.start c.args.parts.now c.loop-part.places.items c.loop-part.end xs) (rw add-one (drop-cons c.args.parts.now c.loop-part.part-index d c.loop-part-test.true)) c.loop-part.invariant.completes in
     inr (refl, record { past = λ places placed. completes_past c.args.start c.args.parts.now c.loop-part.places.items c.loop-part.end part todo c.round_up-place.result 500000 here c.round_up-place.ensures c.if-end-gt-SIZE_LIMIT.true places placed })
 
 pub loop-part-preserved : goal.loop-part-preserved
@@ -30,7 +29,7 @@ loop-part-preserved c =
     let part = get_or c.args.parts.now c.loop-part.part-index d in
     let todo = drop (c.loop-part.part-index + 1) c.args.parts.now in
     let here : Completes c.args.start c.args.parts.now c.loop-part.places.items c.loop-part.end (part ∷ todo) =
-        subst (λ (xs : List Component). Completes c.args.start c.args.parts.now c.loop-part.places.items c.loop-part.end xs) (rw add-one (drop-cons c.args.parts.now c.loop-part.part-index d c.loop-part-test.true)) c.loop-part.invariant.completes in
+    subst (λ (xs : List Component). Completes c.args.start c.args.parts.now c.loop-part.places.items c.loop-part.end xs) (rw add-one (drop-cons c.args.parts.now c.loop-part.part-index d c.loop-part-test.true)) c.loop-part.invariant.completes in
     record {
       completes = rw c.in_ok-push.ensures.items (completes_more c.args.start c.args.parts.now c.loop-part.places.items c.loop-part.end part todo c.round_up-place.result here c.round_up-place.ensures);
       within = c.if-end-gt-SIZE_LIMIT.false;

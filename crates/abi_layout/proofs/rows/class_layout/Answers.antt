@@ -1,4 +1,4 @@
-use Rattle.std.proofs.Common.{◌≡◌, ◌≤◌, ℕ, List, map, subst, sym, ap, ◌∙◌, refl, inl, inr, ⊎_elim, arith}
+use Rattle.std.proofs.Common.{◌≡◌, ◌≤◌, List, map, subst, sym, ap, ◌∙◌, refl, inl, inr, ⊎_elim}
 use Rattle.std.specs.Prelude.{Contains, max}
 use Rattle.std.proofs.lemmas.Result.{err_from_is_err_and}
 use Rattle.cxx_hierarchy.specs.declared.records.Base.{Base}
@@ -41,11 +41,14 @@ returns-in_err-members-clause-limit c =
     let members_are : c.deref-2.result.now ≡ member_components class = c.deref-2.ensures.value ∙ (c.in_ok-member_parts.ensures ∙ ap (map member_component) c.as_slice-2.ensures) in
     let places = c.in_ok-bases.bases.places.items in
     rw (p.1, p.2) (⊎_elim (λ e. inl e)
-      (λ past. inr (past.0, members_too_large rows class places c.in_ok-bases.bases.end
-        (placed_same 0 0 c.deref.result.now (base_components rows class) places places refl bases_are refl c.in_ok-bases.ensures.placed)
-        (c.in_ok-bases.ensures.end ∙ end_same 0 0 c.deref.result.now (base_components rows class) places places refl bases_are refl)
-        (subst (λ (x : List Component). IsPastLimit c.in_ok-bases.bases.end x) members_are past.1)))
-      c.in_err-members.ensures.limit)
+    (λ past. inr (
+      past.0,
+      members_too_large rows class places c.in_ok-bases.bases.end
+          (placed_same 0 0 c.deref.result.now (base_components rows class) places places refl bases_are refl c.in_ok-bases.ensures.placed)
+          (c.in_ok-bases.ensures.end ∙ end_same 0 0 c.deref.result.now (base_components rows class) places places refl bases_are refl)
+          (subst (λ (x : List Component). IsPastLimit c.in_ok-bases.bases.end x) members_are past.1),
+    ))
+    c.in_err-members.ensures.limit)
 
 pub round_up-size-requires-clause-alignment : goal.round_up-size-requires-clause-alignment
 round_up-size-requires-clause-alignment c =
@@ -56,7 +59,7 @@ round_up-size-requires-clause-alignment c =
     let b = c.greatest_align.ensures ∙ ap greatest_align bases_are in
     let m = c.greatest_align-2.ensures ∙ ap greatest_align members_are in
     subst IsAlignment (sym (c.max-align.ensures ∙ (ap (λ x. max x c.greatest_align-2.result) b ∙ ap (max (greatest_align (base_components rows class))) m)))
-      (greater_alignment (greatest_align (base_components rows class)) (greatest_align (member_components class)) (greatest_alignment (base_components rows class) (bases_known rows class c.requires.within)) (greatest_alignment (member_components class) (members_known class)))
+    (greater_alignment (greatest_align (base_components rows class)) (greatest_align (member_components class)) (greatest_alignment (base_components rows class) (bases_known rows class c.requires.within)) (greatest_alignment (member_components class) (members_known class)))
 
 pub returns-clause-row : goal.returns-clause-row
 returns-clause-row c =
@@ -71,11 +74,11 @@ returns-clause-row c =
     let m = c.greatest_align-2.ensures ∙ ap greatest_align (c.deref-4.ensures.value ∙ members_are) in
     let align = c.max-align.ensures ∙ (ap (λ x. max x c.greatest_align-2.result) b ∙ ap (max (greatest_align bases)) m) in
     row_is_laid bases members (is_pod class) row c.in_ok-bases.bases.end c.in_ok-members.members.end
-      (placed_same 0 0 c.deref.result.now bases c.in_ok-bases.bases.places.items c.from_vec.result refl (c.deref.ensures.value ∙ bases_are) (sym c.from_vec.ensures) c.in_ok-bases.ensures.placed)
-      (c.in_ok-bases.ensures.end ∙ end_same 0 0 c.deref.result.now bases c.in_ok-bases.bases.places.items c.from_vec.result refl (c.deref.ensures.value ∙ bases_are) (sym c.from_vec.ensures))
-      (placed_same c.in_ok-bases.bases.end c.in_ok-bases.bases.end c.deref-2.result.now members c.in_ok-members.members.places.items c.from_vec-2.result refl (c.deref-2.ensures.value ∙ members_are) (sym c.from_vec-2.ensures) c.in_ok-members.ensures.placed)
-      (c.in_ok-members.ensures.end ∙ end_same c.in_ok-bases.bases.end c.in_ok-bases.bases.end c.deref-2.result.now members c.in_ok-members.members.places.items c.from_vec-2.result refl (c.deref-2.ensures.value ∙ members_are) (sym c.from_vec-2.ensures))
-      align (subst (λ x. IsNext x c.max-align.result c.round_up-size.result) c.max.ensures c.round_up-size.ensures) c.size_as_base-data_size.ensures refl refl refl c.new.ensures
+    (placed_same 0 0 c.deref.result.now bases c.in_ok-bases.bases.places.items c.from_vec.result refl (c.deref.ensures.value ∙ bases_are) (sym c.from_vec.ensures) c.in_ok-bases.ensures.placed)
+    (c.in_ok-bases.ensures.end ∙ end_same 0 0 c.deref.result.now bases c.in_ok-bases.bases.places.items c.from_vec.result refl (c.deref.ensures.value ∙ bases_are) (sym c.from_vec.ensures))
+    (placed_same c.in_ok-bases.bases.end c.in_ok-bases.bases.end c.deref-2.result.now members c.in_ok-members.members.places.items c.from_vec-2.result refl (c.deref-2.ensures.value ∙ members_are) (sym c.from_vec-2.ensures) c.in_ok-members.ensures.placed)
+    (c.in_ok-members.ensures.end ∙ end_same c.in_ok-bases.bases.end c.in_ok-bases.bases.end c.deref-2.result.now members c.in_ok-members.members.places.items c.from_vec-2.result refl (c.deref-2.ensures.value ∙ members_are) (sym c.from_vec-2.ensures))
+    align (subst (λ x. IsNext x c.max-align.result c.round_up-size.result) c.max.ensures c.round_up-size.ensures) c.size_as_base-data_size.ensures refl refl refl c.new.ensures
 
 pub returns-clause-within : goal.returns-clause-within
 returns-clause-within c =
