@@ -51,6 +51,13 @@ impl Model for AbiLayout {
 }
 
 impl AbiLayout {
+    /// The layout with these rows.
+    pub(crate) fn from_rows(rows: Vec<ClassLayout>) -> AbiLayout
+        ensures { result ≡ rows.items }
+    {
+        AbiLayout { rows }
+    }
+
     /// The layout of a class.
     pub fn layout(&self, c: ClassId) -> &ClassLayout
         requires { c.0 < length self.now }
