@@ -1,0 +1,33 @@
+use Rattle.std.proofs.Common.{◌≡◌, ℕ, ◌+◌, Option, Some, None, List, refl, subst, sym, nat_eq, false}
+use Rattle.std.specs.List.{slice_get}
+use Rattle.byte_code.specs.declared.code.Code.{Code}
+use Rattle.byte_code.specs.declared.code.Block.{Block}
+use Rattle.byte_machine.specs.declared.turn.RawOut.{RawOut}
+use Rattle.byte_machine.specs.declared.turn.MachineTurn.{MachineTurn}
+use Rattle.byte_machine.specs.Effect.{Running}
+use Rattle.byte_machine.specs.Turn.{State, after, at_block, Turns, HasTurn}
+use Rattle.byte_machine.proofs.Leads.{Leads, IsDefined-leads, Runs-leads}
+
+-- in this state a turn runs this block
+pub record IsNext (code : Code) (b : State) (block : Block) : Type 0 where
+  pub going : b.answer ≡ None
+  pub left : nat_eq b.left 0 ≡ false
+  pub there : slice_get code.blocks b.block ≡ Some block
+
+-- what a turn that runs a block leads to
+pub record Ran (b b' : State) (outs' : List RawOut) (turn : MachineTurn) (P : Running → MachineTurn → Type 0) : Type 0 where
+  pub new : Running
+  pub leads : P new turn
+  pub state : b' ≡ after b new turn
+  pub outs : outs' ≡ new.outs
+
+-- a turn is defined where its block leads anywhere
+pub HasTurn-leads : {code : Code} {b : State} {outs : List RawOut} {block : Block} {P : Running → MachineTurn → Type 0} → IsNext code b block → Leads block.ops (at_block b outs block.line) P → HasTurn code b outs
+HasTurn-leads {code} {b} {outs} {block} {P} next h =
+    rw (next.going, next.left, next.there) (IsDefined-leads block.ops (at_block b outs block.line) P h.run)
+
+-- and it leads there
+pub Turns-leads : {code : Code} {b b' : State} {outs outs' : List RawOut} {turn : MachineTurn} {block : Block} {P : Running → MachineTurn → Type 0} → IsNext code b block → Leads block.ops (at_block b outs block.line) P → Turns code b outs b' outs' turn → Ran b b' outs' turn P
+Turns-leads {code} {b} {b'} {outs} {outs'} {turn} {block} {P} next h t =
+    let ran = rw (next.going, next.left, next.there) at t in
+    record { new = ran.0; leads = Runs-leads block.ops (at_block b outs block.line) ran.0 turn P h.run ran.1.0; state = ran.1.1; outs = ran.1.2 }
