@@ -1,9 +1,7 @@
 //! Small programs, lowered by hand, over a memory that counts its stores.
 
-ghost use Rattle.std.specs.Prelude.{◌≡◌, ◌∷◌, [], IfOk, true, false};
-ghost use Rattle.byte_code.specs.declared.op.Op.{Op};
-ghost use Rattle.byte_code.specs.declared.op.Check.{Check};
-ghost use Rattle.byte_code.specs.declared.op.PrintAs.{PrintAs};
+ghost use Rattle.std.specs.Prelude.{◌≡◌, IfOk};
+ghost use Rattle.byte_machine.specs.Sample.{five_blocks};
 
 use crate::heap::Opened;
 use crate::machine::Machine;
@@ -62,7 +60,11 @@ fn list(alloc: Global, ops: &[Op]) -> Result<Sequence<Op>, NoMemory>
 }
 
 /// `P* p = new P; p->x = 5; int y = p->x; print(y);`, in one block, and the end.
-fn five(alloc: Global) -> Result<Code, NoMemory> {
+fn five(alloc: Global) -> Result<Code, NoMemory>
+    ensures blocks { IfOk result (λ code. code.blocks ≡ five_blocks) }
+    ensures start { IfOk result (λ code. code.start ≡ 0) }
+    ensures registers { IfOk result (λ code. code.registers ≡ 3) }
+{
     let new = Op::New {
         to: 0,
         size: 4,
@@ -102,4 +104,59 @@ fn five(alloc: Global) -> Result<Code, NoMemory> {
         globals: 0,
         registers: 3,
     })
+}
+
+#[test]
+fn prints_what_was_stored(rt: HostRuntime) -> Result<(), Fail> {
+    let memory = Counting {
+        inner: FlatMemory::new(rt.alloc()),
+        stores: 0,
+    };
+    let image = ImageBytes {
+        bytes: Sequence::new(rt.alloc()),
+        base: 0,
+    };
+    let code = five(rt.alloc())?;
+    let mut machine = Machine::new(rt.alloc(), memory, image, code, 0, 10)?;
+    let mut outs = Sequence::new(rt.alloc());
+    let turn = machine.step(&mut outs)?;
+    assert!(rt; turn == MachineTurn::Went);
+    assert_eq!(rt; outs.as_slice(), [RawOut::Number(5)].as_slice());
+    assert_eq!(rt; machine.memory().stores, 1);
+    let object = Opened {
+        number: 1,
+        start: 16,
+        size: 4,
+        class: 7,
+    };
+    assert_eq!(rt; machine.opened(16), Some(object));
+    assert_eq!(rt; machine.opened(19), Some(object));
+    assert_eq!(rt; machine.opened(20), None);
+    let turn = machine.step(&mut outs)?;
+    assert!(rt; turn == MachineTurn::Ended);
+    let turn = machine.step(&mut outs)?;
+    assert!(rt; turn == MachineTurn::Ended);
+    assert_eq!(rt; outs.as_slice(), [RawOut::Number(5)].as_slice());
+    assert_eq!(rt; machine.image().bytes.len(), 0);
+    assert_eq!(rt; machine.code().blocks.len(), 2);
+    Ok(())
+}
+
+#[test]
+fn without_steps_nothing_runs(rt: HostRuntime) -> Result<(), Fail> {
+    let image = ImageBytes {
+        bytes: Sequence::new(rt.alloc()),
+        base: 0,
+    };
+    let code = five(rt.alloc())?;
+    let memory = FlatMemory::new(rt.alloc());
+    let mut machine = Machine::new(rt.alloc(), memory, image, code, 0, 0)?;
+    let mut outs = Sequence::new(rt.alloc());
+    let turn = machine.step(&mut outs)?;
+    assert!(rt; turn == MachineTurn::OutOfSteps);
+    let turn = machine.step(&mut outs)?;
+    assert!(rt; turn == MachineTurn::OutOfSteps);
+    assert_eq!(rt; outs.len(), 0);
+    assert_eq!(rt; machine.opened(16), None);
+    Ok(())
 }
