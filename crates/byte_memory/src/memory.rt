@@ -1,6 +1,6 @@
 //! The trait of all memories.
 
-ghost use Rattle.std.specs.Prelude.{◌≡◌, ◌+◌, ◌<◌, ◌≤◌, ◌^◌, Some, None, MatchResult, is_some};
+ghost use Rattle.std.specs.Prelude.{◌≡◌, ◌+◌, ◌<◌, ◌≤◌, ◌^◌, Some, None, MatchResult, IfOk, is_some};
 ghost use Rattle.byte_memory.specs.Regions.{fault_at, close_fault, total_of, rounded, IsAscending};
 ghost use Rattle.byte_memory.specs.Store.{Store, IsRoom, open_of, store_of, load_of, Closes};
 
@@ -71,7 +71,8 @@ pub trait Memory {
     fn load(&self, at: u64, bytes: u8) -> Result<u64, MemoryFault>
         requires some { 0 < bytes }
         requires word { bytes ≤ 8 }
-        ensures { result ≡ load_of (meaning self.now) at bytes };
+        ensures value { result ≡ load_of (meaning self.now) at bytes }
+        ensures fits { IfOk result (λ number. number < 256 ^ bytes) };
 
     /// Stores the low bytes of a value, and changes nothing else. Refusals are those of `load` but Unset.
     fn store(&mut self, at: u64, bytes: u8, value: u64) -> Result<(), MemoryFault>
