@@ -111,10 +111,10 @@ fn run_op<M: Memory>(
             Ok(None)
         }
         Op::Print { from, what } => {
-            let value = word(registers, from).unwrap();
+            let printed = word(registers, from).unwrap();
             let out = match what {
-                PrintAs::Number(width) => RawOut::Number(width.number(value)),
-                PrintAs::Address => RawOut::Address(value),
+                PrintAs::Number(width) => RawOut::Number(width.number(printed)),
+                PrintAs::Address => RawOut::Address(printed),
             };
             outs.push(out)?;
             Ok(None)

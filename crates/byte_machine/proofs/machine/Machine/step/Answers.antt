@@ -10,5 +10,5 @@ returns-in-Ok-clause-turn g c =
     let new = running c.run_ops-ran.new.heap c.run_ops-ran.new.registers.items c.run_ops-ran.new.outs c.in-Some-get.block.now.line in
     let runs = rw c.as_slice-2.ensures at c.in-Ok.ensures.runs in
     let look = rw c.as_slice.ensures at c.in-Some-get.ensures.lookup in
-    let here = slice_get-get_or (code_of c.args.self.now).blocks (state_of c.args.self.now).block c.in-Some-get.block.now look.3.0 ∙ ap Some (sym look.1) in
+    let here = slice_get-get_or _ _ c.in-Some-get.block.now look.3.0 ∙ ap Some (sym look.1) in
     Turns-ran (code_of c.args.self.now) (state_of c.args.self.now) c.args.outs.now c.in-Some-get.block.now new c.in-Ok.turn c.kept-self.result (search rules) (search rules) here runs c.kept-self.ensures

@@ -1,5 +1,0 @@
-use Rattle.std.proofs.Common.{length}
-use Rattle.abi_layout.proofs.class_layout.AbiLayout.+place_along.Given as goal
-
-abbrev pub decreases-place_along : goal.decreases-place_along
-decreases-place_along l = length l.path.now
