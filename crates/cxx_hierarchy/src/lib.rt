@@ -11,11 +11,14 @@
 //! gives the class of a name, and None exactly where no class has it.
 #![tactic(auto)]
 
+pub mod hierarchy;
 pub mod records;
 pub mod stop;
 
+pub use crate::hierarchy::Hierarchy;
 pub use crate::records::{
-    Base, BaseList, ClassId, ClassRec, Destructor, FieldType, Function, FunctionList, Member, MemberList,
-    Name, Param, ParamList, PartAt, PartKind, PartOrder, RecordList, ReturnType, Scalar, ValueType,
+    Base, BaseList, ClassId, ClassRec, Destructor, FieldType, Function, FunctionList, Member,
+    MemberList, Name, Param, ParamList, PartAt, PartKind, PartOrder, RecordList, ReturnType,
+    Scalar, ValueType,
 };
 pub use crate::stop::{LimitNo, Rule, Stop};

@@ -129,8 +129,13 @@ pub struct ClassRec<R> {
 }
 
 pub type BaseList<R> = Sequence<Base<R>>;
+
 pub type MemberList<R> = Sequence<Member<R>>;
+
 pub type ParamList<R> = Sequence<Param<R>>;
+
 pub type FunctionList<R> = Sequence<Function<R>>;
+
 pub type PartOrder = Sequence<PartAt>;
+
 pub type RecordList = Sequence<ClassRec<Name>>;

@@ -1,13 +1,25 @@
-// A library with one function.
+//! What a run means, over objects and their subobjects.
+//!
+//! A state holds the objects made so far, the value of each leaf and of each variable. A leaf is named by an
+//! object's number, the inheritance subobject that declares the member, and the member's number there. No
+//! address, offset, byte, table or thunk occurs here. This crate owns the definitions of a value, of a state, of
+//! one step of a run, of the condition that refuses a step, and of a whole run with its end. It has no call:
+//! the crates above prove that their machines do these steps.
 #![tactic(auto)]
 
-ghost use Rattle.std.specs.Prelude.{◌≡◌};
-ghost use Rattle.path_model.specs.Echo.{echo_of};
-
-// The `ensures` clause is the contract: what `echo` returns is `echo_of` of its argument, a definition
-// in `specs/Echo.antt`, which a caller's clause can cite too.
-pub fn echo(x: usize) -> usize
-    ensures { result ≡ echo_of x }
-{
-    x
+/// Why a step is refused. The numbers are those of the printed text, `undefined U<no> <Name> line <n>`.
+#[derive(Clone, Copy, Debug, PartialEq, Eq)]
+pub enum Undefined {
+    NullUse,
+    Dangling,
+    NotReady,
+    OutsideView,
+    Unset,
+    PureCall,
+    BadDowncast,
+    NonVirtualDelete,
+    NotHeapObject,
+    NotComplete,
+    MissingReturn,
+    Overflow,
 }

@@ -1,0 +1,69 @@
+-- Where things lie, in bytes, by the rows of a layout.
+use Rattle.std.specs.Prelude.{ℕ, ◌+◌, Bool, not, nat_eq, Option, Some, None, List, [], ◌∷◌, filter, position, slice_get}
+use Rattle.cxx_hierarchy.specs.declared.records.ClassId.{ClassId}
+use Rattle.cxx_hierarchy.specs.declared.records.Base.{Base}
+use Rattle.cxx_hierarchy.specs.declared.records.ValueType.{ValueType}
+use Rattle.cxx_hierarchy.specs.declared.records.ValueType.TheVariants.{Number, Pointer}
+use Rattle.cxx_hierarchy.specs.Scalars.{size_of}
+use Rattle.cxx_hierarchy.specs.Classes.{Classes, bases_of}
+use Rattle.cxx_subobject.specs.declared.Subobject.{Subobject}
+use Rattle.cxx_subobject.specs.Subobjects.{tail_of}
+use Rattle.abi_layout.specs.declared.class_layout.ClassLayout.{ClassLayout}
+
+-- the size of a class, its alignment, the place of a subobject in an object of the class, and the place of a
+-- member in an object of the class that declares it
+pub record Places : Type 0 where
+  pub size : ClassId → ℕ
+  pub align : ClassId → ℕ
+  pub place : ClassId → Subobject → ℕ
+  pub member : ClassId → ℕ → ℕ
+
+-- how many bytes a value takes, which is its alignment too
+abbrev pub size_of_value : ValueType ClassId → ℕ
+size_of_value (Number t) = size_of t
+size_of_value (Pointer c) = 8
+
+abbrev pub number_in : Option ℕ → ℕ
+number_in None = 0
+number_in (Some n) = n
+
+abbrev pub size_in : Option ClassLayout → ℕ
+size_in None = 0
+size_in (Some row) = row.size
+
+abbrev pub align_in : Option ClassLayout → ℕ
+align_in None = 1
+align_in (Some row) = row.align
+
+abbrev pub bases_in : Option ClassLayout → List ℕ
+bases_in None = []
+bases_in (Some row) = row.base_places
+
+abbrev pub members_in : Option ClassLayout → List ℕ
+members_in None = []
+members_in (Some row) = row.member_places
+
+abbrev pub is_plain_base : Base ClassId → Bool
+is_plain_base base = not base.is_virtual
+
+abbrev pub place_at : List ℕ → Option ℕ → ℕ
+place_at places None = 0
+place_at places (Some n) = number_in (slice_get places n)
+
+-- the place of a direct non-virtual base in its class
+abbrev pub base_place : Classes → List ClassLayout → ClassId → ClassId → ℕ
+base_place h rows c b = place_at (bases_in (slice_get rows c.0)) (position (λ (base : Base ClassId). nat_eq base.class.0 b.0) (filter is_plain_base (bases_of h c)))
+
+-- the sum of the places along a path
+abbrev pub place_along : Classes → List ClassLayout → ClassId → List ClassId → ℕ
+place_along h rows c [] = 0
+place_along h rows c (b ∷ path) = base_place h rows c b + place_along h rows b path
+
+-- the places that rows give; for classes without virtual bases
+abbrev pub places_of : Classes → List ClassLayout → Places
+places_of h rows = record {
+  size = λ c. size_in (slice_get rows c.0);
+  align = λ c. align_in (slice_get rows c.0);
+  place = λ c s. place_along h rows c (tail_of s.path);
+  member = λ d m. number_in (slice_get (members_in (slice_get rows d.0)) m);
+}

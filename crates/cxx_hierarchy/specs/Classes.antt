@@ -1,0 +1,50 @@
+-- The classes of a hierarchy, and what each has.
+use Rattle.std.specs.Prelude.{ℕ, Option, Some, None, List, [], slice_get}
+use Rattle.cxx_hierarchy.specs.declared.records.ClassId.{ClassId}
+use Rattle.cxx_hierarchy.specs.declared.records.ClassRec.{ClassRec}
+use Rattle.cxx_hierarchy.specs.declared.records.Base.{Base}
+use Rattle.cxx_hierarchy.specs.declared.records.Member.{Member}
+use Rattle.cxx_hierarchy.specs.declared.records.ValueType.{ValueType}
+use Rattle.cxx_hierarchy.specs.declared.records.FieldType.{FieldType}
+use Rattle.cxx_hierarchy.specs.declared.records.FieldType.TheVariants.{Value, Object}
+
+-- a class, with each reference a class number
+abbrev pub Class : Type 0
+Class = ClassRec ClassId
+
+-- the classes of a source in its order; the n-th has the number n
+abbrev pub Classes : Type 0
+Classes = List Class
+
+-- the class of a number
+abbrev pub class_at : Classes → ClassId → Option Class
+class_at h c = slice_get h c.0
+
+abbrev pub bases_in : Option Class → List (Base ClassId)
+bases_in None = []
+bases_in (Some class) = class.bases
+
+abbrev pub members_in : Option Class → List (Member ClassId)
+members_in None = []
+members_in (Some class) = class.members
+
+-- the direct bases of a class
+abbrev pub bases_of : Classes → ClassId → List (Base ClassId)
+bases_of h c = bases_in (class_at h c)
+
+-- the data members that a class declares
+abbrev pub members_of : Classes → ClassId → List (Member ClassId)
+members_of h c = members_in (class_at h c)
+
+abbrev pub value_type_in : FieldType ClassId → Option ℕ → Option (ValueType ClassId)
+value_type_in (Value ty) None = Some ty
+value_type_in (Value ty) (Some count) = None
+value_type_in (Object c) count = None
+
+abbrev pub leaf_type_in : Option (Member ClassId) → Option (ValueType ClassId)
+leaf_type_in None = None
+leaf_type_in (Some member) = value_type_in member.ty member.count
+
+-- the type of a member that is a number or a pointer, and no array
+abbrev pub leaf_type : Classes → ClassId → ℕ → Option (ValueType ClassId)
+leaf_type h c m = leaf_type_in (slice_get (members_of h c) m)

@@ -1,0 +1,100 @@
+-- The number types on LP64 (System V x86-64; ISO C++03 3.9.1).
+use Rattle.std.specs.Prelude.{ℕ, zero, suc, ◌/◌, ◌^◌, ℤ, pos, negsuc, ◌+ℤ◌, ◌-ℤ◌, ◌≤ℤ◌, ◌<ℤ◌, Bool, true, false}
+use Rattle.std.specs.Int.{int_rem_euclid}
+use Rattle.cxx_hierarchy.specs.declared.records.Scalar.{Scalar}
+use Rattle.cxx_hierarchy.specs.declared.records.Scalar.TheVariants.{Bool as TheBool, Char, SChar, UChar, Short, UShort, Int, UInt, Long, ULong, LongLong, ULongLong}
+
+-- how many bytes a number of the type takes, which is its alignment too
+abbrev pub size_of : Scalar → ℕ
+size_of TheBool = 1
+size_of Char = 1
+size_of SChar = 1
+size_of UChar = 1
+size_of Short = 2
+size_of UShort = 2
+size_of Int = 4
+size_of UInt = 4
+size_of Long = 8
+size_of ULong = 8
+size_of LongLong = 8
+size_of ULongLong = 8
+
+-- whether the type has numbers below 0; `char` has
+abbrev pub is_signed : Scalar → Bool
+is_signed TheBool = false
+is_signed Char = true
+is_signed SChar = true
+is_signed UChar = false
+is_signed Short = true
+is_signed UShort = false
+is_signed Int = true
+is_signed UInt = false
+is_signed Long = true
+is_signed ULong = false
+is_signed LongLong = true
+is_signed ULongLong = false
+
+-- how many numbers the type has
+abbrev pub count_of : Scalar → ℕ
+count_of TheBool = 2
+count_of Char = 256
+count_of SChar = 256
+count_of UChar = 256
+count_of Short = 256 ^ 2
+count_of UShort = 256 ^ 2
+count_of Int = 256 ^ 4
+count_of UInt = 256 ^ 4
+count_of Long = 256 ^ 8
+count_of ULong = 256 ^ 8
+count_of LongLong = 256 ^ 8
+count_of ULongLong = 256 ^ 8
+
+-- the least number of a type with this many, signed or not, is this many below 0
+abbrev pub below_zero : Bool → ℕ → ℕ
+below_zero true count = count / 2
+below_zero false count = 0
+
+-- z is a number of the type
+pub record IsInRange (t : Scalar) (z : ℤ) : Type 0 where
+  pub least : pos 0 ≤ℤ (z +ℤ pos (below_zero (is_signed t) (count_of t)))
+  pub greatest : (z +ℤ pos (below_zero (is_signed t) (count_of t))) <ℤ pos (count_of t)
+
+-- the number of the type that differs from z by a multiple of how many it has
+abbrev pub wrapped : Scalar → ℤ → ℤ
+wrapped t z = int_rem_euclid (z +ℤ pos (below_zero (is_signed t) (count_of t))) (pos (count_of t)) -ℤ pos (below_zero (is_signed t) (count_of t))
+
+-- what a `bool` keeps of a number (ISO C++03 4.12)
+abbrev pub truth_of : ℤ → ℤ
+truth_of (pos zero) = pos 0
+truth_of (pos (suc n)) = pos 1
+truth_of (negsuc n) = pos 1
+
+-- what a variable of the type keeps of a number: the low bits, as two's complement reads them (ISO C++03 4.7)
+abbrev pub stored_as : Scalar → ℤ → ℤ
+stored_as TheBool z = truth_of z
+stored_as Char z = wrapped Char z
+stored_as SChar z = wrapped SChar z
+stored_as UChar z = wrapped UChar z
+stored_as Short z = wrapped Short z
+stored_as UShort z = wrapped UShort z
+stored_as Int z = wrapped Int z
+stored_as UInt z = wrapped UInt z
+stored_as Long z = wrapped Long z
+stored_as ULong z = wrapped ULong z
+stored_as LongLong z = wrapped LongLong z
+stored_as ULongLong z = wrapped ULongLong z
+
+-- a number of the type is an int's, by promotion (ISO C++03 4.5)
+abbrev pub PromotesToInt : Scalar → Type 0
+PromotesToInt TheBool = Unit {0}
+PromotesToInt Char = Unit {0}
+PromotesToInt SChar = Unit {0}
+PromotesToInt UChar = Unit {0}
+PromotesToInt Short = Unit {0}
+PromotesToInt UShort = Unit {0}
+PromotesToInt Int = Unit {0}
+PromotesToInt UInt = ⊥
+PromotesToInt Long = ⊥
+PromotesToInt ULong = ⊥
+PromotesToInt LongLong = ⊥
+PromotesToInt ULongLong = ⊥

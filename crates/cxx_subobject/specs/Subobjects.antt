@@ -1,0 +1,77 @@
+-- The inheritance subobjects of a class, as paths (ISO C++03 10.1; Rossie and Friedman).
+use Rattle.std.specs.Prelude.{◌≡◌, ℕ, Bool, true, false, nat_eq, ◌&&◌, Option, Some, None, List, [], ◌∷◌, ◌++◌, Contains}
+use Rattle.cxx_hierarchy.specs.declared.records.ClassId.{ClassId}
+use Rattle.cxx_hierarchy.specs.declared.records.Base.{Base}
+use Rattle.cxx_hierarchy.specs.Classes.{Classes, bases_of}
+use Rattle.cxx_subobject.specs.declared.Root.{Root}
+use Rattle.cxx_subobject.specs.declared.Root.TheVariants.{Whole, Shared}
+use Rattle.cxx_subobject.specs.declared.Subobject.{Subobject}
+
+-- b stands in the class head of c, virtual or not
+pub record IsDirectBase (h : Classes) (c : ClassId) (is_virtual : Bool) (b : ClassId) : Type 0 where
+  pub base : Base ClassId
+  pub listed : Contains (bases_of h c) base
+  pub class : base.class ≡ b
+  pub way : base.is_virtual ≡ is_virtual
+
+-- the classes of the path are, each of the one before it and the first of c, direct non-virtual bases
+abbrev pub Leads : Classes → ClassId → List ClassId → Type 0
+Leads h c [] = Unit {0}
+Leads h c (b ∷ path) = IsDirectBase h c false b × Leads h b path
+
+-- v is a virtual base of c: c names it, or a base of c has it
+pub data HasVirtualBase (h : Classes) : ClassId → ClassId → Type 0 where
+  direct : (c v : ClassId) → IsDirectBase h c true v → HasVirtualBase h c v
+  further : (c b v : ClassId) (way : Bool) → IsDirectBase h c way b → HasVirtualBase h b v → HasVirtualBase h c v
+
+abbrev pub subobject : Root → List ClassId → Subobject
+subobject root path = record { root = root; path = path }
+
+-- the whole of an object of class c
+abbrev pub whole_of : ClassId → Subobject
+whole_of c = subobject Whole (c ∷ [])
+
+-- s is a subobject of c
+pub data IsSubobject (h : Classes) (c : ClassId) : Subobject → Type 0 where
+  whole : (path : List ClassId) → Leads h c path → IsSubobject h c (subobject Whole (c ∷ path))
+  shared : (v : ClassId) (path : List ClassId) → HasVirtualBase h c v → Leads h v path → IsSubobject h c (subobject (Shared v) (v ∷ path))
+
+abbrev pub last_of : ClassId → List ClassId → ClassId
+last_of c [] = c
+last_of c (b ∷ path) = last_of b path
+
+abbrev pub class_of_path : List ClassId → Option ClassId
+class_of_path [] = None
+class_of_path (c ∷ path) = Some (last_of c path)
+
+-- the class of a subobject: the last one of its path
+abbrev pub class_of : Subobject → Option ClassId
+class_of s = class_of_path s.path
+
+abbrev pub tail_of : List ClassId → List ClassId
+tail_of [] = []
+tail_of (c ∷ path) = path
+
+abbrev pub join_at : Root → Subobject → Subobject → Subobject
+join_at (Shared v) outer inner = inner
+join_at Whole outer inner = subobject outer.root (outer.path ++ tail_of inner.path)
+
+-- the subobject of the whole that the inner one is, as a subobject of the outer one
+abbrev pub join : Subobject → Subobject → Subobject
+join outer inner = join_at inner.root outer inner
+
+abbrev pub same_path : List ClassId → List ClassId → Bool
+same_path [] [] = true
+same_path [] (d ∷ q) = false
+same_path (c ∷ p) [] = false
+same_path (c ∷ p) (d ∷ q) = nat_eq c.0 d.0 && same_path p q
+
+abbrev pub same_root : Root → Root → Bool
+same_root Whole Whole = true
+same_root Whole (Shared w) = false
+same_root (Shared v) Whole = false
+same_root (Shared v) (Shared w) = nat_eq v.0 w.0
+
+-- the test that two subobjects are one
+abbrev pub same_subobject : Subobject → Subobject → Bool
+same_subobject s t = same_root s.root t.root && same_path s.path t.path

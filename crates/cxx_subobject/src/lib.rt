@@ -1,0 +1,30 @@
+//! Inheritance subobjects as paths (ISO C++03 10.1, in the form of Rossie and Friedman).
+//!
+//! An object of class C has the subobjects (Whole, path) and (Shared V, path): the path begins with C, or with V
+//! where V is a virtual base of C, and each later class is a direct non-virtual base of the one before it.
+//! This crate owns that definition, and what it means that one subobject is a subobject of another (`join`).
+//! Nothing here has an address or an offset.
+//!
+//! The layer above may rely on: a subobject of a subobject is, by `join`, a subobject of the whole.
+#![tactic(auto)]
+
+use cxx_hierarchy::ClassId;
+use foundation::Sequence;
+
+/// A list of classes.
+pub type ClassPath = Sequence<ClassId>;
+
+/// Where a path begins: at the whole object, or at one of its virtual bases.
+#[derive(Clone, Copy, Debug, PartialEq, Eq)]
+pub enum Root {
+    Whole,
+    Shared(ClassId),
+}
+
+/// An inheritance subobject: the path's first class is the root's class, and each later class is a direct
+/// non-virtual base of the one before it.
+#[derive(Debug, Drop)]
+pub struct Subobject {
+    pub root: Root,
+    pub path: ClassPath,
+}
