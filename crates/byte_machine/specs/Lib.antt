@@ -4,3 +4,4 @@ pub mod HeapState
 pub mod Runs
 pub mod Turn
 pub mod MachineState
+pub mod Sample

@@ -2,7 +2,7 @@
 
 ghost use Rattle.std.specs.Prelude.{◌≡◌, ℕ, ◌+◌, ◌*◌, ◌<◌, ◌≤◌, ◌^◌, length, nat_le};
 ghost use Rattle.byte_memory.specs.Regions.{rounded, IsCount};
-ghost use Rattle.byte_machine.specs.Heap.{IsInOrder, LiesIn};
+ghost use Rattle.byte_machine.specs.Heap.{IsInOrder, LiesIn, has_address, object_at};
 
 use byte_memory::{Memory, MemoryFault};
 use foundation::NoMemory;
@@ -40,7 +40,7 @@ impl<M: Memory> Heap<M> {
     ghost use Rattle.std.specs.Prelude.{[], IfOk, MatchResult, Some, None, nat_lt};
     ghost use Rattle.byte_memory.specs.Store.{IsRoom, open_of, store_of, load_of};
     ghost use Rattle.byte_memory.specs.Regions.{total_of, fault_at};
-    ghost use Rattle.byte_machine.specs.Heap.{made, object_at, heap_limit};
+    ghost use Rattle.byte_machine.specs.Heap.{made, heap_limit};
 
     /// A memory in which no heap object was made yet.
     pub fn new(alloc: Global, memory: M) -> Heap<M>
@@ -114,9 +114,9 @@ impl<M: Memory> Heap<M> {
         requires word { bytes ≤ 8 }
         ensures result { MatchResult result
             (λ _. (fault_at (M.meaning self.old.memory).regions at bytes ≡ None)
-                × (M.meaning self.new.memory ≡ store_of (M.meaning self.old.memory) at bytes value))
+            × (M.meaning self.new.memory ≡ store_of (M.meaning self.old.memory) at bytes value))
             (λ fault. (fault_at (M.meaning self.old.memory).regions at bytes ≡ Some fault)
-                × (M.meaning self.new.memory ≡ M.meaning self.old.memory)) }
+            × (M.meaning self.new.memory ≡ M.meaning self.old.memory)) }
         ensures objects { self.new.objects.items ≡ self.old.objects.items }
         ensures total { self.new.total ≡ self.old.total }
     {
@@ -127,16 +127,7 @@ impl<M: Memory> Heap<M> {
     pub fn opened(&self, at: u64) -> Option<Opened>
         ensures { result ≡ object_at self.now.objects.items at }
     {
-        let count = count_up_to(&self.objects, at);
-        if count == 0 {
-            return None;
-        }
-        let object = self.objects[count - 1];
-        if at - object.start < object.size as u64 {
-            Some(object)
-        } else {
-            None
-        }
+        find_object(&self.objects, at)
     }
 }
 
@@ -151,4 +142,28 @@ fn count_up_to(objects: &[Opened], at: u64) -> usize
             ensures { result ≡ nat_le object.now.start at }
         { object.start <= at },
     )
+}
+
+/// Whether the heap object has the address.
+fn is_within(object: Opened, at: u64) -> bool
+    ensures { result ≡ has_address at object }
+{
+    object.start <= at && at - object.start < object.size as u64
+}
+
+/// The heap object that has the address.
+fn find_object(objects: &[Opened], at: u64) -> Option<Opened>
+    requires { IsInOrder objects.now }
+    ensures { result ≡ object_at objects.now at }
+{
+    let count = count_up_to(objects, at);
+    if count == 0 {
+        return None;
+    }
+    let object = objects[count - 1];
+    if is_within(object, at) {
+        Some(object)
+    } else {
+        None
+    }
 }
