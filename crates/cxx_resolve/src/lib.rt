@@ -9,5 +9,8 @@
 #![tactic(auto)]
 
 pub mod program;
+pub mod resolution;
+mod variables;
 
 pub use crate::program::{LineList, MemberPlace, SimpleProgram, Statement, TypeList, TypedLine};
+pub use crate::resolution::resolve_simple;
