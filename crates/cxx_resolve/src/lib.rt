@@ -8,6 +8,7 @@
 //! stand in text order with their lines.
 #![tactic(auto)]
 
+pub mod laws;
 pub mod program;
 pub mod resolution;
 mod variables;

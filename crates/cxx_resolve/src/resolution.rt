@@ -1,6 +1,7 @@
 //! From the names of a `main` to numbers.
 
-ghost use Rattle.std.specs.Prelude.{◌≡◌, ◌<◌, ℕ, Some, ◌↔◌, IsTrue, length, IfOk, IfErr, MatchOption};
+ghost use Rattle.std.specs.Prelude.{◌≡◌, ◌<◌, ℕ, Some, ◌↔◌, IsTrue, position, length, IfOk, IfErr, MatchOption};
+ghost use Rattle.std.specs.Str.{bytes_eq};
 ghost use Rattle.cxx_hierarchy.specs.Scalars.{PromotesToInt};
 ghost use Rattle.cxx_hierarchy.specs.Classes.{Classes, value_type_in};
 ghost use Rattle.cxx_hierarchy.specs.NameTables.{number_in};
@@ -48,6 +49,15 @@ fn number_type(member: &Member<ClassId>) -> Option<Scalar>
     }
 }
 
+/// The number of the first member of a name.
+fn first_named(members: &[Member<ClassId>], name: &Name) -> Option<usize>
+    ensures { result ≡ position (λ member. bytes_eq member.name name.now) members.now }
+{
+    members
+        .iter()
+        .position(|member| member.name.as_slice() == name.as_slice())
+}
+
 /// The member of a name that is a number, by its number and its type.
 fn number_member(h: &Hierarchy, class: ClassId, name: &Name) -> Option<(u32, Scalar)>
     requires { class.0 < length h.now }
@@ -55,9 +65,7 @@ fn number_member(h: &Hierarchy, class: ClassId, name: &Name) -> Option<(u32, Sca
 {
     h.keeps();
     let members = h.class(class).members.as_slice();
-    let number = members
-        .iter()
-        .position(|member| member.name.as_slice() == name.as_slice())?;
+    let number = first_named(members, name)?;
     let scalar = number_type(&members[number])?;
     Some((number as u32, scalar))
 }
@@ -158,6 +166,7 @@ fn resolve_read(
     ensures declares { IfOk result (λ s. Declares variables.old.table variables.old.types (Read variable.now pointer.now field.now) s variables.new.table variables.new.types) }
     ensures err { IfErr result (IsRefusal ((s : Statement) → LineResolves h.now (number_in variables.old.table) variables.old.types (Read variable.now pointer.now field.now) s → ⊥)) }
 {
+    h.keeps();
     let (from, place, scalar) = field_of(alloc, h, variables, pointer, field)?;
     if !promotes_to_int(scalar) {
         return Err(Stop::Refused(Rule::Syntax, 0));
