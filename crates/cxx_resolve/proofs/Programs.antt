@@ -50,7 +50,7 @@ same_line h keeps n types _ _ _ (print variable v number type) (print _ w number
     ap Prints same
 
 -- a line declares as many types as names
-paired : (h : Classes) (n : Numbering) (types : Types) (what : Simple) (s : Statement) → LineResolves h n types what s → length (name_declared what) ≡ length (type_declared s)
+pub paired : (h : Classes) (n : Numbering) (types : Types) (what : Simple) (s : Statement) → LineResolves h n types what s → length (name_declared what) ≡ length (type_declared s)
 paired h n types _ _ (new class variable c named free) = refl
 paired h n types _ _ (write pointer field value p place t f) = refl
 paired h n types _ _ (read variable pointer field p place t f small free) = refl
@@ -59,7 +59,7 @@ paired h n types _ _ (print variable v number type) = refl
 typed_line : Statement → ℕ → TypedLine
 typed_line s n = record { what = s; line = n }
 
-same_typed : (a b : TypedLine) → a.what ≡ b.what → a.line ≡ b.line → a ≡ b
+pub same_typed : (a b : TypedLine) → a.what ≡ b.what → a.line ≡ b.line → a ≡ b
 unfolding typed_line
 same_typed a b what line = ap (λ (s : Statement). typed_line s a.line) what ∙ ap (λ (n : ℕ). typed_line b.what n) line
 

@@ -223,6 +223,7 @@ pub fn resolve_simple(alloc: Global, h: &Hierarchy, main: &SimpleLines) -> Resul
     ensures ok { IfOk result (λ program. Resolves h.now main.now program) }
     ensures err { IfErr result (IsRefusal ((program : SimpleProgram) → Resolves h.now main.now program → ⊥)) }
 {
+    h.keeps();
     let mut variables = Variables::new(alloc);
     let mut lines = Sequence::new(alloc);
     for line in main.as_slice() {
