@@ -2,6 +2,9 @@
 use Rattle.std.proofs.Common.{◌≡◌, ℕ, zero, suc, ◌+◌, ◌<◌, ◌≤◌, Bool, true, false, cond, nat_lt, nat_le, nat_eq, List, [], ◌∷◌, ◌++◌, length, take, map, refl, sym, ◌∙◌, ap, subst, arith, get_or, inl, inr, ◌⊎◌, if◌then◌else◌}
 use Rattle.std.proofs.Math.Seq.{take-length}
 use Rattle.std.proofs.lemmas.Bool.{cases_lt}
+use Rattle.std.proofs.lemmas.Map.Keys.{any_passes_from_place}
+use Rattle.std.proofs.lemmas.Map.Steps.{le-length_from_below}
+use lib.Dec.{eqb}
 use Rattle.std.specs.Prelude.{Option, Some, None, is_some, slice_get, unwrap_or, Contains, not, ◌||◌}
 use Rattle.std.specs.List.{list_any, filter_map}
 use Rattle.std.specs.Option.{option_map}
@@ -76,16 +79,37 @@ at_place : {X : Type 0} (xs : List X) (i : ℕ) → i < length xs → (x : X) ×
 at_place [] i h = absurd (omega arith)
 at_place (x ∷ xs) i h = (get_or (x ∷ xs) i x, slice_get-get_or (x ∷ xs) i x h)
 
-pub few_records : (records : List Record) → IsAccepted records → length records ≤ 1024
-few_records records accepted = few (cases_lt 1024 (length records))
+-- a list that has no item at place n has at most n items
+up_to : {X : Type 0} (xs : List X) (n : ℕ) → ((x : X) → slice_get xs n ≡ Some x → ⊥) → length xs ≤ n
+up_to xs n none = by (cases_lt n (length xs))
     where
-      few : (1024 < length records) ⊎ (length records ≤ 1024) → length records ≤ 1024
-      few (inr h) = h
-      few (inl h) =
-          let r = at_place records 1024 h in
-          let long : length (take 1024 records) ≡ 1024 = length-take-le 1024 records (omega arith) in
-          let c : nat_le 1024 (length (take 1024 records)) ≡ false = (clean records accepted 1024 r.0 r.1).few in
-          absurd (let d : nat_le 1024 1024 ≡ false = subst (λ (n : ℕ). nat_le 1024 n ≡ false) long c in let t : nat_le 1024 1024 ≡ true = refl in cc)
+      by : (n < length xs) ⊎ (length xs ≤ n) → length xs ≤ n
+      by (inr h) = h
+      by (inl h) = let r = at_place xs n h in absurd (none r.0 r.1)
+
+no_less : (n : ℕ) → nat_le n n ≡ false → ⊥
+no_less n h = absurd (grind (arith, nat_tests))
+
+-- the first fault of an item past the most that are allowed
+too_many : {X : Type 0} (xs : List X) (n : ℕ) (x : X) → slice_get xs n ≡ Some x → nat_le n (length (take n xs)) ≡ false → ⊥
+too_many xs n x at less =
+    let within : n < length xs = slice_get_within xs n x at in
+    let long : length (take n xs) ≡ n = length-take-le n xs (omega arith) in
+    let other : nat_le n n ≡ false = subst (λ (m : ℕ). nat_le n m ≡ false) long less in
+    no_less n other
+
+pub few_records : (records : List Record) → IsAccepted records → length records ≤ 1024
+few_records records accepted = up_to records 1024 (λ r at. too_many records 1024 r at (clean records accepted 1024 r at).few)
+
+few_bases : (records : List Record) → IsAccepted records → (i : ℕ) (r : Record) → slice_get records i ≡ Some r → length r.bases ≤ 64
+few_bases records accepted i r at = up_to r.bases 64 (λ b at_b.
+    let faults = none_at (base_faults (names_of records) (names_of (take i records))) r.bases 64 b (clean records accepted i r at).bases at_b in
+    too_many r.bases 64 b at_b (not_faulty _ _ (none_left _ _ (none_left _ _ faults))))
+
+few_parts : (records : List Record) → IsAccepted records → (i : ℕ) (r : Record) → slice_get records i ≡ Some r → length r.order ≤ 1024
+few_parts records accepted i r at = up_to r.order 1024 (λ p at_p.
+    let faults = none_at (part_faults (names_of records) (names_of (take i records)) r) r.order 1024 p (clean records accepted i r at).parts at_p in
+    too_many r.order 1024 p at_p (not_faulty _ _ (none_left _ _ (none_left _ _ faults))))
 
 -- two classes of one name are one
 new_names : (records : List Record) → IsAccepted records → (i j : ℕ) (x y : Record) → slice_get records i ≡ Some x → slice_get records j ≡ Some y → x.name ≡ y.name → i < j → ⊥
@@ -135,6 +159,17 @@ member_part r in_order j m at =
     let one = counted (is_part is_member j) r.order (in_order.members j ∙ ap (λ (b : Bool). if b then 1 else 0) below) in
     let both = member_kind one.item.kind (nat_eq one.item.number j) one.passes in
     record { place = one.place; part = one.item; listed = one.listed; kind = both.0; number = same_number one.item.number j both.1 }
+
+few_members : (records : List Record) → IsAccepted records → (i : ℕ) (r : Record) → slice_get records i ≡ Some r → length r.members ≤ 1024
+few_members records accepted i r at =
+    let size : length (map (λ (p : PartAt). p.number) r.order) ≡ length r.order = length-map r.order (λ (p : PartAt). p.number) in
+    let parts : length r.order ≤ 1024 = few_parts records accepted i r at in
+    let each : length r.members ≤ length (map (λ (p : PartAt). p.number) r.order) = le-length_from_below (map (λ (p : PartAt). p.number) r.order) (length r.members) (λ q below.
+        let m = at_place r.members q below in
+        let p = member_part r (accepted.in_order i r at) q m.0 m.1 in
+        any_passes_from_place (eqb q) (map (λ (p : PartAt). p.number) r.order) p.place p.part.number (get_map (λ (p : PartAt). p.number) r.order p.place p.part p.listed)
+          (let e : p.part.number ≡ q = p.number in grind (arith, nat_tests))) in
+    omega arith
 
 member_clean : (records : List Record) → IsAccepted records → (i : ℕ) (r : Record) → slice_get records i ≡ Some r → (j : ℕ) (m : Member Text) → slice_get r.members j ≡ Some m →
     (at : ℕ) × (member_faults (names_of records) (names_of (take i records)) at (Some m) ≡ [])
@@ -264,6 +299,22 @@ member_names records accepted c i j x y at_x at_y same =
           (named_before records accepted c.0 r.rec r.listed j i q'.member r.member q_at r.at (sym e) q p) in
     same_part r.rec i j p q place
 
+few_bases_of : (records : List Record) → IsAccepted records → (c : ClassId) (o : Option Class) → class_at (resolved records) c ≡ o → length (bases_in o) ≤ 64
+few_bases_of records accepted c None e = omega arith
+few_bases_of records accepted c (Some x) e =
+    let r = recorded records c x e in
+    let size : length (map (resolved_base (class_of_name (names_of records))) r.rec.bases) ≡ length r.rec.bases = length-map r.rec.bases (resolved_base (class_of_name (names_of records))) in
+    let few : length r.rec.bases ≤ 64 = few_bases records accepted c.0 r.rec r.listed in
+    subst (λ (y : Class). length y.bases ≤ 64) (sym r.same) (omega arith)
+
+few_members_of : (records : List Record) → IsAccepted records → (c : ClassId) (o : Option Class) → class_at (resolved records) c ≡ o → length (members_in o) ≤ 1024
+few_members_of records accepted c None e = omega arith
+few_members_of records accepted c (Some x) e =
+    let r = recorded records c x e in
+    let size : length (map (resolved_member (class_of_name (names_of records))) r.rec.members) ≡ length r.rec.members = length-map r.rec.members (resolved_member (class_of_name (names_of records))) in
+    let few : length r.rec.members ≤ 1024 = few_members records accepted c.0 r.rec r.listed in
+    subst (λ (y : Class). length y.members ≤ 1024) (sym r.same) (omega arith)
+
 pub is_hierarchy : (records : List Record) → IsAccepted records → IsHierarchy (resolved records)
 is_hierarchy records accepted =
     let size : length (resolved records) ≡ length records = length-map records (resolved_class (class_of_name (names_of records))) in
@@ -284,5 +335,7 @@ is_hierarchy records accepted =
         let n = member_clean records accepted c.0 r.rec r.listed p.place r.member r.at in
         let l : d.0 < length records = pointer_below records c.0 n.0 r.member.ty d (none_left _ _ n.1) (ap (λ (z : Member ClassId). z.ty) (sym r.same) ∙ e) in
         omega arith;
+      few_bases = λ c. few_bases_of records accepted c (class_at (resolved records) c) refl;
+      few_members = λ c. few_members_of records accepted c (class_at (resolved records) c) refl;
       members = member_names records accepted;
     }

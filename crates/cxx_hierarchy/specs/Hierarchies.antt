@@ -16,5 +16,8 @@ pub record IsHierarchy (h : Classes) : Type 0 where
   pub bases : (c : ClassId) (b : Base ClassId) → Contains (bases_of h c) b → b.class.0 < c.0
   pub objects : (c d : ClassId) (m : Member ClassId) → Contains (members_of h c) m → m.ty ≡ Object d → d.0 < c.0
   pub pointers : (c d : ClassId) (m : Member ClassId) → Contains (members_of h c) m → m.ty ≡ Value (Pointer d) → d.0 < length h
+  -- a class has at most 64 direct bases and 1024 members
+  pub few_bases : (c : ClassId) → length (bases_of h c) ≤ 64
+  pub few_members : (c : ClassId) → length (members_of h c) ≤ 1024
   -- no two members of a class have one name
   pub members : (c : ClassId) (i j : ℕ) (x y : Member ClassId) → slice_get (members_of h c) i ≡ Some x → slice_get (members_of h c) j ≡ Some y → x.name ≡ y.name → i ≡ j

@@ -13,12 +13,13 @@
 
 mod class_pass;
 pub mod hierarchy;
-mod names;
+pub mod names;
 pub mod records;
 mod resolution;
 pub mod stop;
 
 pub use crate::hierarchy::{Hierarchy, build};
+pub use crate::names::NameTable;
 pub use crate::records::{
     Base, BaseList, ClassId, ClassRec, Destructor, FieldType, Function, FunctionList, Member,
     MemberList, Name, Param, ParamList, PartAt, PartKind, PartOrder, RecordList, ReturnType,

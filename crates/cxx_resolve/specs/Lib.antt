@@ -1,1 +1,4 @@
 pub mod Typed
+pub mod Resolves
+pub mod Answers
+pub mod Laws

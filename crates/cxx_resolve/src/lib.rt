@@ -8,6 +8,10 @@
 //! stand in text order with their lines.
 #![tactic(auto)]
 
+pub mod laws;
 pub mod program;
+pub mod resolution;
+mod variables;
 
 pub use crate::program::{LineList, MemberPlace, SimpleProgram, Statement, TypeList, TypedLine};
+pub use crate::resolution::resolve_simple;

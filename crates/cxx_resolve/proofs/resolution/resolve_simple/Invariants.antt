@@ -1,0 +1,5 @@
+use Rattle.cxx_resolve.proofs.SoFar.{SoFar}
+use Rattle.cxx_resolve.proofs.resolution.resolve_simple.Given as goal
+
+abbrev pub invariant-loop-line : goal.invariant-loop-line
+invariant-loop-line l = SoFar l.h l.line-items l.line-index l.variables.table l.variables.types l.lines
