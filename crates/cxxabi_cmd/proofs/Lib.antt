@@ -1,3 +1,5 @@
 pub mod StreamLemmas
 pub mod CommandLemmas
 pub mod OutputLemmas
+pub mod FormLemmas
+pub mod ProgramLemmas

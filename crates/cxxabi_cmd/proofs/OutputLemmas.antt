@@ -1,5 +1,5 @@
 -- How an output is put together.
-use Rattle.std.proofs.Common.{◌≡◌, ℕ, zero, suc, ◌+◌, ◌<◌, ◌≤◌, ◌⊎◌, inl, inr, ⊎_elim, Option, Some, None, Result, Ok, Err, List, [], ◌∷◌, ◌++◌, take, length, refl, sym, ◌∙◌, ap, subst, arith}
+use Rattle.std.proofs.Common.{◌≡◌, ℕ, zero, suc, ◌<◌, ◌≤◌, ◌⊎◌, ⊎_elim, Option, Some, None, Result, Ok, Err, List, [], ◌∷◌, ◌++◌, take, length, refl, sym, ap, subst, arith}
 use Rattle.std.specs.Prelude.{IfSome, IfOk}
 use Rattle.std.proofs.lemmas.List.{length-take}
 use Rattle.foundation.specs.declared.memory.NoMemory.{NoMemory as Want}
@@ -9,7 +9,10 @@ use Rattle.cxxabi_cmd.specs.declared.status.Status.{Status}
 use Rattle.cxxabi_cmd.specs.declared.status.Status.TheVariants.{Usage, Limit, WriteFault}
 use Rattle.cxxabi_cmd.specs.Streams.{IsPartOf}
 use Rattle.cxxabi_cmd.specs.Output.{IsCommand, Output, usage, too_long, Answer, line_alone, Answers, BreaksOff, IsAnswered}
-use Rattle.cxxabi_cmd.specs.Replies.{answer_of}
+use Rattle.byte_code.specs.declared.code.Code.{Code}
+use Rattle.byte_machine.specs.Turn.{State}
+use Rattle.cxxabi_cmd.specs.Handed.{Hands, HandsOut}
+use Rattle.cxxabi_cmd.specs.Replies.{answer_of, machine_of}
 
 -- a front that is shorter than was asked for is the whole
 whole_read : (n : ℕ) (bytes all : List ℕ) → bytes ≡ take n all → length bytes < n → bytes ≡ all
@@ -40,7 +43,40 @@ pub usage_output : (words : List (List ℕ)) (bytes : List ℕ) (reply : Reply) 
 usage_output words bytes reply alone none = subst (λ a. Output words bytes a) (sym alone) (usage none)
 
 -- the answer was written
-pub answers : (words : List (List ℕ)) (bytes : List ℕ) (before after : Option (List ℕ)) (status : Status) (answer : Answer) → Output words bytes answer →
-    (status ≡ answer.status) ⊎ (status ≡ WriteFault) → (status ≡ answer.status → IfSome before (λ taken. after ≡ Some (taken ++ answer.text))) → IsAnswered status → Answers words bytes before after status
-answers words bytes before after status answer output either whole answered =
-    ⊎_elim (λ same. record { answer = answer; output = output; same = same; text = whole same }) (λ fault. absurd (subst IsAnswered fault answered)) either
+pub answers : (words : List (List ℕ)) (bytes : List ℕ) (before after : Option (List ℕ)) (status : Status) (answer : Answer) (written : List ℕ) → Output words bytes answer → written ≡ answer.text →
+    (status ≡ answer.status) ⊎ (status ≡ WriteFault) → (status ≡ answer.status → IfSome before (λ taken. after ≡ Some (taken ++ written))) → IsAnswered status → Answers words bytes before after status
+answers words bytes before after status answer written output is either whole answered =
+    ⊎_elim (λ same. record { answer = answer; output = output; same = same; text = subst (λ (t : List ℕ). IfSome before (λ taken. after ≡ Some (taken ++ t))) is (whole same) })
+    (λ fault. absurd (subst IsAnswered fault answered)) either
+
+-- a front of the answer was written
+pub broken_off : (words : List (List ℕ)) (bytes : List ℕ) (before after : Option (List ℕ)) (answer : Answer) (written : List ℕ) → Output words bytes answer → written ≡ answer.text →
+    IfSome before (λ taken. IsPartOf taken written after) → BreaksOff words bytes before after
+broken_off words bytes before after answer written output is part =
+    record { answer = answer; output = output; part = subst (λ (t : List ℕ). IfSome before (λ taken. IsPartOf taken t after)) is part }
+
+-- no machine for a text that is too long
+pub limit_machine : (r : Result Reply Want) (bytes : List ℕ) → IfOk r (λ reply. machine_of reply ≡ None) → 262144 < length bytes →
+    IfOk r (λ reply. (words : List (List ℕ)) (all : List ℕ) → IsCommand words → bytes ≡ take 262145 all → HandsOut words all (machine_of reply))
+limit_machine (Ok reply) bytes none long =
+    λ words all command same. subst (λ (m : Option (Code × State)). HandsOut words all m) (sym none) (λ command short. absurd (let size : length bytes ≡ length (take 262145 all) = ap length same in omega (arith, size, length-take 262145 all)))
+limit_machine (Err e) bytes none long = none
+
+hands_out : (words : List (List ℕ)) (text : List ℕ) (m : Option (Code × State)) → IsCommand words → Hands text m → HandsOut words text m
+hands_out words text None command hands = λ again short. hands
+hands_out words text (Some m) command hands = (command, hands)
+
+-- the machine for a text that was read whole
+pub read_machine : (r : Result Reply Want) (bytes : List ℕ) → IfOk r (λ reply. Hands bytes (machine_of reply)) → length bytes ≤ 262144 →
+    IfOk r (λ reply. (words : List (List ℕ)) (all : List ℕ) → IsCommand words → bytes ≡ take 262145 all → HandsOut words all (machine_of reply))
+read_machine (Ok reply) bytes hands short =
+    λ words all command same. subst (λ (b : List ℕ). HandsOut words b (machine_of reply)) (whole_read 262145 bytes all same (omega arith)) (hands_out words bytes (machine_of reply) command hands)
+read_machine (Err e) bytes hands short = hands
+
+-- no machine where the words are no command
+pub usage_machine : (words : List (List ℕ)) (bytes : List ℕ) (reply : Reply) → machine_of reply ≡ None → (IsCommand words → ⊥) → HandsOut words bytes (machine_of reply)
+usage_machine words bytes reply none no_command = subst (λ (m : Option (Code × State)). HandsOut words bytes m) (sym none) (λ command. absurd (no_command command))
+
+-- what was read is what the source told
+pub told_bytes : (remaining : Option (List ℕ)) (text bytes : List ℕ) → IfSome remaining (λ all. text ≡ take 262145 all) → remaining ≡ Some bytes → text ≡ take 262145 bytes
+told_bytes remaining text bytes read told = subst (λ (o : Option (List ℕ)). IfSome o (λ all. text ≡ take 262145 all)) told read

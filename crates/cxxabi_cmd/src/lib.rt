@@ -17,8 +17,11 @@ pub mod sinks;
 pub mod source;
 pub mod sources;
 pub mod status;
+#[cfg(test)]
+mod tests;
 pub mod writing;
 
+pub use crate::run::run_cxxabi;
 pub use crate::sink::{Sink, SinkFailed};
 pub use crate::sinks::{BytesSink, StdoutSink, SteadySink};
 pub use crate::source::{Source, SourceFailed};

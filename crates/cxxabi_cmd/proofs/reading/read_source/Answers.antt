@@ -1,4 +1,4 @@
-use Rattle.std.proofs.Common.{arith, ◌≡◌, ◌≤◌, length}
+use Rattle.std.proofs.Common.{arith}
 use Rattle.cxxabi_cmd.proofs.StreamLemmas.{taken_full, left_full, taken_ended, left_ended}
 use Rattle.cxxabi_cmd.proofs.reading.read_source.Goals as goal
 

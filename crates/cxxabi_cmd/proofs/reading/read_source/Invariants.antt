@@ -1,4 +1,4 @@
-use Rattle.std.proofs.Common.{ℕ, ◌≡◌, ◌≤◌, ◌-◌, Some, vec_len, IfSome}
+use Rattle.std.proofs.Common.{◌≤◌, ◌-◌, vec_len, IfSome}
 use Rattle.cxxabi_cmd.proofs.StreamLemmas.{SoFar}
 use Rattle.cxxabi_cmd.proofs.reading.read_source.Given as goal
 

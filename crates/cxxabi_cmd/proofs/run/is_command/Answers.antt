@@ -1,4 +1,4 @@
-use Rattle.std.proofs.Common.{string_bytes, arith, ℕ, List}
+use Rattle.std.proofs.Common.{string_bytes}
 use Rattle.cxxabi_cmd.proofs.CommandLemmas.{is_one_word}
 use Rattle.cxxabi_cmd.proofs.run.is_command.Goals as goal
 

@@ -1,4 +1,4 @@
-use Rattle.std.proofs.Common.{ℕ, ◌≡◌, ◌≤◌, ◌++◌, ◌+◌, Some, length, take, IfSome}
+use Rattle.std.proofs.Common.{◌≤◌, length, IfSome}
 use Rattle.cxxabi_cmd.proofs.StreamLemmas.{IsGiven}
 use Rattle.cxxabi_cmd.proofs.writing.write_text.Given as goal
 
