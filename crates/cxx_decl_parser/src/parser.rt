@@ -7,7 +7,8 @@ ghost use Rattle.cxx_decl_parser.specs.declared.simple.SimpleLine.{SimpleLine};
 ghost use Rattle.cxx_decl_parser.specs.declared.simple.SimpleSource.{SimpleSource};
 ghost use Rattle.cxx_decl_parser.specs.Takes.{TakesWord, TakesSign};
 ghost use Rattle.cxx_decl_parser.specs.Grammar.{Named, Until, Class, Statement, Source, IsSimple, declares, has_slash};
-ghost use Rattle.cxx_decl_parser.specs.Reading.{Gives, IsStop, Refuses, main_head_at};
+ghost use Rattle.cxx_decl_parser.specs.Refusal.{Refuses};
+ghost use Rattle.cxx_decl_parser.specs.Reading.{Gives, IsStop, main_head_at};
 
 use crate::class::class;
 use crate::cursor::{SYNTAX, after_sign, after_word, take_end, take_sign, take_word};
