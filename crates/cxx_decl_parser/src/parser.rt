@@ -19,6 +19,10 @@ use cxx_text::{Token, tokens};
 use foundation::Sequence;
 use std::alloc::Global;
 
+const MAX_CLASSES: usize = 1024;
+
+const MAX_DECLARATIONS: usize = 256;
+
 // {class} "int"
 fn classes<'a>(
     alloc: Global,
@@ -99,7 +103,7 @@ fn source(alloc: Global, text: &[u8], list: &[Token]) -> Result<SimpleSource, St
     let (_head, rest) = main_head(text, rest)?;
     let (main, rest) = statements(alloc, text, rest)?;
     let (_end, _none) = take_end(rest)?;
-    if records.len() > 1024 || declarations(main.as_slice()) > 256 {
+    if records.len() > MAX_CLASSES || declarations(main.as_slice()) > MAX_DECLARATIONS {
         return Err(SYNTAX);
     }
     Ok(SimpleSource { records, main })
