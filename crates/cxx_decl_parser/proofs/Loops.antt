@@ -8,7 +8,8 @@ use Rattle.cxx_hierarchy.specs.declared.records.Member.{Member}
 use Rattle.cxx_hierarchy.specs.declared.records.PartAt.{PartAt}
 use Rattle.cxx_decl_parser.specs.Takes.{TakesWord, TakesSign}
 use Rattle.cxx_decl_parser.specs.Grammar.{Named, Field, Fields}
-use Rattle.cxx_decl_parser.specs.Reading.{Refuses, IsStop, ReadsFields, field_at, after_word, after_sign}
+use Rattle.cxx_decl_parser.specs.Refusal.{Refuses}
+use Rattle.cxx_decl_parser.specs.Reading.{IsStop, ReadsFields, field_at, after_word, after_sign}
 use Rattle.cxx_decl_parser.proofs.Found.{field_found, after_sign_found, after_word_found}
 use Rattle.cxx_decl_parser.proofs.Made.{field_made, after_sign_made}
 use Rattle.cxx_decl_parser.proofs.Repeats.{IsPast, at_start, one_more, closed, stuck, at_least}

@@ -15,7 +15,8 @@ use Rattle.cxx_decl_parser.specs.Lexemes.{same_bytes, spelling, is_kind_word, is
 use Rattle.cxx_decl_parser.specs.Words.{is_reserved}
 use Rattle.cxx_decl_parser.specs.Takes.{TakesWord, TakesSign, TakesName, TakesNumber, AtEnd}
 use Rattle.cxx_decl_parser.specs.Grammar.{Named, field_of, on_line, Field, int_field, char_field, Constant, plain, negated, Statement, new_object, write_field, read_field, print_variable}
-use Rattle.cxx_decl_parser.specs.Reading.{◌>>=◌, syntax, is_word, is_sign, is_name, is_number, is_none, next_at, word_at, sign_at, name_at, number_at, plain_at, negated_at, constant_at, field_end_at, field_at, new_at, write_at, read_at, print_at, named_at, statement_at, class_head_at, main_head_at, end_at, after_word, after_sign}
+use Rattle.cxx_decl_parser.specs.Refusal.{syntax}
+use Rattle.cxx_decl_parser.specs.Reading.{◌>>=◌, is_word, is_sign, is_name, is_number, is_none, next_at, word_at, sign_at, name_at, number_at, plain_at, negated_at, constant_at, field_end_at, field_at, new_at, write_at, read_at, print_at, named_at, statement_at, class_head_at, main_head_at, end_at, after_word, after_sign}
 use Rattle.cxx_decl_parser.proofs.Found.{same_is}
 
 and_left : (a b : Bool) → a && b ≡ true → a ≡ true

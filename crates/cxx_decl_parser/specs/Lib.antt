@@ -2,4 +2,5 @@ pub mod Lexemes
 pub mod Words
 pub mod Takes
 pub mod Grammar
+pub mod Refusal
 pub mod Reading

@@ -1,9 +1,8 @@
--- What the private readers of this crate compute of the tokens that are left, and how a source is refused.
-use Rattle.std.specs.Prelude.{◌≡◌, ◌⊎◌, ℕ, ℤ, pos, neg_ℤ, Bool, true, false, not, ◌&&◌, nat_le, if◌then◌else◌, List, [], ◌∷◌, codes, Result, Ok, Err, Option, Some, None, map}
+-- What the private readers of this crate compute of the tokens that are left.
+use Rattle.std.specs.Prelude.{◌≡◌, ℕ, ℤ, pos, neg_ℤ, Bool, true, false, not, ◌&&◌, nat_le, if◌then◌else◌, List, [], ◌∷◌, codes, Result, Ok, Err, Option, Some, None, map}
 use Rattle.cxx_text.specs.declared.token.Token.{Token}
 use Rattle.cxx_hierarchy.specs.declared.stop.Stop.{Stop}
 use Rattle.cxx_hierarchy.specs.declared.stop.Stop.TheVariants as stop
-use Rattle.cxx_hierarchy.specs.declared.stop.Rule.TheVariants as rule
 use Rattle.cxx_hierarchy.specs.declared.records.Scalar.{Scalar}
 use Rattle.cxx_hierarchy.specs.declared.records.Scalar.TheVariants as scalar
 use Rattle.cxx_hierarchy.specs.declared.records.Member.{Member}
@@ -12,15 +11,8 @@ use Rattle.cxx_decl_parser.specs.declared.simple.Simple.TheVariants.{New, Write,
 use Rattle.cxx_decl_parser.specs.declared.simple.SimpleLine.{SimpleLine}
 use Rattle.cxx_decl_parser.specs.Lexemes.{same_bytes, spelling, is_kind_word, is_kind_number, is_kind_sign, is_kind_end}
 use Rattle.cxx_decl_parser.specs.Words.{is_reserved}
+use Rattle.cxx_decl_parser.specs.Refusal.{syntax}
 use Rattle.cxx_decl_parser.specs.Grammar.{Named, field_of, on_line, Fields}
-
--- the one refusal of this form
-abbrev pub syntax : Stop
-syntax = stop.Refused rule.Syntax 0
-
--- want of memory, or a refusal for this reason
-abbrev pub Refuses : Stop → Type 0 → Type 0
-Refuses e reason = (e ≡ stop.NoMemory) ⊎ ((e ≡ syntax) × reason)
 
 -- nothing but want of memory and that refusal
 abbrev pub IsStop : Stop → Type 0

@@ -7,7 +7,8 @@ ghost use Rattle.cxx_hierarchy.specs.declared.records.PartAt.{PartAt};
 ghost use Rattle.cxx_text.specs.declared.token.Token.{Token};
 ghost use Rattle.cxx_decl_parser.specs.Grammar.{Named, Fields, Class, class_of};
 ghost use Rattle.cxx_decl_parser.specs.Lexemes.{spelling};
-ghost use Rattle.cxx_decl_parser.specs.Reading.{Gives, IsStop, Refuses, ReadsFields, field_end_at, field_at, class_head_at};
+ghost use Rattle.cxx_decl_parser.specs.Refusal.{Refuses};
+ghost use Rattle.cxx_decl_parser.specs.Reading.{Gives, IsStop, ReadsFields, field_end_at, field_at, class_head_at};
 
 use crate::cursor::{SYNTAX, after_sign, is_word, next, take_name, take_sign, take_word};
 use crate::statement::name_of;

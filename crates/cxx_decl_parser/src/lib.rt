@@ -14,6 +14,8 @@ pub mod cursor;
 pub mod parser;
 pub mod simple;
 pub mod statement;
+#[cfg(test)]
+mod tests;
 pub mod words;
 
 pub use crate::parser::{one_source, parse_simple};

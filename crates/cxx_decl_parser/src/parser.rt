@@ -7,7 +7,8 @@ ghost use Rattle.cxx_decl_parser.specs.declared.simple.SimpleLine.{SimpleLine};
 ghost use Rattle.cxx_decl_parser.specs.declared.simple.SimpleSource.{SimpleSource};
 ghost use Rattle.cxx_decl_parser.specs.Takes.{TakesWord, TakesSign};
 ghost use Rattle.cxx_decl_parser.specs.Grammar.{Named, Until, Class, Statement, Source, IsSimple, declares, has_slash};
-ghost use Rattle.cxx_decl_parser.specs.Reading.{Gives, IsStop, Refuses, main_head_at};
+ghost use Rattle.cxx_decl_parser.specs.Refusal.{Refuses};
+ghost use Rattle.cxx_decl_parser.specs.Reading.{Gives, IsStop, main_head_at};
 
 use crate::class::class;
 use crate::cursor::{SYNTAX, after_sign, after_word, take_end, take_sign, take_word};
@@ -17,6 +18,10 @@ use cxx_hierarchy::{RecordList, Stop};
 use cxx_text::{Token, tokens};
 use foundation::Sequence;
 use std::alloc::Global;
+
+const MAX_CLASSES: usize = 1024;
+
+const MAX_DECLARATIONS: usize = 256;
 
 // {class} "int"
 fn classes<'a>(
@@ -98,7 +103,7 @@ fn source(alloc: Global, text: &[u8], list: &[Token]) -> Result<SimpleSource, St
     let (_head, rest) = main_head(text, rest)?;
     let (main, rest) = statements(alloc, text, rest)?;
     let (_end, _none) = take_end(rest)?;
-    if records.len() > 1024 || declarations(main.as_slice()) > 256 {
+    if records.len() > MAX_CLASSES || declarations(main.as_slice()) > MAX_DECLARATIONS {
         return Err(SYNTAX);
     }
     Ok(SimpleSource { records, main })

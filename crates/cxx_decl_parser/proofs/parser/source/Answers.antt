@@ -4,7 +4,7 @@ use Rattle.cxx_decl_parser.specs.Reading.{main_head_at, end_at}
 use Rattle.cxx_decl_parser.proofs.Loops.{refused, because}
 use Rattle.cxx_decl_parser.proofs.Exits.{no_classes, no_main, no_statements, no_end, too_many, source_made}
 use Rattle.cxx_decl_parser.proofs.parser.source.Goals as goal
-use Rattle.cxx_decl_parser.proofs.parser.source.Goals.{then-len-gt1024-via-then-len-gt1024, then-len-gt1024-via-else-len-gt1024+then-declarations-gt256}
+use Rattle.cxx_decl_parser.proofs.parser.source.Goals.{then-len-gt-MAX_CLASSES-via-then-len-gt-MAX_CLASSES, then-len-gt-MAX_CLASSES-via-else-len-gt-MAX_CLASSES+then-declarations-gt-MAX_DECLARATIONS}
 
 pub returns-in_err-records-clause-refuses : goal.returns-in_err-records-clause-refuses
 returns-in_err-records-clause-refuses c =
@@ -31,14 +31,14 @@ returns-in_err-_end-clause-refuses c =
     (λ k. no_end c.args.text.now c.args.list.now c.in_ok-records.rest.now c.in_ok-_head.rest.now c.in_ok-main.rest.now c.in_ok-records.records c.in_ok-main.main c.in_ok-_head._head c.in_err-_end.field-0.0
     c.in_ok-records.ensures.reads c.in_ok-_head.ensures.gives c.in_ok-main.ensures.reads k))
 
-pub returns-then-len-gt1024-clause-refuses : goal.returns-then-len-gt1024-clause-refuses
-returns-then-len-gt1024-clause-refuses c = inr (
+pub returns-then-len-gt-MAX_CLASSES-clause-refuses : goal.returns-then-len-gt-MAX_CLASSES-clause-refuses
+returns-then-len-gt-MAX_CLASSES-clause-refuses c = inr (
   refl,
   too_many c.args.text.now c.args.list.now c.in_ok-records.rest.now c.in_ok-_head.rest.now c.in_ok-main.rest.now c.in_ok-records.records c.in_ok-main.main c.in_ok-_head._head
       c.in_ok-records.ensures.reads c.in_ok-_head.ensures.gives c.in_ok-main.ensures.reads
-      (elim c.then-len-gt1024.branch [
-        | then-len-gt1024-via-then-len-gt1024 w ↦ inl (omega (arith, c.len.ensures, w.if-len-gt1024.true))
-        | then-len-gt1024-via-else-len-gt1024+then-declarations-gt256 w ↦ inr (rw (w.declarations.ensures, w.as_slice.ensures) at w.if-declarations-gt256.true)
+      (elim c.then-len-gt-MAX_CLASSES.branch [
+        | then-len-gt-MAX_CLASSES-via-then-len-gt-MAX_CLASSES w ↦ inl (omega (arith, c.len.ensures, w.if-len-gt-MAX_CLASSES.true))
+        | then-len-gt-MAX_CLASSES-via-else-len-gt-MAX_CLASSES+then-declarations-gt-MAX_DECLARATIONS w ↦ inr (rw (w.declarations.ensures, w.as_slice.ensures) at w.if-declarations-gt-MAX_DECLARATIONS.true)
       ]),
 )
 
@@ -46,4 +46,4 @@ pub returns-clause-reads : goal.returns-clause-reads
 returns-clause-reads c =
     source_made c.args.text.now c.args.list.now c.in_ok-records.rest.now c.in_ok-_head.rest.now c.in_ok-main.rest.now _ c.in_ok-records.records c.in_ok-main.main c.in_ok-_head._head _
     c.in_ok-records.ensures.reads c.in_ok-_head.ensures.gives c.in_ok-main.ensures.reads c.in_ok-_end.ensures.gives
-    (omega (arith, c.len.ensures, c.if-len-gt1024.false)) (rw (c.declarations.ensures, c.as_slice.ensures) at c.if-declarations-gt256.false)
+    (omega (arith, c.len.ensures, c.if-len-gt-MAX_CLASSES.false)) (rw (c.declarations.ensures, c.as_slice.ensures) at c.if-declarations-gt-MAX_DECLARATIONS.false)
