@@ -1,2 +1,5 @@
 pub mod Places
 pub mod Sound
+pub mod Plain
+pub mod Laid
+pub mod Alignments

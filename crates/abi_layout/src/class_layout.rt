@@ -51,6 +51,20 @@ impl Model for AbiLayout {
 }
 
 impl AbiLayout {
+    /// The layout with these rows.
+    pub(crate) fn from_rows(rows: Vec<ClassLayout>) -> AbiLayout
+        ensures { result ≡ rows.items }
+    {
+        AbiLayout { rows }
+    }
+
+    /// The number of classes.
+    pub fn len(&self) -> usize
+        ensures { result ≡ length self.now }
+    {
+        self.rows.len()
+    }
+
     /// The layout of a class.
     pub fn layout(&self, c: ClassId) -> &ClassLayout
         requires { c.0 < length self.now }

@@ -9,5 +9,10 @@
 #![tactic(auto)]
 
 pub mod class_layout;
+pub mod component;
+pub mod hierarchy_layout;
+pub mod places;
+mod rows;
 
 pub use crate::class_layout::{AbiLayout, ClassLayout, PlaceList, Primary};
+pub use crate::hierarchy_layout::lay_out;

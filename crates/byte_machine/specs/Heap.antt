@@ -1,7 +1,12 @@
-use Rattle.std.specs.Prelude.{◌≡◌, ℕ, ◌+◌, ◌<◌, ◌≤◌, Bool, nat_le, nat_lt, ◌&&◌, Option, Some, List, [], ◌∷◌, ◌++◌, length, All, slice_get}
+use Rattle.std.specs.Prelude.{ℕ, ◌+◌, ◌≤◌, Bool, nat_le, nat_lt, ◌&&◌, Option, List, [], ◌∷◌, ◌++◌, length, All}
 use Rattle.std.specs.List.{find}
 use Rattle.byte_memory.specs.declared.memory.Region.{Region}
+use Rattle.byte_memory.specs.Regions.{IsAscendingBy}
 use Rattle.byte_machine.specs.declared.heap.Opened.{Opened}
+
+-- the most bytes that all heap objects of a run may take together
+abbrev pub heap_limit : ℕ
+heap_limit = 67108864
 
 -- the heap object has the address
 abbrev pub has_address : ℕ → Opened → Bool
@@ -16,8 +21,8 @@ abbrev pub made : List Opened → ℕ → ℕ → ℕ → List Opened
 made objects start size class = objects ++ (record { number = length objects + 1; start = start; size = size; class = class }) ∷ []
 
 -- each heap object ends before the later ones start
-abbrev pub IsAscending : List Opened → Type 0
-IsAscending objects = (i j : ℕ) (a b : Opened) → i < j → slice_get objects i ≡ Some a → slice_get objects j ≡ Some b → a.start + a.size ≤ b.start
+abbrev pub IsInOrder : List Opened → Type 0
+IsInOrder objects = IsAscendingBy (λ object. object.start) (λ object. object.size) objects
 
 -- what is above all regions is above all heap objects
 abbrev pub LiesIn : List Opened → List Region → Type 0

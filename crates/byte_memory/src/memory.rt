@@ -1,6 +1,6 @@
 //! The trait of all memories.
 
-ghost use Rattle.std.specs.Prelude.{◌≡◌, ◌+◌, ◌<◌, ◌≤◌, ◌^◌, Some, None, MatchResult, is_some};
+ghost use Rattle.std.specs.Prelude.{◌≡◌, ◌+◌, ◌<◌, ◌≤◌, ◌^◌, Some, None, MatchResult, IfOk, is_some};
 ghost use Rattle.byte_memory.specs.Regions.{fault_at, close_fault, total_of, rounded, IsAscending};
 ghost use Rattle.byte_memory.specs.Store.{Store, IsRoom, open_of, store_of, load_of, Closes};
 
@@ -45,7 +45,7 @@ pub trait Memory {
         requires room { total_of (meaning self.old).regions + rounded size < 2 ^ 40 }
         ensures { MatchResult result
             (λ at. IsRoom (meaning self.old) at size
-                × (meaning self.new ≡ open_of (meaning self.old) at size))
+            × (meaning self.new ≡ open_of (meaning self.old) at size))
             (λ fault. (fault ≡ MemoryFault.NoMemory) × (meaning self.new ≡ meaning self.old)) };
 
     /// Closes the region that starts there, and unsets its bytes.
@@ -55,13 +55,13 @@ pub trait Memory {
         ensures { MatchResult result
             (λ _. Closes (meaning self.old) (meaning self.new) at)
             (λ fault. (close_fault (meaning self.old).regions at ≡ Some fault)
-                × (meaning self.new ≡ meaning self.old)) };
+            × (meaning self.new ≡ meaning self.old)) };
 
     /// Whether the byte was stored. Range where no region holds it, else Closed where that is closed.
     fn is_set(&self, at: u64) -> Result<bool, MemoryFault>
         ensures { MatchResult result
             (λ set. (fault_at (meaning self.now).regions at 1 ≡ None)
-                × (set ≡ is_some ((meaning self.now).byte at)))
+            × (set ≡ is_some ((meaning self.now).byte at)))
             (λ fault. fault_at (meaning self.now).regions at 1 ≡ Some fault) };
 
     /// The number whose little-endian bytes stand there.
@@ -71,7 +71,8 @@ pub trait Memory {
     fn load(&self, at: u64, bytes: u8) -> Result<u64, MemoryFault>
         requires some { 0 < bytes }
         requires word { bytes ≤ 8 }
-        ensures { result ≡ load_of (meaning self.now) at bytes };
+        ensures value { result ≡ load_of (meaning self.now) at bytes }
+        ensures fits { IfOk result (λ number. number < 256 ^ bytes) };
 
     /// Stores the low bytes of a value, and changes nothing else. Refusals are those of `load` but Unset.
     fn store(&mut self, at: u64, bytes: u8, value: u64) -> Result<(), MemoryFault>
@@ -79,9 +80,9 @@ pub trait Memory {
         requires word { bytes ≤ 8 }
         ensures { MatchResult result
             (λ _. (fault_at (meaning self.old).regions at bytes ≡ None)
-                × (meaning self.new ≡ store_of (meaning self.old) at bytes value))
+            × (meaning self.new ≡ store_of (meaning self.old) at bytes value))
             (λ fault. (fault_at (meaning self.old).regions at bytes ≡ Some fault)
-                × (meaning self.new ≡ meaning self.old)) };
+            × (meaning self.new ≡ meaning self.old)) };
 
     // No address is given out twice.
     ghost ascends: { (memory : Self) → IsAscending (meaning memory).regions };

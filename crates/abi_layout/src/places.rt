@@ -1,0 +1,88 @@
+//! Where subobjects and members lie, by a layout.
+
+ghost use Rattle.std.specs.Prelude.{◌≡◌, ◌<◌, ◌^◌, filter, length, nat_eq, position, slice_get};
+ghost use Rattle.cxx_hierarchy.specs.declared.records.Base.{Base};
+ghost use Rattle.cxx_hierarchy.specs.declared.records.ClassId.{ClassId};
+ghost use Rattle.cxx_subobject.specs.Subobjects.{IsSubobject, tail_of};
+ghost use Rattle.abi_layout.specs.Places.{base_place, is_plain_base, number_in, place_along, places_of};
+ghost use Rattle.abi_layout.specs.Sound.{IsSound};
+
+use crate::class_layout::AbiLayout;
+use cxx_hierarchy::{Base, ClassId, Hierarchy};
+use cxx_subobject::Subobject;
+
+/// The number of the first non-virtual base of class `b`, among the non-virtual bases.
+fn number_of_base(bases: &[Base<ClassId>], b: ClassId) -> Option<usize>
+    ensures { result ≡ position (λ (base : Base ClassId). nat_eq base.class.0 b.0) (filter is_plain_base bases.now) }
+{
+    bases
+        .iter()
+        .filter(|base| !base.is_virtual)
+        .position(|base| base.class.0 == b.0)
+}
+
+/// The place of a number, 0 past the last one.
+fn place_at(places: &[u32], n: usize) -> u32
+    ensures { result ≡ number_in (slice_get places.now n) }
+{
+    match places.get(n) {
+        Some(place) => *place,
+        None => 0,
+    }
+}
+
+/// The classes of a path below its first.
+fn classes_below(path: &[ClassId]) -> &[ClassId]
+    ensures { result.now ≡ tail_of path.now }
+{
+    match path {
+        [_, below @ ..] => below,
+        [] => path,
+    }
+}
+
+impl AbiLayout {
+    /// The place of a direct non-virtual base in its class, in bytes.
+    fn base_place(&self, h: &Hierarchy, c: ClassId, b: ClassId) -> u32
+        ensures { result ≡ base_place h.now self.now c b }
+    {
+        if c.0 >= h.len() || c.0 as usize >= self.len() {
+            return 0;
+        }
+        match number_of_base(h.class(c).bases.as_slice(), b) {
+            Some(n) => place_at(self.layout(c).base_places.as_slice(), n),
+            None => 0,
+        }
+    }
+
+    /// The sum of the places of the direct bases along a path, in bytes.
+    fn sum_along(&self, h: &Hierarchy, c: ClassId, path: &[ClassId]) -> u32
+        requires { place_along h.now self.now c path.now < 2 ^ 32 }
+        ensures { result ≡ place_along h.now self.now c path.now }
+    {
+        match path.split_first() {
+            Some((b, rest)) => self.base_place(h, c, *b) + self.sum_along(h, *b, rest),
+            None => 0,
+        }
+    }
+
+    /// The place of a subobject in an object of class `c`, in bytes: the sum of the places along its path.
+    pub fn place(&self, h: &Hierarchy, c: ClassId, s: &Subobject) -> u32
+        requires sound { IsSound h.now (places_of h.now self.now) }
+        requires known { c.0 < length h.now }
+        requires subobject { IsSubobject h.now c s.now }
+        ensures { result ≡ (places_of h.now self.now).place c s.now }
+    {
+        self.sum_along(h, c, classes_below(s.path.as_slice()))
+    }
+
+    /// The place of a member in an object of the class that declares it, in bytes; 0 where there is no such member.
+    pub fn member(&self, _h: &Hierarchy, d: ClassId, m: u32) -> u32
+        ensures { result ≡ (places_of _h.now self.now).member d m }
+    {
+        if d.0 as usize >= self.len() {
+            return 0;
+        }
+        place_at(self.layout(d).member_places.as_slice(), m as usize)
+    }
+}
