@@ -27,8 +27,8 @@ stands : (names : List Text) (name : Text) (i n : ℕ) → position_from (bytes_
 stands [] name i n = λ h. absurd (cc)
 stands (x ∷ xs) name i n =
     split (bytes_eq name x) (λ b. cond b (Some i) (position_from (bytes_eq name) (i + 1) xs) ≡ Some n → StandsAt (x ∷ xs) name i n)
-      (λ e h. let same : i ≡ n = cc in record { place = zero; number = omega arith; listed = ap Some (sym (same_bytes name x e)) })
-      (λ e h. let r = stands xs name (i + 1) n h in record { place = suc r.place; number = let k : n ≡ i + 1 + r.place = r.number in omega arith; listed = r.listed })
+    (λ e h. let same : i ≡ n = cc in record { place = zero; number = omega arith; listed = ap Some (sym (same_bytes name x e)) })
+    (λ e h. let r = stands xs name (i + 1) n h in record { place = suc r.place; number = let k : n ≡ i + 1 + r.place = r.number in omega arith; listed = r.listed })
 
 pub place_listed : (names : List Text) (name : Text) (n : ℕ) → place_in names name ≡ Some n → slice_get names n ≡ Some name
 place_listed names name n h =
@@ -53,10 +53,10 @@ accepted records none orders = record {
 pub small_numbers : (table : NameTable) (records : List Record) → Numbers table (names_of records) → IsAccepted records → NumbersAreSmall table
 small_numbers table records numbers ok = record {
   below = λ name number h.
-    let within : number < length (names_of records) = slice_get_within (names_of records) number name (place_listed (names_of records) name number (sym (numbers.places name) ∙ h)) in
-    let size : length (names_of records) ≡ length records = length-map records (λ (r : Record). r.name) in
-    let few : length records ≤ 1024 = few_records records ok in
-    omega arith;
+      let within : number < length (names_of records) = slice_get_within (names_of records) number name (place_listed (names_of records) name number (sym (numbers.places name) ∙ h)) in
+      let size : length (names_of records) ≡ length records = length-map records (λ (r : Record). r.name) in
+      let few : length records ≤ 1024 = few_records records ok in
+      omega arith;
 }
 
 pub same_references : (table : NameTable) (records : List Record) → Numbers table (names_of records) → map (resolved_class (class_in table)) records ≡ resolved records
@@ -70,6 +70,7 @@ names_kept_by by (r ∷ rs) = ap (λ (names : List Text). r.name ∷ names) (nam
 
 pub built : (table : NameTable) (records : List Record) (classes : Classes) → Numbers table (names_of records) → IsAccepted records → classes ≡ resolved records →
     IsHierarchy classes × Numbers table (class_names classes)
-built table records classes numbers ok same =
-    (subst IsHierarchy (sym same) (is_hierarchy records ok),
-     subst (Numbers table) (sym (ap class_names same ∙ names_kept_by (class_of_name (names_of records)) records)) numbers)
+built table records classes numbers ok same = (
+  subst IsHierarchy (sym same) (is_hierarchy records ok),
+  subst (Numbers table) (sym (ap class_names same ∙ names_kept_by (class_of_name (names_of records)) records)) numbers,
+)

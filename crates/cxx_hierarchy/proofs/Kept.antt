@@ -82,10 +82,10 @@ at_place (x ∷ xs) i h = (get_or (x ∷ xs) i x, slice_get-get_or (x ∷ xs) i 
 -- a list that has no item at place n has at most n items
 up_to : {X : Type 0} (xs : List X) (n : ℕ) → ((x : X) → slice_get xs n ≡ Some x → ⊥) → length xs ≤ n
 up_to xs n none = by (cases_lt n (length xs))
-    where
-      by : (n < length xs) ⊎ (length xs ≤ n) → length xs ≤ n
-      by (inr h) = h
-      by (inl h) = let r = at_place xs n h in absurd (none r.0 r.1)
+  where
+    by : (n < length xs) ⊎ (length xs ≤ n) → length xs ≤ n
+    by (inr h) = h
+    by (inl h) = let r = at_place xs n h in absurd (none r.0 r.1)
 
 no_less : (n : ℕ) → nat_le n n ≡ false → ⊥
 no_less n h = absurd (grind (arith, nat_tests))
@@ -115,7 +115,7 @@ few_parts records accepted i r at = up_to r.order 1024 (λ p at_p.
 new_names : (records : List Record) → IsAccepted records → (i j : ℕ) (x y : Record) → slice_get records i ≡ Some x → slice_get records j ≡ Some y → x.name ≡ y.name → i < j → ⊥
 new_names records accepted i j x y at_x at_y same less =
     let there : is_in (names_of (take j records)) y.name ≡ true =
-        is_in_at (names_of (take j records)) i x.name y.name (get_map (λ (r : Record). r.name) (take j records) i x (get_take records i j x less at_x)) same in
+    is_in_at (names_of (take j records)) i x.name y.name (get_map (λ (r : Record). r.name) (take j records) i x (get_take records i j x less at_x)) same in
     let gone : is_in (names_of (take j records)) y.name ≡ false = (clean records accepted j y at_y).new in
     cc
 
@@ -165,10 +165,10 @@ few_members records accepted i r at =
     let size : length (map (λ (p : PartAt). p.number) r.order) ≡ length r.order = length-map r.order (λ (p : PartAt). p.number) in
     let parts : length r.order ≤ 1024 = few_parts records accepted i r at in
     let each : length r.members ≤ length (map (λ (p : PartAt). p.number) r.order) = le-length_from_below (map (λ (p : PartAt). p.number) r.order) (length r.members) (λ q below.
-        let m = at_place r.members q below in
-        let p = member_part r (accepted.in_order i r at) q m.0 m.1 in
-        any_passes_from_place (eqb q) (map (λ (p : PartAt). p.number) r.order) p.place p.part.number (get_map (λ (p : PartAt). p.number) r.order p.place p.part p.listed)
-          (let e : p.part.number ≡ q = p.number in grind (arith, nat_tests))) in
+    let m = at_place r.members q below in
+    let p = member_part r (accepted.in_order i r at) q m.0 m.1 in
+    any_passes_from_place (eqb q) (map (λ (p : PartAt). p.number) r.order) p.place p.part.number (get_map (λ (p : PartAt). p.number) r.order p.place p.part p.listed)
+    (let e : p.part.number ≡ q = p.number in grind (arith, nat_tests))) in
     omega arith
 
 member_clean : (records : List Record) → IsAccepted records → (i : ℕ) (r : Record) → slice_get records i ≡ Some r → (j : ℕ) (m : Member Text) → slice_get r.members j ≡ Some m →
@@ -230,15 +230,15 @@ record HasBase (records : List Record) (c : ClassId) (b : Base ClassId) : Type 0
 
 based : (records : List Record) (c : ClassId) (b : Base ClassId) → Contains (bases_of (resolved records) c) b → HasBase records c b
 based records c b h = by_class (class_at (resolved records) c) refl (placed _ b h)
-    where
-      by_class : (o : Option Class) → class_at (resolved records) c ≡ o → IsPlaced (bases_in (class_at (resolved records) c)) b → HasBase records c b
-      by_class None e p = absurd (let q : slice_get (bases_in None) p.place ≡ Some b = ap (λ (o : Option Class). slice_get (bases_in o) p.place) (sym e) ∙ p.listed in cc)
-      by_class (Some x) e p =
-          let r = recorded records c x e in
-          let q : slice_get (map (resolved_base (class_of_name (names_of records))) r.rec.bases) p.place ≡ Some b =
-              ap (λ (y : Class). slice_get y.bases p.place) (sym r.same) ∙ ap (λ (o : Option Class). slice_get (bases_in o) p.place) (sym e) ∙ p.listed in
-          let m = mapped (resolved_base (class_of_name (names_of records))) r.rec.bases p.place b q in
-          record { rec = r.rec; listed = r.listed; place = p.place; base = m.item; at = m.listed; same = m.same }
+  where
+    by_class : (o : Option Class) → class_at (resolved records) c ≡ o → IsPlaced (bases_in (class_at (resolved records) c)) b → HasBase records c b
+    by_class None e p = absurd (let q : slice_get (bases_in None) p.place ≡ Some b = ap (λ (o : Option Class). slice_get (bases_in o) p.place) (sym e) ∙ p.listed in cc)
+    by_class (Some x) e p =
+        let r = recorded records c x e in
+        let q : slice_get (map (resolved_base (class_of_name (names_of records))) r.rec.bases) p.place ≡ Some b =
+        ap (λ (y : Class). slice_get y.bases p.place) (sym r.same) ∙ ap (λ (o : Option Class). slice_get (bases_in o) p.place) (sym e) ∙ p.listed in
+        let m = mapped (resolved_base (class_of_name (names_of records))) r.rec.bases p.place b q in
+        record { rec = r.rec; listed = r.listed; place = p.place; base = m.item; at = m.listed; same = m.same }
 
 -- a member of a class at its place, with the class and its record
 record HasMember (records : List Record) (c : ClassId) (place : ℕ) (m : Member ClassId) : Type 0 where
@@ -250,26 +250,26 @@ record HasMember (records : List Record) (c : ClassId) (place : ℕ) (m : Member
 
 member_at : (records : List Record) (c : ClassId) (place : ℕ) (m : Member ClassId) → slice_get (members_of (resolved records) c) place ≡ Some m → HasMember records c place m
 member_at records c place m h = by_class (class_at (resolved records) c) refl
-    where
-      by_class : (o : Option Class) → class_at (resolved records) c ≡ o → HasMember records c place m
-      by_class None e = absurd (let q : slice_get (members_in None) place ≡ Some m = ap (λ (o : Option Class). slice_get (members_in o) place) (sym e) ∙ h in cc)
-      by_class (Some x) e =
-          let r = recorded records c x e in
-          let q : slice_get (map (resolved_member (class_of_name (names_of records))) r.rec.members) place ≡ Some m =
-              ap (λ (y : Class). slice_get y.members place) (sym r.same) ∙ ap (λ (o : Option Class). slice_get (members_in o) place) (sym e) ∙ h in
-          let n = mapped (resolved_member (class_of_name (names_of records))) r.rec.members place m q in
-          record { rec = r.rec; listed = r.listed; member = n.item; at = n.listed; same = n.same }
+  where
+    by_class : (o : Option Class) → class_at (resolved records) c ≡ o → HasMember records c place m
+    by_class None e = absurd (let q : slice_get (members_in None) place ≡ Some m = ap (λ (o : Option Class). slice_get (members_in o) place) (sym e) ∙ h in cc)
+    by_class (Some x) e =
+        let r = recorded records c x e in
+        let q : slice_get (map (resolved_member (class_of_name (names_of records))) r.rec.members) place ≡ Some m =
+        ap (λ (y : Class). slice_get y.members place) (sym r.same) ∙ ap (λ (o : Option Class). slice_get (members_in o) place) (sym e) ∙ h in
+        let n = mapped (resolved_member (class_of_name (names_of records))) r.rec.members place m q in
+        record { rec = r.rec; listed = r.listed; member = n.item; at = n.listed; same = n.same }
 
 apart : (i j : ℕ) → (i < j → ⊥) → (j < i → ⊥) → i ≡ j
 apart i j p q = by (cases_lt i j)
-    where
-      by : (i < j) ⊎ (j ≤ i) → i ≡ j
-      by (inl h) = absurd (p h)
-      by (inr h) = from (cases_lt j i) h
-        where
-          from : (j < i) ⊎ (i ≤ j) → j ≤ i → i ≡ j
-          from (inl g) h = absurd (q g)
-          from (inr g) h = omega arith
+  where
+    by : (i < j) ⊎ (j ≤ i) → i ≡ j
+    by (inl h) = absurd (p h)
+    by (inr h) = from (cases_lt j i) h
+      where
+        from : (j < i) ⊎ (i ≤ j) → j ≤ i → i ≡ j
+        from (inl g) h = absurd (q g)
+        from (inr g) h = omega arith
 
 class_names : (records : List Record) → IsAccepted records → (c d : ClassId) (x y : Class) → class_at (resolved records) c ≡ Some x → class_at (resolved records) d ≡ Some y → x.name ≡ y.name → c.0 ≡ d.0
 class_names records accepted c d x y at_x at_y same =
@@ -295,8 +295,8 @@ member_names records accepted c i j x y at_x at_y same =
     let p = member_part r.rec (accepted.in_order c.0 r.rec r.listed) i r.member r.at in
     let q = member_part r.rec (accepted.in_order c.0 r.rec r.listed) j q'.member q_at in
     let place : p.place ≡ q.place =
-        apart p.place q.place (named_before records accepted c.0 r.rec r.listed i j r.member q'.member r.at q_at e p q)
-          (named_before records accepted c.0 r.rec r.listed j i q'.member r.member q_at r.at (sym e) q p) in
+    apart p.place q.place (named_before records accepted c.0 r.rec r.listed i j r.member q'.member r.at q_at e p q)
+    (named_before records accepted c.0 r.rec r.listed j i q'.member r.member q_at r.at (sym e) q p) in
     same_part r.rec i j p q place
 
 few_bases_of : (records : List Record) → IsAccepted records → (c : ClassId) (o : Option Class) → class_at (resolved records) c ≡ o → length (bases_in o) ≤ 64
@@ -322,19 +322,19 @@ is_hierarchy records accepted =
       few = let l : length records ≤ 1024 = few_records records accepted in omega arith;
       names = class_names records accepted;
       bases = λ c b h.
-        let r = based records c b h in
-        subst (λ (z : Base ClassId). z.class.0 < c.0) (sym r.same) (base_below records accepted c.0 r.rec r.listed r.place r.base r.at);
+          let r = based records c b h in
+          subst (λ (z : Base ClassId). z.class.0 < c.0) (sym r.same) (base_below records accepted c.0 r.rec r.listed r.place r.base r.at);
       objects = λ c d m h e.
-        let p = placed _ m h in
-        let r = member_at records c p.place m p.listed in
-        let n = member_clean records accepted c.0 r.rec r.listed p.place r.member r.at in
-        object_below records c.0 n.0 r.member.ty d (none_left _ _ n.1) (ap (λ (z : Member ClassId). z.ty) (sym r.same) ∙ e);
+          let p = placed _ m h in
+          let r = member_at records c p.place m p.listed in
+          let n = member_clean records accepted c.0 r.rec r.listed p.place r.member r.at in
+          object_below records c.0 n.0 r.member.ty d (none_left _ _ n.1) (ap (λ (z : Member ClassId). z.ty) (sym r.same) ∙ e);
       pointers = λ c d m h e.
-        let p = placed _ m h in
-        let r = member_at records c p.place m p.listed in
-        let n = member_clean records accepted c.0 r.rec r.listed p.place r.member r.at in
-        let l : d.0 < length records = pointer_below records c.0 n.0 r.member.ty d (none_left _ _ n.1) (ap (λ (z : Member ClassId). z.ty) (sym r.same) ∙ e) in
-        omega arith;
+          let p = placed _ m h in
+          let r = member_at records c p.place m p.listed in
+          let n = member_clean records accepted c.0 r.rec r.listed p.place r.member r.at in
+          let l : d.0 < length records = pointer_below records c.0 n.0 r.member.ty d (none_left _ _ n.1) (ap (λ (z : Member ClassId). z.ty) (sym r.same) ∙ e) in
+          omega arith;
       few_bases = λ c. few_bases_of records accepted c (class_at (resolved records) c) refl;
       few_members = λ c. few_members_of records accepted c (class_at (resolved records) c) refl;
       members = member_names records accepted;

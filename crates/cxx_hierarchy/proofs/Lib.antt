@@ -4,3 +4,4 @@ pub mod Parts
 pub mod Listed
 pub mod Kept
 pub mod Builds
+pub mod Orders

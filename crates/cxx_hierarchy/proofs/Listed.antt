@@ -48,8 +48,8 @@ pub is_in_any : (t : Text → Bool) (i : ℕ) (names : List Text) → is_some (p
 is_in_any t i [] = refl
 is_in_any t i (name ∷ names) =
     split (t name) (λ b. is_some (cond b (Some i) (position_from t (i + 1) names)) ≡ (b || list_any t names))
-      (λ h. refl)
-      (λ h. is_in_any t (i + 1) names)
+    (λ h. refl)
+    (λ h. is_in_any t (i + 1) names)
 
 pub is_in_at : (names : List Text) (i : ℕ) (name other : Text) → slice_get names i ≡ Some name → name ≡ other → is_in names other ≡ true
 is_in_at names i name other h e =
@@ -58,12 +58,12 @@ is_in_at names i name other h e =
 -- the first place of a name that is among the first k names
 pub place_below : (names : List Text) (name : Text) (k : ℕ) → is_in (take k names) name ≡ true → unwrap_or (place_in names name) 0 < k
 place_below names name k h = at (place_in names name) refl
-    where
-      at : (o : Option ℕ) → place_in names name ≡ o → unwrap_or o 0 < k
-      at None e = absurd (let n : is_some (position_from (bytes_eq name) 0 (take k names)) ≡ false = ap is_some (place_nowhere (bytes_eq name) 0 names k e) in cc)
-      at (Some n) e =
-          let l : nat_lt n (0 + k) ≡ true = place_among (bytes_eq name) 0 names n k e ∙ h in
-          grind (arith, nat_tests)
+  where
+    at : (o : Option ℕ) → place_in names name ≡ o → unwrap_or o 0 < k
+    at None e = absurd (let n : is_some (position_from (bytes_eq name) 0 (take k names)) ≡ false = ap is_some (place_nowhere (bytes_eq name) 0 names k e) in cc)
+    at (Some n) e =
+        let l : nat_lt n (0 + k) ≡ true = place_among (bytes_eq name) 0 names n k e ∙ h in
+        grind (arith, nat_tests)
 
 -- one item at least that passes has a place
 pub record Passes {X : Type 0} (p : X → Bool) (xs : List X) : Type 0 where
@@ -76,8 +76,8 @@ filtered : {X : Type 0} (p : X → Bool) (xs : List X) → 0 < length (filter p 
 filtered p [] = λ h. absurd (omega arith)
 filtered {X} p (x ∷ xs) =
     split (p x) (λ b. 0 < length (cond b (x ∷ filter p xs) (filter p xs)) → Passes p (x ∷ xs))
-      (λ e h. record { place = zero; item = x; listed = refl; passes = e })
-      (λ e h. let r = filtered p xs h in record { place = suc r.place; item = r.item; listed = r.listed; passes = r.passes })
+    (λ e h. record { place = zero; item = x; listed = refl; passes = e })
+    (λ e h. let r = filtered p xs h in record { place = suc r.place; item = r.item; listed = r.listed; passes = r.passes })
 
 pub counted : {X : Type 0} (p : X → Bool) (xs : List X) → count_by p xs ≡ 1 → Passes p xs
 counted p xs h = filtered p xs (let e : length (filter p xs) ≡ 1 = length-filter p xs ∙ h in omega arith)
@@ -87,7 +87,7 @@ pub given_name : {X : Type 0} (f : X → Option Text) (xs : List X) (k : ℕ) (x
 given_name f [] k x name = λ h e. absurd (cc)
 given_name f (y ∷ xs) zero x name = λ h e. let g : f y ≡ Some name = ap f (let q : y ≡ x = cc in q) ∙ e in record { place = zero; listed = rw g refl }
 given_name f (y ∷ xs) (suc k) x name = λ h e. after (f y) (given_name f xs k x name h e) refl
-    where
-      after : (o : Option Text) → IsPlaced (filter_map f xs) name → f y ≡ o → IsPlaced (filter_map f (y ∷ xs)) name
-      after None r g = record { place = r.place; listed = rw g r.listed }
-      after (Some n) r g = record { place = suc r.place; listed = rw g r.listed }
+  where
+    after : (o : Option Text) → IsPlaced (filter_map f xs) name → f y ≡ o → IsPlaced (filter_map f (y ∷ xs)) name
+    after None r g = record { place = r.place; listed = rw g r.listed }
+    after (Some n) r g = record { place = suc r.place; listed = rw g r.listed }

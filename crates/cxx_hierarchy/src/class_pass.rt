@@ -239,7 +239,12 @@ fn is_second_of(before: &[PartAt], kind: PartKind) -> bool
     }
 }
 
-fn is_taken(taken: &NameTable, definition: &ClassRec<Name>, before: &[PartAt], part: &PartAt) -> bool
+fn is_taken(
+    taken: &NameTable,
+    definition: &ClassRec<Name>,
+    before: &[PartAt],
+    part: &PartAt,
+) -> bool
     requires { Holds taken.now (names_taken definition.now before.now) }
     ensures { result ≡ is_repeat definition.now before.now part.now }
 {
@@ -258,7 +263,11 @@ fn check_content(scope: &Scope, definition: &ClassRec<Name>, part: &PartAt) -> R
     let number = part.number as usize;
     match part.kind {
         PartKind::Member => check_member(scope, at, definition.members.as_slice().get(number)),
-        PartKind::Function => check_function(scope, at, definition.functions.as_slice().get(number)),
+        PartKind::Function => check_function(
+            scope,
+            at,
+            definition.functions.as_slice().get(number),
+        ),
         PartKind::Constructor | PartKind::Destructor => Ok(()),
     }
 }

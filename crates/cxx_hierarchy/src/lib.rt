@@ -17,6 +17,8 @@ pub mod names;
 pub mod records;
 mod resolution;
 pub mod stop;
+#[cfg(test)]
+mod tests;
 
 pub use crate::hierarchy::{Hierarchy, build};
 pub use crate::names::NameTable;

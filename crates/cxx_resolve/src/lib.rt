@@ -11,6 +11,8 @@
 pub mod laws;
 pub mod program;
 pub mod resolution;
+#[cfg(test)]
+mod tests;
 mod variables;
 
 pub use crate::program::{LineList, MemberPlace, SimpleProgram, Statement, TypeList, TypedLine};

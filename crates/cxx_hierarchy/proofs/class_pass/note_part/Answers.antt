@@ -13,10 +13,10 @@ returns-in_ok-note c = λ parts held.
     let names : c.as_slice.result.now ≡ c.in-Some.name.now = c.as_slice.ensures in
     let h : Holds c.note.new.self (names_taken c.args.definition.now parts ++ c.as_slice.result.now ∷ []) = c.in_ok-note.ensures.holds (names_taken c.args.definition.now parts) held in
     subst (λ (ns : List Text). Holds c.note.new.self ns)
-      (ap (λ (n : Text). names_taken c.args.definition.now parts ++ n ∷ []) names ∙ sym (taken_push c.args.definition.now parts c.args.part.now (Some c.in-Some.name.now) e)) h
+    (ap (λ (n : Text). names_taken c.args.definition.now parts ++ n ∷ []) names ∙ sym (taken_push c.args.definition.now parts c.args.part.now (Some c.in-Some.name.now) e)) h
 
 pub returns-in_default : goal.returns-in_default
 returns-in_default c = λ parts held.
     let e : part_name c.args.definition.now c.args.part.now ≡ None = sym c.in_default.ensures in
     subst (λ (ns : List Text). Holds c.args.taken.now ns)
-      (sym (taken_push c.args.definition.now parts c.args.part.now None e ∙ append-nil (names_taken c.args.definition.now parts))) held
+    (sym (taken_push c.args.definition.now parts c.args.part.now None e ∙ append-nil (names_taken c.args.definition.now parts))) held

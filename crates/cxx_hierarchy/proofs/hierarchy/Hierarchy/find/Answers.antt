@@ -11,7 +11,7 @@ use Rattle.cxx_hierarchy.proofs.hierarchy.Hierarchy.find.Goals as goal
 located : (c : goal.In-Some) → slice_get (class_names c.args.self.now) c.in-Some.number ≡ Some c.args.name.now
 located c =
     subst (λ (h : Classes). slice_get (class_names h) c.in-Some.number ≡ Some c.args.name.now) c.self.view_is
-      (place_listed _ c.args.name.now c.in-Some.number (sym (c.self.invariant.1.places c.args.name.now) ∙ sym c.find.ensures ∙ c.in-Some.is))
+    (place_listed _ c.args.name.now c.in-Some.number (sym (c.self.invariant.1.places c.args.name.now) ∙ sym c.find.ensures ∙ c.in-Some.is))
 
 pub overflow_cast-result : goal.overflow_cast-result
 overflow_cast-result c =
@@ -26,4 +26,4 @@ returns-in-Some c = located c
 pub returns-in-None : goal.returns-in-None
 returns-in-None c =
     subst (λ (h : Classes). Contains (class_names h) c.args.name.now → ⊥) c.self.view_is
-      (place_missing _ c.args.name.now (sym (c.self.invariant.1.places c.args.name.now) ∙ sym c.find.ensures ∙ c.in-None.is))
+    (place_missing _ c.args.name.now (sym (c.self.invariant.1.places c.args.name.now) ∙ sym c.find.ensures ∙ c.in-None.is))

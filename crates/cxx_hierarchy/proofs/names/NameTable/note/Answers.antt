@@ -22,19 +22,19 @@ added c q =
 pub returns-in_ok-insert-clause-numbers : goal.returns-in_ok-insert-clause-numbers
 returns-in_ok-insert-clause-numbers c = λ names held at. record {
   places = λ q.
-    let same : c.args.number ≡ 0 + length names = omega arith in
-    added c q
-    ∙ ap (λ (o : Option ℕ). first_or o (only_if (bytes_eq q c.args.name.now) c.args.number)) (held.places q)
-    ∙ ap (λ (n : ℕ). first_or (place_in names q) (only_if (bytes_eq q c.args.name.now) n)) same
-    ∙ sym (place_push (bytes_eq q) 0 names c.args.name.now)
+      let same : c.args.number ≡ 0 + length names = omega arith in
+      added c q
+      ∙ ap (λ (o : Option ℕ). first_or o (only_if (bytes_eq q c.args.name.now) c.args.number)) (held.places q)
+      ∙ ap (λ (n : ℕ). first_or (place_in names q) (only_if (bytes_eq q c.args.name.now) n)) same
+      ∙ sym (place_push (bytes_eq q) 0 names c.args.name.now);
 }
 
 pub returns-in_ok-insert-clause-holds : goal.returns-in_ok-insert-clause-holds
 returns-in_ok-insert-clause-holds c = λ names held. record {
   has = λ q.
-    ap is_some (added c q)
-    ∙ same_some (number_in c.args.self.now q) (place_in names q) (bytes_eq q c.args.name.now) c.args.number (0 + length names) (held.has q)
-    ∙ ap is_some (sym (place_push (bytes_eq q) 0 names c.args.name.now))
+      ap is_some (added c q)
+      ∙ same_some (number_in c.args.self.now q) (place_in names q) (bytes_eq q c.args.name.now) c.args.number (0 + length names) (held.has q)
+      ∙ ap is_some (sym (place_push (bytes_eq q) 0 names c.args.name.now));
 }
 
 present : (c : goal.Else-is_none) → is_some (number_in c.args.self.now c.args.name.now) ≡ true
@@ -42,10 +42,10 @@ present c = ap is_some (sym c.find.ensures) ∙ c.is_none.ensures ∙ ap not c.i
 
 pub returns-else-is_none-clause-numbers : goal.returns-else-is_none-clause-numbers
 returns-else-is_none-clause-numbers c = λ names held at. record {
-  places = λ q. held.places q ∙ sym (place_again names c.args.name.now (ap is_some (sym (held.places c.args.name.now)) ∙ present c) q)
+  places = λ q. held.places q ∙ sym (place_again names c.args.name.now (ap is_some (sym (held.places c.args.name.now)) ∙ present c) q);
 }
 
 pub returns-else-is_none-clause-holds : goal.returns-else-is_none-clause-holds
 returns-else-is_none-clause-holds c = λ names held. record {
-  has = λ q. held.has q ∙ ap is_some (sym (place_again names c.args.name.now (sym (held.has c.args.name.now) ∙ present c) q))
+  has = λ q. held.has q ∙ ap is_some (sym (place_again names c.args.name.now (sym (held.has c.args.name.now) ∙ present c) q));
 }
