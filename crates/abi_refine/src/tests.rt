@@ -1,6 +1,6 @@
 //! Small programs, run on the byte machine.
 
-ghost use Rattle.std.specs.Prelude.{◌≡◌, ℕ, IfOk, All};
+ghost use Rattle.std.specs.Prelude.{◌≡◌, ℕ, IfOk, All, ◌∷◌, []};
 ghost use Rattle.cxx_hierarchy.specs.ClassPass.{IsInOrder};
 ghost use Rattle.cxx_hierarchy.specs.NameTables.{Text};
 ghost use Rattle.cxx_hierarchy.specs.Resolved.{resolved};
