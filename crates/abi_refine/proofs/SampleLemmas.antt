@@ -1,17 +1,14 @@
 -- The programs of the tests are plain, and their types fit.
-use Rattle.std.proofs.Common.{◌≡◌, ℕ, zero, suc, ◌+◌, ◌<◌, Option, Some, None, List, [], ◌∷◌, refl, arith, rules, true, false, length}
-use Rattle.std.specs.Prelude.{All, Contains, IsSome, nat_lt, nat_eq, count_by, if◌then◌else◌}
-use Rattle.std.specs.List.{slice_get}
+use Rattle.std.proofs.Common.{◌≡◌, ℕ, zero, suc, Some, [], ◌∷◌, refl, arith, rules}
+use Rattle.std.specs.Prelude.{All, Contains}
 use Rattle.std.proofs.lemmas.Bool.Decides.{nat_tests}
 use Rattle.std.proofs.lemmas.Int.{ints}
 use Rattle.std.proofs.lemmas.List.Elements.{All-nil, All-cons, All-contains}
 use Rattle.cxx_hierarchy.specs.declared.records.ClassId.{ClassId}
-use Rattle.cxx_hierarchy.specs.declared.records.Base.{Base}
 use Rattle.cxx_hierarchy.specs.declared.records.Member.{Member}
-use Rattle.cxx_hierarchy.specs.declared.records.Function.{Function}
 use Rattle.cxx_hierarchy.specs.declared.records.Scalar.TheVariants.{Char, Int}
 use Rattle.cxx_hierarchy.specs.Classes.{Class, Classes, class_at}
-use Rattle.cxx_hierarchy.specs.ClassPass.{Record, IsInOrder, NamesEach, is_member, is_function, names_of}
+use Rattle.cxx_hierarchy.specs.ClassPass.{IsInOrder, NamesEach, is_member, is_function, names_of}
 use Rattle.cxx_hierarchy.specs.Resolved.{resolved, resolved_class, resolved_member, class_of_name}
 use Rattle.cxx_subobject.specs.Subobjects.{whole}
 use Rattle.cxx_resolve.specs.Typed.{IsTypedProgram, new, write, read, print, IsPointer, LeadsToNumber}
@@ -52,12 +49,12 @@ no_item x c = absurd (omega (arith, c.1))
 
 plain_class : IsPlainClass classes (class_id 0) the_class
 plain_class = record {
-    bases = λ base c. no_item base c;
-    members = λ member c. All-contains IsPlainMember the_class.members member members_plain c;
-    functions = λ function c. no_item function c;
-    constructor = refl;
-    destructor = refl;
-  }
+  bases = λ base c. no_item base c;
+  members = λ member c. All-contains IsPlainMember the_class.members member members_plain c;
+  functions = λ function c. no_item function c;
+  constructor = refl;
+  destructor = refl;
+}
 
 plain_at : (n : ℕ) (class : Class) → class_at classes (class_id n) ≡ Some class → IsPlainClass classes (class_id n) class
 plain_at zero class e = let same : the_class ≡ class = cc in rw (← same) plain_class
@@ -76,14 +73,22 @@ int_there : LeadsToNumber classes (class_id 0) (sample_place 1) (class_id 0) Int
 int_there = record { base = whole [] tt; class = refl; member = refl }
 
 pub char_program_typed : IsTypedProgram classes char_program
-char_program_typed =
-    (new 0 (class_id 0) pointer_there,
-    (write 0 (sample_place 0) _ (class_id 0) (class_id 0) Char pointer_there char_there (record { least = omega (arith, ints); greatest = omega (arith, ints) }),
-    (read 1 0 (sample_place 0) (class_id 0) (class_id 0) Char refl pointer_there char_there tt,
-    (print 1 refl, tt))))
+char_program_typed = (
+  new 0 (class_id 0) pointer_there,
+  (
+    write 0 (sample_place 0) _ (class_id 0) (class_id 0) Char pointer_there char_there (record { least = omega (arith, ints); greatest = omega (arith, ints) }),
+    (
+      read 1 0 (sample_place 0) (class_id 0) (class_id 0) Char refl pointer_there char_there tt,
+      (print 1 refl, tt),
+    ),
+  ),
+)
 
 pub unset_program_typed : IsTypedProgram classes unset_program
-unset_program_typed =
-    (new 0 (class_id 0) pointer_there,
-    (read 1 0 (sample_place 1) (class_id 0) (class_id 0) Int refl pointer_there int_there tt,
-    (print 1 refl, tt)))
+unset_program_typed = (
+  new 0 (class_id 0) pointer_there,
+  (
+    read 1 0 (sample_place 1) (class_id 0) (class_id 0) Int refl pointer_there int_there tt,
+    (print 1 refl, tt),
+  ),
+)

@@ -1,6 +1,5 @@
 -- The programs of the tests.
-use Rattle.std.specs.Prelude.{ℕ, true, false, Option, Some, None, List, [], ◌∷◌, pos}
-use Rattle.cxx_hierarchy.specs.declared.records.ClassId.{ClassId}
+use Rattle.std.specs.Prelude.{ℕ, true, false, Some, None, List, [], ◌∷◌, pos}
 use Rattle.cxx_hierarchy.specs.declared.records.Member.{Member}
 use Rattle.cxx_hierarchy.specs.declared.records.PartAt.{PartAt}
 use Rattle.cxx_hierarchy.specs.declared.records.PartKind.TheVariants.{Member as MemberPart}
@@ -48,10 +47,10 @@ abbrev pub char_program : SimpleProgram
 char_program = record {
   variables = Pointer (class_id 0) ∷ (Number Int ∷ []);
   lines =
-    (record { what = New 0 (class_id 0); line = 2 }) ∷
-    ((record { what = Write 0 (sample_place 0) (pos 300); line = 3 }) ∷
-    ((record { what = Read 1 0 (sample_place 0); line = 4 }) ∷
-    ((record { what = Print 1; line = 5 }) ∷ [])));
+      (record { what = New 0 (class_id 0); line = 2 }) ∷
+      ((record { what = Write 0 (sample_place 0) (pos 300); line = 3 }) ∷
+      ((record { what = Read 1 0 (sample_place 0); line = 4 }) ∷
+      ((record { what = Print 1; line = 5 }) ∷ [])));
 }
 
 -- P* p = new P; int y = p->x; print(y);
@@ -59,7 +58,7 @@ abbrev pub unset_program : SimpleProgram
 unset_program = record {
   variables = Pointer (class_id 0) ∷ (Number Int ∷ []);
   lines =
-    (record { what = New 0 (class_id 0); line = 2 }) ∷
-    ((record { what = Read 1 0 (sample_place 1); line = 3 }) ∷
-    ((record { what = Print 1; line = 4 }) ∷ []));
+      (record { what = New 0 (class_id 0); line = 2 }) ∷
+      ((record { what = Read 1 0 (sample_place 1); line = 3 }) ∷
+      ((record { what = Print 1; line = 4 }) ∷ []));
 }

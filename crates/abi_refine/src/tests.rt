@@ -11,7 +11,10 @@ ghost use Rattle.abi_refine.specs.Samples.{sample_member, sample_part, sample_re
 use crate::ending::End;
 use crate::run::execute;
 use abi_layout::lay_out;
-use cxx_hierarchy::{ClassId, ClassRec, Destructor, FieldType, Hierarchy, Member, Name, PartAt, PartKind, RecordList, Scalar, Stop, ValueType, build};
+use cxx_hierarchy::{
+    ClassId, ClassRec, Destructor, FieldType, Hierarchy, Member, Name, PartAt, PartKind,
+    RecordList, Scalar, Stop, ValueType, build,
+};
 use cxx_resolve::{MemberPlace, SimpleProgram, Statement, TypedLine};
 use cxx_subobject::{Root, Subobject};
 use foundation::{NoMemory, Sequence};
@@ -108,30 +111,69 @@ fn variables(alloc: Global) -> Result<Sequence<ValueType<ClassId>>, NoMemory>
 fn chars(alloc: Global) -> Result<SimpleProgram, NoMemory>
     ensures { IfOk result (λ program. program ≡ char_program) }
 {
-    let new = Statement::New { variable: 0, class: ClassId(0) };
-    let write = Statement::Write { pointer: 0, place: place(alloc, 0)?, value: 300 };
-    let read = Statement::Read { variable: 1, pointer: 0, place: place(alloc, 0)? };
+    let new = Statement::New {
+        variable: 0,
+        class: ClassId(0),
+    };
+    let write = Statement::Write {
+        pointer: 0,
+        place: place(alloc, 0)?,
+        value: 300,
+    };
+    let read = Statement::Read {
+        variable: 1,
+        pointer: 0,
+        place: place(alloc, 0)?,
+    };
     let print = Statement::Print { variable: 1 };
     let mut lines = Sequence::new(alloc);
     lines.push(TypedLine { what: new, line: 2 })?;
-    lines.push(TypedLine { what: write, line: 3 })?;
-    lines.push(TypedLine { what: read, line: 4 })?;
-    lines.push(TypedLine { what: print, line: 5 })?;
-    Ok(SimpleProgram { variables: variables(alloc)?, lines })
+    lines.push(TypedLine {
+        what: write,
+        line: 3,
+    })?;
+    lines.push(TypedLine {
+        what: read,
+        line: 4,
+    })?;
+    lines.push(TypedLine {
+        what: print,
+        line: 5,
+    })?;
+    Ok(SimpleProgram {
+        variables: variables(alloc)?,
+        lines,
+    })
 }
 
 /// `P* p = new P; int y = p->x; print(y);`
 fn unset(alloc: Global) -> Result<SimpleProgram, NoMemory>
     ensures { IfOk result (λ program. program ≡ unset_program) }
 {
-    let new = Statement::New { variable: 0, class: ClassId(0) };
-    let read = Statement::Read { variable: 1, pointer: 0, place: place(alloc, 1)? };
+    let new = Statement::New {
+        variable: 0,
+        class: ClassId(0),
+    };
+    let read = Statement::Read {
+        variable: 1,
+        pointer: 0,
+        place: place(alloc, 1)?,
+    };
     let print = Statement::Print { variable: 1 };
     let mut lines = Sequence::new(alloc);
     lines.push(TypedLine { what: new, line: 2 })?;
-    lines.push(TypedLine { what: read, line: 3 })?;
-    lines.push(TypedLine { what: print, line: 4 })?;
-    Ok(SimpleProgram { variables: variables(alloc)?, lines })
+    lines.push(TypedLine {
+        what: read,
+        line: 3,
+    })?;
+    lines.push(TypedLine {
+        what: print,
+        line: 4,
+    })?;
+    Ok(SimpleProgram {
+        variables: variables(alloc)?,
+        lines,
+    })
 }
 
 #[test]
