@@ -1,14 +1,12 @@
 -- A subobject of a subobject is a subobject of the whole, and its place is a sum.
-use Rattle.std.proofs.Common.{◌≡◌, ℕ, ◌+◌, ◌<◌, Option, Some, None, Bool, true, false, List, [], ◌∷◌, ◌++◌, refl, ap, sym, ◌∙◌, subst, arith, length}
+use Rattle.std.proofs.Common.{◌≡◌, ◌+◌, Some, true, false, List, [], ◌∷◌, ◌++◌, refl, ap, sym, ◌∙◌, subst, arith}
 use Rattle.cxx_hierarchy.specs.declared.records.ClassId.{ClassId}
-use Rattle.cxx_hierarchy.specs.declared.records.ValueType.{ValueType}
 use Rattle.cxx_hierarchy.specs.Classes.{Classes}
-use Rattle.cxx_subobject.specs.declared.Root.{Root}
 use Rattle.cxx_subobject.specs.declared.Root.TheVariants.{Whole, Shared}
 use Rattle.cxx_subobject.specs.declared.Subobject.{Subobject}
-use Rattle.cxx_subobject.specs.Subobjects.{IsDirectBase, Leads, HasVirtualBase, direct, further, subobject, whole_of, IsSubobject, whole, shared, last_of, class_of, join}
+use Rattle.cxx_subobject.specs.Subobjects.{Leads, HasVirtualBase, direct, further, subobject, whole_of, IsSubobject, whole, shared, last_of, class_of, join}
 use Rattle.abi_layout.specs.Places.{Places}
-use Rattle.abi_layout.specs.Sound.{IsSound, IsLeaf, leaf_place}
+use Rattle.abi_layout.specs.Sound.{IsSound}
 
 last_of-append : (c : ClassId) (p q : List ClassId) → last_of c (p ++ q) ≡ last_of (last_of c p) q
 last_of-append c [] q = refl

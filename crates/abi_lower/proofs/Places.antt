@@ -1,27 +1,23 @@
 -- Where the leaf that a pointer leads to lies.
-use Rattle.std.proofs.Common.{◌≡◌, ℕ, ◌+◌, ◌<◌, ◌≤◌, ◌^◌, Option, Some, None, Bool, true, false, List, [], ◌∷◌, subst, sym, refl, ap, ◌∙◌, arith, length}
-use Rattle.std.specs.List.{slice_get}
+use Rattle.std.proofs.Common.{◌≡◌, ℕ, ◌+◌, ◌<◌, ◌≤◌, ◌^◌, Option, Some, List, refl, ap, ◌∙◌, arith}
 use Rattle.cxx_hierarchy.specs.declared.records.ClassId.{ClassId}
 use Rattle.cxx_hierarchy.specs.declared.records.Scalar.{Scalar}
 use Rattle.cxx_hierarchy.specs.declared.records.Scalar.TheVariants.{Bool as TheBool, Char, SChar, UChar, Short, UShort, Int, UInt, Long, ULong, LongLong, ULongLong}
 use Rattle.cxx_hierarchy.specs.declared.records.ValueType.{ValueType}
 use Rattle.cxx_hierarchy.specs.declared.records.ValueType.TheVariants.{Number as NumberType, Pointer as PointerType}
 use Rattle.cxx_hierarchy.specs.Scalars.{size_of}
-use Rattle.cxx_hierarchy.specs.Classes.{leaf_type}
 use Rattle.cxx_subobject.specs.declared.Subobject.{Subobject}
-use Rattle.cxx_subobject.specs.Subobjects.{IsSubobject, class_of, join}
+use Rattle.cxx_subobject.specs.Subobjects.{class_of, join}
 use Rattle.cxx_resolve.specs.declared.program.MemberPlace.{MemberPlace}
 use Rattle.cxx_resolve.specs.Typed.{IsPointer, LeadsToNumber}
 use Rattle.abi_layout.specs.Places.{size_of_value}
 use Rattle.abi_layout.specs.Sound.{IsSound, IsLeaf, leaf_place}
-use Rattle.byte_memory.specs.Store.{Store}
 use Rattle.byte_memory.specs.declared.memory.Region.{Region}
-use Rattle.byte_memory.specs.Regions.{fault_at}
 use Rattle.byte_memory.proofs.Reached.{fault_at-inside}
 use Rattle.byte_machine.specs.Effect.{Running, word_at}
 use Rattle.byte_machine.specs.declared.heap.Opened.{Opened}
 use Rattle.byte_machine.proofs.Leads.{Reached}
-use Rattle.abi_lower.specs.Blocks.{Setup, pointed, pointed_in, class_or_first, declaring, offset, scalar_in, scalar_of, width_of}
+use Rattle.abi_lower.specs.Blocks.{Setup, pointed, pointed_in, class_or_first, declaring, offset, scalar_of}
 use Rattle.abi_lower.specs.Stands.{PointsTo, IsRegionOf, ObjectsStand}
 use Rattle.abi_lower.proofs.Joins.{join_is_subobject, class_of-join, place_of-join}
 
@@ -58,10 +54,10 @@ scalar_of-is x place c d t to = rw (declaring-is place d to.class, to.member) re
 -- the leaf of the whole object that a pointer and a place lead to
 pub leaf_there : (x : Setup) (classes : List ClassId) (regions : List Region) (k : ℕ) (at : Subobject) (c : ClassId) (word : Option ℕ) (place : MemberPlace) (d : ClassId) (t : Scalar) → (pt : PointsTo x classes regions k at c word) → LeadsToNumber x.h c place d t → IsLeaf x.h pt.whole (join at place.base) d place.member (NumberType t)
 leaf_there x classes regions k at c word place d t pt to = record {
-    base = join_is_subobject x.h pt.whole at c place.base pt.base pt.class to.base;
-    class = class_of-join x.h pt.whole at c place.base pt.base pt.class to.base ∙ to.class;
-    member = to.member;
-  }
+  base = join_is_subobject x.h pt.whole at c place.base pt.base pt.class to.base;
+  class = class_of-join x.h pt.whole at c place.base pt.base pt.class to.base ∙ to.class;
+  member = to.member;
+}
 
 -- its address
 pub address-is : (x : Setup) (classes : List ClassId) (regions : List Region) (k : ℕ) (at : Subobject) (c : ClassId) (word : Option ℕ) (place : MemberPlace) (d : ClassId) (t : Scalar) (start : ℕ) → IsSound x.h x.places → (pt : PointsTo x classes regions k at c word) → LeadsToNumber x.h c place d t → (start + x.places.place pt.whole at) + (x.places.place c place.base + x.places.member d place.member) ≡ start + leaf_place x.places pt.whole (join at place.base) d place.member

@@ -1,16 +1,13 @@
 -- `print(v);`
-use Rattle.std.proofs.Common.{◌≡◌, ℕ, ◌<◌, Option, Some, None, List, [], ◌∷◌, ◌++◌, refl, ap, ◌∙◌, arith}
-use Rattle.std.specs.Prelude.{ℤ, map}
+use Rattle.std.proofs.Common.{◌≡◌, ℕ, Some, [], ◌∷◌, ◌++◌, refl, arith}
+use Rattle.std.specs.Prelude.{map}
 use Rattle.std.specs.List.{slice_get}
-use Rattle.cxx_hierarchy.specs.Scalars.{IsInRange}
-use Rattle.cxx_hierarchy.specs.declared.records.Scalar.TheVariants.{Int}
 use Rattle.cxx_resolve.specs.declared.program.Statement.TheVariants.{Print}
 use Rattle.cxx_resolve.specs.Typed.{int}
 use Rattle.path_model.specs.Values.{State, Value, Unset, Number, Pointer, variable_at}
-use Rattle.path_model.specs.Steps.{Out, NumberOut, printed, onward}
+use Rattle.path_model.specs.Steps.{NumberOut, printed}
 use Rattle.byte_code.specs.Numbers.{number_of, word_of}
 use Rattle.byte_code.proofs.Words.{number_of-word_of}
-use Rattle.byte_machine.specs.declared.turn.RawOut.{RawOut}
 use Rattle.byte_machine.specs.declared.turn.RawOut.TheVariants.{Number as RawNumber}
 use Rattle.byte_machine.specs.Effect.{Running, word_at}
 use Rattle.byte_machine.proofs.Leads.{Leads, leads_end, leads_set, leads_unset, leads_print_number}
@@ -32,6 +29,7 @@ print_case x s r v (Number z) none st means =
   where
     back : number_of register_width (word_of z) ≡ z
     back = number_of-word_of register_width z (omega arith) (fits_register z means.1)
+
     told : r.outs ++ RawNumber (number_of register_width (word_of z)) ∷ [] ≡ map raw_of (NumberOut z ∷ [])
     told = rw (none, back) refl
 

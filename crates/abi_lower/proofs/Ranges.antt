@@ -1,12 +1,12 @@
 -- The ranges of the number types, and the bytes of their numbers.
-use Rattle.std.proofs.Common.{◌≡◌, ℕ, suc, ◌+◌, ◌-◌, ◌*◌, ◌%◌, ◌/◌, ◌<◌, ◌≤◌, ◌^◌, Bool, true, false, refl, ap, ◌∙◌, sym, arith, pos, ◌-ℤ◌, ◌+ℤ◌, ◌≤ℤ◌, ◌<ℤ◌}
+use Rattle.std.proofs.Common.{◌≡◌, ℕ, suc, ◌+◌, ◌-◌, ◌*◌, ◌%◌, ◌<◌, ◌≤◌, ◌^◌, true, false, refl, arith, pos, ◌-ℤ◌, ◌+ℤ◌, ◌≤ℤ◌, ◌<ℤ◌}
 use Rattle.std.specs.Prelude.{ℤ, negsuc, zero}
 use Rattle.std.specs.Int.{int_rem_euclid}
 use Rattle.std.proofs.lemmas.Int.{ints}
 use Rattle.std.proofs.Math.Nat.{mod-lt}
 use Rattle.cxx_hierarchy.specs.declared.records.Scalar.{Scalar}
 use Rattle.cxx_hierarchy.specs.declared.records.Scalar.TheVariants.{Bool as TheBool, Char, SChar, UChar, Short, UShort, Int, UInt, Long, ULong, LongLong, ULongLong}
-use Rattle.cxx_hierarchy.specs.Scalars.{size_of, is_signed, count_of, below_zero, IsInRange, wrapped, truth_of, stored_as, PromotesToInt}
+use Rattle.cxx_hierarchy.specs.Scalars.{is_signed, count_of, below_zero, IsInRange, wrapped, truth_of, stored_as, PromotesToInt}
 use Rattle.byte_code.specs.Numbers.{IsInBytes, IsInRange as FitsWidth}
 use Rattle.abi_lower.specs.Blocks.{width_of, register_width}
 
@@ -39,6 +39,7 @@ fits_register z r = signed_fits 8 9223372036854775808 z refl (wider_least z r.le
   where
     wider_least : (z : ℤ) → pos 0 ≤ℤ (z +ℤ pos 2147483648) → pos 0 ≤ℤ (z +ℤ pos 9223372036854775808)
     wider_least z h = omega (arith, ints)
+
     wider_greatest : (z : ℤ) → (z +ℤ pos 2147483648) <ℤ pos 4294967296 → (z +ℤ pos 9223372036854775808) <ℤ pos 18446744073709551616
     wider_greatest z h = omega (arith, ints)
 

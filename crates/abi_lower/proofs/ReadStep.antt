@@ -1,28 +1,26 @@
 -- `int v = p->m;`
-use Rattle.std.proofs.Common.{◌≡◌, ℕ, ◌+◌, ◌<◌, ◌⊎◌, inl, inr, ⊎_elim, Option, Some, None, List, [], ◌∷◌, refl, ap, ◌∙◌, arith}
-use Rattle.std.specs.Prelude.{ℤ}
+use Rattle.std.proofs.Common.{◌≡◌, ℕ, ◌+◌, Some, [], ◌∷◌, refl, ap}
 use Rattle.std.specs.List.{slice_get}
 use Rattle.cxx_hierarchy.specs.declared.records.ClassId.{ClassId}
 use Rattle.cxx_hierarchy.specs.declared.records.Scalar.{Scalar}
 use Rattle.cxx_hierarchy.specs.declared.records.ValueType.TheVariants.{Number as NumberType, Pointer as PointerType}
 use Rattle.cxx_hierarchy.specs.Scalars.{size_of, PromotesToInt}
-use Rattle.cxx_subobject.specs.declared.Subobject.{Subobject}
 use Rattle.cxx_subobject.specs.Subobjects.{join}
 use Rattle.cxx_resolve.specs.declared.program.MemberPlace.{MemberPlace}
 use Rattle.cxx_resolve.specs.declared.program.Statement.TheVariants.{Read}
 use Rattle.cxx_resolve.specs.Typed.{int, IsPointer, LeadsToNumber}
 use Rattle.abi_layout.specs.Sound.{IsSound}
 use Rattle.path_model.specs.Values.{State, Value, Unset, Number, Pointer, variable_at}
-use Rattle.path_model.specs.Steps.{fetched, set_to, onward}
+use Rattle.path_model.specs.Steps.{fetched, set_to}
 use Rattle.byte_memory.specs.Bytes.{number_from}
 use Rattle.byte_code.specs.declared.op.Op.TheVariants.{Load, Check}
 use Rattle.byte_code.specs.declared.op.Check.TheVariants.{SetLeaf}
-use Rattle.byte_code.specs.Numbers.{low_of, word_of, extended}
+use Rattle.byte_code.specs.Numbers.{low_of, extended}
 use Rattle.byte_code.proofs.Words.{extended-low_of}
 use Rattle.byte_machine.specs.Effect.{Running, word_at}
 use Rattle.byte_machine.proofs.Leads.{Leads, Reached, leads_end, leads_set, leads_unset, leads_set_leaf, leads_unset_leaf, leads_load}
-use Rattle.abi_lower.specs.Blocks.{Setup, block_of, read_block, offset, scalar_of, width_of}
-use Rattle.abi_lower.specs.Stands.{Stands, Means, PointsTo, Agrees}
+use Rattle.abi_lower.specs.Blocks.{Setup, block_of, read_block, width_of}
+use Rattle.abi_lower.specs.Stands.{Stands, Means, Agrees}
 use Rattle.abi_lower.proofs.Ranges.{fits_width, promotes}
 use Rattle.abi_lower.proofs.Variables.{VariablesStand-set, register_inside}
 use Rattle.abi_lower.proofs.Places.{offset-is, scalar_of-is, leaf_there, address-is, reached}
@@ -47,10 +45,13 @@ read_case x s r v pointer place c d t (Pointer k at) sound none st target to sma
   where
     a : ℕ
     a = pt.region.start + x.places.place pt.whole at
+
     offset' : ℕ
     offset' = x.places.place c place.base + x.places.member d place.member
+
     reach : Reached r pointer offset' (size_of t) a
     reach = reached x r s.classes r.objects r.heap pointer k at c place d t sound st.objects pt to
+
     leaf : Means x s.classes r.memory.regions (size_of t) (s.leaf k (join at place.base) place.member) (NumberType t) (number_from r.memory.byte (a + offset') (size_of t))
     leaf = rw (address-is x s.classes r.memory.regions k at c (word_at r.registers pointer) place d t pt.region.start sound pt to)
         (st.leaves.leaves k pt.whole pt.region (join at place.base) d place.member (NumberType t) pt.object pt.there (leaf_there x s.classes r.memory.regions k at c (word_at r.registers pointer) place d t pt to))

@@ -1,7 +1,6 @@
 -- Each statement's block does its step: one line for each kind.
-use Rattle.std.proofs.Common.{◌≡◌, ℕ, List, []}
+use Rattle.std.proofs.Common.{◌≡◌, []}
 use Rattle.cxx_resolve.specs.declared.program.Statement.{Statement}
-use Rattle.cxx_resolve.specs.declared.program.Statement.TheVariants.{New, Write, Read, Print}
 use Rattle.cxx_resolve.specs.Typed.{IsTyped, new, write, read, print}
 use Rattle.abi_layout.specs.Sound.{IsSound}
 use Rattle.path_model.specs.Values.{State}

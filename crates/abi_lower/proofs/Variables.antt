@@ -1,5 +1,5 @@
 -- The variables and their registers.
-use Rattle.std.proofs.Common.{◌≡◌, ◌≢◌, ℕ, zero, suc, ◌+◌, ◌<◌, ◌≤◌, ◌⊎◌, ⊎_elim, Option, Some, None, List, [], ◌∷◌, subst, sym, refl, ap, ◌∙◌, arith, length, set}
+use Rattle.std.proofs.Common.{◌≡◌, ◌≢◌, ℕ, zero, suc, ◌<◌, ⊎_elim, Option, Some, List, [], ◌∷◌, subst, refl, ap, ◌∙◌, arith, length, set}
 use Rattle.std.specs.List.{slice_get}
 use Rattle.std.proofs.lemmas.Bool.{cases_eq}
 use Rattle.std.proofs.lemmas.List.{length-set}
@@ -39,30 +39,33 @@ register_inside x classes regions variables registers v type st here = omega (ar
 -- a variable is set, and its register
 pub VariablesStand-set : (x : Setup) (classes : List ClassId) (regions : List Region) (variables : List Value) (registers : List (Option ℕ)) (into : ℕ) (type : ValueType ClassId) (value : Value) (word : Option ℕ) → VariablesStand x classes regions variables registers → slice_get x.types into ≡ Some type → Means x classes regions 8 value type word → VariablesStand x classes regions (set variables into value) (set registers into word)
 VariablesStand-set x classes regions variables registers into type value word st here means = record {
-    count = length-set variables into value ∙ st.count;
-    register_count = length-set registers into word ∙ st.register_count;
-    values = λ v type' there. ⊎_elim (set_case v type' there) (other_case v type' there) (cases_eq v into);
-  }
+  count = length-set variables into value ∙ st.count;
+  register_count = length-set registers into word ∙ st.register_count;
+  values = λ v type' there. ⊎_elim (set_case v type' there) (other_case v type' there) (cases_eq v into);
+}
   where
     inside : into < length x.types
     inside = slice_get_within x.types into type here
+
     inside_registers : into < length registers
     inside_registers = register_inside x classes regions variables registers into type st here
+
     set_case : (v : ℕ) (type' : ValueType ClassId) → slice_get x.types v ≡ Some type' → v ≡ into → Means x classes regions 8 (value_in (slice_get (set variables into value) v)) type' (word_at (set registers into word) v)
     set_case v type' there e =
         let same : type ≡ type' = grind arith in
         let means' : Means x classes regions 8 value type' word = subst (λ t. Means x classes regions 8 value t word) same means in
         rw (e, slice_get-set_same variables into value (rw st.count inside), word_at-set_same registers into word inside_registers) means'
+
     other_case : (v : ℕ) (type' : ValueType ClassId) → slice_get x.types v ≡ Some type' → (v ≡ into → ⊥) → Means x classes regions 8 (value_in (slice_get (set variables into value) v)) type' (word_at (set registers into word) v)
     other_case v type' there ne = rw (slice_get-set_other variables into v value ne, word_at-set_other registers into v word ne) (st.values v type' there)
 
 -- the free register is set
 pub VariablesStand-scratch : (x : Setup) (classes : List ClassId) (regions : List Region) (variables : List Value) (registers : List (Option ℕ)) (word : Option ℕ) → VariablesStand x classes regions variables registers → VariablesStand x classes regions variables (set registers (length x.types) word)
 VariablesStand-scratch x classes regions variables registers word st = record {
-    count = st.count;
-    register_count = length-set registers (length x.types) word ∙ st.register_count;
-    values = λ v type here. rw (word_at-set_other registers (length x.types) v word (other v type here)) (st.values v type here);
-  }
+  count = st.count;
+  register_count = length-set registers (length x.types) word ∙ st.register_count;
+  values = λ v type here. rw (word_at-set_other registers (length x.types) v word (other v type here)) (st.values v type here);
+}
   where
     other : (v : ℕ) (type : ValueType ClassId) → slice_get x.types v ≡ Some type → v ≡ length x.types → ⊥
     other v type here e = let inside = slice_get_within x.types v type here in absurd (omega (arith, inside))

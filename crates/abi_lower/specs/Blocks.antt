@@ -83,12 +83,15 @@ write_block pointer scratch offset width value = Const scratch value ∷ (Check 
 abbrev pub read_block : ℕ → ℕ → ℕ → Width → List Op
 read_block variable pointer offset width = Check (SetRegister pointer) ∷ (Check (SetLeaf pointer offset width) ∷ (Load variable pointer offset width ∷ []))
 
+abbrev pub print_block : ℕ → List Op
+print_block variable = Check (SetRegister variable) ∷ (PrintOp variable (NumberOf register_width) ∷ [])
+
 -- the ops of a statement
 abbrev pub block_of : Setup → Statement → List Op
 block_of x (New variable c) = NewOp variable (x.places.size c) c.0 ∷ []
 block_of x (Write pointer place value) = write_block pointer (scratch x) (offset x pointer place) (width_of (scalar_of x place)) (word_of (stored_as (scalar_of x place) value))
 block_of x (Read variable pointer place) = read_block variable pointer (offset x pointer place) (width_of (scalar_of x place))
-block_of x (Print variable) = Check (SetRegister variable) ∷ (PrintOp variable (NumberOf register_width) ∷ [])
+block_of x (Print variable) = print_block variable
 
 -- the block of a line
 abbrev pub block_for : Setup → TypedLine → Block

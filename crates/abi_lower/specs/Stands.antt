@@ -8,7 +8,7 @@ use Rattle.cxx_hierarchy.specs.declared.stop.LimitNo.TheVariants.{L1, L2, L3, L4
 use Rattle.cxx_hierarchy.specs.Scalars.{IsInRange}
 use Rattle.cxx_subobject.specs.declared.Subobject.{Subobject}
 use Rattle.cxx_subobject.specs.Subobjects.{IsSubobject, class_of, whole_of}
-use Rattle.abi_layout.specs.Places.{Places, size_of_value}
+use Rattle.abi_layout.specs.Places.{size_of_value}
 use Rattle.abi_layout.specs.Sound.{IsLeaf, leaf_place}
 use Rattle.path_model.specs.declared.Undefined.{Undefined}
 use Rattle.path_model.specs.declared.Undefined.TheVariants.{NullUse, Dangling, NotReady, OutsideView, Unset as UnsetRule, PureCall, BadDowncast, NonVirtualDelete, NotHeapObject, NotComplete, MissingReturn, Overflow}

@@ -5,11 +5,13 @@ ghost use Rattle.std.specs.List.{AllByRecursion};
 ghost use Rattle.cxx_hierarchy.specs.declared.records.ClassId.{ClassId};
 ghost use Rattle.cxx_hierarchy.specs.declared.records.Scalar.{Scalar};
 ghost use Rattle.cxx_hierarchy.specs.Classes.{leaf_type};
+ghost use Rattle.cxx_hierarchy.specs.Scalars.{stored_as};
+ghost use Rattle.byte_code.specs.Numbers.{word_of};
 ghost use Rattle.cxx_subobject.specs.Subobjects.{class_of};
 ghost use Rattle.cxx_resolve.specs.Typed.{IsTyped, IsTypedProgram, IsPointer, LeadsToNumber};
 ghost use Rattle.abi_layout.specs.Places.{places_of};
 ghost use Rattle.abi_layout.specs.Sound.{IsSound};
-ghost use Rattle.abi_lower.specs.Blocks.{setup, class_or_first, pointed, pointed_in, declaring, scalar_in, scalar_of, offset, block_of, block_for, closing, code_for};
+ghost use Rattle.abi_lower.specs.Blocks.{setup, class_or_first, pointed, pointed_in, declaring, scalar_in, scalar_of, offset, width_of, write_block, read_block, print_block, block_of, block_for, closing, code_for};
 
 use crate::convert::{kept, width};
 use abi_layout::AbiLayout;
@@ -82,6 +84,74 @@ fn op_list(alloc: Global, ops: &[Op]) -> Result<OpList, NoMemory>
     Ok(Sequence::from_vec(list))
 }
 
+/// The ops that write a number to a member of the type `scalar`.
+fn write_ops(
+    alloc: Global,
+    scratch: u32,
+    pointer: u32,
+    offset: u32,
+    scalar: Scalar,
+    value: i64,
+) -> Result<OpList, NoMemory>
+    ensures { IfOk result (λ ops. ops ≡ write_block pointer scratch offset (width_of scalar) (word_of (stored_as scalar value))) }
+{
+    let constant = Op::Const {
+        to: scratch,
+        value: kept(scalar, value),
+    };
+    let check = Op::Check(Check::SetRegister { register: pointer });
+    let store = Op::Store {
+        from: scratch,
+        base: pointer,
+        offset,
+        width: width(scalar),
+    };
+    op_list(alloc, &[constant, check, store])
+}
+
+/// The ops that read a number of the type `scalar`.
+fn read_ops(
+    alloc: Global,
+    variable: u32,
+    pointer: u32,
+    offset: u32,
+    scalar: Scalar,
+) -> Result<OpList, NoMemory>
+    ensures { IfOk result (λ ops. ops ≡ read_block variable pointer offset (width_of scalar)) }
+{
+    let width = width(scalar);
+    let base = pointer;
+    let check = Op::Check(Check::SetRegister { register: pointer });
+    let check_leaf = Op::Check(Check::SetLeaf {
+        base,
+        offset,
+        width,
+    });
+    let load = Op::Load {
+        to: variable,
+        base,
+        offset,
+        width,
+    };
+    op_list(alloc, &[check, check_leaf, load])
+}
+
+/// The ops that print a number.
+fn print_ops(alloc: Global, variable: u32) -> Result<OpList, NoMemory>
+    ensures { IfOk result (λ ops. ops ≡ print_block variable) }
+{
+    let check = Op::Check(Check::SetRegister { register: variable });
+    let signed_word = Width {
+        bytes: 8,
+        signed: true,
+    };
+    let print = Op::Print {
+        from: variable,
+        what: PrintAs::Number(signed_word),
+    };
+    op_list(alloc, &[check, print])
+}
+
 /// The ops of a statement; `scratch` is the number of the register after those of the variables.
 fn lower_statement(
     alloc: Global,
@@ -98,29 +168,28 @@ fn lower_statement(
 {
     match statement {
         Statement::New { variable, class } => {
+            let to = *variable;
             let size = layout.layout(*class).size;
-            op_list(alloc, &[Op::New { to: *variable, size, class: class.0 }])
+            let class = class.0;
+            op_list(alloc, &[Op::New { to, size, class }])
         }
-        Statement::Write { pointer, place, value } => {
+        Statement::Write {
+            pointer,
+            place,
+            value,
+        } => {
             let (offset, scalar) = access(h, layout, types, *pointer, place);
-            let constant = Op::Const { to: scratch, value: kept(scalar, *value) };
-            let check = Op::Check(Check::SetRegister { register: *pointer });
-            let store = Op::Store { from: scratch, base: *pointer, offset, width: width(scalar) };
-            op_list(alloc, &[constant, check, store])
+            write_ops(alloc, scratch, *pointer, offset, scalar, *value)
         }
-        Statement::Read { variable, pointer, place } => {
+        Statement::Read {
+            variable,
+            pointer,
+            place,
+        } => {
             let (offset, scalar) = access(h, layout, types, *pointer, place);
-            let width = width(scalar);
-            let check = Op::Check(Check::SetRegister { register: *pointer });
-            let check_leaf = Op::Check(Check::SetLeaf { base: *pointer, offset, width });
-            let load = Op::Load { to: *variable, base: *pointer, offset, width };
-            op_list(alloc, &[check, check_leaf, load])
+            read_ops(alloc, *variable, *pointer, offset, scalar)
         }
-        Statement::Print { variable } => {
-            let check = Op::Check(Check::SetRegister { register: *variable });
-            let print = Op::Print { from: *variable, what: PrintAs::Number(Width { bytes: 8, signed: true }) };
-            op_list(alloc, &[check, print])
-        }
+        Statement::Print { variable } => print_ops(alloc, *variable),
     }
 }
 
@@ -149,7 +218,10 @@ fn lower_lines(
     let mut blocks = Sequence::new(alloc);
     for line in lines {
         let ops = lower_statement(alloc, h, layout, types, scratch, &line.what)?;
-        blocks.push(Block { ops, line: line.line })?;
+        blocks.push(Block {
+            ops,
+            line: line.line,
+        })?;
     }
     blocks.push(closing_block(alloc)?)?;
     Ok(blocks)
@@ -175,5 +247,10 @@ pub fn lower(
     }
     let scratch = types.len() as u32;
     let blocks = lower_lines(alloc, h, layout, types, scratch, program.lines.as_slice())?;
-    Ok(Code { blocks, start: 0, globals: 0, registers: scratch + 1 })
+    Ok(Code {
+        blocks,
+        start: 0,
+        globals: 0,
+        registers: scratch + 1,
+    })
 }

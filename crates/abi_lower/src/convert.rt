@@ -14,14 +14,38 @@ pub fn width(scalar: Scalar) -> Width
     ensures { result ≡ width_of scalar }
 {
     match scalar {
-        Scalar::Bool | Scalar::UChar => Width { bytes: 1, signed: false },
-        Scalar::Char | Scalar::SChar => Width { bytes: 1, signed: true },
-        Scalar::Short => Width { bytes: 2, signed: true },
-        Scalar::UShort => Width { bytes: 2, signed: false },
-        Scalar::Int => Width { bytes: 4, signed: true },
-        Scalar::UInt => Width { bytes: 4, signed: false },
-        Scalar::Long | Scalar::LongLong => Width { bytes: 8, signed: true },
-        Scalar::ULong | Scalar::ULongLong => Width { bytes: 8, signed: false },
+        Scalar::Bool | Scalar::UChar => Width {
+            bytes: 1,
+            signed: false,
+        },
+        Scalar::Char | Scalar::SChar => Width {
+            bytes: 1,
+            signed: true,
+        },
+        Scalar::Short => Width {
+            bytes: 2,
+            signed: true,
+        },
+        Scalar::UShort => Width {
+            bytes: 2,
+            signed: false,
+        },
+        Scalar::Int => Width {
+            bytes: 4,
+            signed: true,
+        },
+        Scalar::UInt => Width {
+            bytes: 4,
+            signed: false,
+        },
+        Scalar::Long | Scalar::LongLong => Width {
+            bytes: 8,
+            signed: true,
+        },
+        Scalar::ULong | Scalar::ULongLong => Width {
+            bytes: 8,
+            signed: false,
+        },
     }
 }
 
@@ -39,13 +63,7 @@ fn stored(scalar: Scalar, z: i64) -> i128
     ensures { result ≡ stored_as scalar z }
 {
     match scalar {
-        Scalar::Bool => {
-            if z == 0 {
-                0
-            } else {
-                1
-            }
-        }
+        Scalar::Bool => { if z == 0 { 0 } else { 1 } }
         Scalar::Char | Scalar::SChar => wrap(z, 0x80, 0x100),
         Scalar::UChar => wrap(z, 0, 0x100),
         Scalar::Short => wrap(z, 0x8000, 0x1_0000),

@@ -1,3 +1,4 @@
 pub mod Turning
 pub mod Running
 pub mod EndingNumbers
+pub mod SampleLemmas

@@ -1,13 +1,13 @@
 -- A run, turn by turn.
 use Rattle.std.proofs.Common.{◌≡◌, ◌≢◌, ℕ, zero, suc, ◌+◌, ◌-◌, ◌<◌, ◌≤◌, Option, Some, None, List, [], ◌∷◌, ◌++◌, subst, sym, refl, ap, ◌∙◌, arith, length, map, append_assoc, replicate, true, false, Bool}
 use Rattle.std.specs.Prelude.{All, nat_eq}
-use Rattle.std.specs.List.{slice_get, flat_map}
+use Rattle.std.specs.List.{slice_get}
 use Rattle.std.proofs.lemmas.List.{append-nil, length-replicate}
 use Rattle.std.proofs.lemmas.List.Elements.{All-nil, All-cons}
 use Rattle.std.proofs.lemmas.Grind.{flat_map-append}
 use Rattle.std.proofs.lemmas.Bool.Decides.{nat_tests}
 use Rattle.cxx_resolve.specs.declared.program.SimpleProgram.{SimpleProgram}
-use Rattle.path_model.specs.Values.{State, Value, Unset, value_in}
+use Rattle.path_model.specs.Values.{State, Unset, value_in}
 use Rattle.path_model.specs.Steps.{Out, NumberOut, Move, Goes, Refuses, Limits, Ends, step}
 use Rattle.path_model.specs.Runs.{Ran, run_of, run_from, ran_by, state_at, next_state, start}
 use Rattle.byte_memory.specs.Store.{empty}
@@ -19,10 +19,10 @@ use Rattle.byte_machine.specs.declared.turn.MachineTurn.TheVariants.{Went, Ended
 use Rattle.byte_machine.specs.Effect.{word_at}
 use Rattle.byte_machine.specs.Turn.{State as Bytes, Turns, TurnsBy, begun, kept}
 use Rattle.abi_lower.specs.Blocks.{Setup, code_for}
-use Rattle.abi_lower.specs.Stands.{Stands, StandsFor, Means, raw_of}
+use Rattle.abi_lower.specs.Stands.{StandsFor, raw_of}
 use Rattle.abi_print.specs.Texts.{line_of, text_of, raw_line, raw_text, IsNumber}
-use Rattle.abi_refine.specs.Agreed.{Agreed, AgreesBy, AgreesTurn, CountsOn}
-use Rattle.abi_refine.specs.Reaches.{Reaches, none, further, ReachesWith}
+use Rattle.abi_refine.specs.Agreed.{Agreed, AgreesBy, CountsOn}
+use Rattle.abi_refine.specs.Reaches.{none, further, ReachesWith}
 use Rattle.abi_refine.specs.Endings.{turn_of}
 
 -- what is told so far, and what is left to do
@@ -147,10 +147,10 @@ Going-ended x program all b b' text told turn going agreed ne = ended_case x pro
 -- one more turn
 pub ReachesWith-further : (code : Code) (b mid b' : Bytes) (text : List ℕ) (more : List RawOut) (turn : MachineTurn) → ReachesWith code b mid text → Turns code mid [] b' more turn → ReachesWith code b b' (text ++ raw_text more)
 ReachesWith-further code b mid b' text more turn so_far turns = record {
-    told = so_far.told ++ more;
-    reaches = further mid b' so_far.told more turn so_far.reaches turns;
-    text_is = ap (λ t. t ++ raw_text more) so_far.text_is ∙ sym (flat_map-append raw_line so_far.told more);
-  }
+  told = so_far.told ++ more;
+  reaches = further mid b' so_far.told more turn so_far.reaches turns;
+  text_is = ap (λ t. t ++ raw_text more) so_far.text_is ∙ sym (flat_map-append raw_line so_far.told more);
+}
 
 -- one more turn that tells nothing
 pub ReachesWith-last : (code : Code) (b mid b' : Bytes) (text : List ℕ) (more : List RawOut) (turn : MachineTurn) → more ≡ [] → ReachesWith code b mid text → Turns code mid [] b' more turn → ReachesWith code b b' text
@@ -190,23 +190,23 @@ unset_register (suc n) (suc v) = unset_register n v
 -- a machine that took no step stands for the start of its program
 pub stands_at_start : (x : Setup) (program : SimpleProgram) (steps : ℕ) → x.types ≡ program.variables → StandsFor x (start program) (begun empty (code_for x program.lines) steps)
 stands_at_start x program steps types = record {
-    stands = record {
-      objects = record {
-        count = refl;
-        ascending = λ i j r q less here there. cc;
-        region = λ k c r here there. cc;
-        listed_count = refl;
-        listed = λ k c r here there. cc;
-        region_sum = refl;
-        heap_sum = refl;
-      };
-      leaves = record { leaves = λ k c r s d m type here there leaf. cc; fresh = λ k s m past. refl };
-      variables = record {
-        count = length-replicate (length program.variables) Unset ∙ ap length (sym types);
-        register_count = length-replicate (length x.types + 1) None;
-        values = λ v type here. rw (unset_variable (length program.variables) v) (unset_register (length x.types + 1) v);
-      };
+  stands = record {
+    objects = record {
+      count = refl;
+      ascending = λ i j r q less here there. cc;
+      region = λ k c r here there. cc;
+      listed_count = refl;
+      listed = λ k c r here there. cc;
+      region_sum = refl;
+      heap_sum = refl;
     };
-    block = refl;
-    going = refl;
-  }
+    leaves = record { leaves = λ k c r s d m type here there leaf. cc; fresh = λ k s m past. refl };
+    variables = record {
+      count = length-replicate (length program.variables) Unset ∙ ap length (sym types);
+      register_count = length-replicate (length x.types + 1) None;
+      values = λ v type here. rw (unset_variable (length program.variables) v) (unset_register (length x.types + 1) v);
+    };
+  };
+  block = refl;
+  going = refl;
+}

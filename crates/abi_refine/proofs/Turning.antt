@@ -13,23 +13,22 @@ use Rattle.cxx_resolve.specs.declared.program.Statement.{Statement}
 use Rattle.cxx_resolve.specs.declared.program.Statement.TheVariants.{New, Write, Read, Print}
 use Rattle.cxx_resolve.specs.declared.program.TypedLine.{TypedLine}
 use Rattle.cxx_resolve.specs.declared.program.SimpleProgram.{SimpleProgram}
-use Rattle.cxx_resolve.specs.Typed.{Types, IsTyped, IsTypedProgram}
+use Rattle.cxx_resolve.specs.Typed.{IsTyped, IsTypedProgram}
 use Rattle.cxx_subobject.specs.Subobjects.{join}
-use Rattle.abi_layout.specs.Places.{Places}
 use Rattle.abi_layout.specs.Sound.{IsSound}
 use Rattle.path_model.specs.Values.{State, Value, Unset, Number, Pointer, variable_at}
 use Rattle.path_model.specs.Steps.{Move, Goes, Refuses, Limits, Ends, made, written, set_to, fetched, printed, move_of, move_in, step, heap_total, rounded}
-use Rattle.path_model.specs.Runs.{state_at, next_state, start}
+use Rattle.path_model.specs.Runs.{state_at, next_state}
 use Rattle.byte_memory.proofs.Lists.{slice_get-push, slice_get-push_before}
 use Rattle.byte_code.specs.declared.code.Block.{Block}
 use Rattle.byte_code.specs.declared.code.Code.{Code}
 use Rattle.byte_machine.specs.declared.turn.RawOut.{RawOut}
 use Rattle.byte_machine.specs.declared.turn.MachineTurn.{MachineTurn}
-use Rattle.byte_machine.specs.declared.turn.MachineTurn.TheVariants.{Went, Ended, Refused, OutOfSteps, Limit}
+use Rattle.byte_machine.specs.declared.turn.MachineTurn.TheVariants.{Went}
 use Rattle.byte_machine.specs.Effect.{Running}
-use Rattle.byte_machine.specs.Turn.{State as Bytes, Turns, TurnsBy, HasTurn, HasTurnBy, at_block, after, kept}
+use Rattle.byte_machine.specs.Turn.{State as Bytes, Turns, TurnsBy, HasTurn, HasTurnBy, at_block, after}
 use Rattle.byte_machine.proofs.Leads.{Leads, leads_stop, IsDefined-leads, Runs-leads}
-use Rattle.abi_lower.specs.Blocks.{Setup, block_of, block_for, closing, code_for}
+use Rattle.abi_lower.specs.Blocks.{Setup, block_for, closing, code_for}
 use Rattle.abi_lower.specs.Stands.{StandsFor, Agrees}
 use Rattle.abi_lower.proofs.StatementStep.{step_of}
 use Rattle.abi_refine.specs.Agreed.{CountsOn, AgreesTurn, AgreesBy, Agreed}
@@ -113,6 +112,7 @@ block_leads x program code s b types sound same typed st within =
           there = block_there x program.lines s.next line here;
           leads = rw here (step_of x s (at_block b [] line.line) line.what sound refl st.stands (rw types its));
         }
+
     ended : (length program.lines ≤ s.next) × (slice_get program.lines s.next ≡ None) → BlockLeads x program (code_for x program.lines) s b
     ended (past, none) =
         let e : s.next ≡ length program.lines = omega arith in
@@ -139,10 +139,12 @@ turn_agrees x program code s b b' told turn types sound same typed st within tur
     agrees (Refuses rule line) new ok a e out = (a.0, out ∙ a.1)
     agrees (Limits limit) new ok a e out = (a.0, out ∙ a.1)
     agrees Ends new ok a e out = (a.0, out ∙ a.1)
+
     counts : (new : Running) → nat_eq b.left 0 ≡ false → b' ≡ after b new turn → CountsOn b b'
     counts new some e =
         let left : b.left - 1 + 1 ≡ b.left = grind (arith, nat_tests) in
         rw e (record { taken = refl; left = left })
+
     by_left : (block : Block) (z : Bool) → nat_eq b.left 0 ≡ z → Leads block.ops (at_block b [] block.line) (Agrees x (step x.h x.places.size program s)) → TurnsBy None z (Some block) b [] b' told turn → AgreesBy z x (step x.h x.places.size program s) b b' told turn
     by_left block true e lead h = (h.2, h.1, ap (λ (c : Bytes). c.taken) h.0)
     by_left block false some lead (new, (runs, e, out)) =
@@ -172,6 +174,7 @@ within_step h sizes program s before = ⊎_elim found ended (slice_get_cases pro
   where
     found : (line : TypedLine) × (s.next < length program.lines) × (slice_get program.lines s.next ≡ Some line) × (get_or program.lines s.next line ≡ line) → (next_state (step h sizes program s) s).next ≤ length program.lines
     found (line, inside, here, got) = within_move program.lines s (step h sizes program s) inside (step_is_next h sizes program s)
+
     ended : (length program.lines ≤ s.next) × (slice_get program.lines s.next ≡ None) → (next_state (step h sizes program s) s).next ≤ length program.lines
     ended (past, none) = rw none before
 

@@ -1,5 +1,5 @@
 -- When a turn of the byte machine agrees with a step of the subobject machine.
-use Rattle.std.specs.Prelude.{◌≡◌, ℕ, ◌+◌, Bool, true, false, nat_eq, List, [], map}
+use Rattle.std.specs.Prelude.{◌≡◌, ◌+◌, Bool, true, false, nat_eq, List, [], map}
 use Rattle.path_model.specs.Steps.{Move, Goes, Refuses, Limits, Ends}
 use Rattle.byte_machine.specs.declared.turn.RawOut.{RawOut}
 use Rattle.byte_machine.specs.declared.turn.MachineTurn.{MachineTurn}

@@ -1,5 +1,4 @@
 -- How an execution ends.
-use Rattle.std.specs.Prelude.{ℕ}
 use Rattle.path_model.specs.Runs.{Ending, Done as RunDone, UndefinedAt, OutOfSteps as RunOutOfSteps, LimitMet}
 use Rattle.byte_machine.specs.declared.turn.MachineTurn.{MachineTurn}
 use Rattle.byte_machine.specs.declared.turn.MachineTurn.TheVariants.{Ended, Refused, OutOfSteps as TurnOutOfSteps, Limit as TurnLimit}

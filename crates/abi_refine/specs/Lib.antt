@@ -1,3 +1,4 @@
 pub mod Agreed
 pub mod Reaches
 pub mod Endings
+pub mod Samples

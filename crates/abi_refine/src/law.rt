@@ -33,8 +33,7 @@ pub fn turn<M: Memory>(
     requires sound { IsSound _h.now (places_of _h.now _layout.now) }
     requires typed { IsTypedProgram _h.now _program.now }
     requires code { code_of machine.old ≡ code_for (setup _h.now (places_of _h.now _layout.now) _program.now.variables) _program.now.lines }
-    requires stands {
-        let b = state_of machine.old in
+    requires stands { let b = state_of machine.old in
         StandsFor (setup _h.now (places_of _h.now _layout.now) _program.now.variables) (state_at _h.now (places_of _h.now _layout.now).size _program.now b.taken) b }
     requires ready { has_failed machine.old ≡ false }
     requires none { outs.old ≡ [] }

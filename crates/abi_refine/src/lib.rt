@@ -12,7 +12,9 @@
 pub mod ending;
 pub mod law;
 pub mod run;
+#[cfg(test)]
+mod tests;
 
 pub use crate::ending::End;
 pub use crate::law::turn;
-pub use crate::run::{execute, Execution};
+pub use crate::run::{Execution, execute};

@@ -14,7 +14,7 @@ ghost use Rattle.abi_print.specs.Texts.{text_of, raw_text, IsNumber};
 ghost use Rattle.abi_refine.specs.Reaches.{ReachesWith};
 ghost use Rattle.abi_refine.specs.Endings.{ending_of, turn_of};
 
-use crate::ending::{end_of, End};
+use crate::ending::{End, end_of};
 use crate::law::turn;
 use abi_layout::AbiLayout;
 use abi_lower::lower;
@@ -89,8 +89,16 @@ fn run_machine<M: Memory>(
                 steps += 1;
                 append_lines(alloc, &mut text, outs.as_slice())?;
             }
-            MachineTurn::OutOfSteps => return Ok(Ran { text, steps, answer: MachineTurn::OutOfSteps }),
-            answer => return Ok(Ran { text, steps: steps + 1, answer }),
+            MachineTurn::OutOfSteps => return Ok(Ran {
+                text,
+                steps,
+                answer: MachineTurn::OutOfSteps,
+            }),
+            answer => return Ok(Ran {
+                text,
+                steps: steps + 1,
+                answer,
+            }),
         }
     }
 }
@@ -118,9 +126,21 @@ pub fn execute(
     ensures steps { IfOk result (λ e. e.steps ≡ (state_of e.machine).taken) }
 {
     let code = lower(alloc, h, layout, program)?;
-    let image = ImageBytes { bytes: Sequence::new(alloc), base: 0 };
+    let image = ImageBytes {
+        bytes: Sequence::new(alloc),
+        base: 0,
+    };
     let mut machine = Machine::new(alloc, FlatMemory::new(alloc), image, code, 1, steps)?;
     let ran = run_machine(alloc, h, layout, program, &mut machine)?;
-    let Ran { text, steps, answer } = ran;
-    Ok(Execution { text: Sequence::from_vec(text), steps, end: end_of(answer), machine })
+    let Ran {
+        text,
+        steps,
+        answer,
+    } = ran;
+    Ok(Execution {
+        text: Sequence::from_vec(text),
+        steps,
+        end: end_of(answer),
+        machine,
+    })
 }

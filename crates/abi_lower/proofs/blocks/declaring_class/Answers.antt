@@ -1,5 +1,4 @@
-use Rattle.std.proofs.Common.{◌≡◌, ap, sym, ◌∙◌}
-use Rattle.std.specs.Option.{option_copied}
+use Rattle.std.proofs.Common.{sym}
 use Rattle.abi_lower.proofs.Paths.{class_of_path-last}
 use Rattle.abi_lower.proofs.blocks.declaring_class.Goals as goal
 

@@ -1,10 +1,10 @@
-use Rattle.std.proofs.Common.{◌≡◌, ◌≢◌, ℕ, ◌+◌, Some, arith, refl, sym, ap, ◌∙◌, rules, []}
-use Rattle.byte_machine.specs.declared.turn.MachineTurn.TheVariants.{Went, OutOfSteps}
+use Rattle.std.proofs.Common.{◌≢◌, ◌+◌, Some, refl, sym, ap, ◌∙◌}
+use Rattle.byte_machine.specs.declared.turn.MachineTurn.TheVariants.{Went}
 use Rattle.path_model.specs.Runs.{run_of}
 use Rattle.byte_machine.specs.MachineState.{code_of, state_of}
 use Rattle.abi_layout.specs.Places.{places_of}
 use Rattle.abi_lower.specs.Blocks.{setup}
-use Rattle.abi_refine.proofs.Running.{Going, Gone, Stopped, Going-went, Going-ended, Going-start, ReachesWith-none, ReachesWith-further, ReachesWith-last, answer_is}
+use Rattle.abi_refine.proofs.Running.{Going-went, Going-ended, Going-start, ReachesWith-none, ReachesWith-further, ReachesWith-last, answer_is}
 use Rattle.abi_refine.proofs.run.run_machine.Goals as goal
 
 pub loop-outs-init : goal.loop-outs-init

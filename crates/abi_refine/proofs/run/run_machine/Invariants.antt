@@ -1,4 +1,4 @@
-use Rattle.std.proofs.Common.{◌≡◌, ℕ, false}
+use Rattle.std.proofs.Common.{◌≡◌, false}
 use Rattle.path_model.specs.Runs.{run_of}
 use Rattle.byte_machine.specs.MachineState.{code_of, image_of, state_of, has_failed}
 use Rattle.abi_layout.specs.Places.{places_of}
