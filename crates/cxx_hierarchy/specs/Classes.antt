@@ -1,5 +1,5 @@
 -- The classes of a hierarchy, and what each has.
-use Rattle.std.specs.Prelude.{ℕ, Option, Some, None, List, [], slice_get}
+use Rattle.std.specs.Prelude.{ℕ, Option, Some, None, List, [], map, slice_get, ◌≡◌, Contains}
 use Rattle.cxx_hierarchy.specs.declared.records.ClassId.{ClassId}
 use Rattle.cxx_hierarchy.specs.declared.records.ClassRec.{ClassRec}
 use Rattle.cxx_hierarchy.specs.declared.records.Base.{Base}
@@ -48,3 +48,12 @@ leaf_type_in (Some member) = value_type_in member.ty member.count
 -- the type of a member that is a number or a pointer, and no array
 abbrev pub leaf_type : Classes → ClassId → ℕ → Option (ValueType ClassId)
 leaf_type h c m = leaf_type_in (slice_get (members_of h c) m)
+
+-- the names of the classes
+abbrev pub class_names : Classes → List (List ℕ)
+class_names h = map (λ class. class.name) h
+
+-- the class of the name, or none where no class has it
+abbrev pub IsFound : Classes → List ℕ → Option ClassId → Type 0
+IsFound h name None = Contains (class_names h) name → ⊥
+IsFound h name (Some c) = slice_get (class_names h) c.0 ≡ Some name

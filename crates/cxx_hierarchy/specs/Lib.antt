@@ -1,2 +1,7 @@
 pub mod Scalars
 pub mod Classes
+pub mod Stops
+pub mod NameTables
+pub mod ClassPass
+pub mod Resolved
+pub mod Hierarchies

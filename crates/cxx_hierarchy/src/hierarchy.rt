@@ -1,27 +1,56 @@
 //! The classes of a source.
 
-ghost use Rattle.std.specs.Prelude.{◌≡◌, ◌==◌, ◌<◌, Some, length};
-ghost use Rattle.cxx_hierarchy.specs.Classes.{class_at};
+ghost use Rattle.std.specs.Prelude.{◌≡◌, ◌==◌, ◌<◌, Some, [], All, IfOk, IfErr, length};
+ghost use Rattle.cxx_hierarchy.specs.Classes.{class_at, IsFound};
+ghost use Rattle.cxx_hierarchy.specs.ClassPass.{faults_of, StopsAt, IsInOrder};
+ghost use Rattle.cxx_hierarchy.specs.Resolved.{resolved};
+ghost use Rattle.cxx_hierarchy.specs.Hierarchies.{IsHierarchy};
 
-use crate::records::{ClassId, ClassRec};
+use crate::class_pass::{check_classes, name_table};
+use crate::names::NameTable;
+use crate::records::{ClassId, ClassRec, RecordList};
+use crate::resolution::resolve_classes;
+use crate::stop::Stop;
+use std::alloc::Global;
 use std::marker::Model;
 
 /// The classes of a source in its order, seen as the list of their records.
-#[derive(Debug, Drop)]
+#[derive(Drop)]
 pub struct Hierarchy {
     classes: Vec<ClassRec<ClassId>>,
+    names: NameTable,
 }
 
 impl Model for Hierarchy {
-    ghost use Rattle.std.specs.Prelude.{List, ◌<◌, ◌^◌, length};
+    ghost use Rattle.std.specs.Prelude.{List};
     ghost use Rattle.cxx_hierarchy.specs.declared.records.ClassRec.{ClassRec};
     ghost use Rattle.cxx_hierarchy.specs.declared.records.ClassId.{ClassId};
+    ghost use Rattle.cxx_hierarchy.specs.Classes.{class_names};
+    ghost use Rattle.cxx_hierarchy.specs.NameTables.{Numbers};
+    ghost use Rattle.cxx_hierarchy.specs.Hierarchies.{IsHierarchy};
 
     ghost Value = { List (ClassRec ClassId) };
 
     ghost view = { λ h. h.classes.items };
 
-    ghost invariant = { λ h. length h.classes.items < 2 ^ 32 };
+    ghost invariant = { λ h. IsHierarchy h.classes.items × Numbers h.names (class_names h.classes.items) };
+}
+
+/// The hierarchy of the class definitions of a source, in its order.
+///
+/// The class pass goes over the classes in their order. The first refusal or limit that it meets is the error:
+/// `DuplicateClass`, `UnknownClass`, `IncompleteClass`, `DuplicateBase`, `DuplicateMember`, or one of the limits
+/// of 1,024 classes, 64 direct bases, 1,024 parts, 16 parameters and 4,096 elements of an array.
+pub fn build(alloc: Global, records: &RecordList) -> Result<Hierarchy, Stop>
+    requires { All IsInOrder records.now }
+    ensures ok { IfOk result (λ h. (faults_of records.now ≡ []) × (h ≡ resolved records.now)) }
+    ensures err { IfErr result (StopsAt (faults_of records.now)) }
+{
+    let definitions = records.as_slice();
+    let names = name_table(alloc, definitions)?;
+    check_classes(alloc, definitions, &names)?;
+    let classes = resolve_classes(alloc, &names, definitions)?;
+    Ok(Hierarchy { classes, names })
 }
 
 impl Hierarchy {
@@ -45,5 +74,22 @@ impl Hierarchy {
         ensures { class_at self.now id ≡ Some result.now }
     {
         &self.classes[id.0 as usize]
+    }
+
+    /// The class of a name, and None exactly where no class has it.
+    pub fn find(&self, name: &[u8]) -> Option<ClassId>
+        ensures { IsFound self.now name.now result }
+    {
+        match self.names.find(name) {
+            Some(number) => Some(ClassId(number as u32)),
+            None => None,
+        }
+    }
+
+    /// What every hierarchy keeps, as a law for the layers above. It does nothing.
+    pub fn keeps(&self)
+        ensures { IsHierarchy self.now }
+    {
+        let _classes = &self.classes;
     }
 }

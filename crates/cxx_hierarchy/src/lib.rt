@@ -11,11 +11,14 @@
 //! gives the class of a name, and None exactly where no class has it.
 #![tactic(auto)]
 
+mod class_pass;
 pub mod hierarchy;
+mod names;
 pub mod records;
+mod resolution;
 pub mod stop;
 
-pub use crate::hierarchy::Hierarchy;
+pub use crate::hierarchy::{Hierarchy, build};
 pub use crate::records::{
     Base, BaseList, ClassId, ClassRec, Destructor, FieldType, Function, FunctionList, Member,
     MemberList, Name, Param, ParamList, PartAt, PartKind, PartOrder, RecordList, ReturnType,

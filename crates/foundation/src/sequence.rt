@@ -1,6 +1,6 @@
 //! A list that contracts see as a list.
 
-ghost use Rattle.std.specs.Prelude.{◌≡◌, ◌<◌, ◌++◌, ◌∷◌, [], length, OnOk, OnErr, slice_index_or};
+ghost use Rattle.std.specs.Prelude.{◌≡◌, ◌<◌, ◌++◌, ◌∷◌, [], length, take, OnOk, OnErr, slice_index_or};
 
 use crate::memory::NoMemory;
 use std::alloc::Global;
@@ -68,5 +68,14 @@ impl<T> Sequence<T> {
     {
         self.items.push(item)?;
         Ok(())
+    }
+
+    /// Keeps the first n items, or all where there are fewer.
+    pub fn truncate(&mut self, n: usize)
+    where
+        T: Drop,
+        ensures { self.new ≡ take n self.old }
+    {
+        self.items.truncate(n);
     }
 }

@@ -1,0 +1,2 @@
+pub mod Pow
+pub mod Words

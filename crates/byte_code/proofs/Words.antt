@@ -1,0 +1,72 @@
+use Rattle.std.proofs.Common.{◌≡◌, ℕ, suc, ◌+◌, ◌-◌, ◌*◌, ◌%◌, ◌<◌, ◌≤◌, ◌^◌, Bool, true, false, refl, ap, ◌∙◌, sym, arith, pos, ◌-ℤ◌, ◌/◌, subst, lit<}
+use Rattle.std.specs.Prelude.{nat_lt, ℤ, negsuc}
+use Rattle.std.specs.Int.{int_rem_euclid}
+use Rattle.std.proofs.lemmas.Int.{ints}
+use Rattle.std.proofs.lemmas.Bool.Decides.{nat_tests}
+use Rattle.std.proofs.Math.Nat.{mod-eq_of_lt, div-add-mod, mod-lt, mul-pos, div-lt_iff_lt-mul}
+use Rattle.std.proofs.lemmas.Nat.{mod-mul-add, pow-add}
+use Rattle.byte_code.specs.declared.width.Width.{Width}
+use Rattle.byte_code.specs.Numbers.{signed_of, low_of, word_of, number_of, extended, IsInBytes, IsInRange}
+use Rattle.byte_code.proofs.Pow.{pow_word, pow_pos}
+
+-- the low bytes of a number in range read back as it
+pub signed_of-low_of : (n : ℕ) (signed : Bool) (number : ℤ) → IsInBytes n signed number → signed_of n signed (low_of n number) ≡ number
+signed_of-low_of n false (pos a) fits = ap pos (mod-eq_of_lt fits)
+signed_of-low_of n false (negsuc a) fits = absurd fits
+signed_of-low_of n true (pos a) fits =
+    let same : a % 256 ^ n ≡ a = mod-eq_of_lt (omega arith) in
+    let test : nat_lt (2 * a) (256 ^ n) ≡ true = grind (arith, nat_tests) in
+    rw (same, test) refl
+signed_of-low_of n true (negsuc a) fits =
+    let same : a % 256 ^ n ≡ a = mod-eq_of_lt (omega arith) in
+    let back : 256 ^ n - 1 - a + (a + 1) ≡ 256 ^ n = omega arith in
+    let test : nat_lt (2 * (256 ^ n - 1 - a)) (256 ^ n) ≡ false = grind (arith, nat_tests) in
+    rw (same, test) (omega (arith, ints))
+
+-- a remainder by a multiple keeps the remainder
+mod_of_multiple : (k m a : ℕ) → 0 < m → 0 < k → a % (k * m) % m ≡ a % m
+mod_of_multiple k m a some many =
+    let whole = div-add-mod a (k * m) in
+    let part = div-add-mod (a % (k * m)) m in
+    let small : a % (k * m) % m < m = mod-lt (a % (k * m)) some in
+    let split : a ≡ (a / (k * m) * k + a % (k * m) / m) * m + a % (k * m) % m = omega (arith, whole, part) in
+    sym (ap (λ x. x % m) split ∙ mod-mul-add (a / (k * m) * k + a % (k * m) / m) m (a % (k * m) % m) small)
+
+-- so does what is left of a multiple
+rest_of_multiple : (k m a : ℕ) → 0 < m → 0 < k → (k * m - 1 - a % (k * m)) % m ≡ m - 1 - a % m
+rest_of_multiple k m a some many =
+    let r : ℕ = a % (k * m) in
+    let less : r < k * m = mod-lt a (mul-pos many some) in
+    let part = div-add-mod r m in
+    let small : r % m < m = mod-lt r some in
+    let below : r / m < k = (div-lt_iff_lt-mul some).1 less in
+    let d : ℕ = k - 1 - r / m in
+    let e : k ≡ r / m + (1 + d) = omega arith in
+    let f : k * m ≡ (r / m + (1 + d)) * m = ap (λ z. z * m) e in
+    let split : k * m - 1 - r ≡ d * m + (m - 1 - r % m) = omega (arith, f, part) in
+    ap (λ x. x % m) split ∙ mod-mul-add (k - 1 - r / m) m (m - 1 - r % m) (omega arith) ∙ ap (λ x. m - 1 - x) (mod_of_multiple k m a some many)
+
+-- 2 ^ 64 is a multiple of the range of each width
+word_split : (n : ℕ) → n ≤ 8 → 256 ^ (8 - n) * 256 ^ n ≡ 2 ^ 64
+word_split n small = let e : 8 - n + n ≡ 8 = omega arith in sym (pow-add 256 (8 - n) n) ∙ ap (λ k. 256 ^ k) e
+
+-- the low bytes of a number's word are its low bytes
+pub word_of-low : (n : ℕ) (number : ℤ) → n ≤ 8 → word_of number % 256 ^ n ≡ low_of n number
+word_of-low n (pos a) small =
+    subst (λ w. a % w % 256 ^ n ≡ a % 256 ^ n) (word_split n small) (mod_of_multiple (256 ^ (8 - n)) (256 ^ n) a (pow_pos n) (pow_pos (8 - n)))
+word_of-low n (negsuc a) small =
+    subst (λ w. (w - 1 - a % w) % 256 ^ n ≡ 256 ^ n - 1 - a % 256 ^ n) (word_split n small) (rest_of_multiple (256 ^ (8 - n)) (256 ^ n) a (pow_pos n) (pow_pos (8 - n)))
+
+-- a word reads as the number in range that it stands for
+pub number_of-word_of : (width : Width) (number : ℤ) → width.bytes ≤ 8 → IsInRange width number → number_of width (word_of number) ≡ number
+number_of-word_of width number small fits =
+    ap (λ low. signed_of width.bytes width.signed low) (word_of-low width.bytes number small) ∙ signed_of-low_of width.bytes width.signed number fits
+
+-- loaded bytes of a number in range are extended to its word
+pub extended-low_of : (width : Width) (number : ℤ) → IsInRange width number → extended width (low_of width.bytes number) ≡ word_of number
+extended-low_of width number fits = ap word_of (signed_of-low_of width.bytes width.signed number fits)
+
+-- a number's word fits 64 bits
+pub word_of-fits : (number : ℤ) → word_of number < 2 ^ 64
+word_of-fits (pos a) = mod-lt a (lit< tt)
+word_of-fits (negsuc a) = omega arith

@@ -1,0 +1,39 @@
+//! Blocks of ops, and the image.
+
+use crate::op::Op;
+use foundation::Sequence;
+
+/// The ops of a block, in order.
+pub type OpList = Sequence<Op>;
+
+/// The blocks of a program; a block's number is its place.
+pub type BlockList = Sequence<Block>;
+
+/// Bytes, in order.
+pub type ByteList = Sequence<u8>;
+
+/// The ops of one step, and the line of the source that a refusal of one of them names.
+#[derive(Debug, Drop)]
+pub struct Block {
+    pub ops: OpList,
+    pub line: u32,
+}
+
+/// The lowered program.
+#[derive(Debug, Drop)]
+pub struct Code {
+    pub blocks: BlockList,
+    /// The number of main's first block, or 0 without a main.
+    pub start: u32,
+    /// The number of globals.
+    pub globals: u32,
+    /// The number of registers of a frame.
+    pub registers: u32,
+}
+
+/// The tables of a program, as bytes that stand from the address `base` on.
+#[derive(Debug, Drop)]
+pub struct ImageBytes {
+    pub bytes: ByteList,
+    pub base: u64,
+}

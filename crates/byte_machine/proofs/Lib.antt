@@ -1,0 +1,6 @@
+pub mod Objects
+pub mod Leads
+pub mod Blocks
+pub mod TurnLeads
+pub mod Counted
+pub mod Sample

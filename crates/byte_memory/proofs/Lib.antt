@@ -1,0 +1,5 @@
+pub mod Lists
+pub mod Ascending
+pub mod Reached
+pub mod Numbers
+pub mod ByteCells

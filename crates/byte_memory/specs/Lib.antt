@@ -1,0 +1,4 @@
+pub mod Bytes
+pub mod Regions
+pub mod Store
+pub mod Cells

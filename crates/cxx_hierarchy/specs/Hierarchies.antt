@@ -1,0 +1,20 @@
+-- What every hierarchy keeps.
+use Rattle.std.specs.Prelude.{◌≡◌, ℕ, ◌<◌, ◌≤◌, Some, List, Contains, length, slice_get}
+use Rattle.cxx_hierarchy.specs.declared.records.ClassId.{ClassId}
+use Rattle.cxx_hierarchy.specs.declared.records.Base.{Base}
+use Rattle.cxx_hierarchy.specs.declared.records.Member.{Member}
+use Rattle.cxx_hierarchy.specs.declared.records.ValueType.TheVariants.{Pointer}
+use Rattle.cxx_hierarchy.specs.declared.records.FieldType.TheVariants.{Value, Object}
+use Rattle.cxx_hierarchy.specs.Classes.{Class, Classes, class_at, bases_of, members_of}
+
+-- what every hierarchy keeps (ISO C++03 9, 9.2, 10)
+pub record IsHierarchy (h : Classes) : Type 0 where
+  -- there are at most 1024 classes, and no two of one name
+  pub few : length h ≤ 1024
+  pub names : (c d : ClassId) (x y : Class) → class_at h c ≡ Some x → class_at h d ≡ Some y → x.name ≡ y.name → c.0 ≡ d.0
+  -- a base or a member object is of a class of a smaller number, and a pointer names a class
+  pub bases : (c : ClassId) (b : Base ClassId) → Contains (bases_of h c) b → b.class.0 < c.0
+  pub objects : (c d : ClassId) (m : Member ClassId) → Contains (members_of h c) m → m.ty ≡ Object d → d.0 < c.0
+  pub pointers : (c d : ClassId) (m : Member ClassId) → Contains (members_of h c) m → m.ty ≡ Value (Pointer d) → d.0 < length h
+  -- no two members of a class have one name
+  pub members : (c : ClassId) (i j : ℕ) (x y : Member ClassId) → slice_get (members_of h c) i ≡ Some x → slice_get (members_of h c) j ≡ Some y → x.name ≡ y.name → i ≡ j

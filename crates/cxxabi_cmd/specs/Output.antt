@@ -1,0 +1,67 @@
+-- Which text and which status belong to words and the bytes of a source.
+use Rattle.std.specs.Prelude.{◌≡◌, ℕ, ◌<◌, ◌≤◌, List, [], ◌∷◌, ◌++◌, length, codes}
+use Rattle.cxx_hierarchy.specs.declared.stop.Rule.TheVariants.{Syntax}
+use Rattle.cxx_hierarchy.specs.declared.stop.LimitNo.TheVariants.{L1, L6}
+use Rattle.cxx_hierarchy.specs.Classes.{Classes}
+use Rattle.cxx_hierarchy.specs.ClassPass.{faults_of, resolved}
+use Rattle.cxx_decl_parser.specs.declared.simple.SimpleSource.{SimpleSource}
+use Rattle.cxx_decl_parser.specs.Simple.{IsSimple}
+use Rattle.cxx_resolve.specs.declared.program.SimpleProgram.{SimpleProgram}
+use Rattle.cxx_resolve.specs.Resolves.{Resolves}
+use Rattle.path_model.specs.Runs.{Ran, Ending, Done as IsDone, UndefinedAt, OutOfSteps as IsOutOfSteps, LimitMet, run_of}
+use Rattle.path_model.specs.Rules.{undefined_no}
+use Rattle.abi_layout.specs.declared.class_layout.ClassLayout.{ClassLayout}
+use Rattle.abi_layout.specs.Places.{Places, places_of}
+use Rattle.abi_layout.specs.Laid.{IsLaid}
+use Rattle.abi_print.specs.Texts.{text_of}
+use Rattle.cxxabi_cmd.specs.declared.status.Status.{Status}
+use Rattle.cxxabi_cmd.specs.declared.status.Status.TheVariants.{Done, Refused, Usage, Undefined, OutOfSteps, Limit}
+use Rattle.cxxabi_cmd.specs.Statuses.{last_line}
+
+-- the one command: the word `run`
+abbrev pub IsCommand : List (List ℕ) → Type 0
+IsCommand words = words ≡ codes "run" ∷ []
+
+-- the text is of the form, its class records pass, and its `main` resolves to this program over these classes
+pub record IsProgram (text : List ℕ) (h : Classes) (program : SimpleProgram) : Type 0 where
+  pub source : SimpleSource
+  pub reads : IsSimple text source
+  pub passes : faults_of source.records ≡ []
+  pub classes : h ≡ resolved source.records
+  pub main : Resolves h source.main program
+
+-- the status of a run's end
+abbrev pub status_of : Ending → Status
+status_of IsDone = Done
+status_of (UndefinedAt rule line) = Undefined (undefined_no rule) line
+status_of IsOutOfSteps = OutOfSteps
+status_of (LimitMet limit) = Limit limit
+
+-- the steps that a run may take
+abbrev pub budget : ℕ
+budget = 1000000
+
+abbrev pub run_by : Classes → List ClassLayout → SimpleProgram → Ran
+run_by h rows program = run_of h (places_of h rows).size program budget
+
+-- the text and the status of an answer
+pub record Answer : Type 0 where
+  pub text : List ℕ
+  pub status : Status
+
+-- an answer that is its last line alone
+abbrev pub line_alone : Status → Answer
+line_alone status = record { text = last_line status budget; status = status }
+
+-- what a run told, and then its last line
+abbrev pub run_answer : Ran → Answer
+run_answer ran = record { text = text_of ran.outs ++ last_line (status_of ran.ending) budget; status = status_of ran.ending }
+
+-- what is answered to words and the bytes of a source
+pub data Output (words : List (List ℕ)) (bytes : List ℕ) : Answer → Type 0 where
+  usage : (IsCommand words → ⊥) → Output words bytes (line_alone Usage)
+  too_long : IsCommand words → 262144 < length bytes → Output words bytes (line_alone (Limit L1))
+  refused : IsCommand words → length bytes ≤ 262144 → ((h : Classes) (program : SimpleProgram) → IsProgram bytes h program → ⊥) →
+    Output words bytes (line_alone (Refused Syntax 0))
+  ran : (h : Classes) (program : SimpleProgram) (rows : List ClassLayout) → IsCommand words → length bytes ≤ 262144 →
+    IsProgram bytes h program → IsLaid h rows → Output words bytes (run_answer (run_by h rows program))

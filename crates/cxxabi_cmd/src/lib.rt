@@ -1,0 +1,25 @@
+//! The whole program as one call: from words and the bytes of a source to a text and a status.
+//!
+//! `run_cxxabi` reads the source, decides what the words ask for, and writes the answer. This crate owns the
+//! outside (`Source`, `Sink` and their implementations), the form of a command, the statuses, and the definition
+//! `Output`: which text and status belong to words and bytes. It relies on the crates below by their contracts
+//! alone.
+//!
+//! Whoever calls it may rely on: the text and the status are those of `Output`; a fault is answered only where
+//! the count of the object that was handed in rose; nothing is written after a fault of reading or without
+//! memory; the whole text is made before the first byte is written.
+#![tactic(auto)]
+
+pub mod reading;
+pub mod sink;
+pub mod sinks;
+pub mod source;
+pub mod sources;
+pub mod status;
+pub mod writing;
+
+pub use crate::sink::{Sink, SinkFailed};
+pub use crate::sinks::{BytesSink, StdoutSink, SteadySink};
+pub use crate::source::{Source, SourceFailed};
+pub use crate::sources::{BytesSource, StdinSource, SteadySource};
+pub use crate::status::Status;
