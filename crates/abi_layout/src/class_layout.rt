@@ -58,6 +58,13 @@ impl AbiLayout {
         AbiLayout { rows }
     }
 
+    /// The number of classes.
+    pub fn len(&self) -> usize
+        ensures { result ≡ length self.now }
+    {
+        self.rows.len()
+    }
+
     /// The layout of a class.
     pub fn layout(&self, c: ClassId) -> &ClassLayout
         requires { c.0 < length self.now }

@@ -1,14 +1,11 @@
 //! Where subobjects and members lie, by a layout.
 
-ghost use Rattle.std.specs.Prelude.{◌≡◌, ◌<◌, false, filter, length, nat_eq, position, slice_index};
-ghost use Rattle.cxx_hierarchy.specs.declared.records.ClassId.{ClassId};
+ghost use Rattle.std.specs.Prelude.{◌≡◌, ◌<◌, ◌^◌, filter, length, nat_eq, position, slice_get};
 ghost use Rattle.cxx_hierarchy.specs.declared.records.Base.{Base};
-ghost use Rattle.cxx_hierarchy.specs.Classes.{members_of};
-ghost use Rattle.cxx_subobject.specs.Subobjects.{IsDirectBase, IsSubobject, tail_of};
-ghost use Rattle.abi_layout.specs.Places.{base_place, is_plain_base, places_of};
+ghost use Rattle.cxx_hierarchy.specs.declared.records.ClassId.{ClassId};
+ghost use Rattle.cxx_subobject.specs.Subobjects.{IsSubobject, tail_of};
+ghost use Rattle.abi_layout.specs.Places.{base_place, is_plain_base, number_in, place_along, places_of};
 ghost use Rattle.abi_layout.specs.Sound.{IsSound};
-ghost use Rattle.abi_layout.specs.Plain.{IsPlain};
-ghost use Rattle.abi_layout.specs.Laid.{IsLaid};
 
 use crate::class_layout::AbiLayout;
 use cxx_hierarchy::{Base, ClassId, Hierarchy};
@@ -24,12 +21,14 @@ fn number_of_base(bases: &[Base<ClassId>], b: ClassId) -> Option<usize>
         .position(|base| base.class.0 == b.0)
 }
 
-/// The place of a number.
+/// The place of a number, 0 past the last one.
 fn place_at(places: &[u32], n: usize) -> u32
-    requires { n < length places.now }
-    ensures { result ≡ slice_index places.now n }
+    ensures { result ≡ number_in (slice_get places.now n) }
 {
-    places[n]
+    match places.get(n) {
+        Some(place) => *place,
+        None => 0,
+    }
 }
 
 /// The classes of a path below its first.
@@ -45,44 +44,45 @@ fn classes_below(path: &[ClassId]) -> &[ClassId]
 impl AbiLayout {
     /// The place of a direct non-virtual base in its class, in bytes.
     fn base_place(&self, h: &Hierarchy, c: ClassId, b: ClassId) -> u32
-        requires plain { IsPlain h.now }
-        requires laid { IsLaid h.now self.now }
-        requires known { c.0 < length h.now }
-        requires base { IsDirectBase h.now c false b }
         ensures { result ≡ base_place h.now self.now c b }
     {
+        if c.0 >= h.len() || c.0 as usize >= self.len() {
+            return 0;
+        }
         match number_of_base(h.class(c).bases.as_slice(), b) {
             Some(n) => place_at(self.layout(c).base_places.as_slice(), n),
-            None => unreachable!(),
+            None => 0,
+        }
+    }
+
+    /// The sum of the places of the direct bases along a path, in bytes.
+    fn sum_along(&self, h: &Hierarchy, c: ClassId, path: &[ClassId]) -> u32
+        requires { place_along h.now self.now c path.now < 2 ^ 32 }
+        ensures { result ≡ place_along h.now self.now c path.now }
+    {
+        match path.split_first() {
+            Some((b, rest)) => self.base_place(h, c, *b) + self.sum_along(h, *b, rest),
+            None => 0,
         }
     }
 
     /// The place of a subobject in an object of class `c`, in bytes: the sum of the places along its path.
     pub fn place(&self, h: &Hierarchy, c: ClassId, s: &Subobject) -> u32
-        requires plain { IsPlain h.now }
-        requires laid { IsLaid h.now self.now }
         requires sound { IsSound h.now (places_of h.now self.now) }
         requires known { c.0 < length h.now }
         requires subobject { IsSubobject h.now c s.now }
         ensures { result ≡ (places_of h.now self.now).place c s.now }
     {
-        let below = classes_below(s.path.as_slice());
-        let mut class = c;
-        let mut place = 0;
-        for b in below {
-            place += self.base_place(h, class, *b);
-            class = *b;
-        }
-        place
+        self.sum_along(h, c, classes_below(s.path.as_slice()))
     }
 
-    /// The place of a member in an object of the class that declares it, in bytes.
+    /// The place of a member in an object of the class that declares it, in bytes; 0 where there is no such member.
     pub fn member(&self, _h: &Hierarchy, d: ClassId, m: u32) -> u32
-        requires laid { IsLaid _h.now self.now }
-        requires known { d.0 < length _h.now }
-        requires member { m < length (members_of _h.now d) }
         ensures { result ≡ (places_of _h.now self.now).member d m }
     {
-        self.layout(d).member_places.as_slice()[m as usize]
+        if d.0 as usize >= self.len() {
+            return 0;
+        }
+        place_at(self.layout(d).member_places.as_slice(), m as usize)
     }
 }

@@ -1,4 +1,4 @@
-use Rattle.std.proofs.Common.{◌≡◌, ℕ, ◌<◌, ◌≤◌, ◌^◌, lit<}
+use Rattle.std.proofs.Common.{ℕ, ◌<◌, ◌≤◌, ◌^◌, lit<}
 use Rattle.std.proofs.Math.Nat.{pow-le-pow_right, one-le-pow}
 
 pub pow_word : (n : ℕ) → n ≤ 8 → 256 ^ n ≤ 2 ^ 64

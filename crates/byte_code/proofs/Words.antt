@@ -1,13 +1,12 @@
-use Rattle.std.proofs.Common.{◌≡◌, ℕ, suc, ◌+◌, ◌-◌, ◌*◌, ◌%◌, ◌<◌, ◌≤◌, ◌^◌, Bool, true, false, refl, ap, ◌∙◌, sym, arith, pos, ◌-ℤ◌, ◌/◌, subst, lit<}
+use Rattle.std.proofs.Common.{◌≡◌, ℕ, ◌+◌, ◌-◌, ◌*◌, ◌%◌, ◌<◌, ◌≤◌, ◌^◌, Bool, true, false, refl, ap, ◌∙◌, sym, arith, pos, ◌/◌, subst, lit<}
 use Rattle.std.specs.Prelude.{nat_lt, ℤ, negsuc}
-use Rattle.std.specs.Int.{int_rem_euclid}
 use Rattle.std.proofs.lemmas.Int.{ints}
 use Rattle.std.proofs.lemmas.Bool.Decides.{nat_tests}
 use Rattle.std.proofs.Math.Nat.{mod-eq_of_lt, div-add-mod, mod-lt, mul-pos, div-lt_iff_lt-mul}
 use Rattle.std.proofs.lemmas.Nat.{mod-mul-add, pow-add}
 use Rattle.byte_code.specs.declared.width.Width.{Width}
 use Rattle.byte_code.specs.Numbers.{signed_of, low_of, word_of, number_of, extended, IsInBytes, IsInRange}
-use Rattle.byte_code.proofs.Pow.{pow_word, pow_pos}
+use Rattle.byte_code.proofs.Pow.{pow_pos}
 
 -- the low bytes of a number in range read back as it
 pub signed_of-low_of : (n : ℕ) (signed : Bool) (number : ℤ) → IsInBytes n signed number → signed_of n signed (low_of n number) ≡ number

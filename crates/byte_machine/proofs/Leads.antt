@@ -1,5 +1,5 @@
-use Rattle.std.proofs.Common.{◌≡◌, ℕ, ◌+◌, ◌-◌, ◌*◌, ◌%◌, ◌<◌, ◌≤◌, ◌^◌, Option, Some, None, Bool, true, false, List, [], ◌∷◌, ◌++◌, subst, sym, refl, arith, length, set}
-use Rattle.std.specs.Prelude.{nat_lt, nat_eq, ◌≢◌, if◌then◌else◌}
+use Rattle.std.proofs.Common.{◌≡◌, ℕ, ◌+◌, ◌<◌, ◌≤◌, ◌^◌, Some, None, true, false, List, [], ◌∷◌, ◌++◌, subst, sym, arith, length, set}
+use Rattle.std.specs.Prelude.{nat_lt, nat_eq}
 use Rattle.std.proofs.lemmas.Bool.Decides.{nat_tests}
 use Rattle.std.proofs.Math.Nat.{mod-eq_of_lt}
 use Rattle.byte_memory.specs.Store.{IsRoom, store_of}
@@ -9,7 +9,6 @@ use Rattle.byte_code.specs.declared.width.Width.{Width}
 use Rattle.byte_code.specs.declared.op.Op.{Op}
 use Rattle.byte_code.specs.declared.op.Op.TheVariants.{Const, Move, Load, Store as StoreOp, Add, Arith, Check as CheckOp, New, Print, End}
 use Rattle.byte_code.specs.declared.op.ArithKind.{ArithKind}
-use Rattle.byte_code.specs.declared.op.ArithKind.TheVariants.{Equal}
 use Rattle.byte_code.specs.declared.op.Check.TheVariants.{SetRegister, SetLeaf}
 use Rattle.byte_code.specs.declared.op.PrintAs.TheVariants.{Number as AsNumber, Address as AsAddress}
 use Rattle.byte_code.specs.Numbers.{number_of, extended}

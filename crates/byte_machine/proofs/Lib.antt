@@ -3,4 +3,3 @@ pub mod Leads
 pub mod Blocks
 pub mod TurnLeads
 pub mod Counted
-pub mod Sample

@@ -1,4 +1,4 @@
-use Rattle.std.proofs.Common.{◌≡◌, ℕ, ◌+◌, Option, Some, None, List, refl, subst, sym, nat_eq, Bool, true, false}
+use Rattle.std.proofs.Common.{◌≡◌, Option, Some, None, List, refl, nat_eq, Bool, true, false}
 use Rattle.std.specs.List.{slice_get}
 use Rattle.byte_code.specs.declared.code.Code.{Code}
 use Rattle.byte_code.specs.declared.code.Block.{Block}

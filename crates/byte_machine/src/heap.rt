@@ -114,9 +114,9 @@ impl<M: Memory> Heap<M> {
         requires word { bytes ≤ 8 }
         ensures result { MatchResult result
             (λ _. (fault_at (M.meaning self.old.memory).regions at bytes ≡ None)
-                × (M.meaning self.new.memory ≡ store_of (M.meaning self.old.memory) at bytes value))
+            × (M.meaning self.new.memory ≡ store_of (M.meaning self.old.memory) at bytes value))
             (λ fault. (fault_at (M.meaning self.old.memory).regions at bytes ≡ Some fault)
-                × (M.meaning self.new.memory ≡ M.meaning self.old.memory)) }
+            × (M.meaning self.new.memory ≡ M.meaning self.old.memory)) }
         ensures objects { self.new.objects.items ≡ self.old.objects.items }
         ensures total { self.new.total ≡ self.old.total }
     {

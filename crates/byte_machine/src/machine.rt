@@ -131,7 +131,13 @@ impl<M: Memory> Machine<M> {
             unreachable!();
         };
         let was = outs.len();
-        let ran = run_ops(&mut self.heap, &mut self.registers, outs, block.ops.as_slice(), block.line);
+        let ran = run_ops(
+            &mut self.heap,
+            &mut self.registers,
+            outs,
+            block.ops.as_slice(),
+            block.line,
+        );
         match ran {
             Err(error) => {
                 outs.truncate(was);

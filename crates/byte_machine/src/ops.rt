@@ -29,8 +29,7 @@ fn run_op<M: Memory>(
     op: Op,
     line: u32,
 ) -> Result<Option<MachineTurn>, NoMemory>
-    requires {
-        let s = running heap.old registers.old.items outs.old line in
+    requires { let s = running heap.old registers.old.items outs.old line in
         Allows (effect_of op s) s (λ _. Unit {0}) }
     ensures did { IfOk result (λ stop.
         let s = running heap.old registers.old.items outs.old line in
@@ -91,11 +90,13 @@ fn run_op<M: Memory>(
             Some(_) => Ok(None),
             None => Ok(Some(MachineTurn::Refused(5, line))),
         },
-        Op::Check(Check::SetLeaf {
-            base,
-            offset,
-            width,
-        }) => {
+        Op::Check(
+            Check::SetLeaf {
+                base,
+                offset,
+                width,
+            },
+        ) => {
             let at = word(registers, base).unwrap().wrapping_add(offset as u64);
             match heap.load(at, width.bytes) {
                 Ok(_) => Ok(None),
@@ -134,7 +135,7 @@ pub fn run_ops<M: Memory>(
     requires { IsDefined ops.now (running heap.old registers.old.items outs.old line) }
     ensures runs { IfOk result (λ turn.
         Runs ops.now (running heap.old registers.old.items outs.old line)
-            (running heap.new registers.new.items outs.new line) turn) }
+        (running heap.new registers.new.items outs.new line) turn) }
     ensures kept { take (length outs.old) outs.new ≡ outs.old }
 {
     for op in ops {

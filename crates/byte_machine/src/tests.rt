@@ -51,15 +51,18 @@ const INT: Width = Width {
     signed: true,
 };
 
-/// The ops of a list, in order.
-fn list(alloc: Global, ops: &[Op]) -> Result<Sequence<Op>, NoMemory>
-    ensures { IfOk result (λ list. list ≡ ops.now) }
+/// A block of these ops.
+fn block(alloc: Global, ops: &[Op], line: u32) -> Result<Block, NoMemory>
+    ensures { IfOk result (λ block. (block.ops ≡ ops.now) × (block.line ≡ line)) }
 {
     let items = Vec::from_slice(alloc, ops)?;
-    Ok(Sequence::from_vec(items))
+    Ok(Block {
+        ops: Sequence::from_vec(items),
+        line,
+    })
 }
 
-/// `P* p = new P; p->x = 5; int y = p->x; print(y);`, in one block, and the end.
+/// `P* p = new P; p->x = 5; int y = p->x; print(y);` in one block, and the end.
 fn five(alloc: Global) -> Result<Code, NoMemory>
     ensures blocks { IfOk result (λ code. code.blocks ≡ five_blocks) }
     ensures start { IfOk result (λ code. code.start ≡ 0) }
@@ -94,10 +97,8 @@ fn five(alloc: Global) -> Result<Code, NoMemory>
         what: PrintAs::Number(INT),
     };
     let mut blocks = Sequence::new(alloc);
-    let ops = list(alloc, &[new, five, set, leaf, get, variable, print])?;
-    blocks.push(Block { ops, line: 3 })?;
-    let ops = list(alloc, &[Op::End])?;
-    blocks.push(Block { ops, line: 4 })?;
+    blocks.push(block(alloc, &[new, five, set, leaf, get, variable, print], 3)?)?;
+    blocks.push(block(alloc, &[Op::End], 4)?)?;
     Ok(Code {
         blocks,
         start: 0,

@@ -4,7 +4,7 @@ use Rattle.std.proofs.lemmas.Bool.Decides.{nat_tests}
 use Rattle.std.proofs.lemmas.Option.{slice_get-get_or, slice_get_past}
 use Rattle.std.proofs.Math.Nat.{pow-succ', pow-le-pow_right}
 use Rattle.byte_memory.specs.Bytes.{number_from, with_low, cleared}
-use Rattle.byte_memory.specs.Cells.{byte_of, cell}
+use Rattle.byte_memory.specs.Cells.{byte_of}
 
 -- one byte and the rest
 pub number_from-step : (b : ℕ → Option ℕ) (at n : ℕ) → 0 < n → number_from b at n ≡ with_low (b at) (number_from b (at + 1) (n - 1))

@@ -1,9 +1,9 @@
-use Rattle.std.proofs.Common.{◌≡◌, ℕ, zero, suc, ◌+◌, ◌-◌, ◌*◌, ◌/◌, ◌%◌, ◌<◌, ◌≤◌, ◌^◌, ◌⊎◌, inl, inr, ⊎_elim, Option, Some, None, refl, ap, ◌∙◌, arith}
+use Rattle.std.proofs.Common.{◌≡◌, ℕ, zero, suc, ◌+◌, ◌*◌, ◌/◌, ◌%◌, ◌<◌, ◌≤◌, ◌^◌, ◌⊎◌, inl, inr, ⊎_elim, Option, Some, refl, ap, ◌∙◌, arith}
 use Rattle.std.specs.Prelude.{nat_eq, true, false}
 use Rattle.std.proofs.lemmas.Bool.Decides.{nat_tests}
 use Rattle.std.proofs.Math.Nat.{pow-succ', div-add-mod, mod-lt, one-le-pow}
 use Rattle.std.proofs.lemmas.Nat.{mod-mul-add}
-use Rattle.byte_memory.specs.Bytes.{number_from, with_low, stored, put}
+use Rattle.byte_memory.specs.Bytes.{number_from, stored, put}
 
 put-same : (b : ℕ → Option ℕ) (at : ℕ) (x : Option ℕ) → put b at x at ≡ x
 put-same b at x = let e : nat_eq at at ≡ true = grind (arith, nat_tests) in rw e refl

@@ -1,5 +1,5 @@
-use Rattle.std.proofs.Common.{◌≡◌, ◌≢◌, ℕ, zero, suc, ◌+◌, ◌-◌, ◌<◌, ◌≤◌, ◌⊎◌, ⊎_elim, Option, Some, None, List, [], ◌∷◌, ◌++◌, length, cond, set, get_or, map, refl, ap, sym, ◌∙◌, subst, arith, rules, Bool, true, false}
-use Rattle.std.specs.Prelude.{nat_le, nat_lt, nat_eq, ◌&&◌, All}
+use Rattle.std.proofs.Common.{◌≡◌, ◌≢◌, ℕ, zero, suc, ◌+◌, ◌<◌, ◌≤◌, ⊎_elim, Some, None, List, [], ◌∷◌, cond, set, map, refl, ap, sym, ◌∙◌, subst, arith, Bool, true, false}
+use Rattle.std.specs.Prelude.{nat_eq, All}
 use Rattle.std.specs.List.{slice_get, find}
 use Rattle.std.proofs.lemmas.Bool.Decides.{nat_tests}
 use Rattle.std.proofs.lemmas.List.Elements.{All-head, All-tail, All-map, All-weaker}
@@ -84,7 +84,7 @@ starts-differ rs i k r x up sizes here other there =
     let first : 0 < r.size = size i r here in
     let second : 0 < x.size = size k x there in
     ⊎_elim (λ (low : x.start + x.size ≤ r.start). grind (arith, nat_tests)) (λ (high : r.start + r.size ≤ x.start). grind (arith, nat_tests))
-        (IsAscendingBy-apart (λ (q : Region). q.start) (λ q. q.size) rs k i x r up there here other)
+    (IsAscendingBy-apart (λ (q : Region). q.start) (λ q. q.size) rs k i x r up there here other)
 
 -- what stands after a close was there before it
 slice_get-shut : (rs : List Region) (at i : ℕ) (x : Region) → slice_get (map (shut at) rs) i ≡ Some x → (q : Region) × (slice_get rs i ≡ Some q) × (q.start ≡ x.start) × (q.size ≡ x.size)

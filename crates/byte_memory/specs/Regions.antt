@@ -1,4 +1,4 @@
-use Rattle.std.specs.Prelude.{◌≡◌, ℕ, ◌+◌, ◌*◌, ◌/◌, ◌<◌, ◌≤◌, Bool, true, false, nat_le, nat_eq, ◌&&◌, if◌then◌else◌, Option, Some, None, List, sum_by, slice_get}
+use Rattle.std.specs.Prelude.{◌≡◌, ℕ, ◌+◌, ◌*◌, ◌/◌, ◌<◌, ◌≤◌, Bool, false, nat_le, nat_eq, ◌&&◌, if◌then◌else◌, Option, Some, None, List, sum_by, slice_get}
 use Rattle.std.specs.List.{find}
 use Rattle.byte_memory.specs.declared.memory.Region.{Region}
 use Rattle.byte_memory.specs.declared.memory.MemoryFault.{MemoryFault}

@@ -45,7 +45,7 @@ pub trait Memory {
         requires room { total_of (meaning self.old).regions + rounded size < 2 ^ 40 }
         ensures { MatchResult result
             (λ at. IsRoom (meaning self.old) at size
-                × (meaning self.new ≡ open_of (meaning self.old) at size))
+            × (meaning self.new ≡ open_of (meaning self.old) at size))
             (λ fault. (fault ≡ MemoryFault.NoMemory) × (meaning self.new ≡ meaning self.old)) };
 
     /// Closes the region that starts there, and unsets its bytes.
@@ -55,13 +55,13 @@ pub trait Memory {
         ensures { MatchResult result
             (λ _. Closes (meaning self.old) (meaning self.new) at)
             (λ fault. (close_fault (meaning self.old).regions at ≡ Some fault)
-                × (meaning self.new ≡ meaning self.old)) };
+            × (meaning self.new ≡ meaning self.old)) };
 
     /// Whether the byte was stored. Range where no region holds it, else Closed where that is closed.
     fn is_set(&self, at: u64) -> Result<bool, MemoryFault>
         ensures { MatchResult result
             (λ set. (fault_at (meaning self.now).regions at 1 ≡ None)
-                × (set ≡ is_some ((meaning self.now).byte at)))
+            × (set ≡ is_some ((meaning self.now).byte at)))
             (λ fault. fault_at (meaning self.now).regions at 1 ≡ Some fault) };
 
     /// The number whose little-endian bytes stand there.
@@ -80,9 +80,9 @@ pub trait Memory {
         requires word { bytes ≤ 8 }
         ensures { MatchResult result
             (λ _. (fault_at (meaning self.old).regions at bytes ≡ None)
-                × (meaning self.new ≡ store_of (meaning self.old) at bytes value))
+            × (meaning self.new ≡ store_of (meaning self.old) at bytes value))
             (λ fault. (fault_at (meaning self.old).regions at bytes ≡ Some fault)
-                × (meaning self.new ≡ meaning self.old)) };
+            × (meaning self.new ≡ meaning self.old)) };
 
     // No address is given out twice.
     ghost ascends: { (memory : Self) → IsAscending (meaning memory).regions };

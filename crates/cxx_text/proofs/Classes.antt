@@ -1,10 +1,10 @@
 -- The classes of bytes are apart.
-use Rattle.std.proofs.Common.{◌≡◌, ℕ, Bool, true, false, ◌&&◌, ◌||◌, ◌==◌, List, [], ◌∷◌, refl, arith, sym, ap, subst, ◌∙◌}
+use Rattle.std.proofs.Common.{◌≡◌, ℕ, Bool, true, false, ◌&&◌, ◌||◌, ◌==◌, List, [], ◌∷◌, refl, arith}
 use Rattle.std.proofs.lemmas.Bool.{eqb-true}
 use Rattle.std.specs.List.{list_any}
 use Rattle.std.proofs.lemmas.Bool.Decides.{nat_tests}
 use Rattle.cxx_text.specs.Bytes.{is_space, is_letter, is_digit, is_word_byte, is_one_byte_sign, is_two_byte_sign, one_byte_signs, begins}
-use Rattle.cxx_text.proofs.Lists.{and_left, and_right, apart}
+use Rattle.cxx_text.proofs.Lists.{and_left}
 
 -- what holds of a listed byte holds of some byte of the list
 any_holds : (f : ℕ → Bool) (xs : List ℕ) (a : ℕ) → list_any (λ s. s == a) xs ≡ true → f a ≡ true → list_any f xs ≡ true

@@ -1,6 +1,6 @@
 -- Fronts of lists that pass a test.
-use Rattle.std.proofs.Common.{◌≡◌, ℕ, suc, zero, ◌+◌, ◌≤◌, ◌<◌, Bool, true, false, ◌&&◌, ◌||◌, cond, List, [], ◌∷◌, ◌++◌, take, drop, length, refl, arith, sym, ap, subst, ◌∙◌}
-use Rattle.std.specs.List.{list_all, list_any, prefix_len}
+use Rattle.std.proofs.Common.{◌≡◌, ℕ, suc, zero, ◌+◌, ◌≤◌, Bool, true, false, ◌&&◌, cond, List, [], ◌∷◌, ◌++◌, take, drop, length, refl, arith, sym, ◌∙◌}
+use Rattle.std.specs.List.{list_all, prefix_len}
 use Rattle.cxx_text.specs.Bytes.{begins}
 
 pub and_left : (a b : Bool) → a && b ≡ true → a ≡ true

@@ -1,18 +1,18 @@
 -- The longest token at the front of a text.
-use Rattle.std.proofs.Common.{◌≡◌, ℕ, suc, zero, ◌+◌, ◌≤◌, ◌<◌, ◌^◌, min, Bool, true, false, not, ◌&&◌, ◌||◌, ◌==◌, cond, List, [], ◌∷◌, ◌++◌, take, drop, length, refl, arith, sym, ap, subst, ◌∙◌, Option, Some, None, if◌then◌else◌, slice_index_or}
+use Rattle.std.proofs.Common.{◌≡◌, ℕ, suc, zero, ◌≤◌, ◌<◌, min, Bool, true, false, List, [], ◌∷◌, ◌++◌, take, drop, length, refl, arith, sym, ◌∙◌, Some, None, if◌then◌else◌, slice_index_or}
 use Rattle.std.specs.List.{list_all, prefix_len}
 use Rattle.std.proofs.lemmas.List.{length-take-le, take-append-drop}
 use Rattle.std.proofs.lemmas.List.Sums.{prefix_len-le-length}
-use Rattle.std.proofs.Math.Seq.{take-append_seam, drop-append_seam}
+use Rattle.std.proofs.Math.Seq.{take-append_seam}
 use Rattle.cxx_text.specs.declared.token.Kind.{Kind}
 use Rattle.cxx_text.specs.declared.token.Kind.TheVariants.{Word, Number, Sign}
 use Rattle.cxx_text.specs.Bytes.{is_letter, is_digit, is_word_byte, is_one_byte_sign, is_two_byte_sign, begins}
-use Rattle.cxx_text.specs.OneToken.{is_numeral, decimal, IsToken, word, number, one_byte_sign, two_byte_sign}
+use Rattle.cxx_text.specs.OneToken.{decimal, IsToken, word, number, one_byte_sign, two_byte_sign}
 use Rattle.cxx_text.specs.Longest.{Stands, IsLongest, NoToken}
 use Rattle.cxx_text.specs.Front.{number_value, sign_len}
-use Rattle.cxx_text.proofs.Lists.{and_left, and_right, both, apart, all_within, prefix_all, rest_stops, all_exact, begins_front}
+use Rattle.cxx_text.proofs.Lists.{and_right, both, apart, all_within, prefix_all, rest_stops, all_exact, begins_front}
 use Rattle.cxx_text.proofs.Classes.{two_first, letter_not_digit, sign_not_letter, sign_not_digit, letter_in_word, begins_apart}
-use Rattle.cxx_text.proofs.Pieces.{numeral_begins, numeral_in_word, number_some, number_made, token_some, token_same}
+use Rattle.cxx_text.proofs.Pieces.{numeral_begins, numeral_in_word, number_some, number_made, token_some}
 
 -- the first byte of a text, as code reads it
 pub begins_at : (f : ℕ → Bool) (text : List ℕ) (d : ℕ) (v : Bool) → 1 ≤ length text → v ≡ f (slice_index_or text 0 d) → v ≡ begins f text

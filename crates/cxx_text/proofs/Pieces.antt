@@ -1,12 +1,12 @@
 -- One token on its own.
-use Rattle.std.proofs.Common.{◌≡◌, ℕ, suc, zero, ◌+◌, ◌*◌, ◌-◌, ◌≤◌, ◌<◌, ◌^◌, min, Bool, true, false, not, ◌&&◌, ◌||◌, ◌==◌, cond, List, [], ◌∷◌, ◌++◌, take, drop, length, refl, arith, sym, ap, subst, ◌∙◌, Option, Some, None, if◌then◌else◌, nat_lt, get_or}
-use Rattle.std.specs.List.{list_all, prefix_len}
+use Rattle.std.proofs.Common.{◌≡◌, ℕ, suc, ◌+◌, ◌*◌, ◌-◌, ◌≤◌, ◌<◌, ◌^◌, Bool, true, false, not, ◌==◌, List, [], ◌∷◌, drop, length, refl, arith, sym, ◌∙◌, Some, None, if◌then◌else◌, nat_lt, get_or}
+use Rattle.std.specs.List.{list_all}
 use Rattle.std.proofs.lemmas.Bool.{ltb-true}
 use Rattle.std.proofs.Math.Seq.{drop-cons}
 use Rattle.std.proofs.lemmas.Bool.Decides.{nat_tests}
 use Rattle.cxx_text.specs.declared.token.Kind.{Kind}
 use Rattle.cxx_text.specs.declared.token.Kind.TheVariants.{Word, Number, Sign}
-use Rattle.cxx_text.specs.Bytes.{is_letter, is_digit, is_word_byte, is_one_byte_sign, is_two_byte_sign, begins}
+use Rattle.cxx_text.specs.Bytes.{is_letter, is_digit, is_word_byte, is_one_byte_sign, begins}
 use Rattle.cxx_text.specs.OneToken.{is_numeral, decimal, decimal_from, IsToken, word, number, one_byte_sign, two_byte_sign}
 use Rattle.cxx_text.specs.Front.{number_value, value_below}
 use Rattle.cxx_text.proofs.Lists.{and_left, and_right, both, all_weaker}

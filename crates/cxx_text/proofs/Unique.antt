@@ -1,11 +1,10 @@
 -- A text has one list of tokens.
-use Rattle.std.proofs.Common.{◌≡◌, ℕ, suc, zero, ◌+◌, ◌≤◌, ◌<◌, List, [], ◌∷◌, ◌++◌, take, drop, length, refl, arith, sym, ap, subst, ◌∙◌, Option, Some, None}
+use Rattle.std.proofs.Common.{◌≡◌, ℕ, ◌<◌, List, [], ◌∷◌, ◌++◌, length, refl, arith, sym, ap, subst, ◌∙◌, Option, Some}
 use Rattle.cxx_text.specs.declared.token.Kind.{Kind}
-use Rattle.cxx_text.specs.declared.token.Kind.TheVariants.{End}
 use Rattle.cxx_text.specs.declared.token.Token.{Token}
-use Rattle.cxx_text.specs.Longest.{Stands, IsLongest, NoToken}
+use Rattle.cxx_text.specs.Longest.{IsLongest}
 use Rattle.cxx_text.specs.OneToken.{IsToken}
-use Rattle.cxx_text.specs.Blank.{Blank, NoBlank}
+use Rattle.cxx_text.specs.Blank.{Blank}
 use Rattle.cxx_text.specs.Cover.{Covers, end, blank, token, stops, AreTokens, token_after}
 use Rattle.cxx_text.specs.Front.{blank_len}
 use Rattle.cxx_text.proofs.Blanks.{blank_found, blank_some}

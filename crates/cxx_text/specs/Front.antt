@@ -1,5 +1,5 @@
 -- What the functions of this crate compute of the front of a text.
-use Rattle.std.specs.Prelude.{ℕ, ◌+◌, ◌^◌, Bool, true, false, ◌&&◌, not, ◌==◌, nat_lt, if◌then◌else◌, List, [], ◌∷◌, Option, Some, None, option_map}
+use Rattle.std.specs.Prelude.{ℕ, ◌+◌, ◌^◌, ◌&&◌, not, ◌==◌, nat_lt, if◌then◌else◌, List, [], ◌∷◌, Option, Some, None, option_map}
 use Rattle.std.specs.List.{prefix_len}
 use Rattle.cxx_text.specs.Bytes.{is_space, is_line_end, is_one_byte_sign, is_two_byte_sign}
 use Rattle.cxx_text.specs.OneToken.{is_numeral, decimal}

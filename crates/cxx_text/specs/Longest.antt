@@ -1,5 +1,5 @@
 -- The longest token at the front of a text (ISO C++03 2.4).
-use Rattle.std.specs.Prelude.{◌≡◌, ℕ, ◌≤◌, Bool, true, false, List, ◌++◌, length}
+use Rattle.std.specs.Prelude.{◌≡◌, ℕ, ◌≤◌, false, List, ◌++◌, length}
 use Rattle.cxx_text.specs.declared.token.Kind.{Kind}
 use Rattle.cxx_text.specs.declared.token.Kind.TheVariants.{Number}
 use Rattle.cxx_text.specs.Bytes.{is_word_byte, begins}

@@ -1,4 +1,4 @@
-use Rattle.std.proofs.Common.{rules, of_calls, int_le, ◌≡◌, sym, subst, map, true}
+use Rattle.std.proofs.Common.{rules, of_calls}
 use Rattle.std.proofs.lemmas.Fn.{always_returns_same}
 use Rattle.std.specs.Prelude.{nat_le}
 use Rattle.std.proofs.Common.{rules}
@@ -12,5 +12,5 @@ returns-clause-count c =
     let test = λ (r : Opened). nat_le r.start c.args.at in
     let ordered = IsAscendingBy-ordered (λ (r : Opened). r.start) (λ r. r.size) c.args.objects.now c.requires in
     partition-count (λ (r : Opened). r.start) c.args.objects.now c.args.at c.partition_point.result
-        (c.partition_point.ensures.partitioned test (always_returns_same _ _ _ (λ a r f k. search (rules, of_calls))) (IsPartitionedBy-leb (λ (r : Opened). r.start) c.args.objects.now c.args.at ordered))
-        c.partition_point.ensures.bound
+    (c.partition_point.ensures.partitioned test (always_returns_same _ _ _ (λ a r f k. search (rules, of_calls))) (IsPartitionedBy-leb (λ (r : Opened). r.start) c.args.objects.now c.args.at ordered))
+    c.partition_point.ensures.bound

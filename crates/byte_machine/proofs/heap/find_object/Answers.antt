@@ -1,5 +1,4 @@
-use Rattle.std.proofs.Common.{◌≡◌, ◌+◌, ◌-◌, ◌∙◌, sym, get_or, arith, rules, false, true}
-use Rattle.std.proofs.lemmas.Bool.Decides.{nat_tests}
+use Rattle.std.proofs.Common.{◌≡◌, ◌+◌, ◌-◌, ◌∙◌, sym, arith}
 use Rattle.std.proofs.lemmas.Option.{slice_get-get_or}
 use Rattle.byte_machine.specs.declared.heap.Opened.{Opened}
 use Rattle.byte_machine.specs.Heap.{has_address}
@@ -13,11 +12,11 @@ returns-then-count-eq0 c = sym (find-empty (λ (r : Opened). r.start) (λ r. r.s
 pub returns-then-is_within : goal.returns-then-is_within
 returns-then-is_within c =
     sym (find-last (λ (r : Opened). r.start) (λ r. r.size) c.args.objects.now c.args.at (has_address c.args.at) _ _ c.requires (has_address-within _ _)
-        (slice_get-get_or c.args.objects.now (c.count_up_to-count.result - 1) _ (omega (arith, c.if-count-eq0.false, c.count_up_to-count.ensures.bound))) (sym c.is_within.ensures ∙ c.if-is_within.true))
+    (slice_get-get_or c.args.objects.now (c.count_up_to-count.result - 1) _ (omega (arith, c.if-count-eq0.false, c.count_up_to-count.ensures.bound))) (sym c.is_within.ensures ∙ c.if-is_within.true))
 
 pub returns-else-is_within : goal.returns-else-is_within
 returns-else-is_within c =
     let more : c.count_up_to-count.result - 1 + 1 ≡ c.count_up_to-count.result = omega (arith, c.if-count-eq0.false) in
     sym (find-fails (λ (r : Opened). r.start) (λ r. r.size) c.args.objects.now c.args.at (has_address c.args.at) (c.count_up_to-count.result - 1) _ c.requires (has_address-within _ _)
-        (rw more c.count_up_to-count.ensures.count)
-        (slice_get-get_or c.args.objects.now (c.count_up_to-count.result - 1) _ (omega (arith, c.if-count-eq0.false, c.count_up_to-count.ensures.bound))) (sym c.is_within.ensures ∙ c.if-is_within.false))
+    (rw more c.count_up_to-count.ensures.count)
+    (slice_get-get_or c.args.objects.now (c.count_up_to-count.result - 1) _ (omega (arith, c.if-count-eq0.false, c.count_up_to-count.ensures.bound))) (sym c.is_within.ensures ∙ c.if-is_within.false))

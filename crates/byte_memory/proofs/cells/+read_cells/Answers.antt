@@ -1,5 +1,4 @@
-use Rattle.std.proofs.Common.{◌≡◌, ◌+◌, ◌-◌, ◌*◌, ◌<◌, ◌^◌, arith, rules}
-use Rattle.std.proofs.lemmas.Grind.{common_steps}
+use Rattle.std.proofs.Common.{◌+◌, ◌*◌, ◌<◌, ◌^◌, arith, rules}
 use Rattle.byte_memory.proofs.ByteCells.{number_from-more, below_pow, below_word}
 use Rattle.byte_memory.proofs.cells.+read_cells.Goals as goal
 

@@ -1,5 +1,4 @@
-use Rattle.std.proofs.Common.{rules, arith, ◌≡◌, ap, sym, ◌∙◌, option_map}
-use Rattle.cxx_text.specs.Front.{close_len}
+use Rattle.std.proofs.Common.{arith, ap, sym, ◌∙◌, option_map}
 use Rattle.cxx_text.proofs.Blanks.{no_close}
 use Rattle.cxx_text.proofs.blank.close_len.Goals as goal
 

@@ -1,6 +1,5 @@
-use Rattle.std.proofs.Common.{◌≡◌, ℕ, ◌<◌, ◌≤◌, ◌+◌, length, arith, rules, sym, ap, ◌∙◌, drop, Some}
+use Rattle.std.proofs.Common.{◌<◌, arith, sym, ap, ◌∙◌, drop}
 use Rattle.std.proofs.lemmas.List.{drop-drop}
-use Rattle.cxx_text.specs.Front.{blank_len}
 use Rattle.cxx_text.proofs.Blanks.{blank_is, no_blank}
 use Rattle.cxx_text.proofs.Steps.{line_further, after_blank, after_token, at_end, at_bad}
 use Rattle.cxx_text.proofs.scan.tokens.Goals as goal

@@ -1,4 +1,4 @@
-use Rattle.std.proofs.Common.{ℕ, ◌≡◌, ◌+◌, ◌≤◌, ◌++◌, List, take, drop, length, Option}
+use Rattle.std.proofs.Common.{ℕ, ◌≡◌, ◌+◌, ◌++◌, List, take, drop, length, Option}
 use Rattle.cxx_text.specs.Cover.{Covers, AreTokens, line_after}
 use Rattle.cxx_text.specs.declared.token.Token.{Token}
 use Rattle.cxx_text.proofs.scan.tokens.Given as goal

@@ -1,4 +1,4 @@
-use Rattle.std.proofs.Common.{rules, arith, ◌≡◌, ◌+◌, ◌*◌, ◌≤◌, ◌++◌, [], ◌∷◌, length, ap, ◌∙◌, length-append}
+use Rattle.std.proofs.Common.{rules, arith, ◌≡◌, ◌+◌, ◌*◌, ◌≤◌, length, ap, ◌∙◌, length-append}
 use Rattle.byte_memory.specs.Store.{Store}
 use Rattle.byte_memory.specs.Regions.{rounded}
 use Rattle.byte_machine.specs.Heap.{made}

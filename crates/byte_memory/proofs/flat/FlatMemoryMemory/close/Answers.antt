@@ -1,8 +1,6 @@
-use Rattle.std.proofs.Common.{sym, rules, ◌≡◌, ap, ◌∙◌, Some, refl, map, false, true, length, arith, not}
-use Rattle.std.specs.List.{slice_get, find}
+use Rattle.std.proofs.Common.{rules, ◌≡◌, ap, ◌∙◌, refl, map}
 use Rattle.std.proofs.lemmas.Option.{slice_get_within}
-use Rattle.byte_memory.specs.Regions.{shut, starts}
-use Rattle.byte_memory.specs.declared.memory.Region.{Region}
+use Rattle.byte_memory.specs.Regions.{shut}
 use Rattle.byte_memory.proofs.Reached.{found_ends, found_starts, ends_shut, sizes_shut, total_of-shut, IsAscending-shut}
 use Rattle.byte_memory.proofs.flat.FlatMemoryMemory.close.Goals as goal
 

@@ -1,4 +1,4 @@
-use Rattle.std.proofs.Common.{◌≡◌, ◌+◌, ◌≤◌, ◌∙◌, sym, ap, length, arith, rules}
+use Rattle.std.proofs.Common.{◌≡◌, ◌∙◌, sym, ap, length, arith, rules}
 use Rattle.std.specs.Prelude.{vec_len, is_some}
 use Rattle.std.proofs.lemmas.Option.{slice_get-get_or}
 use Rattle.byte_memory.specs.Cells.{cell}

@@ -1,4 +1,3 @@
-use Rattle.std.proofs.Common.{arith}
 use Rattle.byte_memory.proofs.Reached.{reached}
 use Rattle.byte_memory.proofs.flat.FlatMemoryMemory.load.Goals as goal
 

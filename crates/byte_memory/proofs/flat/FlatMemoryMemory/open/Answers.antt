@@ -1,4 +1,4 @@
-use Rattle.std.proofs.Common.{rules, arith, ◌≡◌, ◌+◌, ◌-◌, ◌*◌, ◌/◌, ◌%◌, ◌≤◌, ◌∙◌, length, max, ap, refl, take, ◌++◌, [], ◌∷◌, ◌<◌, true, replicate, not, Option, None, ℕ}
+use Rattle.std.proofs.Common.{rules, arith, ◌≡◌, ◌+◌, ◌-◌, ◌*◌, ◌/◌, ◌≤◌, ◌∙◌, length, max, ap, refl, take, ◌++◌, [], ◌∷◌, ◌<◌, true, replicate, not, Option, None, ℕ}
 use Rattle.std.specs.Result.{is_ok}
 use Rattle.std.specs.Prelude.{vec_len}
 use Rattle.std.proofs.lemmas.Grind.{common_steps}

@@ -1,0 +1,12 @@
+pub mod Paths
+pub mod Ranges
+pub mod Joins
+pub mod Same
+pub mod Variables
+pub mod Places
+pub mod PrintStep
+pub mod ReadStep
+pub mod LeafWrite
+pub mod WriteStep
+pub mod NewStep
+pub mod StatementStep

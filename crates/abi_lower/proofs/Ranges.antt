@@ -1,0 +1,108 @@
+-- The ranges of the number types, and the bytes of their numbers.
+use Rattle.std.proofs.Common.{◌≡◌, ℕ, suc, ◌+◌, ◌-◌, ◌*◌, ◌%◌, ◌/◌, ◌<◌, ◌≤◌, ◌^◌, Bool, true, false, refl, ap, ◌∙◌, sym, arith, pos, ◌-ℤ◌, ◌+ℤ◌, ◌≤ℤ◌, ◌<ℤ◌}
+use Rattle.std.specs.Prelude.{ℤ, negsuc, zero}
+use Rattle.std.specs.Int.{int_rem_euclid}
+use Rattle.std.proofs.lemmas.Int.{ints}
+use Rattle.std.proofs.Math.Nat.{mod-lt}
+use Rattle.cxx_hierarchy.specs.declared.records.Scalar.{Scalar}
+use Rattle.cxx_hierarchy.specs.declared.records.Scalar.TheVariants.{Bool as TheBool, Char, SChar, UChar, Short, UShort, Int, UInt, Long, ULong, LongLong, ULongLong}
+use Rattle.cxx_hierarchy.specs.Scalars.{size_of, is_signed, count_of, below_zero, IsInRange, wrapped, truth_of, stored_as, PromotesToInt}
+use Rattle.byte_code.specs.Numbers.{IsInBytes, IsInRange as FitsWidth}
+use Rattle.abi_lower.specs.Blocks.{width_of, register_width}
+
+signed_fits : (n half : ℕ) (z : ℤ) → 256 ^ n ≡ 2 * half → pos 0 ≤ℤ (z +ℤ pos half) → (z +ℤ pos half) <ℤ pos (2 * half) → IsInBytes n true z
+signed_fits n half (pos a) e low high = let h : a + half < 2 * half = omega (arith, ints) in omega arith
+signed_fits n half (negsuc a) e low high = let h : suc a ≤ half = omega (arith, ints) in omega arith
+
+unsigned_fits : (n count : ℕ) (z : ℤ) → count ≤ 256 ^ n → pos 0 ≤ℤ (z +ℤ pos 0) → (z +ℤ pos 0) <ℤ pos count → IsInBytes n false z
+unsigned_fits n count (pos a) e low high = let h : a < count = omega (arith, ints) in omega arith
+unsigned_fits n count (negsuc a) e low high = omega (arith, ints)
+
+-- a number of a type stands in the bytes of the type
+pub fits_width : (t : Scalar) (z : ℤ) → IsInRange t z → FitsWidth (width_of t) z
+fits_width TheBool z r = unsigned_fits 1 2 z (omega arith) r.least r.greatest
+fits_width Char z r = signed_fits 1 128 z refl r.least r.greatest
+fits_width SChar z r = signed_fits 1 128 z refl r.least r.greatest
+fits_width UChar z r = unsigned_fits 1 256 z (omega arith) r.least r.greatest
+fits_width Short z r = signed_fits 2 32768 z refl r.least r.greatest
+fits_width UShort z r = unsigned_fits 2 65536 z (omega arith) r.least r.greatest
+fits_width Int z r = signed_fits 4 2147483648 z refl r.least r.greatest
+fits_width UInt z r = unsigned_fits 4 4294967296 z (omega arith) r.least r.greatest
+fits_width Long z r = signed_fits 8 9223372036854775808 z refl r.least r.greatest
+fits_width ULong z r = unsigned_fits 8 18446744073709551616 z (omega arith) r.least r.greatest
+fits_width LongLong z r = signed_fits 8 9223372036854775808 z refl r.least r.greatest
+fits_width ULongLong z r = unsigned_fits 8 18446744073709551616 z (omega arith) r.least r.greatest
+
+-- an int stands in a register
+pub fits_register : (z : ℤ) → IsInRange Int z → FitsWidth register_width z
+fits_register z r = signed_fits 8 9223372036854775808 z refl (wider_least z r.least) (wider_greatest z r.greatest)
+  where
+    wider_least : (z : ℤ) → pos 0 ≤ℤ (z +ℤ pos 2147483648) → pos 0 ≤ℤ (z +ℤ pos 9223372036854775808)
+    wider_least z h = omega (arith, ints)
+    wider_greatest : (z : ℤ) → (z +ℤ pos 2147483648) <ℤ pos 4294967296 → (z +ℤ pos 9223372036854775808) <ℤ pos 18446744073709551616
+    wider_greatest z h = omega (arith, ints)
+
+count_positive : (t : Scalar) → 0 < count_of t
+count_positive TheBool = omega arith
+count_positive Char = omega arith
+count_positive SChar = omega arith
+count_positive UChar = omega arith
+count_positive Short = omega arith
+count_positive UShort = omega arith
+count_positive Int = omega arith
+count_positive UInt = omega arith
+count_positive Long = omega arith
+count_positive ULong = omega arith
+count_positive LongLong = omega arith
+count_positive ULongLong = omega arith
+
+euclid_range : (y : ℤ) (n : ℕ) → 0 < n → (pos 0 ≤ℤ int_rem_euclid y (pos n)) × (int_rem_euclid y (pos n) <ℤ pos n)
+euclid_range (pos a) n h = let l : a % n < n = mod-lt a h in (omega (arith, ints), omega (arith, ints))
+euclid_range (negsuc a) n h = let l : n - 1 - a % n < n = omega arith in (omega (arith, ints), omega (arith, ints))
+
+in_range : (y : ℤ) (below count : ℕ) → (pos 0 ≤ℤ y) × (y <ℤ pos count) → (pos 0 ≤ℤ ((y -ℤ pos below) +ℤ pos below)) × (((y -ℤ pos below) +ℤ pos below) <ℤ pos count)
+in_range y below count h = (omega (arith, ints, h.0), omega (arith, ints, h.1))
+
+wrapped_in_range : (t : Scalar) (z : ℤ) → IsInRange t (wrapped t z)
+wrapped_in_range t z =
+    let below = below_zero (is_signed t) (count_of t) in
+    let h = in_range (int_rem_euclid (z +ℤ pos below) (pos (count_of t))) below (count_of t) (euclid_range (z +ℤ pos below) (count_of t) (count_positive t)) in
+    record { least = h.0; greatest = h.1 }
+
+truth_in_range : (z : ℤ) → IsInRange TheBool (truth_of z)
+truth_in_range (pos zero) = record { least = omega (arith, ints); greatest = omega (arith, ints) }
+truth_in_range (pos (suc n)) = record { least = omega (arith, ints); greatest = omega (arith, ints) }
+truth_in_range (negsuc n) = record { least = omega (arith, ints); greatest = omega (arith, ints) }
+
+-- what a member of a type keeps of a number is a number of the type
+pub stored_in_range : (t : Scalar) (z : ℤ) → IsInRange t (stored_as t z)
+stored_in_range TheBool z = truth_in_range z
+stored_in_range Char z = wrapped_in_range Char z
+stored_in_range SChar z = wrapped_in_range SChar z
+stored_in_range UChar z = wrapped_in_range UChar z
+stored_in_range Short z = wrapped_in_range Short z
+stored_in_range UShort z = wrapped_in_range UShort z
+stored_in_range Int z = wrapped_in_range Int z
+stored_in_range UInt z = wrapped_in_range UInt z
+stored_in_range Long z = wrapped_in_range Long z
+stored_in_range ULong z = wrapped_in_range ULong z
+stored_in_range LongLong z = wrapped_in_range LongLong z
+stored_in_range ULongLong z = wrapped_in_range ULongLong z
+
+promoted : (z : ℤ) (below count : ℕ) → below ≤ 2147483648 → count ≤ below + 2147483648 → (pos 0 ≤ℤ (z +ℤ pos below)) → ((z +ℤ pos below) <ℤ pos count) → IsInRange Int z
+promoted z below count small few least greatest = record { least = omega (arith, ints); greatest = omega (arith, ints) }
+
+-- a number of a type that promotes to int is an int
+pub promotes : (t : Scalar) (z : ℤ) → PromotesToInt t → IsInRange t z → IsInRange Int z
+promotes TheBool z p r = promoted z 0 2 (omega arith) (omega arith) r.least r.greatest
+promotes Char z p r = promoted z 128 256 (omega arith) (omega arith) r.least r.greatest
+promotes SChar z p r = promoted z 128 256 (omega arith) (omega arith) r.least r.greatest
+promotes UChar z p r = promoted z 0 256 (omega arith) (omega arith) r.least r.greatest
+promotes Short z p r = promoted z 32768 65536 (omega arith) (omega arith) r.least r.greatest
+promotes UShort z p r = promoted z 0 65536 (omega arith) (omega arith) r.least r.greatest
+promotes Int z p r = r
+promotes UInt z p r = absurd p
+promotes Long z p r = absurd p
+promotes ULong z p r = absurd p
+promotes LongLong z p r = absurd p
+promotes ULongLong z p r = absurd p

@@ -1,0 +1,103 @@
+-- The ops of each statement.
+use Rattle.std.specs.Prelude.{ℕ, true, ◌+◌, Option, Some, None, List, [], ◌∷◌, ◌++◌, length, map, slice_get}
+use Rattle.cxx_hierarchy.specs.declared.records.ClassId.{ClassId}
+use Rattle.cxx_hierarchy.specs.declared.records.Scalar.{Scalar}
+use Rattle.cxx_hierarchy.specs.declared.records.Scalar.TheVariants.{Int}
+use Rattle.cxx_hierarchy.specs.declared.records.ValueType.{ValueType}
+use Rattle.cxx_hierarchy.specs.declared.records.ValueType.TheVariants.{Number as NumberType, Pointer as PointerType}
+use Rattle.cxx_hierarchy.specs.Scalars.{size_of, is_signed, stored_as}
+use Rattle.cxx_hierarchy.specs.Classes.{Classes, leaf_type}
+use Rattle.cxx_subobject.specs.Subobjects.{class_of}
+use Rattle.cxx_resolve.specs.declared.program.MemberPlace.{MemberPlace}
+use Rattle.cxx_resolve.specs.declared.program.Statement.{Statement}
+use Rattle.cxx_resolve.specs.declared.program.Statement.TheVariants.{New, Write, Read, Print}
+use Rattle.cxx_resolve.specs.declared.program.TypedLine.{TypedLine}
+use Rattle.cxx_resolve.specs.Typed.{Types}
+use Rattle.abi_layout.specs.Places.{Places}
+use Rattle.byte_code.specs.declared.width.Width.{Width}
+use Rattle.byte_code.specs.declared.code.Block.{Block}
+use Rattle.byte_code.specs.declared.code.Code.{Code}
+use Rattle.byte_code.specs.declared.op.Op.{Op}
+use Rattle.byte_code.specs.declared.op.Op.TheVariants.{Const, Load, Store, Check, New as NewOp, Print as PrintOp, End}
+use Rattle.byte_code.specs.declared.op.Check.TheVariants.{SetRegister, SetLeaf}
+use Rattle.byte_code.specs.declared.op.PrintAs.TheVariants.{Number as NumberOf}
+use Rattle.byte_code.specs.Numbers.{word_of}
+
+-- what a program is lowered with: its classes, their layout, and the types of the variables
+pub record Setup : Type 0 where
+  pub h : Classes
+  pub places : Places
+  pub types : Types
+
+abbrev pub setup : Classes → Places → Types → Setup
+setup h places types = record { h = h; places = places; types = types }
+
+abbrev pub class_id : ℕ → ClassId
+class_id n = record { 0 = n }
+
+abbrev pub class_or_first : Option ClassId → ClassId
+class_or_first None = class_id 0
+class_or_first (Some c) = c
+
+abbrev pub pointed_in : Option (ValueType ClassId) → Option ClassId
+pointed_in None = None
+pointed_in (Some (NumberType t)) = None
+pointed_in (Some (PointerType c)) = Some c
+
+-- the class that a pointer variable points to
+abbrev pub pointed : Setup → ℕ → ClassId
+pointed x variable = class_or_first (pointed_in (slice_get x.types variable))
+
+-- the class that declares the member
+abbrev pub declaring : MemberPlace → ClassId
+declaring place = class_or_first (class_of place.base)
+
+-- how many bytes a member lies from the address that a pointer variable has
+abbrev pub offset : Setup → ℕ → MemberPlace → ℕ
+offset x pointer place = x.places.place (pointed x pointer) place.base + x.places.member (declaring place) place.member
+
+abbrev pub scalar_in : Option (ValueType ClassId) → Scalar
+scalar_in None = Int
+scalar_in (Some (NumberType t)) = t
+scalar_in (Some (PointerType c)) = Int
+
+-- the number type of a member
+abbrev pub scalar_of : Setup → MemberPlace → Scalar
+scalar_of x place = scalar_in (leaf_type x.h (declaring place) place.member)
+
+-- the bytes of a number type, and how they are read (System V x86-64)
+abbrev pub width_of : Scalar → Width
+width_of t = record { bytes = size_of t; signed = is_signed t }
+
+-- the bytes of a register, read as a signed number
+abbrev pub register_width : Width
+register_width = record { bytes = 8; signed = true }
+
+-- variable n is register n, and one more register holds a constant on its way to a leaf
+abbrev pub scratch : Setup → ℕ
+scratch x = length x.types
+
+abbrev pub write_block : ℕ → ℕ → ℕ → Width → ℕ → List Op
+write_block pointer scratch offset width value = Const scratch value ∷ (Check (SetRegister pointer) ∷ (Store scratch pointer offset width ∷ []))
+
+abbrev pub read_block : ℕ → ℕ → ℕ → Width → List Op
+read_block variable pointer offset width = Check (SetRegister pointer) ∷ (Check (SetLeaf pointer offset width) ∷ (Load variable pointer offset width ∷ []))
+
+-- the ops of a statement
+abbrev pub block_of : Setup → Statement → List Op
+block_of x (New variable c) = NewOp variable (x.places.size c) c.0 ∷ []
+block_of x (Write pointer place value) = write_block pointer (scratch x) (offset x pointer place) (width_of (scalar_of x place)) (word_of (stored_as (scalar_of x place) value))
+block_of x (Read variable pointer place) = read_block variable pointer (offset x pointer place) (width_of (scalar_of x place))
+block_of x (Print variable) = Check (SetRegister variable) ∷ (PrintOp variable (NumberOf register_width) ∷ [])
+
+-- the block of a line
+abbrev pub block_for : Setup → TypedLine → Block
+block_for x line = record { ops = block_of x line.what; line = line.line }
+
+-- the block that ends a run
+abbrev pub closing : Block
+closing = record { ops = End ∷ []; line = 0 }
+
+-- the code of a program: a block for each line in text order, and then the one that ends the run
+abbrev pub code_for : Setup → List TypedLine → Code
+code_for x lines = record { blocks = map (block_for x) lines ++ closing ∷ []; start = 0; globals = 0; registers = length x.types + 1 }

@@ -1,0 +1,6 @@
+use Rattle.std.proofs.Common.{◌≡◌, ◌++◌, take}
+use Rattle.abi_print.specs.Texts.{raw_text}
+use Rattle.abi_refine.proofs.run.append_lines.Given as goal
+
+abbrev pub invariant-loop-out : goal.invariant-loop-out
+invariant-loop-out l = l.text.items ≡ l.fn.text.items ++ raw_text (take l.out-index l.outs)

@@ -1,0 +1,24 @@
+use Rattle.std.proofs.Common.{◌≡◌, ℕ, false}
+use Rattle.path_model.specs.Runs.{run_of}
+use Rattle.byte_machine.specs.MachineState.{code_of, image_of, state_of, has_failed}
+use Rattle.abi_layout.specs.Places.{places_of}
+use Rattle.abi_lower.specs.Blocks.{setup}
+use Rattle.abi_refine.specs.Reaches.{ReachesWith}
+use Rattle.abi_refine.proofs.Running.{Going}
+use Rattle.abi_refine.proofs.run.run_machine.Given as goal
+
+abbrev pub invariant-loop-outs : goal.invariant-loop-outs
+invariant-loop-outs g l =
+    let places = places_of l.h l.layout in
+    let x = setup l.h places l.program.variables in
+    record {
+      code : code_of l.machine ≡ code_of l.fn.machine;
+      image : image_of l.machine ≡ image_of l.fn.machine;
+      ready : has_failed l.machine ≡ false;
+      steps : l.steps ≡ (state_of l.machine).taken;
+      going : Going x l.program (run_of l.h places.size l.program (state_of l.fn.machine).left) (state_of l.machine) l.text.items;
+      reaches : ReachesWith (code_of l.fn.machine) (state_of l.fn.machine) (state_of l.machine) l.text.items;
+    }
+
+abbrev pub decreases-loop-outs : goal.decreases-loop-outs
+decreases-loop-outs g l = l.machine.left

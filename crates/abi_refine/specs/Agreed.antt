@@ -1,0 +1,29 @@
+-- When a turn of the byte machine agrees with a step of the subobject machine.
+use Rattle.std.specs.Prelude.{◌≡◌, ℕ, ◌+◌, Bool, true, false, nat_eq, List, [], map}
+use Rattle.path_model.specs.Steps.{Move, Goes, Refuses, Limits, Ends}
+use Rattle.byte_machine.specs.declared.turn.RawOut.{RawOut}
+use Rattle.byte_machine.specs.declared.turn.MachineTurn.{MachineTurn}
+use Rattle.byte_machine.specs.declared.turn.MachineTurn.TheVariants.{Went, Ended, Refused, OutOfSteps, Limit}
+use Rattle.byte_machine.specs.Turn.{State as Bytes}
+use Rattle.abi_lower.specs.Blocks.{Setup}
+use Rattle.abi_lower.specs.Stands.{StandsFor, raw_of, rule_number, limit_number}
+
+-- one step was taken
+pub record CountsOn (b b' : Bytes) : Type 0 where
+  pub taken : b'.taken ≡ b.taken + 1
+  pub left : b'.left + 1 ≡ b.left
+
+-- a turn that runs a block agrees with the move: it stands for the state that follows and tells what the step tells, or it gives the answer of the refusal, the limit or the end
+abbrev pub AgreesTurn : Setup → Move → Bytes → Bytes → List RawOut → MachineTurn → Type 0
+AgreesTurn x (Goes s outs) b b' told turn = StandsFor x s b' × (told ≡ map raw_of outs) × (turn ≡ Went)
+AgreesTurn x (Refuses rule line) b b' told turn = (turn ≡ Refused (rule_number rule) line) × (told ≡ [])
+AgreesTurn x (Limits limit) b b' told turn = (turn ≡ Limit (limit_number limit)) × (told ≡ [])
+AgreesTurn x Ends b b' told turn = (turn ≡ Ended) × (told ≡ [])
+
+abbrev pub AgreesBy : Bool → Setup → Move → Bytes → Bytes → List RawOut → MachineTurn → Type 0
+AgreesBy true x move b b' told turn = (turn ≡ OutOfSteps) × (told ≡ []) × (b'.taken ≡ b.taken)
+AgreesBy false x move b b' told turn = AgreesTurn x move b b' told turn × CountsOn b b'
+
+-- a turn from b, which may have no step left, agrees with the move
+abbrev pub Agreed : Setup → Move → Bytes → Bytes → List RawOut → MachineTurn → Type 0
+Agreed x move b b' told turn = AgreesBy (nat_eq b.left 0) x move b b' told turn

@@ -1,0 +1,20 @@
+//! From a text to its declarations and the lines of its `main`, in the first form of the source.
+//!
+//! This crate owns the grammar of that form: structs with `int` and `char` fields, and a `main` that makes
+//! objects, writes and reads their fields and prints variables. `IsSimple` says which source a text spells:
+//! its tokens, without comments, derive the source by the productions, within the limits on classes, fields
+//! and declarations.
+//!
+//! The layer above may rely on: `parse_simple` gives the one source that a text spells, and refuses exactly the
+//! texts that spell none, by Syntax at 0. Whether names are distinct and what they name is not judged here.
+#![tactic(auto)]
+
+pub mod class;
+pub mod cursor;
+pub mod parser;
+pub mod simple;
+pub mod statement;
+pub mod words;
+
+pub use crate::parser::{one_source, parse_simple};
+pub use crate::simple::{Simple, SimpleLine, SimpleLines, SimpleSource};
