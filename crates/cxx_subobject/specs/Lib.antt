@@ -1,1 +1,4 @@
 pub mod Subobjects
+pub mod Ordered
+pub mod Preorder
+pub mod Inside

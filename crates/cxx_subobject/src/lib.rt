@@ -5,9 +5,15 @@
 //! This crate owns that definition, and what it means that one subobject is a subobject of another (`join`).
 //! Nothing here has an address or an offset.
 //!
-//! The layer above may rely on: a subobject of a subobject is, by `join`, a subobject of the whole.
+//! The layer above may rely on: a subobject of a subobject is, by `join`, a subobject of the whole; the list of
+//! `subobjects_of` has exactly the subobjects of a class, each once, in preorder; `contains` is a partial order.
 #![tactic(auto)]
 
+pub mod containment;
+pub mod listing;
+
+pub use crate::containment::{containment_is_order, contains, join};
+pub use crate::listing::{SubobjectList, subobjects_of};
 use cxx_hierarchy::ClassId;
 use foundation::Sequence;
 
