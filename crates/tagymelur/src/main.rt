@@ -3,9 +3,8 @@
 
 use cxxabi_cmd::{StdinSource, StdoutSink, run_cxxabi};
 use std::alloc::AllocError;
-use std::env;
-use std::io;
 use std::process::ExitCode;
+use std::{env, io};
 
 /// The exit status where there was no memory for the words.
 const NO_MEMORY: u8 = 8;

@@ -17,7 +17,7 @@ returns-in_err-scalar c =
     let first = first_named c.as_slice-members.result.now c.args.name.now c.in_ok-number.number c.index-members-number.result (sym c.in_ok-number.ensures) c.index-members-number.is in
     let here = subst (λ (ms : List (Member ClassId)). IsFirstNamed ms c.args.name.now c.in_ok-number.number c.index-members-number.result) c.as_slice-members.ensures first in
     rw c.from_residual-in_err-scalar.ensures
-      (named_other c.args.h.now c.args.class c.args.name.now c.class.result.now c.in_ok-number.number c.index-members-number.result c.keeps.ensures c.class.ensures here c.in_err-scalar.ensures)
+    (named_other c.args.h.now c.args.class c.args.name.now c.class.result.now c.in_ok-number.number c.index-members-number.result c.keeps.ensures c.class.ensures here c.in_err-scalar.ensures)
 
 pub returns : goal.returns
 returns c =

@@ -17,4 +17,4 @@ returns-clause-ok c =
     let named : slice_get (class_names c.args.h.now) c.in-Some.id.0 ≡ Some c.args.class.now = c.in-Some.ensures ∙ ap Some c.as_slice.ensures in
     let free : number_in c.args.variables.now.table c.args.variable.now ≡ None = is_free _ c.is_free.result c.is_free.ensures c.if-not-is_free.false in
     subst (λ (n : ℕ). LineResolves c.args.h.now (number_in c.args.variables.now.table) c.args.variables.now.types (New c.args.class.now c.args.variable.now) (Makes n c.in-Some.id))
-      (sym c.next-number.ensures) (new _ _ _ named free)
+    (sym c.next-number.ensures) (new _ _ _ named free)

@@ -18,4 +18,4 @@ returns-in_err-number-clause-err c =
 pub returns-clause-ok : goal.returns-clause-ok
 returns-clause-ok c =
     subst (λ (z : ℤ). LineResolves c.args.h.now (number_in c.args.variables.now.table) c.args.variables.now.types (Write c.args.pointer.now c.args.field.now c.args.value) (Writes c.in_ok-number.number c.in_ok-number.place z))
-      (sym (to_z-of_z c.ranges.value)) (write _ _ _ _ _ _ c.in_ok-number.ensures.ok)
+    (sym (to_z-of_z c.ranges.value)) (write _ _ _ _ _ _ c.in_ok-number.ensures.ok)
