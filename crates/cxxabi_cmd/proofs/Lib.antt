@@ -3,3 +3,4 @@ pub mod CommandLemmas
 pub mod OutputLemmas
 pub mod FormLemmas
 pub mod ProgramLemmas
+pub mod OneOutput

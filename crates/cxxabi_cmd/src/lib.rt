@@ -21,7 +21,7 @@ pub mod status;
 mod tests;
 pub mod writing;
 
-pub use crate::run::run_cxxabi;
+pub use crate::run::{one_output, run_cxxabi};
 pub use crate::sink::{Sink, SinkFailed};
 pub use crate::sinks::{BytesSink, StdoutSink, SteadySink};
 pub use crate::source::{Source, SourceFailed};

@@ -272,3 +272,9 @@ pub fn run_cxxabi<S: Source, K: Sink>(
     *last = reply.machine;
     status
 }
+
+/// Words and the bytes of a source have one answer, as a law for readers of `Output`. It does nothing.
+#[tactic(auto, using(crate::proofs::OneOutput::one_output))]
+pub fn one_output()
+    ensures { (words : List (List ℕ)) (bytes : List ℕ) (a b : Answer) → Output words bytes a → Output words bytes b → a ≡ b }
+{}
