@@ -1,23 +1,21 @@
 -- When a line resolves to nothing.
-use Rattle.std.proofs.Common.{◌≡◌, ℕ, ℤ, ◌<◌, List, [], sym, ◌∙◌, ap, subst, refl, arith, inl, inr, ◌⊎◌}
-use Rattle.std.specs.Prelude.{Option, Some, None, slice_get, length, Bool, true, false, is_none, Contains, not, IsTrue, ◌↔◌}
+use Rattle.std.proofs.Common.{◌≡◌, ℕ, ℤ, ◌<◌, List, [], sym, ◌∙◌, ap, subst, refl, inl, inr}
+use Rattle.std.specs.Prelude.{Option, Some, None, slice_get, length, Bool, true, false, is_none, Contains, IsTrue, ◌↔◌}
 use Rattle.std.proofs.lemmas.Option.{slice_get_within, get_or_from_slice_get}
 use Rattle.cxx_hierarchy.specs.Hierarchies.{IsHierarchy}
 use Rattle.cxx_hierarchy.specs.declared.records.ClassId.{ClassId}
 use Rattle.cxx_hierarchy.specs.declared.records.Scalar.{Scalar}
-use Rattle.cxx_hierarchy.specs.declared.records.ValueType.{ValueType}
 use Rattle.cxx_hierarchy.specs.declared.records.ValueType.TheVariants.{Number, Pointer}
 use Rattle.cxx_hierarchy.specs.declared.stop.Stop.{Stop}
 use Rattle.cxx_hierarchy.specs.Scalars.{PromotesToInt}
-use Rattle.cxx_hierarchy.specs.Classes.{Classes, class_names, members_of, leaf_type}
+use Rattle.cxx_hierarchy.specs.Classes.{Classes, class_names, leaf_type}
 use Rattle.cxx_hierarchy.specs.NameTables.{Text}
 use Rattle.cxx_decl_parser.specs.declared.simple.Simple.TheVariants.{New, Write, Read, Print}
 use Rattle.cxx_subobject.specs.Subobjects.{IsSubobject, whole, whole_of, class_of}
 use Rattle.cxx_subobject.specs.declared.Subobject.{Subobject}
 use Rattle.cxx_resolve.specs.declared.program.MemberPlace.{MemberPlace}
 use Rattle.cxx_resolve.specs.declared.program.Statement.{Statement}
-use Rattle.cxx_resolve.specs.declared.program.Statement.TheVariants.{New as Makes, Write as Writes, Read as Reads, Print as Prints}
-use Rattle.cxx_resolve.specs.Typed.{Types, int, IsPointer, LeadsToNumber}
+use Rattle.cxx_resolve.specs.Typed.{Types, int, LeadsToNumber}
 use Rattle.cxx_resolve.specs.Resolves.{Numbering, IsMemberOf, IsField, LineResolves, new, write, read, print}
 use Rattle.cxx_resolve.specs.Answers.{IsRefusal, IsNumberMember}
 
@@ -57,17 +55,19 @@ member_of_place h c d name place t m leads =
 
 pub place_of_member : (h : Classes) (c : ClassId) (name : Text) (base : Subobject) (m : ℕ) (t : Scalar) → base ≡ whole_of c → IsNumberMember h c name m t →
     IsMemberOf h c name (record { base = base; member = m }) × LeadsToNumber h c (record { base = base; member = m }) c t
-place_of_member h c name base m t same n =
-    (record { member = n.member; listed = n.listed; named = n.named; base = same },
-     record { base = subst (IsSubobject h c) (sym same) (whole [] tt); class = ap class_of same; member = n.type })
+place_of_member h c name base m t same n = (
+  record { member = n.member; listed = n.listed; named = n.named; base = same },
+  record { base = subst (IsSubobject h c) (sym same) (whole [] tt); class = ap class_of same; member = n.type },
+)
 
 -- the field of another reading goes from the same class
 pub from_class : (h : Classes) (n : Numbering) (types : Types) (pointer field : Text) (p q : ℕ) (c : ClassId) (place : MemberPlace) (t : Scalar) →
     n pointer ≡ Some p → slice_get types p ≡ Some (Pointer c) → IsField h n types pointer field q place t → (c.0 < length h) × IsNumberMember h c field place.member t
 from_class h n types pointer field p q c place t number type f =
-    let same = same_pointer n types pointer q p f.class c f.number number f.is_pointer.type type in
-    (subst (λ (z : ClassId). z.0 < length h) same.1 f.is_pointer.known,
-     subst (λ (z : ClassId). IsNumberMember h z field place.member t) same.1 (member_of_place h f.class f.declares field place t f.is_member f.is_number))
+    let same = same_pointer n types pointer q p f.class c f.number number f.is_pointer.type type in (
+      subst (λ (z : ClassId). z.0 < length h) same.1 f.is_pointer.known,
+      subst (λ (z : ClassId). IsNumberMember h z field place.member t) same.1 (member_of_place h f.class f.declares field place t f.is_member f.is_number),
+    )
 
 pub contained : {X : Type 0} (xs : List X) (i : ℕ) (x y : X) → slice_get xs i ≡ Some x → x ≡ y → Contains xs y
 contained xs i x y at same = (i, slice_get_within xs i x at, get_or_from_slice_get xs i x y at ∙ same)
@@ -104,4 +104,3 @@ same_field h keeps n types pointer field p q a b s t f g =
     let base : a.base ≡ b.base = f.is_member.base ∙ ap whole_of same.1 ∙ sym g.is_member.base in
     let types' : Some (Number s) ≡ Some (Number t) = sym x.type ∙ ap (leaf_type h f.class) number ∙ y.type in
     (same.0, same_place a b base number, cc)
-

@@ -1,5 +1,5 @@
 -- What is resolved so far, and what is left.
-use Rattle.std.proofs.Common.{◌≡◌, ℕ, zero, suc, ◌+◌, ◌<◌, ◌≤◌, List, [], ◌∷◌, ◌++◌, length, take, drop, get_or, sym, ◌∙◌, ap, subst, refl, arith, append-nil, append_assoc, drop-cons, add-one, length-append}
+use Rattle.std.proofs.Common.{◌≡◌, ℕ, suc, ◌+◌, ◌<◌, ◌≤◌, List, [], ◌∷◌, ◌++◌, length, take, drop, get_or, sym, ◌∙◌, ap, subst, refl, append-nil, append_assoc, drop-cons, add-one, length-append}
 use Rattle.std.proofs.Math.Seq.{take-suc}
 use Rattle.std.proofs.Math.ListN.{drop_of_length-le}
 use mathlib.Core.Path.{fun_ext}
@@ -52,10 +52,10 @@ at_names h lines i table types out far = record { numbers = far.numbers; equal =
 pub begins : (h : Classes) (lines : List SimpleLine) (table : NameTable) (types : Types) (out : List TypedLine) → Numbers table [] → types ≡ [] → out ≡ [] → SoFar h lines 0 table types out
 begins h lines table types out numbers none empty =
     subst (λ (ts : Types). SoFar h lines 0 table ts out) (sym none) (subst (λ (o : List TypedLine). SoFar h lines 0 table [] o) (sym empty) (at_start lines))
-    where
-      at_start : (ls : List SimpleLine) → SoFar h ls 0 table [] []
-      at_start [] = record { numbers = numbers; equal = refl; completes = λ rest all d. d; goes_on = λ whole all d. record { rest = whole; parts = refl; resolves = d } }
-      at_start (l ∷ ls) = record { numbers = numbers; equal = refl; completes = λ rest all d. d; goes_on = λ whole all d. record { rest = whole; parts = refl; resolves = d } }
+  where
+    at_start : (ls : List SimpleLine) → SoFar h ls 0 table [] []
+    at_start [] = record { numbers = numbers; equal = refl; completes = λ rest all d. d; goes_on = λ whole all d. record { rest = whole; parts = refl; resolves = d } }
+    at_start (l ∷ ls) = record { numbers = numbers; equal = refl; completes = λ rest all d. d; goes_on = λ whole all d. record { rest = whole; parts = refl; resolves = d } }
 
 pub by_names : (h : Classes) (table : NameTable) (names : List Text) (types : Types) (what : Simple) (s : Statement) → Numbers table names → LineResolves h (number_in table) types what s → LineResolves h (place_in names) types what s
 by_names h table names types what s numbers r = subst (λ (n : Numbering). LineResolves h n types what s) (fun_ext numbers.places) r
@@ -91,33 +91,33 @@ pub advances : (h : Classes) → IsHierarchy h → (lines : List SimpleLine) (i 
 advances h keeps lines i line table next_table types next_types out s far within at same r declares =
     let names : List Text = names_in (take i lines) in
     let grown : names_in (take (i + 1) lines) ≡ names ++ name_declared line.what =
-        ap (λ (n : ℕ). names_in (take n lines)) (add-one i) ∙ ap names_in (take-suc lines i line within) ∙ names_push (take i lines) (get_or lines i line) ∙ ap (λ (l : SimpleLine). names ++ name_declared l.what) (sym at) in
+    ap (λ (n : ℕ). names_in (take n lines)) (add-one i) ∙ ap names_in (take-suc lines i line within) ∙ names_push (take i lines) (get_or lines i line) ∙ ap (λ (l : SimpleLine). names ++ name_declared l.what) (sym at) in
     let left : drop i lines ≡ line ∷ drop (i + 1) lines =
-        drop-cons lines i line within ∙ ap (λ (l : SimpleLine). l ∷ drop (suc i) lines) (sym at) ∙ ap (λ (n : ℕ). line ∷ drop n lines) (sym (add-one i)) in
+    drop-cons lines i line within ∙ ap (λ (l : SimpleLine). l ∷ drop (suc i) lines) (sym at) ∙ ap (λ (n : ℕ). line ∷ drop n lines) (sym (add-one i)) in
     let here : LineResolves h (place_in names) types line.what s.what = by_names h table names types line.what s.what far.numbers r in
     let both : Types → List Text → Type 0 = λ ts ns. SoFarAt h lines (i + 1) next_table ts ns (out ++ s ∷ []) in
     at_names h lines (i + 1) next_table next_types (out ++ s ∷ [])
-      (subst (λ (ns : List Text). both next_types ns) (sym grown)
-        (subst (λ (ts : Types). both ts (names ++ name_declared line.what)) (sym declares.grown)
-          (record {
-            numbers = declares.numbers names far.numbers far.equal;
-            equal = length-append names (name_declared line.what) ∙ ap (λ (n : ℕ). n + length (name_declared line.what)) far.equal ∙ ap (λ (n : ℕ). length types + n) (paired h _ types line.what s.what r) ∙ sym (length-append types (type_declared s.what));
-            completes = λ rest all d.
-              subst (λ (zs : List TypedLine). LinesResolve h [] [] lines zs all) (sym (append_assoc out (s ∷ []) rest))
-                (far.completes (s ∷ rest) all (subst (λ (ls : List SimpleLine). LinesResolve h names types ls (s ∷ rest) all) (sym left) (more names types all line (drop (i + 1) lines) s rest here same d)));
-            goes_on = λ whole all d.
-              let g = far.goes_on whole all d in
-              let f = first_of h names types line (drop (i + 1) lines) g.rest all (subst (λ (ls : List SimpleLine). LinesResolve h names types ls g.rest all) left g.resolves) in
-              let what : f.first.what ≡ s.what = same_line h keeps (place_in names) types line.what f.first.what s.what f.resolves here in
-              let one : f.first ≡ s = same_typed f.first s what (f.same ∙ sym same) in
-              record {
-                rest = f.after;
-                parts = g.parts ∙ ap (λ (zs : List TypedLine). out ++ zs) f.parts ∙ ap (λ (z : TypedLine). out ++ (z ∷ f.after)) one ∙ sym (append_assoc out (s ∷ []) f.after);
-                resolves = subst (λ (z : Statement). LinesResolve h (names ++ name_declared line.what) (types ++ type_declared z) (drop (i + 1) lines) f.after all) what f.rest;
-              };
-          })))
+    (subst (λ (ns : List Text). both next_types ns) (sym grown)
+    (subst (λ (ts : Types). both ts (names ++ name_declared line.what)) (sym declares.grown)
+    (record {
+      numbers = declares.numbers names far.numbers far.equal;
+      equal = length-append names (name_declared line.what) ∙ ap (λ (n : ℕ). n + length (name_declared line.what)) far.equal ∙ ap (λ (n : ℕ). length types + n) (paired h _ types line.what s.what r) ∙ sym (length-append types (type_declared s.what));
+      completes = λ rest all d.
+          subst (λ (zs : List TypedLine). LinesResolve h [] [] lines zs all) (sym (append_assoc out (s ∷ []) rest))
+          (far.completes (s ∷ rest) all (subst (λ (ls : List SimpleLine). LinesResolve h names types ls (s ∷ rest) all) (sym left) (more names types all line (drop (i + 1) lines) s rest here same d)));
+      goes_on = λ whole all d.
+          let g = far.goes_on whole all d in
+          let f = first_of h names types line (drop (i + 1) lines) g.rest all (subst (λ (ls : List SimpleLine). LinesResolve h names types ls g.rest all) left g.resolves) in
+          let what : f.first.what ≡ s.what = same_line h keeps (place_in names) types line.what f.first.what s.what f.resolves here in
+          let one : f.first ≡ s = same_typed f.first s what (f.same ∙ sym same) in
+          record {
+            rest = f.after;
+            parts = g.parts ∙ ap (λ (zs : List TypedLine). out ++ zs) f.parts ∙ ap (λ (z : TypedLine). out ++ (z ∷ f.after)) one ∙ sym (append_assoc out (s ∷ []) f.after);
+            resolves = subst (λ (z : Statement). LinesResolve h (names ++ name_declared line.what) (types ++ type_declared z) (drop (i + 1) lines) f.after all) what f.rest;
+          };
+    })))
 
 pub ends : (h : Classes) (lines : List SimpleLine) (i : ℕ) (table : NameTable) (types : Types) (out : List TypedLine) → SoFar h lines i table types out → length lines ≤ i → LinesResolve h [] [] lines out types
 ends h lines i table types out far all_of =
     subst (λ (zs : List TypedLine). LinesResolve h [] [] lines zs types) (append-nil out)
-      (far.completes [] types (subst (λ (ls : List SimpleLine). LinesResolve h (names_in (take i lines)) types ls [] types) (sym (drop_of_length-le lines all_of)) (done (names_in (take i lines)) types)))
+    (far.completes [] types (subst (λ (ls : List SimpleLine). LinesResolve h (names_in (take i lines)) types ls [] types) (sym (drop_of_length-le lines all_of)) (done (names_in (take i lines)) types)))

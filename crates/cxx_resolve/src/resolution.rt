@@ -219,7 +219,11 @@ fn resolve_line(
 /// The program that the lines of a `main` resolve to. Each name is declared before it is used, a field is a member
 /// of its pointer's class that is a number, and `int` variables are read from members that promote to `int`.
 /// `Syntax` at 0 is the answer exactly where the lines resolve to no program.
-pub fn resolve_simple(alloc: Global, h: &Hierarchy, main: &SimpleLines) -> Result<SimpleProgram, Stop>
+pub fn resolve_simple(
+    alloc: Global,
+    h: &Hierarchy,
+    main: &SimpleLines,
+) -> Result<SimpleProgram, Stop>
     ensures ok { IfOk result (λ program. Resolves h.now main.now program) }
     ensures err { IfErr result (IsRefusal ((program : SimpleProgram) → Resolves h.now main.now program → ⊥)) }
 {

@@ -7,8 +7,8 @@ use crate::program::{SimpleProgram, Statement};
 use crate::resolution::resolve_simple;
 use cxx_decl_parser::{Simple, SimpleLine, SimpleLines};
 use cxx_hierarchy::{
-    ClassId, ClassRec, Destructor, FieldType, Hierarchy, Member, Name, PartAt, PartKind,
-    Rule, Scalar, Stop, ValueType, build,
+    ClassId, ClassRec, Destructor, FieldType, Hierarchy, Member, Name, PartAt, PartKind, Rule,
+    Scalar, Stop, ValueType, build,
 };
 use foundation::{NoMemory, Sequence};
 use std::alloc::Global;
@@ -85,11 +85,7 @@ fn write_x(alloc: Global) -> Result<Simple, NoMemory> {
 
 /// `int y = p->x;`
 fn read_y(alloc: Global) -> Result<Simple, NoMemory> {
-    Ok(Simple::Read(
-        name(alloc, "y")?,
-        name(alloc, "p")?,
-        name(alloc, "x")?,
-    ))
+    Ok(Simple::Read(name(alloc, "y")?, name(alloc, "p")?, name(alloc, "x")?))
 }
 
 fn print(alloc: Global, variable: &str) -> Result<Simple, NoMemory> {
@@ -119,12 +115,20 @@ fn resolves(rt: HostRuntime) -> Result<(), Fail> {
                 assert_eq!(rt; *variable, 0);
                 assert_eq!(rt; *class, ClassId(0));
             }
-            Statement::Write { pointer, place, value } => {
+            Statement::Write {
+                pointer,
+                place,
+                value,
+            } => {
                 assert_eq!(rt; *pointer, 0);
                 assert_eq!(rt; place.member, 0);
                 assert_eq!(rt; *value, 3);
             }
-            Statement::Read { variable, pointer, place } => {
+            Statement::Read {
+                variable,
+                pointer,
+                place,
+            } => {
                 assert_eq!(rt; *variable, 1);
                 assert_eq!(rt; *pointer, 0);
                 assert_eq!(rt; place.base.path.len(), 1);
@@ -146,7 +150,10 @@ fn refusal(alloc: Global, lines: &SimpleLines) -> Result<Option<Stop>, Stop> {
 fn refuses_an_unknown_variable(rt: HostRuntime) -> Result<(), Fail> {
     let alloc = rt.alloc();
     let lines = with_line(Sequence::new(alloc), print(alloc, "z")?, 2)?;
-    assert_eq!(rt; refusal(alloc, &lines)?, Some(Stop::Refused(Rule::Syntax, 0)));
+    assert_eq!(rt;
+        refusal(alloc, &lines)?,
+        Some(Stop::Refused(Rule::Syntax, 0))
+    );
     Ok(())
 }
 
@@ -155,7 +162,10 @@ fn refuses_a_second_variable(rt: HostRuntime) -> Result<(), Fail> {
     let alloc = rt.alloc();
     let lines = with_line(Sequence::new(alloc), new_p(alloc)?, 2)?;
     let lines = with_line(lines, new_p(alloc)?, 3)?;
-    assert_eq!(rt; refusal(alloc, &lines)?, Some(Stop::Refused(Rule::Syntax, 0)));
+    assert_eq!(rt;
+        refusal(alloc, &lines)?,
+        Some(Stop::Refused(Rule::Syntax, 0))
+    );
     Ok(())
 }
 
@@ -164,6 +174,9 @@ fn refuses_to_print_a_pointer(rt: HostRuntime) -> Result<(), Fail> {
     let alloc = rt.alloc();
     let lines = with_line(Sequence::new(alloc), new_p(alloc)?, 2)?;
     let lines = with_line(lines, print(alloc, "p")?, 3)?;
-    assert_eq!(rt; refusal(alloc, &lines)?, Some(Stop::Refused(Rule::Syntax, 0)));
+    assert_eq!(rt;
+        refusal(alloc, &lines)?,
+        Some(Stop::Refused(Rule::Syntax, 0))
+    );
     Ok(())
 }

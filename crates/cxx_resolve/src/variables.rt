@@ -67,7 +67,12 @@ impl Variables {
     }
 
     /// Declares one more variable, whose name is free.
-    pub(crate) fn declare(&mut self, alloc: Global, name: &Name, ty: ValueType<ClassId>) -> Result<(), NoMemory>
+    pub(crate) fn declare(
+        &mut self,
+        alloc: Global,
+        name: &Name,
+        ty: ValueType<ClassId>,
+    ) -> Result<(), NoMemory>
         ensures types { OnOk result (self.new.types ≡ self.old.types ++ ty ∷ []) }
         ensures names { OnOk result ((names : List Text) → Numbers self.old.table names → length names ≡ length self.old.types → Numbers self.new.table (names ++ name.now ∷ [])) }
     {

@@ -1,6 +1,6 @@
 -- The first member of the name is the only one, and tells the answer.
-use Rattle.std.proofs.Common.{◌≡◌, ap, sym, ◌∙◌, subst, List, get_or}
-use Rattle.std.specs.Prelude.{Option, Some, None, position}
+use Rattle.std.proofs.Common.{ap, sym, ◌∙◌, subst, List}
+use Rattle.std.specs.Prelude.{position}
 use Rattle.std.specs.Str.{bytes_eq}
 use Rattle.cxx_hierarchy.specs.declared.records.ClassId.{ClassId}
 use Rattle.cxx_hierarchy.specs.declared.records.Member.{Member}
@@ -17,7 +17,7 @@ returns-in_err-scalar c =
     let first = first_named c.as_slice-members.result.now c.args.name.now c.in_ok-number.number c.index-members-number.result (sym c.in_ok-number.ensures) c.index-members-number.is in
     let here = subst (λ (ms : List (Member ClassId)). IsFirstNamed ms c.args.name.now c.in_ok-number.number c.index-members-number.result) c.as_slice-members.ensures first in
     rw c.from_residual-in_err-scalar.ensures
-      (named_other c.args.h.now c.args.class c.args.name.now c.class.result.now c.in_ok-number.number c.index-members-number.result c.keeps.ensures c.class.ensures here c.in_err-scalar.ensures)
+    (named_other c.args.h.now c.args.class c.args.name.now c.class.result.now c.in_ok-number.number c.index-members-number.result c.keeps.ensures c.class.ensures here c.in_err-scalar.ensures)
 
 pub returns : goal.returns
 returns c =

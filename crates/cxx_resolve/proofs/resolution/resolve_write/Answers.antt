@@ -1,6 +1,5 @@
 -- A write resolves where its field does.
-use Rattle.std.proofs.Common.{◌≡◌, ℤ, sym, subst}
-use Rattle.std.specs.Prelude.{Err}
+use Rattle.std.proofs.Common.{ℤ, sym, subst}
 use Rattle.std.proofs.lemmas.Result.{err_from_is_err_and}
 use Rattle.std.proofs.Math.Facts.{to_z-of_z}
 use Rattle.cxx_hierarchy.specs.NameTables.{number_in}
@@ -18,4 +17,4 @@ returns-in_err-number-clause-err c =
 pub returns-clause-ok : goal.returns-clause-ok
 returns-clause-ok c =
     subst (λ (z : ℤ). LineResolves c.args.h.now (number_in c.args.variables.now.table) c.args.variables.now.types (Write c.args.pointer.now c.args.field.now c.args.value) (Writes c.in_ok-number.number c.in_ok-number.place z))
-      (sym (to_z-of_z c.ranges.value)) (write _ _ _ _ _ _ c.in_ok-number.ensures.ok)
+    (sym (to_z-of_z c.ranges.value)) (write _ _ _ _ _ _ c.in_ok-number.ensures.ok)
