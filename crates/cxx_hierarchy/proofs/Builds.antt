@@ -1,5 +1,5 @@
 -- What `build` and `find` need of the table of names.
-use Rattle.std.proofs.Common.{◌≡◌, ℕ, zero, suc, ◌+◌, ◌<◌, ◌≤◌, Bool, true, false, cond, List, [], ◌∷◌, ◌++◌, length, take, map, refl, sym, ◌∙◌, ap, subst, arith, get_or}
+use Rattle.std.proofs.Common.{◌≡◌, ℕ, zero, suc, ◌+◌, ◌<◌, ◌≤◌, true, false, cond, List, [], ◌∷◌, length, map, refl, sym, ◌∙◌, ap, subst, arith}
 use mathlib.Core.Path.{fun_ext}
 use Rattle.std.specs.Prelude.{Option, Some, None, is_some, slice_get, unwrap_or, Contains, All}
 use Rattle.std.specs.List.{position_from}
@@ -8,13 +8,13 @@ use Rattle.std.proofs.lemmas.Option.{slice_get_within, get_or_from_slice_get}
 use Rattle.std.proofs.lemmas.List.{length-map}
 use Rattle.cxx_hierarchy.specs.declared.records.ClassId.{ClassId}
 use Rattle.cxx_hierarchy.specs.declared.names.NameTable.{NameTable}
-use Rattle.cxx_hierarchy.specs.Classes.{Class, Classes, class_names}
-use Rattle.cxx_hierarchy.specs.NameTables.{Text, place_in, is_in, number_in, Numbers}
+use Rattle.cxx_hierarchy.specs.Classes.{Classes, class_names}
+use Rattle.cxx_hierarchy.specs.NameTables.{Text, place_in, is_in, Numbers}
 use Rattle.cxx_hierarchy.specs.ClassPass.{Record, names_of, faults_of, IsInOrder}
 use Rattle.cxx_hierarchy.specs.Resolved.{ByName, class_of_name, class_in, resolved, resolved_class, NumbersAreSmall}
 use Rattle.cxx_hierarchy.specs.Hierarchies.{IsHierarchy}
 use Rattle.cxx_hierarchy.proofs.Places.{split, same_bytes}
-use Rattle.cxx_hierarchy.proofs.Listed.{IsPlaced, placed, is_in_at}
+use Rattle.cxx_hierarchy.proofs.Listed.{placed, is_in_at}
 use Rattle.cxx_hierarchy.proofs.Kept.{IsAccepted, few_records, is_hierarchy}
 
 -- a name stands at its place, counted from i

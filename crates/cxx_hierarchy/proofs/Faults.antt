@@ -1,10 +1,10 @@
 -- Lists of faults, and where a check of them stops.
-use Rattle.std.proofs.Common.{◌≡◌, ℕ, zero, suc, ◌+◌, ◌<◌, ◌≤◌, Bool, true, false, List, [], ◌∷◌, ◌++◌, length, get_or, take, drop, refl, sym, ◌∙◌, ap, subst, inl, inr, arith, add-one, drop-cons, append_assoc, append-nil}
+use Rattle.std.proofs.Common.{◌≡◌, ℕ, zero, suc, ◌+◌, ◌<◌, ◌≤◌, Bool, true, false, List, [], ◌∷◌, ◌++◌, length, get_or, take, drop, refl, sym, ◌∙◌, ap, subst, inl, inr, add-one, drop-cons, append_assoc, append-nil}
 use Rattle.std.proofs.Math.Seq.{take-suc}
 use Rattle.std.proofs.Math.ListN.{drop_of_length-le}
-use Rattle.std.specs.Prelude.{◌⊎◌, Some, None, Result, Ok, Err, slice_get, MatchResult}
+use Rattle.std.specs.Prelude.{Some, slice_get}
 use Rattle.cxx_hierarchy.specs.declared.stop.Stop.{Stop}
-use Rattle.cxx_hierarchy.specs.ClassPass.{first_of, StopsAt, in_turn, Answers, fault_if}
+use Rattle.cxx_hierarchy.specs.ClassPass.{StopsAt, in_turn, fault_if}
 
 pub stops_left : (xs ys : List Stop) (e : Stop) → StopsAt xs e → StopsAt (xs ++ ys) e
 stops_left [] ys e (inl h) = inl h

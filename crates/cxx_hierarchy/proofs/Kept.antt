@@ -1,14 +1,13 @@
 -- Records without a fault make a hierarchy.
-use Rattle.std.proofs.Common.{◌≡◌, ℕ, zero, suc, ◌+◌, ◌<◌, ◌≤◌, Bool, true, false, cond, nat_lt, nat_le, nat_eq, List, [], ◌∷◌, ◌++◌, length, take, map, refl, sym, ◌∙◌, ap, subst, arith, get_or, inl, inr, ◌⊎◌, if◌then◌else◌}
+use Rattle.std.proofs.Common.{◌≡◌, ℕ, suc, ◌<◌, ◌≤◌, Bool, true, false, nat_lt, nat_le, nat_eq, List, [], ◌∷◌, length, take, map, refl, sym, ◌∙◌, ap, subst, arith, get_or, inl, inr, ◌⊎◌, if◌then◌else◌}
 use Rattle.std.proofs.Math.Seq.{take-length}
 use Rattle.std.proofs.lemmas.Bool.{cases_lt}
 use Rattle.std.proofs.lemmas.Map.Keys.{any_passes_from_place}
 use Rattle.std.proofs.lemmas.Map.Steps.{le-length_from_below}
 use lib.Dec.{eqb}
-use Rattle.std.specs.Prelude.{Option, Some, None, is_some, slice_get, unwrap_or, Contains, not, ◌||◌}
-use Rattle.std.specs.List.{list_any, filter_map}
+use Rattle.std.specs.Prelude.{Option, Some, None, slice_get, unwrap_or, Contains, not, ◌||◌}
 use Rattle.std.specs.Option.{option_map}
-use Rattle.std.proofs.lemmas.Option.{slice_get-get_or, slice_get_within, slice_get-map}
+use Rattle.std.proofs.lemmas.Option.{slice_get-get_or, slice_get_within}
 use Rattle.std.proofs.lemmas.List.{length-take-le, length-map}
 use Rattle.std.proofs.lemmas.Bool.Decides.{nat_tests}
 use Rattle.cxx_hierarchy.specs.declared.records.ClassId.{ClassId}
@@ -17,19 +16,17 @@ use Rattle.cxx_hierarchy.specs.declared.records.Member.{Member}
 use Rattle.cxx_hierarchy.specs.declared.records.PartAt.{PartAt}
 use Rattle.cxx_hierarchy.specs.declared.records.PartKind.{PartKind}
 use Rattle.cxx_hierarchy.specs.declared.records.PartKind.TheVariants.{Member as MemberPart, Function as FunctionPart, Constructor, Destructor}
-use Rattle.cxx_hierarchy.specs.declared.records.ValueType.{ValueType}
 use Rattle.cxx_hierarchy.specs.declared.records.ValueType.TheVariants.{Number, Pointer}
 use Rattle.cxx_hierarchy.specs.declared.records.FieldType.{FieldType}
 use Rattle.cxx_hierarchy.specs.declared.records.FieldType.TheVariants.{Value, Object}
-use Rattle.cxx_hierarchy.specs.declared.stop.Stop.{Stop}
-use Rattle.cxx_hierarchy.specs.Classes.{Class, Classes, class_at, bases_of, members_of, bases_in, members_in}
-use Rattle.cxx_hierarchy.specs.NameTables.{Text, place_in, is_in}
-use Rattle.cxx_hierarchy.specs.ClassPass.{Record, fault_if, known_faults, complete_faults, value_faults, field_faults, base_faults, member_faults, part_faults, content_faults, class_faults, faults_of, in_turn, is_repeat, is_named, is_second, part_name, name_at, names_of, names_taken, is_member, is_part, IsInOrder}
-use Rattle.cxx_hierarchy.specs.Resolved.{ByName, class_of_name, resolved, resolved_class, resolved_base, resolved_member, resolved_field, resolved_value}
+use Rattle.cxx_hierarchy.specs.Classes.{Class, class_at, bases_of, members_of, bases_in, members_in}
+use Rattle.cxx_hierarchy.specs.NameTables.{Text, is_in}
+use Rattle.cxx_hierarchy.specs.ClassPass.{Record, known_faults, complete_faults, field_faults, base_faults, member_faults, part_faults, content_faults, class_faults, faults_of, in_turn, is_repeat, is_named, part_name, name_at, names_of, names_taken, is_member, is_part, IsInOrder}
+use Rattle.cxx_hierarchy.specs.Resolved.{class_of_name, resolved, resolved_class, resolved_base, resolved_member, resolved_field}
 use Rattle.cxx_hierarchy.specs.Hierarchies.{IsHierarchy}
 use Rattle.cxx_hierarchy.proofs.Places.{take_map}
 use Rattle.cxx_hierarchy.proofs.Faults.{none_left, none_right, none_at, not_faulty}
-use Rattle.cxx_hierarchy.proofs.Listed.{IsMapped, mapped, get_map, get_take, IsPlaced, placed, is_in_at, place_below, Passes, counted, given_name}
+use Rattle.cxx_hierarchy.proofs.Listed.{mapped, get_map, get_take, IsPlaced, placed, is_in_at, place_below, counted, given_name}
 
 -- records in which the pass finds nothing
 pub record IsAccepted (records : List Record) : Type 0 where

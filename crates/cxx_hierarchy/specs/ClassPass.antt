@@ -1,5 +1,5 @@
 -- The class pass: which class records are refused, and in which order.
-use Rattle.std.specs.Prelude.{◌≡◌, ℕ, ◌<◌, ◌⊎◌, Result, MatchResult, Bool, true, false, not, ◌||◌, if◌then◌else◌, nat_eq, nat_le, nat_lt, Option, Some, None, is_some, unwrap_or, List, [], ◌∷◌, ◌++◌, map, length, slice_get, count_by}
+use Rattle.std.specs.Prelude.{◌≡◌, ℕ, ◌⊎◌, Result, MatchResult, Bool, true, false, not, ◌||◌, if◌then◌else◌, nat_eq, nat_le, nat_lt, Option, Some, None, unwrap_or, List, [], ◌∷◌, ◌++◌, map, length, slice_get, count_by}
 use Rattle.std.specs.List.{list_any, filter_map}
 use Rattle.std.specs.Option.{option_map}
 use Rattle.std.specs.Str.{bytes_eq}

@@ -1,23 +1,21 @@
 -- When a line resolves to nothing.
-use Rattle.std.proofs.Common.{◌≡◌, ℕ, ℤ, ◌<◌, List, [], sym, ◌∙◌, ap, subst, refl, arith, inl, inr, ◌⊎◌}
-use Rattle.std.specs.Prelude.{Option, Some, None, slice_get, length, Bool, true, false, is_none, Contains, not, IsTrue, ◌↔◌}
+use Rattle.std.proofs.Common.{◌≡◌, ℕ, ℤ, ◌<◌, List, [], sym, ◌∙◌, ap, subst, refl, inl, inr}
+use Rattle.std.specs.Prelude.{Option, Some, None, slice_get, length, Bool, true, false, is_none, Contains, IsTrue, ◌↔◌}
 use Rattle.std.proofs.lemmas.Option.{slice_get_within, get_or_from_slice_get}
 use Rattle.cxx_hierarchy.specs.Hierarchies.{IsHierarchy}
 use Rattle.cxx_hierarchy.specs.declared.records.ClassId.{ClassId}
 use Rattle.cxx_hierarchy.specs.declared.records.Scalar.{Scalar}
-use Rattle.cxx_hierarchy.specs.declared.records.ValueType.{ValueType}
 use Rattle.cxx_hierarchy.specs.declared.records.ValueType.TheVariants.{Number, Pointer}
 use Rattle.cxx_hierarchy.specs.declared.stop.Stop.{Stop}
 use Rattle.cxx_hierarchy.specs.Scalars.{PromotesToInt}
-use Rattle.cxx_hierarchy.specs.Classes.{Classes, class_names, members_of, leaf_type}
+use Rattle.cxx_hierarchy.specs.Classes.{Classes, class_names, leaf_type}
 use Rattle.cxx_hierarchy.specs.NameTables.{Text}
 use Rattle.cxx_decl_parser.specs.declared.simple.Simple.TheVariants.{New, Write, Read, Print}
 use Rattle.cxx_subobject.specs.Subobjects.{IsSubobject, whole, whole_of, class_of}
 use Rattle.cxx_subobject.specs.declared.Subobject.{Subobject}
 use Rattle.cxx_resolve.specs.declared.program.MemberPlace.{MemberPlace}
 use Rattle.cxx_resolve.specs.declared.program.Statement.{Statement}
-use Rattle.cxx_resolve.specs.declared.program.Statement.TheVariants.{New as Makes, Write as Writes, Read as Reads, Print as Prints}
-use Rattle.cxx_resolve.specs.Typed.{Types, int, IsPointer, LeadsToNumber}
+use Rattle.cxx_resolve.specs.Typed.{Types, int, LeadsToNumber}
 use Rattle.cxx_resolve.specs.Resolves.{Numbering, IsMemberOf, IsField, LineResolves, new, write, read, print}
 use Rattle.cxx_resolve.specs.Answers.{IsRefusal, IsNumberMember}
 

@@ -1,5 +1,5 @@
 -- The first member of a name in a list.
-use Rattle.std.proofs.Common.{◌≡◌, ℕ, ◌<◌, ◌≤◌, List, sym, ◌∙◌, ap, subst, refl, arith, Bool, true, false, cond, nat_lt, inl, inr, ◌⊎◌, get_or}
+use Rattle.std.proofs.Common.{◌≡◌, ℕ, ◌<◌, ◌≤◌, List, sym, ◌∙◌, ap, refl, arith, Bool, true, false, nat_lt, inl, inr, ◌⊎◌, get_or}
 use Rattle.std.specs.Prelude.{Option, Some, None, slice_get, length, position}
 use Rattle.std.specs.List.{position_or_len}
 use Rattle.std.specs.Str.{bytes_eq}
@@ -13,7 +13,7 @@ use Rattle.cxx_hierarchy.specs.declared.records.ClassId.{ClassId}
 use Rattle.cxx_hierarchy.specs.declared.records.Scalar.{Scalar}
 use Rattle.cxx_hierarchy.specs.declared.records.Member.{Member}
 use Rattle.cxx_hierarchy.specs.declared.records.ValueType.TheVariants.{Number}
-use Rattle.cxx_hierarchy.specs.Classes.{Class, Classes, class_at, members_of, members_in, leaf_type, leaf_type_in, value_type_in}
+use Rattle.cxx_hierarchy.specs.Classes.{Class, Classes, class_at, members_of, members_in, leaf_type_in, value_type_in}
 use Rattle.cxx_hierarchy.specs.NameTables.{Text}
 use Rattle.cxx_hierarchy.specs.Hierarchies.{IsHierarchy}
 use Rattle.cxx_resolve.specs.Answers.{IsNumberMember}

@@ -1,17 +1,13 @@
 -- The lines of a `main`, one after the other.
-use Rattle.std.proofs.Common.{◌≡◌, ℕ, zero, suc, ◌+◌, ◌<◌, ◌≤◌, List, [], ◌∷◌, ◌++◌, length, take, drop, get_or, sym, ◌∙◌, ap, subst, refl, arith, append-nil, append_assoc, drop-cons, add-one, length-append}
-use Rattle.std.proofs.Math.Seq.{take-suc}
-use Rattle.std.proofs.Math.ListN.{drop_of_length-le}
-use mathlib.Core.Path.{fun_ext}
-use Rattle.std.specs.Prelude.{Option, Some, None, slice_get}
+use Rattle.std.proofs.Common.{◌≡◌, ℕ, zero, suc, List, [], ◌∷◌, ◌++◌, length, sym, ◌∙◌, ap, subst, refl}
+use Rattle.std.specs.Prelude.{Some, slice_get}
 use Rattle.std.specs.List.{AllByRecursion}
 use Rattle.std.proofs.lemmas.Option.{slice_get_within}
-use Rattle.cxx_hierarchy.specs.declared.names.NameTable.{NameTable}
 use Rattle.cxx_hierarchy.specs.declared.records.ClassId.{ClassId}
 use Rattle.cxx_hierarchy.specs.declared.records.ValueType.{ValueType}
-use Rattle.cxx_hierarchy.specs.declared.records.ValueType.TheVariants.{Number, Pointer}
-use Rattle.cxx_hierarchy.specs.Classes.{Class, Classes, class_names, class_at}
-use Rattle.cxx_hierarchy.specs.NameTables.{Text, place_in, number_in, Numbers}
+use Rattle.cxx_hierarchy.specs.declared.records.ValueType.TheVariants.{Pointer}
+use Rattle.cxx_hierarchy.specs.Classes.{Class, Classes, class_names}
+use Rattle.cxx_hierarchy.specs.NameTables.{Text, place_in}
 use Rattle.cxx_hierarchy.specs.Hierarchies.{IsHierarchy}
 use Rattle.cxx_hierarchy.proofs.Listed.{mapped}
 use Rattle.cxx_decl_parser.specs.declared.simple.Simple.{Simple}
@@ -23,8 +19,7 @@ use Rattle.cxx_resolve.specs.declared.program.TypedLine.{TypedLine}
 use Rattle.cxx_resolve.specs.declared.program.SimpleProgram.{SimpleProgram}
 use Rattle.cxx_resolve.specs.Typed as typed
 use Rattle.cxx_resolve.specs.Typed.{Types, int, IsPointer, LeadsToNumber, IsTyped, IsTypedProgram}
-use Rattle.cxx_resolve.specs.Resolves.{Numbering, IsField, LineResolves, new, write, read, print, LinesResolve, done, more, Resolves, name_declared, type_declared, IsSmallWrite, HasSmallNumbers}
-use Rattle.cxx_resolve.specs.Answers.{Declares}
+use Rattle.cxx_resolve.specs.Resolves.{Numbering, LineResolves, new, write, read, print, LinesResolve, done, more, Resolves, name_declared, type_declared, IsSmallWrite, HasSmallNumbers}
 use Rattle.cxx_resolve.proofs.Lines.{same_field}
 
 -- a class of a name is one

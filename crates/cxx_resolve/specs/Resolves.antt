@@ -5,7 +5,6 @@ use Rattle.cxx_hierarchy.specs.declared.records.ClassId.{ClassId}
 use Rattle.cxx_hierarchy.specs.declared.records.Scalar.{Scalar}
 use Rattle.cxx_hierarchy.specs.declared.records.Scalar.TheVariants.{Int}
 use Rattle.cxx_hierarchy.specs.declared.records.Member.{Member}
-use Rattle.cxx_hierarchy.specs.declared.records.ValueType.{ValueType}
 use Rattle.cxx_hierarchy.specs.declared.records.ValueType.TheVariants.{Pointer}
 use Rattle.cxx_hierarchy.specs.Scalars.{IsInRange, PromotesToInt}
 use Rattle.cxx_hierarchy.specs.Classes.{Classes, class_names, members_of}

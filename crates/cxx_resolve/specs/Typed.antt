@@ -1,5 +1,5 @@
 -- When the types of a resolved program fit.
-use Rattle.std.specs.Prelude.{◌≡◌, ℕ, ℤ, ◌<◌, Option, Some, None, List, length, slice_get}
+use Rattle.std.specs.Prelude.{◌≡◌, ℕ, ℤ, ◌<◌, Some, List, length, slice_get}
 use Rattle.std.specs.List.{AllByRecursion}
 use Rattle.cxx_hierarchy.specs.declared.records.ClassId.{ClassId}
 use Rattle.cxx_hierarchy.specs.declared.records.Scalar.{Scalar}
@@ -12,7 +12,6 @@ use Rattle.cxx_subobject.specs.Subobjects.{IsSubobject, class_of}
 use Rattle.cxx_resolve.specs.declared.program.MemberPlace.{MemberPlace}
 use Rattle.cxx_resolve.specs.declared.program.Statement.{Statement}
 use Rattle.cxx_resolve.specs.declared.program.Statement.TheVariants.{New, Write, Read, Print}
-use Rattle.cxx_resolve.specs.declared.program.TypedLine.{TypedLine}
 use Rattle.cxx_resolve.specs.declared.program.SimpleProgram.{SimpleProgram}
 
 abbrev pub Types : Type 0

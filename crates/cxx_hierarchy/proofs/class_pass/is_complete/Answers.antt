@@ -1,5 +1,5 @@
 -- The class of a name stands among the first where its number is below their count.
-use Rattle.std.proofs.Common.{◌≡◌, ℕ, ap, sym, ◌∙◌, take, zero-add}
+use Rattle.std.proofs.Common.{◌≡◌, ℕ, ap, sym, ◌∙◌, zero-add}
 use Rattle.std.specs.Prelude.{is_some, Option, Some, None, List, nat_lt}
 use Rattle.std.specs.Str.{bytes_eq}
 use Rattle.cxx_hierarchy.specs.ClassPass.{names_of}

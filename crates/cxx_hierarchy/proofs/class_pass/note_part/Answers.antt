@@ -1,6 +1,6 @@
 -- A name that a part has goes last among the names taken.
-use Rattle.std.proofs.Common.{◌≡◌, ◌++◌, ◌∷◌, [], List, ap, sym, ◌∙◌, subst, refl, append-nil}
-use Rattle.std.specs.Prelude.{Option, Some, None}
+use Rattle.std.proofs.Common.{◌≡◌, ◌++◌, ◌∷◌, [], List, ap, sym, ◌∙◌, subst, append-nil}
+use Rattle.std.specs.Prelude.{Some, None}
 use Rattle.std.specs.Option.{option_copied}
 use Rattle.cxx_hierarchy.specs.ClassPass.{names_taken, part_name}
 use Rattle.cxx_hierarchy.specs.NameTables.{Text, Holds}

@@ -1,9 +1,7 @@
 -- Records without a fault make a hierarchy, and the table has its names.
-use Rattle.std.proofs.Common.{◌≡◌, sym, ap, ◌∙◌, List, [], subst}
-use Rattle.cxx_hierarchy.specs.declared.names.NameTable.{NameTable}
+use Rattle.std.proofs.Common.{◌≡◌, sym, ap, ◌∙◌, List, subst}
 use Rattle.cxx_hierarchy.specs.ClassPass.{Record, names_of, faults_of}
 use Rattle.cxx_hierarchy.specs.NameTables.{Numbers}
-use Rattle.cxx_hierarchy.specs.Classes.{Classes}
 use Rattle.cxx_hierarchy.specs.Resolved.{resolved}
 use Rattle.cxx_hierarchy.proofs.Builds.{accepted, small_numbers, same_references, built}
 use Rattle.cxx_hierarchy.proofs.hierarchy.build.Goals as goal

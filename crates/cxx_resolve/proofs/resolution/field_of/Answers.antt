@@ -1,5 +1,5 @@
 -- The field of a pointer, through its class.
-use Rattle.std.proofs.Common.{◌≡◌, refl, inl, inr, arith}
+use Rattle.std.proofs.Common.{refl, inr, arith}
 use Rattle.cxx_resolve.proofs.Lines.{from_class, place_of_member}
 use Rattle.cxx_resolve.proofs.resolution.field_of.Goals as goal
 

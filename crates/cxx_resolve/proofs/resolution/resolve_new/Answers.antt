@@ -1,8 +1,8 @@
 -- A new object of a class of the hierarchy.
-use Rattle.std.proofs.Common.{◌≡◌, refl, inl, inr, arith, subst, sym, ◌∙◌, ap}
-use Rattle.std.specs.Prelude.{ℕ, Option, Some, None, is_none, Bool, true, false, List, slice_get}
+use Rattle.std.proofs.Common.{◌≡◌, refl, inr, subst, sym, ◌∙◌, ap}
+use Rattle.std.specs.Prelude.{ℕ, Some, None, slice_get}
 use Rattle.cxx_hierarchy.specs.Classes.{class_names}
-use Rattle.cxx_hierarchy.specs.NameTables.{Text, number_in}
+use Rattle.cxx_hierarchy.specs.NameTables.{number_in}
 use Rattle.cxx_decl_parser.specs.declared.simple.Simple.TheVariants.{New}
 use Rattle.cxx_resolve.specs.declared.program.Statement.TheVariants.{New as Makes}
 use Rattle.cxx_resolve.specs.Resolves.{new, LineResolves}

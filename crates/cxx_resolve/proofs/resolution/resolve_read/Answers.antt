@@ -1,8 +1,8 @@
 -- A read resolves where its field does, is small, and its variable is new.
-use Rattle.std.proofs.Common.{◌≡◌, refl, inl, inr, arith, subst, sym, ◌∙◌, ap}
-use Rattle.std.specs.Prelude.{ℕ, Option, Some, None, is_none, Bool, true, false}
+use Rattle.std.proofs.Common.{◌≡◌, refl, inr, subst, sym}
+use Rattle.std.specs.Prelude.{ℕ, None}
 use Rattle.std.proofs.lemmas.Result.{err_from_is_err_and}
-use Rattle.cxx_hierarchy.specs.NameTables.{Text, number_in}
+use Rattle.cxx_hierarchy.specs.NameTables.{number_in}
 use Rattle.cxx_decl_parser.specs.declared.simple.Simple.TheVariants.{Read}
 use Rattle.cxx_resolve.specs.declared.program.Statement.TheVariants.{Read as Reads}
 use Rattle.cxx_resolve.specs.Resolves.{read, LineResolves}

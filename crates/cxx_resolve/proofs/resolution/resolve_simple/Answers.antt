@@ -1,9 +1,8 @@
 -- Each line goes on from those before it.
-use Rattle.std.proofs.Common.{◌≡◌, ◌<◌, ◌≤◌, arith, subst, sym, ap, ◌∙◌, List, [], ◌+◌, refl, length}
+use Rattle.std.proofs.Common.{arith, subst, sym, List, [], ◌+◌, refl}
 use Rattle.std.proofs.lemmas.Result.{err_from_is_err_and}
 use Rattle.cxx_decl_parser.specs.declared.simple.SimpleLine.{SimpleLine}
 use Rattle.cxx_resolve.specs.declared.program.TypedLine.{TypedLine}
-use Rattle.cxx_resolve.specs.declared.program.SimpleProgram.{SimpleProgram}
 use Rattle.cxx_resolve.specs.Typed.{Types}
 use Rattle.cxx_resolve.specs.Resolves.{Resolves, LinesResolve}
 use Rattle.cxx_resolve.proofs.Lines.{refused_more}

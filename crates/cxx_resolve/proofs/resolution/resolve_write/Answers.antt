@@ -1,6 +1,5 @@
 -- A write resolves where its field does.
-use Rattle.std.proofs.Common.{◌≡◌, ℤ, sym, subst}
-use Rattle.std.specs.Prelude.{Err}
+use Rattle.std.proofs.Common.{ℤ, sym, subst}
 use Rattle.std.proofs.lemmas.Result.{err_from_is_err_and}
 use Rattle.std.proofs.Math.Facts.{to_z-of_z}
 use Rattle.cxx_hierarchy.specs.NameTables.{number_in}

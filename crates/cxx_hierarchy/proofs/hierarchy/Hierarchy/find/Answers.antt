@@ -1,10 +1,9 @@
 -- The table has each class name with the number of its class.
-use Rattle.std.proofs.Common.{◌≡◌, ℕ, ◌<◌, ◌≤◌, arith, sym, ap, ◌∙◌, length, subst}
-use Rattle.std.specs.Prelude.{Some, None, List, slice_get, Contains}
+use Rattle.std.proofs.Common.{◌≡◌, ◌<◌, ◌≤◌, arith, sym, ◌∙◌, length, subst}
+use Rattle.std.specs.Prelude.{Some, slice_get, Contains}
 use Rattle.std.proofs.lemmas.Option.{slice_get_within}
 use Rattle.std.proofs.lemmas.List.{length-map}
 use Rattle.cxx_hierarchy.specs.Classes.{Class, Classes, class_names}
-use Rattle.cxx_hierarchy.specs.NameTables.{place_in}
 use Rattle.cxx_hierarchy.proofs.Builds.{place_listed, place_missing}
 use Rattle.cxx_hierarchy.proofs.hierarchy.Hierarchy.find.Goals as goal
 

@@ -1,10 +1,9 @@
 -- A new name goes last with its number; a name that is there already leaves the table as it is.
-use Rattle.std.proofs.Common.{◌≡◌, ℕ, ◌+◌, ◌++◌, ◌∷◌, [], List, ap, sym, ◌∙◌, subst, Bool, true, false, length, arith, rules, zero-add}
-use Rattle.std.specs.Prelude.{Some, None, Option, is_some, not}
+use Rattle.std.proofs.Common.{◌≡◌, ℕ, ◌+◌, ap, sym, ◌∙◌, true, length, arith, rules}
+use Rattle.std.specs.Prelude.{None, Option, is_some, not}
 use Rattle.std.specs.Str.{bytes_eq}
 use Rattle.std.specs.Map.{lookup}
-use Rattle.cxx_hierarchy.specs.NameTables.{Text, Numbers, Holds, number_in, place_in, is_in}
-use Rattle.cxx_hierarchy.specs.declared.names.NameTable.{NameTable}
+use Rattle.cxx_hierarchy.specs.NameTables.{Text, number_in, place_in}
 use Rattle.cxx_hierarchy.proofs.Places.{first_or, only_if, lookup_new, place_push, place_again, none_of, same_some}
 use Rattle.cxx_hierarchy.proofs.names.NameTable.note.Goals as goal
 
