@@ -3,15 +3,13 @@ use Rattle.std.specs.Prelude.{◌≡◌, ℕ, ◌+◌, ◌<◌, ◌≤◌, ◌^�
 use Rattle.cxx_hierarchy.specs.declared.records.ClassId.{ClassId}
 use Rattle.cxx_hierarchy.specs.declared.records.ValueType.{ValueType}
 use Rattle.cxx_hierarchy.specs.declared.records.ValueType.TheVariants.{Number as NumberType, Pointer as PointerType}
-use Rattle.cxx_hierarchy.specs.declared.stop.LimitNo.{LimitNo}
-use Rattle.cxx_hierarchy.specs.declared.stop.LimitNo.TheVariants.{L1, L2, L3, L4, L5, L6, L7, L8, L9, L10}
+use Rattle.cxx_hierarchy.specs.Stops.{limit_no}
 use Rattle.cxx_hierarchy.specs.Scalars.{IsInRange}
 use Rattle.cxx_subobject.specs.declared.Subobject.{Subobject}
 use Rattle.cxx_subobject.specs.Subobjects.{IsSubobject, class_of, whole_of}
 use Rattle.abi_layout.specs.Places.{size_of_value}
 use Rattle.abi_layout.specs.Sound.{IsLeaf, leaf_place}
-use Rattle.path_model.specs.declared.Undefined.{Undefined}
-use Rattle.path_model.specs.declared.Undefined.TheVariants.{NullUse, Dangling, NotReady, OutsideView, Unset as UnsetRule, PureCall, BadDowncast, NonVirtualDelete, NotHeapObject, NotComplete, MissingReturn, Overflow}
+use Rattle.path_model.specs.Rules.{undefined_no}
 use Rattle.path_model.specs.Values.{State, Value, Leaves, Unset, Number, Pointer, value_in}
 use Rattle.path_model.specs.Steps.{Out, NumberOut, Move, Goes, Refuses, Limits, Ends, heap_total}
 use Rattle.byte_memory.specs.declared.memory.Region.{Region}
@@ -98,36 +96,9 @@ pub record StandsFor (x : Setup) (s : State) (b : Bytes) : Type 0 where
 abbrev pub raw_of : Out → RawOut
 raw_of (NumberOut z) = RawNumber z
 
--- the numbers of the rules and of the limits, as they are printed
-abbrev pub rule_number : Undefined → ℕ
-rule_number NullUse = 1
-rule_number Dangling = 2
-rule_number NotReady = 3
-rule_number OutsideView = 4
-rule_number UnsetRule = 5
-rule_number PureCall = 6
-rule_number BadDowncast = 7
-rule_number NonVirtualDelete = 8
-rule_number NotHeapObject = 9
-rule_number NotComplete = 10
-rule_number MissingReturn = 11
-rule_number Overflow = 12
-
-abbrev pub limit_number : LimitNo → ℕ
-limit_number L1 = 1
-limit_number L2 = 2
-limit_number L3 = 3
-limit_number L4 = 4
-limit_number L5 = 5
-limit_number L6 = 6
-limit_number L7 = 7
-limit_number L8 = 8
-limit_number L9 = 9
-limit_number L10 = 10
-
 -- what a block leads to agrees with the move of its statement
 abbrev pub Agrees : Setup → Move → Running → MachineTurn → Type 0
 Agrees x (Goes s outs) new turn = Stands x s new.memory new.registers new.objects new.heap × (new.outs ≡ map raw_of outs) × (turn ≡ Went)
-Agrees x (Refuses rule line) new turn = (turn ≡ Refused (rule_number rule) line) × (new.outs ≡ [])
-Agrees x (Limits limit) new turn = (turn ≡ Limit (limit_number limit)) × (new.outs ≡ [])
+Agrees x (Refuses rule line) new turn = (turn ≡ Refused (undefined_no rule) line) × (new.outs ≡ [])
+Agrees x (Limits limit) new turn = (turn ≡ Limit (limit_no limit)) × (new.outs ≡ [])
 Agrees x Ends new turn = (turn ≡ Ended) × (new.outs ≡ [])

@@ -6,7 +6,9 @@ use Rattle.byte_machine.specs.declared.turn.MachineTurn.{MachineTurn}
 use Rattle.byte_machine.specs.declared.turn.MachineTurn.TheVariants.{Went, Ended, Refused, OutOfSteps, Limit}
 use Rattle.byte_machine.specs.Turn.{State as Bytes}
 use Rattle.abi_lower.specs.Blocks.{Setup}
-use Rattle.abi_lower.specs.Stands.{StandsFor, raw_of, rule_number, limit_number}
+use Rattle.abi_lower.specs.Stands.{StandsFor, raw_of}
+use Rattle.path_model.specs.Rules.{undefined_no}
+use Rattle.cxx_hierarchy.specs.Stops.{limit_no}
 
 -- one step was taken
 pub record CountsOn (b b' : Bytes) : Type 0 where
@@ -16,8 +18,8 @@ pub record CountsOn (b b' : Bytes) : Type 0 where
 -- a turn that runs a block agrees with the move: it stands for the state that follows and tells what the step tells, or it gives the answer of the refusal, the limit or the end
 abbrev pub AgreesTurn : Setup → Move → Bytes → Bytes → List RawOut → MachineTurn → Type 0
 AgreesTurn x (Goes s outs) b b' told turn = StandsFor x s b' × (told ≡ map raw_of outs) × (turn ≡ Went)
-AgreesTurn x (Refuses rule line) b b' told turn = (turn ≡ Refused (rule_number rule) line) × (told ≡ [])
-AgreesTurn x (Limits limit) b b' told turn = (turn ≡ Limit (limit_number limit)) × (told ≡ [])
+AgreesTurn x (Refuses rule line) b b' told turn = (turn ≡ Refused (undefined_no rule) line) × (told ≡ [])
+AgreesTurn x (Limits limit) b b' told turn = (turn ≡ Limit (limit_no limit)) × (told ≡ [])
 AgreesTurn x Ends b b' told turn = (turn ≡ Ended) × (told ≡ [])
 
 abbrev pub AgreesBy : Bool → Setup → Move → Bytes → Bytes → List RawOut → MachineTurn → Type 0

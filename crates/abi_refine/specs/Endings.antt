@@ -2,7 +2,8 @@
 use Rattle.path_model.specs.Runs.{Ending, Done as RunDone, UndefinedAt, OutOfSteps as RunOutOfSteps, LimitMet}
 use Rattle.byte_machine.specs.declared.turn.MachineTurn.{MachineTurn}
 use Rattle.byte_machine.specs.declared.turn.MachineTurn.TheVariants.{Ended, Refused, OutOfSteps as TurnOutOfSteps, Limit as TurnLimit}
-use Rattle.abi_lower.specs.Stands.{rule_number, limit_number}
+use Rattle.path_model.specs.Rules.{undefined_no}
+use Rattle.cxx_hierarchy.specs.Stops.{limit_no}
 use Rattle.abi_refine.specs.declared.ending.End.{End}
 use Rattle.abi_refine.specs.declared.ending.End.TheVariants.{Done, Undefined, OutOfSteps, Limit}
 
@@ -16,6 +17,6 @@ ending_of (Limit limit) = LimitMet limit
 -- the answer of the machine's last turn, by how the run ends
 abbrev pub turn_of : Ending → MachineTurn
 turn_of RunDone = Ended
-turn_of (UndefinedAt rule line) = Refused (rule_number rule) line
+turn_of (UndefinedAt rule line) = Refused (undefined_no rule) line
 turn_of RunOutOfSteps = TurnOutOfSteps
-turn_of (LimitMet limit) = TurnLimit (limit_number limit)
+turn_of (LimitMet limit) = TurnLimit (limit_no limit)

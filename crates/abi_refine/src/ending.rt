@@ -4,7 +4,8 @@ ghost use Rattle.std.specs.Prelude.{◌≡◌, ℕ};
 ghost use Rattle.path_model.specs.declared.Undefined.{Undefined};
 ghost use Rattle.path_model.specs.Runs.{Ending};
 ghost use Rattle.cxx_hierarchy.specs.declared.stop.LimitNo.{LimitNo};
-ghost use Rattle.abi_lower.specs.Stands.{rule_number, limit_number};
+ghost use Rattle.path_model.specs.Rules.{undefined_no};
+ghost use Rattle.cxx_hierarchy.specs.Stops.{limit_no};
 ghost use Rattle.abi_refine.specs.Endings.{ending_of, turn_of};
 
 use byte_machine::MachineTurn;
@@ -26,8 +27,8 @@ pub enum End {
 
 /// The rule with a number.
 fn rule_of(number: u8) -> Undefined
-    requires { (rule : Undefined) × (number ≡ rule_number rule) }
-    ensures { rule_number result ≡ number }
+    requires { (rule : Undefined) × (number ≡ undefined_no rule) }
+    ensures { undefined_no result ≡ number }
 {
     match number {
         1 => Undefined::NullUse,
@@ -48,8 +49,8 @@ fn rule_of(number: u8) -> Undefined
 
 /// The limit with a number.
 fn limit_of(number: u8) -> LimitNo
-    requires { (limit : LimitNo) × (number ≡ limit_number limit) }
-    ensures { limit_number result ≡ number }
+    requires { (limit : LimitNo) × (number ≡ limit_no limit) }
+    ensures { limit_no result ≡ number }
 {
     match number {
         1 => LimitNo::L1,
