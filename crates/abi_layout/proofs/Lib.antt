@@ -6,3 +6,4 @@ pub mod PathLemmas
 pub mod SoundLemmas
 pub mod Unique
 pub mod PlaceLemmas
+pub mod Each

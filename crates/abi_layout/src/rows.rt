@@ -40,7 +40,7 @@ fn size_of_value(ty: &ValueType<ClassId>) -> u32
 }
 
 /// The type of a member that is a number or a pointer, and no array.
-fn leaf_type(member: &Member<ClassId>) -> Option<&ValueType<ClassId>>
+pub fn leaf_type(member: &Member<ClassId>) -> Option<&ValueType<ClassId>>
     ensures { option_copied result ≡ leaf_type_in (Some member.now) }
 {
     match member.count {
