@@ -149,3 +149,66 @@ pub fn class_layout(
         member_places: Sequence::from_vec(member_places),
     })
 }
+
+#[cfg(test)]
+mod tests {
+    use super::*;
+    use cxx_hierarchy::{BaseList, Destructor, MemberList};
+    use std::test::Fail;
+
+    fn member(alloc: Global, ty: Scalar) -> Member<ClassId> {
+        Member {
+            name: Sequence::new(alloc),
+            ty: FieldType::Value(ValueType::Number(ty)),
+            count: None,
+            is_public: true,
+            at: 0,
+        }
+    }
+
+    fn class(alloc: Global, bases: BaseList<ClassId>, members: MemberList<ClassId>) -> ClassRec<ClassId>
+        ensures { result.bases ≡ bases }
+    {
+        ClassRec {
+            name: Sequence::new(alloc),
+            at: 0,
+            bases,
+            members,
+            functions: Sequence::new(alloc),
+            order: Sequence::new(alloc),
+            has_constructor: false,
+            destructor: Destructor::Implicit,
+        }
+    }
+
+    /// `struct A { int i; char c; };` has 8 bytes, and `struct B { char c; long l; };` 16.
+    #[test]
+    fn classes_without_bases(rt: HostRuntime) -> Result<(), Fail> {
+        let alloc = rt.alloc();
+        let mut members = Sequence::new(alloc);
+        members.push(member(alloc, Scalar::Int))?;
+        members.push(member(alloc, Scalar::Char))?;
+        let row = class_layout(alloc, &[], &class(alloc, Sequence::new(alloc), members))?;
+        assert_eq!(rt; row.size, 8);
+        assert_eq!(rt; row.nvsize, 8);
+        assert_eq!(rt; row.member_places.as_slice(), [0, 4].as_slice());
+        let mut members = Sequence::new(alloc);
+        members.push(member(alloc, Scalar::Char))?;
+        members.push(member(alloc, Scalar::Long))?;
+        let row = class_layout(alloc, &[], &class(alloc, Sequence::new(alloc), members))?;
+        assert_eq!(rt; row.size, 16);
+        assert_eq!(rt; row.align, 8);
+        assert_eq!(rt; row.member_places.as_slice(), [0, 8].as_slice());
+        Ok(())
+    }
+
+    /// `struct E {};` has one byte.
+    #[test]
+    fn empty_class(rt: HostRuntime) -> Result<(), Fail> {
+        let alloc = rt.alloc();
+        let row = class_layout(alloc, &[], &class(alloc, Sequence::new(alloc), Sequence::new(alloc)))?;
+        assert_eq!(rt; row.size, 1);
+        assert_eq!(rt; row.align, 1);
+        Ok(())
+    }
+}
