@@ -166,7 +166,11 @@ mod tests {
         }
     }
 
-    fn class(alloc: Global, bases: BaseList<ClassId>, members: MemberList<ClassId>) -> ClassRec<ClassId>
+    fn class(
+        alloc: Global,
+        bases: BaseList<ClassId>,
+        members: MemberList<ClassId>,
+    ) -> ClassRec<ClassId>
         ensures { result.bases ≡ bases }
     {
         ClassRec {
@@ -206,9 +210,37 @@ mod tests {
     #[test]
     fn empty_class(rt: HostRuntime) -> Result<(), Fail> {
         let alloc = rt.alloc();
-        let row = class_layout(alloc, &[], &class(alloc, Sequence::new(alloc), Sequence::new(alloc)))?;
+        let row = class_layout(
+            alloc,
+            &[],
+            &class(alloc, Sequence::new(alloc), Sequence::new(alloc)),
+        )?;
         assert_eq!(rt; row.size, 1);
         assert_eq!(rt; row.align, 1);
+        Ok(())
+    }
+
+    /// `struct X { int a; }; struct T : X { char t; };` has `t` at 4; of its 8 bytes it takes 5 as a base.
+    #[test]
+    fn class_with_base(rt: HostRuntime) -> Result<(), Fail> {
+        let alloc = rt.alloc();
+        let mut members = Sequence::new(alloc);
+        members.push(member(alloc, Scalar::Int))?;
+        let x = class_layout(alloc, &[], &class(alloc, Sequence::new(alloc), members))?;
+        let mut bases = Sequence::new(alloc);
+        bases.push(Base {
+            class: ClassId(0),
+            is_virtual: false,
+            is_public: true,
+            at: 0,
+        })?;
+        let mut members = Sequence::new(alloc);
+        members.push(member(alloc, Scalar::Char))?;
+        let row = class_layout(alloc, &[x], &class(alloc, bases, members))?;
+        assert_eq!(rt; row.size, 8);
+        assert_eq!(rt; row.nvsize, 5);
+        assert_eq!(rt; row.base_places.as_slice(), [0].as_slice());
+        assert_eq!(rt; row.member_places.as_slice(), [4].as_slice());
         Ok(())
     }
 }
