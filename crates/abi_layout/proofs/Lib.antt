@@ -5,4 +5,4 @@ pub mod BaseLemmas
 pub mod PathLemmas
 pub mod SoundLemmas
 pub mod Unique
-pub mod PlaceLemmas
+pub mod Each

@@ -40,7 +40,7 @@ fn size_of_value(ty: &ValueType<ClassId>) -> u32
 }
 
 /// The type of a member that is a number or a pointer, and no array.
-fn leaf_type(member: &Member<ClassId>) -> Option<&ValueType<ClassId>>
+pub fn leaf_type(member: &Member<ClassId>) -> Option<&ValueType<ClassId>>
     ensures { option_copied result ≡ leaf_type_in (Some member.now) }
 {
     match member.count {
@@ -148,4 +148,99 @@ pub fn class_layout(
         virtual_places: Sequence::new(alloc),
         member_places: Sequence::from_vec(member_places),
     })
+}
+
+#[cfg(test)]
+mod tests {
+    use super::*;
+    use cxx_hierarchy::{BaseList, Destructor, MemberList};
+    use std::test::Fail;
+
+    fn member(alloc: Global, ty: Scalar) -> Member<ClassId> {
+        Member {
+            name: Sequence::new(alloc),
+            ty: FieldType::Value(ValueType::Number(ty)),
+            count: None,
+            is_public: true,
+            at: 0,
+        }
+    }
+
+    fn class(
+        alloc: Global,
+        bases: BaseList<ClassId>,
+        members: MemberList<ClassId>,
+    ) -> ClassRec<ClassId>
+        ensures { result.bases ≡ bases }
+    {
+        ClassRec {
+            name: Sequence::new(alloc),
+            at: 0,
+            bases,
+            members,
+            functions: Sequence::new(alloc),
+            order: Sequence::new(alloc),
+            has_constructor: false,
+            destructor: Destructor::Implicit,
+        }
+    }
+
+    /// `struct A { int i; char c; };` has 8 bytes, and `struct B { char c; long l; };` 16.
+    #[test]
+    fn classes_without_bases(rt: HostRuntime) -> Result<(), Fail> {
+        let alloc = rt.alloc();
+        let mut members = Sequence::new(alloc);
+        members.push(member(alloc, Scalar::Int))?;
+        members.push(member(alloc, Scalar::Char))?;
+        let row = class_layout(alloc, &[], &class(alloc, Sequence::new(alloc), members))?;
+        assert_eq!(rt; row.size, 8);
+        assert_eq!(rt; row.nvsize, 8);
+        assert_eq!(rt; row.member_places.as_slice(), [0, 4].as_slice());
+        let mut members = Sequence::new(alloc);
+        members.push(member(alloc, Scalar::Char))?;
+        members.push(member(alloc, Scalar::Long))?;
+        let row = class_layout(alloc, &[], &class(alloc, Sequence::new(alloc), members))?;
+        assert_eq!(rt; row.size, 16);
+        assert_eq!(rt; row.align, 8);
+        assert_eq!(rt; row.member_places.as_slice(), [0, 8].as_slice());
+        Ok(())
+    }
+
+    /// `struct E {};` has one byte.
+    #[test]
+    fn empty_class(rt: HostRuntime) -> Result<(), Fail> {
+        let alloc = rt.alloc();
+        let row = class_layout(
+            alloc,
+            &[],
+            &class(alloc, Sequence::new(alloc), Sequence::new(alloc)),
+        )?;
+        assert_eq!(rt; row.size, 1);
+        assert_eq!(rt; row.align, 1);
+        Ok(())
+    }
+
+    /// `struct X { int a; }; struct T : X { char t; };` has `t` at 4; of its 8 bytes it takes 5 as a base.
+    #[test]
+    fn class_with_base(rt: HostRuntime) -> Result<(), Fail> {
+        let alloc = rt.alloc();
+        let mut members = Sequence::new(alloc);
+        members.push(member(alloc, Scalar::Int))?;
+        let x = class_layout(alloc, &[], &class(alloc, Sequence::new(alloc), members))?;
+        let mut bases = Sequence::new(alloc);
+        bases.push(Base {
+            class: ClassId(0),
+            is_virtual: false,
+            is_public: true,
+            at: 0,
+        })?;
+        let mut members = Sequence::new(alloc);
+        members.push(member(alloc, Scalar::Char))?;
+        let row = class_layout(alloc, &[x], &class(alloc, bases, members))?;
+        assert_eq!(rt; row.size, 8);
+        assert_eq!(rt; row.nvsize, 5);
+        assert_eq!(rt; row.base_places.as_slice(), [0].as_slice());
+        assert_eq!(rt; row.member_places.as_slice(), [4].as_slice());
+        Ok(())
+    }
 }
