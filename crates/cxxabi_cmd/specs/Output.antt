@@ -1,5 +1,5 @@
 -- Which text and which status belong to words and the bytes of a source.
-use Rattle.std.specs.Prelude.{◌≡◌, ℕ, ◌<◌, ◌≤◌, List, [], ◌∷◌, ◌++◌, length, codes, Option, Some, IfSome}
+use Rattle.std.specs.Prelude.{◌≡◌, ℕ, ◌<◌, ◌≤◌, List, [], ◌∷◌, ◌++◌, length, map, codes, Option, Some, IfSome, string_bytes, String}
 use Rattle.cxx_hierarchy.specs.declared.stop.Rule.TheVariants.{Syntax}
 use Rattle.cxx_hierarchy.specs.declared.stop.LimitNo.TheVariants.{L1, L6}
 use Rattle.cxx_hierarchy.specs.Classes.{Classes}
@@ -20,9 +20,17 @@ use Rattle.cxxabi_cmd.specs.declared.status.Status.TheVariants.{Done, Refused, U
 use Rattle.cxxabi_cmd.specs.Statuses.{last_line}
 use Rattle.cxxabi_cmd.specs.Streams.{IsPartOf}
 
+-- the bytes of each word
+abbrev pub texts_of : {Z : Type 0} → List (String Z) → List (List ℕ)
+texts_of words = map string_bytes words
+
 -- the one command: the word `run`
 abbrev pub IsCommand : List (List ℕ) → Type 0
 IsCommand words = words ≡ codes "run" ∷ []
+
+-- the source tells these bytes, where the words are the command, which reads it
+abbrev pub Tells : List (List ℕ) → Option (List ℕ) → List ℕ → Type 0
+Tells words remaining bytes = IsCommand words → remaining ≡ Some bytes
 
 -- the text is of the form, its class records pass, and its `main` resolves to this program over these classes
 pub record IsProgram (text : List ℕ) (h : Classes) (program : SimpleProgram) : Type 0 where

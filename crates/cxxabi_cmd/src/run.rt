@@ -1,8 +1,8 @@
 //! The whole program as one call.
 
-ghost use Rattle.std.specs.Prelude.{ℕ, ◌≡◌, ◌↔◌, ◌≤◌, ◌<◌, ◌⊎◌, ◌∷◌, ◌++◌, [], List, Some, None, IsTrue, IfSome, IfOk, IfErr, IsSome, OnOk, take, drop, length, map, string_bytes};
+ghost use Rattle.std.specs.Prelude.{ℕ, ◌≡◌, ◌↔◌, ◌≤◌, ◌<◌, ◌⊎◌, ◌∷◌, ◌++◌, [], List, Some, None, IsTrue, IfSome, IfOk, IfErr, IsSome, OnOk, take, drop, length, string_bytes};
 ghost use Rattle.cxxabi_cmd.specs.Streams.{Rose, IsPartOf};
-ghost use Rattle.cxxabi_cmd.specs.Output.{IsCommand, Output, Answer, Answers, BreaksOff, IsAnswered, IsSilent, line_alone, run_answer, run_by, status_of};
+ghost use Rattle.cxxabi_cmd.specs.Output.{texts_of, Tells, IsCommand, Output, Answer, Answers, BreaksOff, IsAnswered, IsSilent, line_alone, run_answer, run_by, status_of};
 ghost use Rattle.cxxabi_cmd.specs.Replies.{answer_of, machine_of, IsAccepted};
 ghost use Rattle.cxxabi_cmd.specs.Handed.{Hands, HandsOut, IsRunMachine};
 ghost use Rattle.byte_machine.specs.MachineState.{code_of, state_of};
@@ -45,7 +45,7 @@ struct Reply {
 
 // Whether the words are the one command.
 fn is_command(words: &[String]) -> bool
-    ensures { IsTrue result ↔ IsCommand (map string_bytes words.now) }
+    ensures { IsTrue result ↔ IsCommand (texts_of words.now) }
 {
     match words {
         [word] => word.as_str() == "run",
@@ -202,13 +202,13 @@ fn reply_within(alloc: Global, bytes: &[u8]) -> Result<Reply, NoMemory>
 
 // What is answered to the words, after the source was read where they are the command.
 fn respond<S: Source>(alloc: Global, words: &[String], source: &mut S) -> Result<Reply, ReadStop>
-    ensures output { IfOk result (λ reply. (bytes : List ℕ) → (IsCommand (map string_bytes words.now) → S.remaining source.old ≡ Some bytes) →
-        Output (map string_bytes words.now) bytes (answer_of reply)) }
-    ensures machine { IfOk result (λ reply. (bytes : List ℕ) → (IsCommand (map string_bytes words.now) → S.remaining source.old ≡ Some bytes) →
-        HandsOut (map string_bytes words.now) bytes (machine_of reply)) }
+    ensures output { IfOk result (λ reply. (bytes : List ℕ) → Tells (texts_of words.now) (S.remaining source.old) bytes →
+        Output (texts_of words.now) bytes (answer_of reply)) }
+    ensures machine { IfOk result (λ reply. (bytes : List ℕ) → Tells (texts_of words.now) (S.remaining source.old) bytes →
+        HandsOut (texts_of words.now) bytes (machine_of reply)) }
     ensures answered { IfOk result (λ reply. IsAnswered reply.status) }
-    ensures read { OnOk result (IsCommand (map string_bytes words.now) → IfSome (S.remaining source.old) (λ bytes. S.remaining source.new ≡ Some (drop 262145 bytes))) }
-    ensures kept { (IsCommand (map string_bytes words.now) → ⊥) → source.new ≡ source.old }
+    ensures read { OnOk result (IsCommand (texts_of words.now) → IfSome (S.remaining source.old) (λ bytes. S.remaining source.new ≡ Some (drop 262145 bytes))) }
+    ensures kept { (IsCommand (texts_of words.now) → ⊥) → source.new ≡ source.old }
     ensures fault { IfErr result (λ stop. stop ≡ ReadStop.Fault → Rose (S.fault_count source.old) (S.fault_count source.new)) }
 {
     if !is_command(words) {
@@ -244,23 +244,23 @@ pub fn run_cxxabi<S: Source, K: Sink>(
     last: &mut Option<Machine<FlatMemory>>,
 ) -> Status
     // The text and the status are those of the words and of the source's bytes.
-    ensures answered { (bytes : List ℕ) → (IsCommand (map string_bytes words.now) → S.remaining source.old ≡ Some bytes) → IsAnswered result →
-        Answers (map string_bytes words.now) bytes (K.contents sink.old) (K.contents sink.new) result }
+    ensures answered { (bytes : List ℕ) → Tells (texts_of words.now) (S.remaining source.old) bytes → IsAnswered result →
+        Answers (texts_of words.now) bytes (K.contents sink.old) (K.contents sink.new) result }
     // Where the sink fails, it has a front of that text.
-    ensures breaks_off { (bytes : List ℕ) → (IsCommand (map string_bytes words.now) → S.remaining source.old ≡ Some bytes) → result ≡ Status.WriteFault →
-        BreaksOff (map string_bytes words.now) bytes (K.contents sink.old) (K.contents sink.new) }
+    ensures breaks_off { (bytes : List ℕ) → Tells (texts_of words.now) (S.remaining source.old) bytes → result ≡ Status.WriteFault →
+        BreaksOff (texts_of words.now) bytes (K.contents sink.old) (K.contents sink.new) }
     // A fault comes only where the count of the object that was handed in rose.
     ensures read_fault { result ≡ Status.ReadFault → Rose (S.fault_count source.old) (S.fault_count source.new) }
     ensures write_fault { result ≡ Status.WriteFault → Rose (K.fault_count sink.old) (K.fault_count sink.new) }
     // After a fault of the source, or without memory, the sink is as it was.
     ensures silent { IsSilent result → sink.new ≡ sink.old }
     // The machine that is handed out is that of the run: its own turns made the text.
-    ensures last { (bytes : List ℕ) → (IsCommand (map string_bytes words.now) → S.remaining source.old ≡ Some bytes) → (IsSilent result → ⊥) →
-        HandsOut (map string_bytes words.now) bytes (option_map (λ m. (code_of m, state_of m)) last.new) }
+    ensures last { (bytes : List ℕ) → Tells (texts_of words.now) (S.remaining source.old) bytes → (IsSilent result → ⊥) →
+        HandsOut (texts_of words.now) bytes (option_map (λ m. (code_of m, state_of m)) last.new) }
     ensures no_machine { IsSilent result → last.new ≡ None }
     // The source was read to its end, or to one byte past the limit; where the words are no command it is as it was.
-    ensures read { IsCommand (map string_bytes words.now) → (IsSilent result → ⊥) → IfSome (S.remaining source.old) (λ bytes. S.remaining source.new ≡ Some (drop 262145 bytes)) }
-    ensures kept { (IsCommand (map string_bytes words.now) → ⊥) → source.new ≡ source.old }
+    ensures read { IsCommand (texts_of words.now) → (IsSilent result → ⊥) → IfSome (S.remaining source.old) (λ bytes. S.remaining source.new ≡ Some (drop 262145 bytes)) }
+    ensures kept { (IsCommand (texts_of words.now) → ⊥) → source.new ≡ source.old }
 {
     *last = None;
     let reply = match respond(alloc, words, source) {
