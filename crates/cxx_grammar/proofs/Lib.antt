@@ -1,0 +1,5 @@
+pub mod Sorts
+pub mod Engine
+pub mod Link
+pub mod Prefix
+pub mod Tails
