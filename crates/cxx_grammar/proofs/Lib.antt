@@ -3,3 +3,5 @@ pub mod Engine
 pub mod Link
 pub mod Prefix
 pub mod Tails
+pub mod Steps
+pub mod Lexed

@@ -357,3 +357,15 @@ source_ok rest_of st st' ts (Err e) h = tt
 pub source_err : {X : Type 0} (rest_of : X → List Lexeme) (st st' : State) (ts : List Lexeme) (r : Result X Stop) → In Bad (sorts ts) → Follows rest_of st (ItemsEnd ∷ []) ts st' [] r → IfErr r (λ e. (e ≡ stop.NoMemory) ⊎ Fault source_form st ts e)
 source_err rest_of st st' ts (Ok x) z h = tt
 source_err rest_of st st' ts (Err e) z h = stopped ItemsEnd source_form ts st e refl refl refl z h
+
+pub block_front : (st : State) (ts rest : List Lexeme) → Leads st (ABlock ∷ []) ts st [] rest → FrontIs block_form st ts rest
+block_front st ts rest h = front_of ABlock block_form ts rest st st refl refl h
+
+pub block_stop : (st : State) (ts : List Lexeme) (e : Stop) → In Bad (sorts ts) → Stops st (ABlock ∷ []) ts e → (e ≡ stop.NoMemory) ⊎ Fault block_form st ts e
+block_stop st ts e z h = stopped ABlock block_form ts st e refl refl refl z h
+
+pub source_front : (st st' : State) (ts rest : List Lexeme) → Leads st (ItemsEnd ∷ []) ts st' [] rest → FrontIs source_form st ts rest
+source_front st st' ts rest h = front_of ItemsEnd source_form ts rest st st' refl refl h
+
+pub source_stop : (st : State) (ts : List Lexeme) (e : Stop) → In Bad (sorts ts) → Stops st (ItemsEnd ∷ []) ts e → (e ≡ stop.NoMemory) ⊎ Fault source_form st ts e
+source_stop st ts e z h = stopped ItemsEnd source_form ts st e refl refl refl z h

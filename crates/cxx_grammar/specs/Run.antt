@@ -43,3 +43,8 @@ Stops s ms ts e = (e ≡ stop.NoMemory → ⊥) → (k : List Task) → run ts s
 abbrev pub Follows : {X : Type 0} → (X → List Lexeme) → State → List Task → List Lexeme → State → List Task → Result X Stop → Type 0
 Follows rest_of s ms ts s' ms' (Ok x) = Leads s ms ts s' ms' (rest_of x)
 Follows rest_of s ms ts s' ms' (Err e) = Stops s ms ts e
+
+-- what a reader did after which different tasks may be left
+abbrev pub FollowsBy : {X : Type 0} → (X → List Lexeme) → State → List Task → List Lexeme → (X → List Task) → Result X Stop → Type 0
+FollowsBy rest_of s ms ts left (Ok x) = Leads s ms ts s (left x) (rest_of x)
+FollowsBy rest_of s ms ts left (Err e) = Stops s ms ts e
