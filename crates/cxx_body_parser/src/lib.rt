@@ -14,11 +14,13 @@ pub mod place;
 pub mod right;
 pub mod scalar;
 pub mod statement;
+#[cfg(test)]
+mod tests;
 pub mod tree;
 
 pub use crate::body::{block, parse_body};
 pub use crate::operand::{constant, spot};
-pub use crate::scalar::{is_scalar_word, scalar};
+pub use crate::scalar::is_scalar_word;
 pub use crate::tree::{
     BinaryOp, BodyTree, CallText, CastKind, CastText, Constant, Operand, OperandList, PlacePart,
     PlacePartList, PlaceText, PointerText, Right, Spot, Statement, StatementKind,

@@ -12,6 +12,8 @@
 pub mod cursor;
 pub mod lexing;
 pub mod sort;
+#[cfg(test)]
+mod tests;
 pub mod words;
 
 pub use crate::cursor::{name_of, next, refusal, take, take_name, take_number};
