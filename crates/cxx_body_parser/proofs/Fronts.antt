@@ -1,0 +1,12 @@
+-- The front of a list by its length.
+use Rattle.std.proofs.Common.{◌≡◌, ℕ, ◌-◌, ◌+◌, List, ◌++◌, ◌∷◌, length, drop, refl, arith, length-append, sym, subst, ◌∙◌, ap, [], Bool, false, ◌≤◌}
+use Rattle.std.proofs.Math.Seq.{drop-append_seam}
+use Rattle.cxx_grammar.specs.declared.sort.Lexeme.{Lexeme}
+use Rattle.cxx_grammar.specs.Grammar.{Symbol}
+use Rattle.cxx_grammar.specs.Fault.{State, FrontIs}
+
+pub rest_dropped : (f : List Symbol) (s : State) (ts rest : List Lexeme) → FrontIs f s ts rest → rest ≡ drop (length ts - length rest) ts
+rest_dropped f s ts rest h =
+    let n : length ts ≡ length h.front + length rest = ap length h.split ∙ length-append h.front rest in
+    let m : length ts - length rest ≡ length h.front = omega (arith, n) in
+    rw (m, h.split) (sym (drop-append_seam h.front rest))

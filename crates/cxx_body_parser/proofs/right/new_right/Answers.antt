@@ -1,0 +1,6 @@
+use Rattle.std.proofs.Common.{rules, refl, sym, ap, Some, ◌∷◌, [], ◌∙◌}
+use Rattle.cxx_body_parser.specs.Operands.{a_new}
+use Rattle.cxx_body_parser.proofs.right.new_right.Goals as goal
+
+pub returns-clause-reads : goal.returns-clause-reads
+returns-clause-reads c = a_new (record { front = refl; sort = c.requires }) c.in_ok-word.ensures.reads c.in_ok-class.ensures.ok

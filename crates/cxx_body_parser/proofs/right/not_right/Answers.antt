@@ -1,0 +1,6 @@
+use Rattle.std.proofs.Common.{rules, refl, sym, ap, Some, ◌∷◌, [], ◌∙◌}
+use Rattle.cxx_body_parser.specs.Operands.{a_not}
+use Rattle.cxx_body_parser.proofs.right.not_right.Goals as goal
+
+pub returns-clause-reads : goal.returns-clause-reads
+returns-clause-reads c = a_not (record { front = refl; sort = c.requires }) c.in_ok-value.ensures.reads

@@ -1,0 +1,6 @@
+use Rattle.std.proofs.Common.{rules, refl, sym, ap, Some, ◌∷◌, [], ◌∙◌}
+use Rattle.cxx_body_parser.specs.Operands.{an_operand}
+use Rattle.cxx_body_parser.proofs.right.right.Goals as goal
+
+pub returns-clause-reads : goal.returns-clause-reads
+returns-clause-reads c = rw c.in_ok-first.ensures.ok c.in_ok-value.ensures.reads

@@ -1,0 +1,6 @@
+use Rattle.std.proofs.Common.{rules, refl, sym, ap, Some, true, false, List, ◌∷◌, [], ◌∙◌}
+use Rattle.cxx_body_parser.specs.Statements.{an_assignment, BeginsAt}
+use Rattle.cxx_body_parser.proofs.statement.assignment.Goals as goal
+
+pub returns-clause-reads : goal.returns-clause-reads
+returns-clause-reads c = an_assignment (record { front = refl; name = c.requires.first }) (record { front = refl; sort = c.requires.sign }) c.in_ok-value.ensures.reads c.in_ok-_end.ensures.reads c.in_ok-target.ensures.ok (record { at = refl; line = refl; kind = refl })

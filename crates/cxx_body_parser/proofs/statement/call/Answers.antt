@@ -1,0 +1,6 @@
+use Rattle.std.proofs.Common.{rules, refl, sym, ap, Some, true, false, List, ◌∷◌, [], ◌∙◌}
+use Rattle.cxx_body_parser.specs.Statements.{a_call_statement, BeginsAt}
+use Rattle.cxx_body_parser.proofs.statement.call.Goals as goal
+
+pub returns-clause-reads : goal.returns-clause-reads
+returns-clause-reads c = λ text ts f p. a_call_statement f p c.in_ok-_end.ensures.reads (record { at = refl; line = refl; kind = refl })

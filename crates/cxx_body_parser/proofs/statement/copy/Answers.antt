@@ -1,0 +1,6 @@
+use Rattle.std.proofs.Common.{rules, refl, sym, ap, Some, true, false, List, ◌∷◌, [], ◌∙◌}
+use Rattle.cxx_body_parser.specs.Statements.{a_copy, BeginsAt}
+use Rattle.cxx_body_parser.proofs.statement.copy.Goals as goal
+
+pub returns-clause-reads : goal.returns-clause-reads
+returns-clause-reads c = a_copy (record { front = refl; sort = c.requires }) c.in_ok-to.ensures.reads c.in_ok-_equal.ensures.reads c.in_ok-_star.ensures.reads c.in_ok-from.ensures.reads c.in_ok-_end.ensures.reads (record { at = refl; line = refl; kind = refl })

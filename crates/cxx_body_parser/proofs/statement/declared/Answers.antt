@@ -1,0 +1,6 @@
+use Rattle.std.proofs.Common.{rules, refl, sym, ap, Some, true, false, List, ◌∷◌, [], ◌∙◌}
+use Rattle.cxx_body_parser.specs.Statements.{a_declaration, BeginsAt}
+use Rattle.cxx_body_parser.proofs.statement.declared.Goals as goal
+
+pub returns-clause-reads : goal.returns-clause-reads
+returns-clause-reads c = λ ts f v. a_declaration f v c.in_ok-word.ensures.reads c.in_ok-init.ensures.reads c.in_ok-_end.ensures.reads refl c.in_ok-name.ensures.ok (record { at = refl; line = refl; kind = refl })

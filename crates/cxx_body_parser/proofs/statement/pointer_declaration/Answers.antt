@@ -1,0 +1,6 @@
+use Rattle.std.proofs.Common.{rules, refl, sym, ap, Some, true, false, List, ◌∷◌, [], ◌∙◌}
+use Rattle.cxx_body_parser.specs.Statements.{a_class_pointer}
+use Rattle.cxx_body_parser.proofs.statement.pointer_declaration.Goals as goal
+
+pub returns-clause-reads : goal.returns-clause-reads
+returns-clause-reads c = c.in_ok-statement.ensures.reads _ (record { rest = _; front = refl }) (a_class_pointer (record { front = refl; name = c.requires.first }) (record { front = refl; sort = c.requires.sign }) c.in_ok-class.ensures.ok)

@@ -1,0 +1,6 @@
+use Rattle.std.proofs.Common.{rules, refl, sym, ap, Some, true, false, List, ◌∷◌, [], ◌∙◌}
+use Rattle.cxx_body_parser.specs.Statements.{a_print, BeginsAt}
+use Rattle.cxx_body_parser.proofs.statement.print_operand.Goals as goal
+
+pub returns-clause-reads : goal.returns-clause-reads
+returns-clause-reads c = a_print (record { front = refl; sort = c.requires.first }) (record { front = refl; sort = c.requires.paren }) c.in_ok-value.ensures.reads c.in_ok-_close.ensures.reads c.in_ok-_end.ensures.reads (record { at = refl; line = refl; kind = refl })

@@ -1,0 +1,6 @@
+use Rattle.std.proofs.Common.{rules, refl, sym, ap, Some, true, false, List, ◌∷◌, [], ◌∙◌}
+
+use Rattle.cxx_body_parser.proofs.statement.this_statement.Goals as goal
+
+pub returns-clause-reads : goal.returns-clause-reads
+returns-clause-reads c = rw c.in_ok-arrow.ensures.reads.front c.in_ok-statement.ensures.reads

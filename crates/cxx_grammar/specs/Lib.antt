@@ -1,0 +1,8 @@
+pub mod Sorts
+pub mod Words
+pub mod Lexemes
+pub mod Front
+pub mod Grammar
+pub mod Table
+pub mod Fault
+pub mod Run
