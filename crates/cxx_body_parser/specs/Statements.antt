@@ -35,19 +35,19 @@ pub data ScalarReads : Scalar → List Lexeme → List Lexeme → Type 0 where
   an_unsigned_long : {ts a rest : List Lexeme} {l m : Lexeme} → Is Unsigned l ts a → Is Long m a rest → ScalarReads scalar.ULong ts rest
   a_long_long : {ts a rest : List Lexeme} {l m : Lexeme} → Is Long l ts a → Is Long m a rest → ScalarReads scalar.LongLong ts rest
   an_unsigned_long_long : {ts a b rest : List Lexeme} {l m n : Lexeme} →
-    Is Unsigned l ts a → Is Long m a b → Is Long n b rest → ScalarReads scalar.ULongLong ts rest
+      Is Unsigned l ts a → Is Long m a b → Is Long n b rest → ScalarReads scalar.ULongLong ts rest
 
 -- value = scalar | name "*"
 pub data ValueReads (text : List ℕ) : ValueType (List ℕ) → List Lexeme → List Lexeme → Type 0 where
   a_scalar : {k : Scalar} {ts rest : List Lexeme} → ScalarReads k ts rest → ValueReads text (value.Number k) ts rest
   a_class_pointer : {n : List ℕ} {ts a rest : List Lexeme} {l m : Lexeme} →
-    IsName l ts a → Is Star m a rest → n ≡ bytes_of text l → ValueReads text (value.Pointer n) ts rest
+      IsName l ts a → Is Star m a rest → n ≡ bytes_of text l → ValueReads text (value.Pointer n) ts rest
 
 -- ["=" right]
 pub data InitReads (text : List ℕ) : Option Right → List Lexeme → List Lexeme → Type 0 where
   no_init : {ts : List Lexeme} → InitReads text None ts ts
   an_init : {v : Right} {ts a rest : List Lexeme} {e : Lexeme} →
-    Is Assign e ts a → RightReads text v a rest → InitReads text (Some v) ts rest
+      Is Assign e ts a → RightReads text v a rest → InitReads text (Some v) ts rest
 
 -- [operand]
 pub data ResultReads (text : List ℕ) : Option Operand → List Lexeme → List Lexeme → Type 0 where
@@ -69,74 +69,74 @@ mutual
   -- block = "{" {statement} "}"
   pub data BodyReads (text : List ℕ) : BodyTree → List Lexeme → List Lexeme → Type 0 where
     a_body : {b : BodyTree} {ss : List Statement} {ts a c rest : List Lexeme} {o z : Lexeme} →
-      Is OpenBlock o ts a → StatementsRead text ss a c → Is CloseBrace z c rest →
-      (out-BodyTree b).statements.items ≡ ss → (out-BodyTree b).line ≡ o.line → (out-BodyTree b).close_line ≡ z.line →
-      BodyReads text b ts rest
+        Is OpenBlock o ts a → StatementsRead text ss a c → Is CloseBrace z c rest →
+        (out-BodyTree b).statements.items ≡ ss → (out-BodyTree b).line ≡ o.line → (out-BodyTree b).close_line ≡ z.line →
+        BodyReads text b ts rest
 
   -- {statement}
   pub data StatementsRead (text : List ℕ) : List Statement → List Lexeme → List Lexeme → Type 0 where
     no_statement : {ts : List Lexeme} → StatementsRead text [] ts ts
     one_statement : {s : Statement} {ss : List Statement} {ts a rest : List Lexeme} →
-      StatementReads text s ts a → StatementsRead text ss a rest → StatementsRead text (s ∷ ss) ts rest
+        StatementReads text s ts a → StatementsRead text ss a rest → StatementsRead text (s ∷ ss) ts rest
 
   -- a case for each form
   pub data StatementReads (text : List ℕ) : Statement → List Lexeme → List Lexeme → Type 0 where
     -- value name ["=" right] ";"
     a_declaration : {s : Statement} {v : ValueType (List ℕ)} {x : Spot} {i : Option Right} {at : ℕ} {ts a b c rest : List Lexeme} {f n z : Lexeme} →
-      IsFirst f ts → ValueReads text v ts a → IsName n a b → InitReads text i b c → Is Semicolon z c rest →
-      at ≡ f.at → x ≡ spot_of text n → BeginsAt s f (kind.Declare v at x i) → StatementReads text s ts rest
+        IsFirst f ts → ValueReads text v ts a → IsName n a b → InitReads text i b c → Is Semicolon z c rest →
+        at ≡ f.at → x ≡ spot_of text n → BeginsAt s f (kind.Declare v at x i) → StatementReads text s ts rest
     -- name "=" right ";"
     an_assignment : {s : Statement} {x : Spot} {v : Right} {ts a b c rest : List Lexeme} {n e z : Lexeme} →
-      IsName n ts a → Is Assign e a b → RightReads text v b c → Is Semicolon z c rest →
-      x ≡ spot_of text n → BeginsAt s n (kind.Assign x v) → StatementReads text s ts rest
+        IsName n ts a → Is Assign e a b → RightReads text v b c → Is Semicolon z c rest →
+        x ≡ spot_of text n → BeginsAt s n (kind.Assign x v) → StatementReads text s ts rest
     -- place "=" operand ";"
     a_write : {s : Statement} {p : PlaceText} {v : Operand} {ts a b c rest : List Lexeme} {f e z : Lexeme} →
-      IsFirst f ts → PlaceReads text p ts a → Is Assign e a b → OperandReads text v b c → Is Semicolon z c rest →
-      BeginsAt s f (kind.Write p v) → StatementReads text s ts rest
+        IsFirst f ts → PlaceReads text p ts a → Is Assign e a b → OperandReads text v b c → Is Semicolon z c rest →
+        BeginsAt s f (kind.Write p v) → StatementReads text s ts rest
     -- "*" pointer "=" "*" pointer ";"
     a_copy : {s : Statement} {p q : PointerText} {ts a b c d e rest : List Lexeme} {m w n z : Lexeme} →
-      Is Star m ts a → PointerReads text p a b → Is Assign w b c → Is Star n c d → PointerReads text q d e → Is Semicolon z e rest →
-      BeginsAt s m (kind.Copy p q) → StatementReads text s ts rest
+        Is Star m ts a → PointerReads text p a b → Is Assign w b c → Is Star n c d → PointerReads text q d e → Is Semicolon z e rest →
+        BeginsAt s m (kind.Copy p q) → StatementReads text s ts rest
     -- call ";"
     a_call_statement : {s : Statement} {x : CallText} {ts a rest : List Lexeme} {f z : Lexeme} →
-      IsFirst f ts → CallReads text x ts a → Is Semicolon z a rest →
-      BeginsAt s f (kind.Call x) → StatementReads text s ts rest
+        IsFirst f ts → CallReads text x ts a → Is Semicolon z a rest →
+        BeginsAt s f (kind.Call x) → StatementReads text s ts rest
     -- "delete" pointer ";"
     a_delete : {s : Statement} {p : PointerText} {ts a b rest : List Lexeme} {k z : Lexeme} →
-      Is Delete k ts a → PointerReads text p a b → Is Semicolon z b rest →
-      BeginsAt s k (kind.Delete p) → StatementReads text s ts rest
+        Is Delete k ts a → PointerReads text p a b → Is Semicolon z b rest →
+        BeginsAt s k (kind.Delete p) → StatementReads text s ts rest
     -- "if" "(" operand ")" block
     an_if : {s : Statement} {v : Operand} {t : BodyTree} {ts a b c d rest : List Lexeme} {k o z : Lexeme} →
-      Is If k ts a → Is OpenParen o a b → OperandReads text v b c → Is CloseParen z c d → BodyReads text t d rest →
-      BeginsAt s k (If' v t None') → StatementReads text s ts rest
+        Is If k ts a → Is OpenParen o a b → OperandReads text v b c → Is CloseParen z c d → BodyReads text t d rest →
+        BeginsAt s k (If' v t None') → StatementReads text s ts rest
     -- "if" "(" operand ")" block "else" block
     an_if_else : {s : Statement} {v : Operand} {t u : BodyTree} {ts a b c d e f rest : List Lexeme} {k o z w : Lexeme} →
-      Is If k ts a → Is OpenParen o a b → OperandReads text v b c → Is CloseParen z c d → BodyReads text t d e →
-      Is Else w e f → BodyReads text u f rest →
-      BeginsAt s k (If' v t (Some' u)) → StatementReads text s ts rest
+        Is If k ts a → Is OpenParen o a b → OperandReads text v b c → Is CloseParen z c d → BodyReads text t d e →
+        Is Else w e f → BodyReads text u f rest →
+        BeginsAt s k (If' v t (Some' u)) → StatementReads text s ts rest
     -- "while" "(" operand ")" block
     a_while : {s : Statement} {v : Operand} {t : BodyTree} {ts a b c d rest : List Lexeme} {k o z : Lexeme} →
-      Is While k ts a → Is OpenParen o a b → OperandReads text v b c → Is CloseParen z c d → BodyReads text t d rest →
-      BeginsAt s k (kind.While v t) → StatementReads text s ts rest
+        Is While k ts a → Is OpenParen o a b → OperandReads text v b c → Is CloseParen z c d → BodyReads text t d rest →
+        BeginsAt s k (kind.While v t) → StatementReads text s ts rest
     -- "return" [operand] ";"
     a_return : {s : Statement} {v : Option Operand} {ts a b rest : List Lexeme} {k z : Lexeme} →
-      Is Return k ts a → ResultReads text v a b → Is Semicolon z b rest →
-      BeginsAt s k (kind.Return v) → StatementReads text s ts rest
+        Is Return k ts a → ResultReads text v a b → Is Semicolon z b rest →
+        BeginsAt s k (kind.Return v) → StatementReads text s ts rest
     -- "print" "(" operand ")" ";"
     a_print : {s : Statement} {v : Operand} {ts a b c d rest : List Lexeme} {k o z e : Lexeme} →
-      Is Print k ts a → Is OpenParen o a b → OperandReads text v b c → Is CloseParen z c d → Is Semicolon e d rest →
-      BeginsAt s k (kind.Print v) → StatementReads text s ts rest
+        Is Print k ts a → Is OpenParen o a b → OperandReads text v b c → Is CloseParen z c d → Is Semicolon e d rest →
+        BeginsAt s k (kind.Print v) → StatementReads text s ts rest
     -- "print" "(" "typeid" "(" "*" pointer ")" ")" ";"
     a_print_type : {s : Statement} {p : PointerText} {ts a b c d e f g h rest : List Lexeme} {k o t u m y z x : Lexeme} →
-      Is Print k ts a → Is OpenParen o a b → Is Typeid t b c → Is OpenParen u c d → Is Star m d e →
-      PointerReads text p e f → Is CloseParen y f g → Is CloseParen z g h → Is Semicolon x h rest →
-      BeginsAt s k (kind.PrintType p) → StatementReads text s ts rest
+        Is Print k ts a → Is OpenParen o a b → Is Typeid t b c → Is OpenParen u c d → Is Star m d e →
+        PointerReads text p e f → Is CloseParen y f g → Is CloseParen z g h → Is Semicolon x h rest →
+        BeginsAt s k (kind.PrintType p) → StatementReads text s ts rest
     -- "print" "(" "dynamic_cast" "<" "void" "*" ">" "(" pointer ")" ")" ";"
     a_print_view : {s : Statement} {p : PointerText} {ts a b c d e f g h i j k rest : List Lexeme} {w o t l v m q u y z x : Lexeme} →
-      Is Print w ts a → Is OpenParen o a b → Is DynamicCast t b c → Is Less l c d → Is Void v d e → Is Star m e f →
-      Is Greater q f g → Is OpenParen u g h → PointerReads text p h i → Is CloseParen y i j → Is CloseParen z j k → Is Semicolon x k rest →
-      BeginsAt s w (kind.PrintView p) → StatementReads text s ts rest
+        Is Print w ts a → Is OpenParen o a b → Is DynamicCast t b c → Is Less l c d → Is Void v d e → Is Star m e f →
+        Is Greater q f g → Is OpenParen u g h → PointerReads text p h i → Is CloseParen y i j → Is CloseParen z j k → Is Semicolon x k rest →
+        BeginsAt s w (kind.PrintView p) → StatementReads text s ts rest
     -- "dump" "(" pointer ")" ";"
     a_dump : {s : Statement} {p : PointerText} {ts a b c d rest : List Lexeme} {k o z x : Lexeme} →
-      Is Dump k ts a → Is OpenParen o a b → PointerReads text p b c → Is CloseParen z c d → Is Semicolon x d rest →
-      BeginsAt s k (kind.Dump p) → StatementReads text s ts rest
+        Is Dump k ts a → Is OpenParen o a b → PointerReads text p b c → Is CloseParen z c d → Is Semicolon x d rest →
+        BeginsAt s k (kind.Dump p) → StatementReads text s ts rest

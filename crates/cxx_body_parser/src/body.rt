@@ -12,7 +12,10 @@ ghost use Rattle.cxx_grammar.specs.Table.{Only, AnOperand, ABlock, StatementsEnd
 ghost use Rattle.cxx_body_parser.specs.Statements.{BodyReads, StatementsRead, StatementReads};
 
 use crate::operand::operand;
-use crate::statement::{copy, delete, dump, name_statement, print_statement, return_statement, scalar_declaration, this_statement};
+use crate::statement::{
+    copy, delete, dump, name_statement, print_statement, return_statement, scalar_declaration,
+    this_statement,
+};
 use crate::tree::{BodyTree, Statement, StatementKind};
 use cxx_grammar::{Lexeme, Sort, is_same, lexemes, next, refusal, take};
 use cxx_hierarchy::{LimitNo, Stop};
@@ -21,7 +24,13 @@ use std::alloc::Global;
 
 // "if" "(" operand ")" block ["else" block] after its first word
 #[cycle(parser)]
-fn if_of<'a>(alloc: Global, text: &[u8], first: Lexeme, rest: &'a [Lexeme], depth: u32) -> Result<(Statement, &'a [Lexeme]), Stop>
+fn if_of<'a>(
+    alloc: Global,
+    text: &[u8],
+    first: Lexeme,
+    rest: &'a [Lexeme],
+    depth: u32,
+) -> Result<(Statement, &'a [Lexeme]), Stop>
     requires { first.sort ≡ Sort.If }
     ensures reads { IfOk result (λ x. StatementReads text.now x.0 (first ∷ rest.now) x.1.now) }
     ensures shorter { IfOk result (λ x. length x.1.now ≤ length rest.now) }
@@ -34,14 +43,34 @@ fn if_of<'a>(alloc: Global, text: &[u8], first: Lexeme, rest: &'a [Lexeme], dept
     let (word, after) = next(rest)?;
     if is_same(word.sort, Sort::Else) {
         let (other, rest) = block(alloc, text, after, depth)?;
-        return Ok((Statement { kind: StatementKind::If(test, then, Some(other)), at: first.at, line: first.line }, rest));
+        return Ok((
+            Statement {
+                kind: StatementKind::If(test, then, Some(other)),
+                at: first.at,
+                line: first.line,
+            },
+            rest,
+        ));
     }
-    Ok((Statement { kind: StatementKind::If(test, then, None), at: first.at, line: first.line }, rest))
+    Ok((
+        Statement {
+            kind: StatementKind::If(test, then, None),
+            at: first.at,
+            line: first.line,
+        },
+        rest,
+    ))
 }
 
 // "while" "(" operand ")" block after its first word
 #[cycle(parser)]
-fn while_of<'a>(alloc: Global, text: &[u8], first: Lexeme, rest: &'a [Lexeme], depth: u32) -> Result<(Statement, &'a [Lexeme]), Stop>
+fn while_of<'a>(
+    alloc: Global,
+    text: &[u8],
+    first: Lexeme,
+    rest: &'a [Lexeme],
+    depth: u32,
+) -> Result<(Statement, &'a [Lexeme]), Stop>
     requires { first.sort ≡ Sort.While }
     ensures reads { IfOk result (λ x. StatementReads text.now x.0 (first ∷ rest.now) x.1.now) }
     ensures shorter { IfOk result (λ x. length x.1.now ≤ length rest.now) }
@@ -51,12 +80,25 @@ fn while_of<'a>(alloc: Global, text: &[u8], first: Lexeme, rest: &'a [Lexeme], d
     let (test, rest) = operand(alloc, text, rest)?;
     let (_close, rest) = take(rest, Sort::CloseParen)?;
     let (body, rest) = block(alloc, text, rest, depth)?;
-    Ok((Statement { kind: StatementKind::While(test, body), at: first.at, line: first.line }, rest))
+    Ok((
+        Statement {
+            kind: StatementKind::While(test, body),
+            at: first.at,
+            line: first.line,
+        },
+        rest,
+    ))
 }
 
 // A statement, the first token of which was read.
 #[cycle(parser)]
-fn statement<'a>(alloc: Global, text: &[u8], first: Lexeme, rest: &'a [Lexeme], depth: u32) -> Result<(Statement, &'a [Lexeme]), Stop>
+fn statement<'a>(
+    alloc: Global,
+    text: &[u8],
+    first: Lexeme,
+    rest: &'a [Lexeme],
+    depth: u32,
+) -> Result<(Statement, &'a [Lexeme]), Stop>
     requires { first.sort ≡ Sort.CloseBrace → ⊥ }
     ensures reads { IfOk result (λ x. StatementReads text.now x.0 (first ∷ rest.now) x.1.now) }
     ensures shorter { IfOk result (λ x. length x.1.now ≤ length rest.now) }
@@ -72,14 +114,25 @@ fn statement<'a>(alloc: Global, text: &[u8], first: Lexeme, rest: &'a [Lexeme], 
         Sort::Return => return_statement(alloc, text, first, rest),
         Sort::Print => print_statement(alloc, text, first, rest),
         Sort::Dump => dump(alloc, text, first, rest),
-        Sort::Boolean | Sort::Char | Sort::Short | Sort::Int | Sort::Long | Sort::Signed | Sort::Unsigned => scalar_declaration(alloc, text, first, rest),
+        Sort::Boolean
+        | Sort::Char
+        | Sort::Short
+        | Sort::Int
+        | Sort::Long
+        | Sort::Signed
+        | Sort::Unsigned => scalar_declaration(alloc, text, first, rest),
         _ => Err(refusal(&first)),
     }
 }
 
 // {statement} "}"
 #[cycle(parser)]
-fn statements<'a>(alloc: Global, text: &[u8], rest: &'a [Lexeme], depth: u32) -> Result<(Vec<Statement>, Lexeme, &'a [Lexeme]), Stop>
+fn statements<'a>(
+    alloc: Global,
+    text: &[u8],
+    rest: &'a [Lexeme],
+    depth: u32,
+) -> Result<(Vec<Statement>, Lexeme, &'a [Lexeme]), Stop>
     ensures reads { IfOk result (λ x. StatementsRead text.now x.0.items rest.now (x.1 ∷ x.2.now)) }
     ensures close { IfOk result (λ x. x.1.sort ≡ Sort.CloseBrace) }
     ensures shorter { IfOk result (λ x. length x.2.now ≤ length rest.now) }
@@ -100,7 +153,12 @@ fn statements<'a>(alloc: Global, text: &[u8], rest: &'a [Lexeme], depth: u32) ->
 
 /// The block at the front of a list, where this many are open around it, and what follows it.
 #[cycle(parser)]
-pub fn block<'a>(alloc: Global, text: &[u8], rest: &'a [Lexeme], depth: u32) -> Result<(BodyTree, &'a [Lexeme]), Stop>
+pub fn block<'a>(
+    alloc: Global,
+    text: &[u8],
+    rest: &'a [Lexeme],
+    depth: u32,
+) -> Result<(BodyTree, &'a [Lexeme]), Stop>
     ensures reads { IfOk result (λ x. BodyReads text.now x.0 rest.now x.1.now) }
     ensures shorter { IfOk result (λ x. length x.1.now ≤ length rest.now) }
     ensures follows { (m : Bool) → Follows (λ x. x.1.now) (record { blocks = depth; main = m }) (ABlock ∷ []) rest.now (record { blocks = depth; main = m }) [] result }
@@ -113,11 +171,23 @@ pub fn block<'a>(alloc: Global, text: &[u8], rest: &'a [Lexeme], depth: u32) -> 
         return Err(Stop::Limit(LimitNo::L3));
     }
     let (statements, close, rest) = statements(alloc, text, rest, depth + 1)?;
-    Ok((BodyTree { statements, line: brace.line, close_line: close.line }, rest))
+    Ok((
+        BodyTree {
+            statements,
+            line: brace.line,
+            close_line: close.line,
+        },
+        rest,
+    ))
 }
 
 // The block at the front of a list, and how many lexemes it has.
-fn counted(alloc: Global, text: &[u8], all: &[Lexeme], depth: u32) -> Result<(BodyTree, usize), Stop>
+fn counted(
+    alloc: Global,
+    text: &[u8],
+    all: &[Lexeme],
+    depth: u32,
+) -> Result<(BodyTree, usize), Stop>
     requires { In Sort.Bad (sorts all.now) }
     ensures reads { IfOk result (λ x. BodyReads text.now x.0 all.now (drop x.1 all.now)) }
     ensures front { IfOk result (λ x. FrontIs block_form (record { blocks = depth; main = false }) all.now (drop x.1 all.now)) }
@@ -133,7 +203,13 @@ fn counted(alloc: Global, text: &[u8], all: &[Lexeme], depth: u32) -> Result<(Bo
 ///
 /// Errors: E1, E21 or E2 at the first token with which the tokens from `first` on begin no block, L3 at the 65th
 /// open block, or want of memory.
-pub fn parse_body(alloc: Global, text: &[u8], list: &TokenList, first: usize, depth: u32) -> Result<(BodyTree, usize), Stop>
+pub fn parse_body(
+    alloc: Global,
+    text: &[u8],
+    list: &TokenList,
+    first: usize,
+    depth: u32,
+) -> Result<(BodyTree, usize), Stop>
     requires { first < length list.now.tokens }
     ensures reads { let all = lexemes text.now block_start (drop first list.now.tokens) list.now.bad in IfOk result (λ x. BodyReads text.now x.0 all (drop (x.1 - first) all)) }
     ensures front { let all = lexemes text.now block_start (drop first list.now.tokens) list.now.bad in IfOk result (λ x. FrontIs block_form (record { blocks = depth; main = false }) all (drop (x.1 - first) all)) }

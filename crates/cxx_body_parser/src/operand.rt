@@ -19,7 +19,10 @@ pub fn spot(alloc: Global, text: &[u8], lexeme: &Lexeme) -> Result<Spot, Stop>
     ensures err { IfErr result (λ e. e ≡ Stop.NoMemory) }
 {
     let name = name_of(alloc, text, lexeme)?;
-    Ok(Spot { name, at: lexeme.at })
+    Ok(Spot {
+        name,
+        at: lexeme.at,
+    })
 }
 
 // Whether a sort is that of a name or of `this`.
@@ -48,7 +51,11 @@ pub(crate) fn pointer_at(alloc: Global, text: &[u8], first: &Lexeme) -> Result<P
 
 // pointer
 #[tactic(auto, using(cxx_grammar::proofs::Tails::a_pointer, cxx_grammar::proofs::Tails::no_pointer))]
-pub(crate) fn pointer<'a>(alloc: Global, text: &[u8], rest: &'a [Lexeme]) -> Result<(PointerText, &'a [Lexeme]), Stop>
+pub(crate) fn pointer<'a>(
+    alloc: Global,
+    text: &[u8],
+    rest: &'a [Lexeme],
+) -> Result<(PointerText, &'a [Lexeme]), Stop>
     ensures reads { IfOk result (λ x. PointerReads text.now x.0 rest.now x.1.now) }
     ensures shorter { IfOk result (λ x. length x.1.now ≤ length rest.now) }
     ensures follows { (s : State) → Follows (λ x. x.1.now) s (APointer ∷ []) rest.now s [] result }
@@ -121,7 +128,11 @@ pub fn constant(rest: &[Lexeme]) -> Result<(Constant, &[Lexeme]), Stop>
 
 // operand
 #[tactic(auto, using(crate::specs::Operands::constant_operand, cxx_grammar::proofs::Tails::constant_operand, cxx_grammar::proofs::Tails::pointer_operand))]
-pub(crate) fn operand<'a>(alloc: Global, text: &[u8], rest: &'a [Lexeme]) -> Result<(Operand, &'a [Lexeme]), Stop>
+pub(crate) fn operand<'a>(
+    alloc: Global,
+    text: &[u8],
+    rest: &'a [Lexeme],
+) -> Result<(Operand, &'a [Lexeme]), Stop>
     ensures reads { IfOk result (λ x. OperandReads text.now x.0 rest.now x.1.now) }
     ensures shorter { IfOk result (λ x. length x.1.now ≤ length rest.now) }
     ensures follows { (s : State) → Follows (λ x. x.1.now) s (AnOperand ∷ []) rest.now s [] result }

@@ -26,7 +26,12 @@ pub(crate) enum Through {
 
 // ["[" number "]"] after a name
 #[tactic(auto, using(crate::specs::Operands::a_part, crate::specs::Operands::no_index, crate::specs::Operands::an_index, cxx_grammar::proofs::Tails::no_index))]
-fn part<'a>(alloc: Global, text: &[u8], name: &Lexeme, rest: &'a [Lexeme]) -> Result<(PlacePart, &'a [Lexeme]), Stop>
+fn part<'a>(
+    alloc: Global,
+    text: &[u8],
+    name: &Lexeme,
+    rest: &'a [Lexeme],
+) -> Result<(PlacePart, &'a [Lexeme]), Stop>
     ensures reads { IfOk result (λ x. (ts : List Lexeme) → IsName name.now ts rest.now → PartReads text.now x.0 ts x.1.now) }
     ensures shorter { IfOk result (λ x. length x.1.now ≤ length rest.now) }
     ensures follows { (s : State) (u : Use) → Follows (λ x. x.1.now) s (Named u ∷ []) rest.now s (Tail u ∷ []) result }
@@ -36,7 +41,13 @@ fn part<'a>(alloc: Global, text: &[u8], name: &Lexeme, rest: &'a [Lexeme]) -> Re
     if is_same(sign.sort, Sort::OpenBracket) {
         let (number, after) = take_number(after)?;
         let (_close, after) = take(after, Sort::CloseBracket)?;
-        Ok((PlacePart { name, index: Some((number.value, number.at)) }, after))
+        Ok((
+            PlacePart {
+                name,
+                index: Some((number.value, number.at)),
+            },
+            after,
+        ))
     } else {
         Ok((PlacePart { name, index: None }, rest))
     }
@@ -44,7 +55,12 @@ fn part<'a>(alloc: Global, text: &[u8], name: &Lexeme, rest: &'a [Lexeme]) -> Re
 
 // The parts of a place, the first name of which was read.
 #[tactic(auto, using(cxx_grammar::proofs::Tails::place_ends))]
-fn parts<'a>(alloc: Global, text: &[u8], name: &Lexeme, rest: &'a [Lexeme]) -> Result<(PlacePartList, &'a [Lexeme]), Stop>
+fn parts<'a>(
+    alloc: Global,
+    text: &[u8],
+    name: &Lexeme,
+    rest: &'a [Lexeme],
+) -> Result<(PlacePartList, &'a [Lexeme]), Stop>
     ensures reads { IfOk result (λ x. (ts : List Lexeme) → IsName name.now ts rest.now → PartsRead text.now x.0 ts x.1.now) }
     ensures shorter { IfOk result (λ x. length x.1.now ≤ length rest.now) }
     ensures follows { (s : State) (u : Use) → Follows (λ x. x.1.now) s (Named u ∷ []) rest.now s (end_tasks u) result }
@@ -66,7 +82,11 @@ fn parts<'a>(alloc: Global, text: &[u8], name: &Lexeme, rest: &'a [Lexeme]) -> R
 }
 
 // [operand {"," operand}] ")"
-fn arguments<'a>(alloc: Global, text: &[u8], rest: &'a [Lexeme]) -> Result<(OperandList, Lexeme, &'a [Lexeme]), Stop>
+fn arguments<'a>(
+    alloc: Global,
+    text: &[u8],
+    rest: &'a [Lexeme],
+) -> Result<(OperandList, Lexeme, &'a [Lexeme]), Stop>
     ensures reads { IfOk result (λ x. ArgumentsRead text.now x.0 rest.now (x.1 ∷ x.2.now)) }
     ensures close { IfOk result (λ x. x.1.sort ≡ Sort.CloseParen) }
     ensures shorter { IfOk result (λ x. length x.2.now ≤ length rest.now) }
@@ -96,7 +116,12 @@ fn arguments<'a>(alloc: Global, text: &[u8], rest: &'a [Lexeme]) -> Result<(Oper
 
 // What stands behind a pointer and `->`, up to what follows a place or to the end of a call.
 #[tactic(auto, using(cxx_grammar::proofs::Tails::no_call))]
-pub(crate) fn behind_pointer<'a>(alloc: Global, text: &[u8], first: &Lexeme, rest: &'a [Lexeme]) -> Result<(Through, &'a [Lexeme]), Stop>
+pub(crate) fn behind_pointer<'a>(
+    alloc: Global,
+    text: &[u8],
+    first: &Lexeme,
+    rest: &'a [Lexeme],
+) -> Result<(Through, &'a [Lexeme]), Stop>
     requires { is_pointer first.now.sort ≡ true }
     ensures reads { IfOk result (λ x. (ts : List Lexeme) (arrow : Lexeme) → Is Sort.Arrow arrow ts rest.now → ThroughReads text.now x.0 (first.now ∷ ts) x.1.now) }
     ensures shorter { IfOk result (λ x. length x.1.now ≤ length rest.now) }
@@ -108,7 +133,15 @@ pub(crate) fn behind_pointer<'a>(alloc: Global, text: &[u8], first: &Lexeme, res
     if is_same(sign.sort, Sort::OpenParen) {
         let (arguments, _close, after) = arguments(alloc, text, after)?;
         let name = spot(alloc, text, &word)?;
-        return Ok((Through::Call(CallText { pointer, class: None, name, arguments }), after));
+        return Ok((
+            Through::Call(CallText {
+                pointer,
+                class: None,
+                name,
+                arguments,
+            }),
+            after,
+        ));
     }
     if is_same(sign.sort, Sort::DoubleColon) {
         let (member, after) = take_name(after)?;
@@ -116,14 +149,26 @@ pub(crate) fn behind_pointer<'a>(alloc: Global, text: &[u8], first: &Lexeme, res
         let (values, _end, after) = arguments(alloc, text, after)?;
         let class = spot(alloc, text, &word)?;
         let callee = spot(alloc, text, &member)?;
-        return Ok((Through::Call(CallText { pointer, class: Some(class), name: callee, arguments: values }), after));
+        return Ok((
+            Through::Call(CallText {
+                pointer,
+                class: Some(class),
+                name: callee,
+                arguments: values,
+            }),
+            after,
+        ));
     }
     let (parts, after) = parts(alloc, text, &word, rest)?;
     Ok((Through::Place(PlaceText { pointer, parts }), after))
 }
 
 // place, of which the address is taken
-pub(crate) fn place<'a>(alloc: Global, text: &[u8], rest: &'a [Lexeme]) -> Result<(PlaceText, &'a [Lexeme]), Stop>
+pub(crate) fn place<'a>(
+    alloc: Global,
+    text: &[u8],
+    rest: &'a [Lexeme],
+) -> Result<(PlaceText, &'a [Lexeme]), Stop>
     ensures reads { IfOk result (λ x. PlaceReads text.now x.0 rest.now x.1.now) }
     ensures shorter { IfOk result (λ x. length x.1.now ≤ length rest.now) }
     ensures follows { (s : State) → Follows (λ x. x.1.now) s (APointer ∷ Only Sort.Arrow ∷ AName ∷ Named Read ∷ []) rest.now s (Only Sort.Semicolon ∷ []) result }

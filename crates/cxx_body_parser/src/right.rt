@@ -47,7 +47,12 @@ fn right_of(read: Through) -> Right
 
 // [op operand] after an operand
 #[tactic(auto, using(cxx_grammar::proofs::Tails::no_operator))]
-fn binary<'a>(alloc: Global, text: &[u8], left: Operand, rest: &'a [Lexeme]) -> Result<(Right, &'a [Lexeme]), Stop>
+fn binary<'a>(
+    alloc: Global,
+    text: &[u8],
+    left: Operand,
+    rest: &'a [Lexeme],
+) -> Result<(Right, &'a [Lexeme]), Stop>
     ensures reads { IfOk result (λ x. (ts : List Lexeme) → OperandReads text.now left ts rest.now → RightReads text.now x.0 ts x.1.now) }
     ensures shorter { IfOk result (λ x. length x.1.now ≤ length rest.now) }
     ensures follows { (s : State) → Follows (λ x. x.1.now) s (AfterOperand ∷ []) rest.now s (Only Sort.Semicolon ∷ []) result }
@@ -63,7 +68,12 @@ fn binary<'a>(alloc: Global, text: &[u8], left: Operand, rest: &'a [Lexeme]) -> 
 }
 
 // A right side that begins with a name or with `this`.
-fn pointer_right<'a>(alloc: Global, text: &[u8], first: Lexeme, rest: &'a [Lexeme]) -> Result<(Right, &'a [Lexeme]), Stop>
+fn pointer_right<'a>(
+    alloc: Global,
+    text: &[u8],
+    first: Lexeme,
+    rest: &'a [Lexeme],
+) -> Result<(Right, &'a [Lexeme]), Stop>
     requires { is_pointer first.sort ≡ true }
     ensures reads { IfOk result (λ x. RightReads text.now x.0 (first ∷ rest.now) x.1.now) }
     ensures shorter { IfOk result (λ x. length x.1.now ≤ length rest.now) }
@@ -80,7 +90,12 @@ fn pointer_right<'a>(alloc: Global, text: &[u8], first: Lexeme, rest: &'a [Lexem
 }
 
 // A right side that begins with a constant.
-fn constant_right<'a>(alloc: Global, text: &[u8], first: Lexeme, rest: &'a [Lexeme]) -> Result<(Right, &'a [Lexeme]), Stop>
+fn constant_right<'a>(
+    alloc: Global,
+    text: &[u8],
+    first: Lexeme,
+    rest: &'a [Lexeme],
+) -> Result<(Right, &'a [Lexeme]), Stop>
     requires { is_constant first.sort ≡ true }
     ensures reads { IfOk result (λ x. RightReads text.now x.0 (first ∷ rest.now) x.1.now) }
     ensures shorter { IfOk result (λ x. length x.1.now ≤ length rest.now) }
@@ -92,7 +107,12 @@ fn constant_right<'a>(alloc: Global, text: &[u8], first: Lexeme, rest: &'a [Lexe
 }
 
 // "!" operand
-fn not_right<'a>(alloc: Global, text: &[u8], first: Lexeme, rest: &'a [Lexeme]) -> Result<(Right, &'a [Lexeme]), Stop>
+fn not_right<'a>(
+    alloc: Global,
+    text: &[u8],
+    first: Lexeme,
+    rest: &'a [Lexeme],
+) -> Result<(Right, &'a [Lexeme]), Stop>
     requires { first.sort ≡ Sort.Bang }
     ensures reads { IfOk result (λ x. RightReads text.now x.0 (first ∷ rest.now) x.1.now) }
     ensures shorter { IfOk result (λ x. length x.1.now ≤ length rest.now) }
@@ -103,7 +123,12 @@ fn not_right<'a>(alloc: Global, text: &[u8], first: Lexeme, rest: &'a [Lexeme]) 
 }
 
 // "&" place
-fn address_right<'a>(alloc: Global, text: &[u8], first: Lexeme, rest: &'a [Lexeme]) -> Result<(Right, &'a [Lexeme]), Stop>
+fn address_right<'a>(
+    alloc: Global,
+    text: &[u8],
+    first: Lexeme,
+    rest: &'a [Lexeme],
+) -> Result<(Right, &'a [Lexeme]), Stop>
     requires { first.sort ≡ Sort.Ampersand }
     ensures reads { IfOk result (λ x. RightReads text.now x.0 (first ∷ rest.now) x.1.now) }
     ensures shorter { IfOk result (λ x. length x.1.now ≤ length rest.now) }
@@ -114,7 +139,12 @@ fn address_right<'a>(alloc: Global, text: &[u8], first: Lexeme, rest: &'a [Lexem
 }
 
 // "new" name
-fn new_right<'a>(alloc: Global, text: &[u8], first: Lexeme, rest: &'a [Lexeme]) -> Result<(Right, &'a [Lexeme]), Stop>
+fn new_right<'a>(
+    alloc: Global,
+    text: &[u8],
+    first: Lexeme,
+    rest: &'a [Lexeme],
+) -> Result<(Right, &'a [Lexeme]), Stop>
     requires { first.sort ≡ Sort.New }
     ensures reads { IfOk result (λ x. RightReads text.now x.0 (first ∷ rest.now) x.1.now) }
     ensures shorter { IfOk result (λ x. length x.1.now ≤ length rest.now) }
@@ -126,7 +156,13 @@ fn new_right<'a>(alloc: Global, text: &[u8], first: Lexeme, rest: &'a [Lexeme]) 
 }
 
 // ("static_cast" | "dynamic_cast") "<" name "*" ">" "(" pointer ")"
-fn cast_right<'a>(alloc: Global, text: &[u8], first: Lexeme, kind: CastKind, rest: &'a [Lexeme]) -> Result<(Right, &'a [Lexeme]), Stop>
+fn cast_right<'a>(
+    alloc: Global,
+    text: &[u8],
+    first: Lexeme,
+    kind: CastKind,
+    rest: &'a [Lexeme],
+) -> Result<(Right, &'a [Lexeme]), Stop>
     requires { cast_of first.sort ≡ Some kind }
     ensures reads { IfOk result (λ x. RightReads text.now x.0 (first ∷ rest.now) x.1.now) }
     ensures shorter { IfOk result (λ x. length x.1.now ≤ length rest.now) }
@@ -140,11 +176,23 @@ fn cast_right<'a>(alloc: Global, text: &[u8], first: Lexeme, kind: CastKind, res
     let (pointer, rest) = pointer(alloc, text, rest)?;
     let (_close, rest) = take(rest, Sort::CloseParen)?;
     let target = spot(alloc, text, &word)?;
-    Ok((Right::Cast(CastText { kind, target, pointer }), rest))
+    Ok((
+        Right::Cast(CastText {
+            kind,
+            target,
+            pointer,
+        }),
+        rest,
+    ))
 }
 
 // "(" name "*" ")" pointer
-fn plain_cast_right<'a>(alloc: Global, text: &[u8], first: Lexeme, rest: &'a [Lexeme]) -> Result<(Right, &'a [Lexeme]), Stop>
+fn plain_cast_right<'a>(
+    alloc: Global,
+    text: &[u8],
+    first: Lexeme,
+    rest: &'a [Lexeme],
+) -> Result<(Right, &'a [Lexeme]), Stop>
     requires { first.sort ≡ Sort.OpenParen }
     ensures reads { IfOk result (λ x. RightReads text.now x.0 (first ∷ rest.now) x.1.now) }
     ensures shorter { IfOk result (λ x. length x.1.now ≤ length rest.now) }
@@ -155,11 +203,23 @@ fn plain_cast_right<'a>(alloc: Global, text: &[u8], first: Lexeme, rest: &'a [Le
     let (_close, rest) = take(rest, Sort::CloseParen)?;
     let (pointer, rest) = pointer(alloc, text, rest)?;
     let target = spot(alloc, text, &word)?;
-    Ok((Right::Cast(CastText { kind: CastKind::Plain, target, pointer }), rest))
+    Ok((
+        Right::Cast(CastText {
+            kind: CastKind::Plain,
+            target,
+            pointer,
+        }),
+        rest,
+    ))
 }
 
 // "typeid" "(" "*" pointer ")" "==" "typeid" "(" name ")"
-fn type_right<'a>(alloc: Global, text: &[u8], first: Lexeme, rest: &'a [Lexeme]) -> Result<(Right, &'a [Lexeme]), Stop>
+fn type_right<'a>(
+    alloc: Global,
+    text: &[u8],
+    first: Lexeme,
+    rest: &'a [Lexeme],
+) -> Result<(Right, &'a [Lexeme]), Stop>
     requires { first.sort ≡ Sort.Typeid }
     ensures reads { IfOk result (λ x. RightReads text.now x.0 (first ∷ rest.now) x.1.now) }
     ensures shorter { IfOk result (λ x. length x.1.now ≤ length rest.now) }
@@ -180,14 +240,21 @@ fn type_right<'a>(alloc: Global, text: &[u8], first: Lexeme, rest: &'a [Lexeme])
 
 // right, the first token of which was read
 #[tactic(auto, using(cxx_grammar::proofs::Tails::pointer_right, cxx_grammar::proofs::Tails::constant_right_at))]
-fn right_at<'a>(alloc: Global, text: &[u8], first: Lexeme, rest: &'a [Lexeme]) -> Result<(Right, &'a [Lexeme]), Stop>
+fn right_at<'a>(
+    alloc: Global,
+    text: &[u8],
+    first: Lexeme,
+    rest: &'a [Lexeme],
+) -> Result<(Right, &'a [Lexeme]), Stop>
     ensures reads { IfOk result (λ x. RightReads text.now x.0 (first ∷ rest.now) x.1.now) }
     ensures shorter { IfOk result (λ x. length x.1.now ≤ length rest.now) }
     ensures follows { (s : State) → Follows (λ x. x.1.now) s (RightEnd ∷ []) (first ∷ rest.now) s (Only Sort.Semicolon ∷ []) result }
 {
     match first.sort {
         Sort::Name | Sort::OwnName | Sort::This => pointer_right(alloc, text, first, rest),
-        Sort::Number | Sort::Zero | Sort::Minus | Sort::True | Sort::False => constant_right(alloc, text, first, rest),
+        Sort::Number | Sort::Zero | Sort::Minus | Sort::True | Sort::False => constant_right(
+            alloc, text, first, rest,
+        ),
         Sort::Bang => not_right(alloc, text, first, rest),
         Sort::Ampersand => address_right(alloc, text, first, rest),
         Sort::New => new_right(alloc, text, first, rest),
@@ -200,7 +267,11 @@ fn right_at<'a>(alloc: Global, text: &[u8], first: Lexeme, rest: &'a [Lexeme]) -
 }
 
 // right, up to its ";"
-pub(crate) fn right<'a>(alloc: Global, text: &[u8], rest: &'a [Lexeme]) -> Result<(Right, &'a [Lexeme]), Stop>
+pub(crate) fn right<'a>(
+    alloc: Global,
+    text: &[u8],
+    rest: &'a [Lexeme],
+) -> Result<(Right, &'a [Lexeme]), Stop>
     ensures reads { IfOk result (λ x. RightReads text.now x.0 rest.now x.1.now) }
     ensures shorter { IfOk result (λ x. length x.1.now ≤ length rest.now) }
     ensures follows { (s : State) → Follows (λ x. x.1.now) s (RightEnd ∷ []) rest.now s (Only Sort.Semicolon ∷ []) result }

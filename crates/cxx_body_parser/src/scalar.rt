@@ -17,7 +17,13 @@ pub fn is_scalar_word(sort: Sort) -> bool
     ensures { result ≡ is_scalar_word sort }
 {
     match sort {
-        Sort::Boolean | Sort::Char | Sort::Short | Sort::Int | Sort::Long | Sort::Signed | Sort::Unsigned => true,
+        Sort::Boolean
+        | Sort::Char
+        | Sort::Short
+        | Sort::Int
+        | Sort::Long
+        | Sort::Signed
+        | Sort::Unsigned => true,
         _ => false,
     }
 }
@@ -39,7 +45,11 @@ fn long(first: Lexeme, rest: &[Lexeme]) -> Result<(Scalar, &[Lexeme]), Stop>
 
 // ["long"] after "unsigned" "long"
 #[tactic(auto, using(cxx_grammar::proofs::Tails::only_long))]
-fn unsigned_long(first: Lexeme, second: Lexeme, rest: &[Lexeme]) -> Result<(Scalar, &[Lexeme]), Stop>
+fn unsigned_long(
+    first: Lexeme,
+    second: Lexeme,
+    rest: &[Lexeme],
+) -> Result<(Scalar, &[Lexeme]), Stop>
     requires first { first.sort ≡ Sort.Unsigned }
     requires second { second.sort ≡ Sort.Long }
     ensures reads { IfOk result (λ x. ScalarReads x.0 (first ∷ second ∷ rest.now) x.1.now) }

@@ -23,7 +23,11 @@ use std::alloc::Global;
 
 // ["=" right] before ";"
 #[tactic(auto, using(cxx_grammar::proofs::Tails::no_init))]
-fn init<'a>(alloc: Global, text: &[u8], rest: &'a [Lexeme]) -> Result<(Option<Right>, &'a [Lexeme]), Stop>
+fn init<'a>(
+    alloc: Global,
+    text: &[u8],
+    rest: &'a [Lexeme],
+) -> Result<(Option<Right>, &'a [Lexeme]), Stop>
     ensures reads { IfOk result (λ x. InitReads text.now x.0 rest.now x.1.now) }
     ensures shorter { IfOk result (λ x. length x.1.now ≤ length rest.now) }
     ensures follows { (s : State) → Follows (λ x. x.1.now) s (InitEnd ∷ []) rest.now s (Only Sort.Semicolon ∷ []) result }
@@ -37,7 +41,13 @@ fn init<'a>(alloc: Global, text: &[u8], rest: &'a [Lexeme]) -> Result<(Option<Ri
 }
 
 // name ["=" right] ";" after a value
-fn declared<'a>(alloc: Global, text: &[u8], first: Lexeme, ty: ValueType<Name>, rest: &'a [Lexeme]) -> Result<(Statement, &'a [Lexeme]), Stop>
+fn declared<'a>(
+    alloc: Global,
+    text: &[u8],
+    first: Lexeme,
+    ty: ValueType<Name>,
+    rest: &'a [Lexeme],
+) -> Result<(Statement, &'a [Lexeme]), Stop>
     ensures reads { IfOk result (λ x. (ts : List Lexeme) → IsFirst first ts → ValueReads text.now ty ts rest.now → StatementReads text.now x.0 ts x.1.now) }
     ensures shorter { IfOk result (λ x. length x.1.now ≤ length rest.now) }
     ensures follows { (s : State) → Follows (λ x. x.1.now) s (AName ∷ InitEnd ∷ []) rest.now s ([]) result }
@@ -46,11 +56,23 @@ fn declared<'a>(alloc: Global, text: &[u8], first: Lexeme, ty: ValueType<Name>, 
     let (init, rest) = init(alloc, text, rest)?;
     let (_end, rest) = take(rest, Sort::Semicolon)?;
     let name = spot(alloc, text, &word)?;
-    Ok((Statement { kind: StatementKind::Declare(ty, first.at, name, init), at: first.at, line: first.line }, rest))
+    Ok((
+        Statement {
+            kind: StatementKind::Declare(ty, first.at, name, init),
+            at: first.at,
+            line: first.line,
+        },
+        rest,
+    ))
 }
 
 // scalar name ["=" right] ";" after its first word
-pub(crate) fn scalar_declaration<'a>(alloc: Global, text: &[u8], first: Lexeme, rest: &'a [Lexeme]) -> Result<(Statement, &'a [Lexeme]), Stop>
+pub(crate) fn scalar_declaration<'a>(
+    alloc: Global,
+    text: &[u8],
+    first: Lexeme,
+    rest: &'a [Lexeme],
+) -> Result<(Statement, &'a [Lexeme]), Stop>
     requires { is_scalar_word first.sort ≡ true }
     ensures reads { IfOk result (λ x. StatementReads text.now x.0 (first ∷ rest.now) x.1.now) }
     ensures shorter { IfOk result (λ x. length x.1.now ≤ length rest.now) }
@@ -62,7 +84,13 @@ pub(crate) fn scalar_declaration<'a>(alloc: Global, text: &[u8], first: Lexeme, 
 }
 
 // name "*" name ["=" right] ";" after the sign
-fn pointer_declaration<'a>(alloc: Global, text: &[u8], first: Lexeme, sign: Lexeme, rest: &'a [Lexeme]) -> Result<(Statement, &'a [Lexeme]), Stop>
+fn pointer_declaration<'a>(
+    alloc: Global,
+    text: &[u8],
+    first: Lexeme,
+    sign: Lexeme,
+    rest: &'a [Lexeme],
+) -> Result<(Statement, &'a [Lexeme]), Stop>
     requires first { is_name first.sort ≡ true }
     requires sign { sign.sort ≡ Sort.Star }
     ensures reads { IfOk result (λ x. StatementReads text.now x.0 (first ∷ sign ∷ rest.now) x.1.now) }
@@ -75,7 +103,13 @@ fn pointer_declaration<'a>(alloc: Global, text: &[u8], first: Lexeme, sign: Lexe
 }
 
 // name "=" right ";" after the sign
-fn assignment<'a>(alloc: Global, text: &[u8], first: Lexeme, sign: Lexeme, rest: &'a [Lexeme]) -> Result<(Statement, &'a [Lexeme]), Stop>
+fn assignment<'a>(
+    alloc: Global,
+    text: &[u8],
+    first: Lexeme,
+    sign: Lexeme,
+    rest: &'a [Lexeme],
+) -> Result<(Statement, &'a [Lexeme]), Stop>
     requires first { is_name first.sort ≡ true }
     requires sign { sign.sort ≡ Sort.Assign }
     ensures reads { IfOk result (λ x. StatementReads text.now x.0 (first ∷ sign ∷ rest.now) x.1.now) }
@@ -85,11 +119,24 @@ fn assignment<'a>(alloc: Global, text: &[u8], first: Lexeme, sign: Lexeme, rest:
     let (value, rest) = right(alloc, text, rest)?;
     let (_end, rest) = take(rest, Sort::Semicolon)?;
     let target = spot(alloc, text, &first)?;
-    Ok((Statement { kind: StatementKind::Assign(target, value), at: first.at, line: first.line }, rest))
+    Ok((
+        Statement {
+            kind: StatementKind::Assign(target, value),
+            at: first.at,
+            line: first.line,
+        },
+        rest,
+    ))
 }
 
 // "=" operand ";" after a place
-fn write<'a>(alloc: Global, text: &[u8], first: Lexeme, place: PlaceText, rest: &'a [Lexeme]) -> Result<(Statement, &'a [Lexeme]), Stop>
+fn write<'a>(
+    alloc: Global,
+    text: &[u8],
+    first: Lexeme,
+    place: PlaceText,
+    rest: &'a [Lexeme],
+) -> Result<(Statement, &'a [Lexeme]), Stop>
     ensures reads { IfOk result (λ x. (ts : List Lexeme) → IsFirst first ts → PlaceReads text.now place ts rest.now → StatementReads text.now x.0 ts x.1.now) }
     ensures shorter { IfOk result (λ x. length x.1.now ≤ length rest.now) }
     ensures follows { (s : State) → Follows (λ x. x.1.now) s (end_tasks Written) rest.now s ([]) result }
@@ -97,7 +144,14 @@ fn write<'a>(alloc: Global, text: &[u8], first: Lexeme, place: PlaceText, rest: 
     let (_equal, rest) = take(rest, Sort::Assign)?;
     let (value, rest) = operand(alloc, text, rest)?;
     let (_end, rest) = take(rest, Sort::Semicolon)?;
-    Ok((Statement { kind: StatementKind::Write(place, value), at: first.at, line: first.line }, rest))
+    Ok((
+        Statement {
+            kind: StatementKind::Write(place, value),
+            at: first.at,
+            line: first.line,
+        },
+        rest,
+    ))
 }
 
 // ";" after a call
@@ -107,11 +161,24 @@ fn call(first: Lexeme, read: CallText, rest: &[Lexeme]) -> Result<(Statement, &[
     ensures follows { (s : State) → Follows (λ x. x.1.now) s (Only Sort.Semicolon ∷ []) rest.now s ([]) result }
 {
     let (_end, rest) = take(rest, Sort::Semicolon)?;
-    Ok((Statement { kind: StatementKind::Call(read), at: first.at, line: first.line }, rest))
+    Ok((
+        Statement {
+            kind: StatementKind::Call(read),
+            at: first.at,
+            line: first.line,
+        },
+        rest,
+    ))
 }
 
 // The rest of a statement after pointer "->".
-pub(crate) fn pointer_statement<'a>(alloc: Global, text: &[u8], first: Lexeme, arrow: Lexeme, rest: &'a [Lexeme]) -> Result<(Statement, &'a [Lexeme]), Stop>
+pub(crate) fn pointer_statement<'a>(
+    alloc: Global,
+    text: &[u8],
+    first: Lexeme,
+    arrow: Lexeme,
+    rest: &'a [Lexeme],
+) -> Result<(Statement, &'a [Lexeme]), Stop>
     requires first { is_pointer first.sort ≡ true }
     requires arrow { arrow.sort ≡ Sort.Arrow }
     ensures reads { IfOk result (λ x. StatementReads text.now x.0 (first ∷ arrow ∷ rest.now) x.1.now) }
@@ -133,7 +200,12 @@ pub(crate) fn pointer_statement<'a>(alloc: Global, text: &[u8], first: Lexeme, a
 
 // The rest of a statement after a name.
 #[tactic(auto, using(cxx_grammar::proofs::Tails::name_pointer))]
-pub(crate) fn name_statement<'a>(alloc: Global, text: &[u8], first: Lexeme, rest: &'a [Lexeme]) -> Result<(Statement, &'a [Lexeme]), Stop>
+pub(crate) fn name_statement<'a>(
+    alloc: Global,
+    text: &[u8],
+    first: Lexeme,
+    rest: &'a [Lexeme],
+) -> Result<(Statement, &'a [Lexeme]), Stop>
     requires { is_name first.sort ≡ true }
     ensures reads { IfOk result (λ x. StatementReads text.now x.0 (first ∷ rest.now) x.1.now) }
     ensures shorter { IfOk result (λ x. length x.1.now ≤ length rest.now) }
@@ -149,7 +221,12 @@ pub(crate) fn name_statement<'a>(alloc: Global, text: &[u8], first: Lexeme, rest
 }
 
 // "->" and the rest of a statement after "this"
-pub(crate) fn this_statement<'a>(alloc: Global, text: &[u8], first: Lexeme, rest: &'a [Lexeme]) -> Result<(Statement, &'a [Lexeme]), Stop>
+pub(crate) fn this_statement<'a>(
+    alloc: Global,
+    text: &[u8],
+    first: Lexeme,
+    rest: &'a [Lexeme],
+) -> Result<(Statement, &'a [Lexeme]), Stop>
     requires { first.sort ≡ Sort.This }
     ensures reads { IfOk result (λ x. StatementReads text.now x.0 (first ∷ rest.now) x.1.now) }
     ensures shorter { IfOk result (λ x. length x.1.now ≤ length rest.now) }
@@ -161,7 +238,12 @@ pub(crate) fn this_statement<'a>(alloc: Global, text: &[u8], first: Lexeme, rest
 }
 
 // "*" pointer "=" "*" pointer ";" after the first sign
-pub(crate) fn copy<'a>(alloc: Global, text: &[u8], first: Lexeme, rest: &'a [Lexeme]) -> Result<(Statement, &'a [Lexeme]), Stop>
+pub(crate) fn copy<'a>(
+    alloc: Global,
+    text: &[u8],
+    first: Lexeme,
+    rest: &'a [Lexeme],
+) -> Result<(Statement, &'a [Lexeme]), Stop>
     requires { first.sort ≡ Sort.Star }
     ensures reads { IfOk result (λ x. StatementReads text.now x.0 (first ∷ rest.now) x.1.now) }
     ensures shorter { IfOk result (λ x. length x.1.now ≤ length rest.now) }
@@ -172,11 +254,23 @@ pub(crate) fn copy<'a>(alloc: Global, text: &[u8], first: Lexeme, rest: &'a [Lex
     let (_star, rest) = take(rest, Sort::Star)?;
     let (from, rest) = pointer(alloc, text, rest)?;
     let (_end, rest) = take(rest, Sort::Semicolon)?;
-    Ok((Statement { kind: StatementKind::Copy(to, from), at: first.at, line: first.line }, rest))
+    Ok((
+        Statement {
+            kind: StatementKind::Copy(to, from),
+            at: first.at,
+            line: first.line,
+        },
+        rest,
+    ))
 }
 
 // "delete" pointer ";" after its first word
-pub(crate) fn delete<'a>(alloc: Global, text: &[u8], first: Lexeme, rest: &'a [Lexeme]) -> Result<(Statement, &'a [Lexeme]), Stop>
+pub(crate) fn delete<'a>(
+    alloc: Global,
+    text: &[u8],
+    first: Lexeme,
+    rest: &'a [Lexeme],
+) -> Result<(Statement, &'a [Lexeme]), Stop>
     requires { first.sort ≡ Sort.Delete }
     ensures reads { IfOk result (λ x. StatementReads text.now x.0 (first ∷ rest.now) x.1.now) }
     ensures shorter { IfOk result (λ x. length x.1.now ≤ length rest.now) }
@@ -184,11 +278,23 @@ pub(crate) fn delete<'a>(alloc: Global, text: &[u8], first: Lexeme, rest: &'a [L
 {
     let (target, rest) = pointer(alloc, text, rest)?;
     let (_end, rest) = take(rest, Sort::Semicolon)?;
-    Ok((Statement { kind: StatementKind::Delete(target), at: first.at, line: first.line }, rest))
+    Ok((
+        Statement {
+            kind: StatementKind::Delete(target),
+            at: first.at,
+            line: first.line,
+        },
+        rest,
+    ))
 }
 
 // "dump" "(" pointer ")" ";" after its first word
-pub(crate) fn dump<'a>(alloc: Global, text: &[u8], first: Lexeme, rest: &'a [Lexeme]) -> Result<(Statement, &'a [Lexeme]), Stop>
+pub(crate) fn dump<'a>(
+    alloc: Global,
+    text: &[u8],
+    first: Lexeme,
+    rest: &'a [Lexeme],
+) -> Result<(Statement, &'a [Lexeme]), Stop>
     requires { first.sort ≡ Sort.Dump }
     ensures reads { IfOk result (λ x. StatementReads text.now x.0 (first ∷ rest.now) x.1.now) }
     ensures shorter { IfOk result (λ x. length x.1.now ≤ length rest.now) }
@@ -198,11 +304,22 @@ pub(crate) fn dump<'a>(alloc: Global, text: &[u8], first: Lexeme, rest: &'a [Lex
     let (target, rest) = pointer(alloc, text, rest)?;
     let (_close, rest) = take(rest, Sort::CloseParen)?;
     let (_end, rest) = take(rest, Sort::Semicolon)?;
-    Ok((Statement { kind: StatementKind::Dump(target), at: first.at, line: first.line }, rest))
+    Ok((
+        Statement {
+            kind: StatementKind::Dump(target),
+            at: first.at,
+            line: first.line,
+        },
+        rest,
+    ))
 }
 
 // [operand] before ";"
-fn result_of<'a>(alloc: Global, text: &[u8], rest: &'a [Lexeme]) -> Result<(Option<Operand>, &'a [Lexeme]), Stop>
+fn result_of<'a>(
+    alloc: Global,
+    text: &[u8],
+    rest: &'a [Lexeme],
+) -> Result<(Option<Operand>, &'a [Lexeme]), Stop>
     ensures reads { IfOk result (λ x. ResultReads text.now x.0 rest.now x.1.now) }
     ensures shorter { IfOk result (λ x. length x.1.now ≤ length rest.now) }
     ensures follows { (s : State) → Follows (λ x. x.1.now) s (ResultEnd ∷ []) rest.now s (Only Sort.Semicolon ∷ []) result }
@@ -216,7 +333,12 @@ fn result_of<'a>(alloc: Global, text: &[u8], rest: &'a [Lexeme]) -> Result<(Opti
 }
 
 // "return" [operand] ";" after its first word
-pub(crate) fn return_statement<'a>(alloc: Global, text: &[u8], first: Lexeme, rest: &'a [Lexeme]) -> Result<(Statement, &'a [Lexeme]), Stop>
+pub(crate) fn return_statement<'a>(
+    alloc: Global,
+    text: &[u8],
+    first: Lexeme,
+    rest: &'a [Lexeme],
+) -> Result<(Statement, &'a [Lexeme]), Stop>
     requires { first.sort ≡ Sort.Return }
     ensures reads { IfOk result (λ x. StatementReads text.now x.0 (first ∷ rest.now) x.1.now) }
     ensures shorter { IfOk result (λ x. length x.1.now ≤ length rest.now) }
@@ -224,11 +346,24 @@ pub(crate) fn return_statement<'a>(alloc: Global, text: &[u8], first: Lexeme, re
 {
     let (value, rest) = result_of(alloc, text, rest)?;
     let (_end, rest) = take(rest, Sort::Semicolon)?;
-    Ok((Statement { kind: StatementKind::Return(value), at: first.at, line: first.line }, rest))
+    Ok((
+        Statement {
+            kind: StatementKind::Return(value),
+            at: first.at,
+            line: first.line,
+        },
+        rest,
+    ))
 }
 
 // operand ")" ";" after "print" "("
-fn print_operand<'a>(alloc: Global, text: &[u8], first: Lexeme, paren: Lexeme, rest: &'a [Lexeme]) -> Result<(Statement, &'a [Lexeme]), Stop>
+fn print_operand<'a>(
+    alloc: Global,
+    text: &[u8],
+    first: Lexeme,
+    paren: Lexeme,
+    rest: &'a [Lexeme],
+) -> Result<(Statement, &'a [Lexeme]), Stop>
     requires first { first.sort ≡ Sort.Print }
     requires paren { paren.sort ≡ Sort.OpenParen }
     ensures reads { IfOk result (λ x. StatementReads text.now x.0 (first ∷ paren ∷ rest.now) x.1.now) }
@@ -238,11 +373,25 @@ fn print_operand<'a>(alloc: Global, text: &[u8], first: Lexeme, paren: Lexeme, r
     let (value, rest) = operand(alloc, text, rest)?;
     let (_close, rest) = take(rest, Sort::CloseParen)?;
     let (_end, rest) = take(rest, Sort::Semicolon)?;
-    Ok((Statement { kind: StatementKind::Print(value), at: first.at, line: first.line }, rest))
+    Ok((
+        Statement {
+            kind: StatementKind::Print(value),
+            at: first.at,
+            line: first.line,
+        },
+        rest,
+    ))
 }
 
 // "(" "*" pointer ")" ")" ";" after "print" "(" "typeid"
-fn print_type<'a>(alloc: Global, text: &[u8], first: Lexeme, paren: Lexeme, word: Lexeme, rest: &'a [Lexeme]) -> Result<(Statement, &'a [Lexeme]), Stop>
+fn print_type<'a>(
+    alloc: Global,
+    text: &[u8],
+    first: Lexeme,
+    paren: Lexeme,
+    word: Lexeme,
+    rest: &'a [Lexeme],
+) -> Result<(Statement, &'a [Lexeme]), Stop>
     requires first { first.sort ≡ Sort.Print }
     requires paren { paren.sort ≡ Sort.OpenParen }
     requires word { word.sort ≡ Sort.Typeid }
@@ -256,11 +405,25 @@ fn print_type<'a>(alloc: Global, text: &[u8], first: Lexeme, paren: Lexeme, word
     let (_close, rest) = take(rest, Sort::CloseParen)?;
     let (_last, rest) = take(rest, Sort::CloseParen)?;
     let (_end, rest) = take(rest, Sort::Semicolon)?;
-    Ok((Statement { kind: StatementKind::PrintType(target), at: first.at, line: first.line }, rest))
+    Ok((
+        Statement {
+            kind: StatementKind::PrintType(target),
+            at: first.at,
+            line: first.line,
+        },
+        rest,
+    ))
 }
 
 // "<" "void" "*" ">" "(" pointer ")" ")" ";" after "print" "(" "dynamic_cast"
-fn print_view<'a>(alloc: Global, text: &[u8], first: Lexeme, paren: Lexeme, word: Lexeme, rest: &'a [Lexeme]) -> Result<(Statement, &'a [Lexeme]), Stop>
+fn print_view<'a>(
+    alloc: Global,
+    text: &[u8],
+    first: Lexeme,
+    paren: Lexeme,
+    word: Lexeme,
+    rest: &'a [Lexeme],
+) -> Result<(Statement, &'a [Lexeme]), Stop>
     requires first { first.sort ≡ Sort.Print }
     requires paren { paren.sort ≡ Sort.OpenParen }
     requires word { word.sort ≡ Sort.DynamicCast }
@@ -277,11 +440,24 @@ fn print_view<'a>(alloc: Global, text: &[u8], first: Lexeme, paren: Lexeme, word
     let (_close, rest) = take(rest, Sort::CloseParen)?;
     let (_last, rest) = take(rest, Sort::CloseParen)?;
     let (_end, rest) = take(rest, Sort::Semicolon)?;
-    Ok((Statement { kind: StatementKind::PrintView(target), at: first.at, line: first.line }, rest))
+    Ok((
+        Statement {
+            kind: StatementKind::PrintView(target),
+            at: first.at,
+            line: first.line,
+        },
+        rest,
+    ))
 }
 
 // The rest of a statement after "print" "(".
-fn print_end<'a>(alloc: Global, text: &[u8], first: Lexeme, paren: Lexeme, rest: &'a [Lexeme]) -> Result<(Statement, &'a [Lexeme]), Stop>
+fn print_end<'a>(
+    alloc: Global,
+    text: &[u8],
+    first: Lexeme,
+    paren: Lexeme,
+    rest: &'a [Lexeme],
+) -> Result<(Statement, &'a [Lexeme]), Stop>
     requires first { first.sort ≡ Sort.Print }
     requires paren { paren.sort ≡ Sort.OpenParen }
     ensures reads { IfOk result (λ x. StatementReads text.now x.0 (first ∷ paren ∷ rest.now) x.1.now) }
@@ -299,7 +475,12 @@ fn print_end<'a>(alloc: Global, text: &[u8], first: Lexeme, paren: Lexeme, rest:
 }
 
 // "(" and the rest of a statement after "print"
-pub(crate) fn print_statement<'a>(alloc: Global, text: &[u8], first: Lexeme, rest: &'a [Lexeme]) -> Result<(Statement, &'a [Lexeme]), Stop>
+pub(crate) fn print_statement<'a>(
+    alloc: Global,
+    text: &[u8],
+    first: Lexeme,
+    rest: &'a [Lexeme],
+) -> Result<(Statement, &'a [Lexeme]), Stop>
     requires { first.sort ≡ Sort.Print }
     ensures reads { IfOk result (λ x. StatementReads text.now x.0 (first ∷ rest.now) x.1.now) }
     ensures shorter { IfOk result (λ x. length x.1.now ≤ length rest.now) }

@@ -38,8 +38,14 @@ fn each_form_accepted_and_refused(rt: HostRuntime) -> Result<(), Fail> {
         (b"", syntax(0)),
         (b"int", syntax(0)),
         (b"{ bool a; char b; signed char c; unsigned char d; }", None),
-        (b"{ short a; unsigned short b; int c; unsigned int d; unsigned e; }", None),
-        (b"{ long a; unsigned long b; long long c; unsigned long long d; A* e; }", None),
+        (
+            b"{ short a; unsigned short b; int c; unsigned int d; unsigned e; }",
+            None,
+        ),
+        (
+            b"{ long a; unsigned long b; long long c; unsigned long long d; A* e; }",
+            None,
+        ),
         (b"{ signed int a; }", syntax(9)),
         (b"{ long int a; }", syntax(7)),
         (b"{ unsigned bool a; }", syntax(11)),
@@ -47,14 +53,23 @@ fn each_form_accepted_and_refused(rt: HostRuntime) -> Result<(), Fail> {
         (b"{ A a; }", syntax(4)),
         (b"{ void a; }", syntax(2)),
         (b"{ int x = 1; x = -x; }", syntax(18)),
-        (b"{ int x = -1; x = y; x = this; x = true; x = false; x = 0; }", None),
+        (
+            b"{ int x = -1; x = y; x = this; x = true; x = false; x = 0; }",
+            None,
+        ),
         (b"{ int x y; }", syntax(8)),
-        (b"{ x = a + b; x = a - 1; x = 2 * b; x = a < b; x = a <= b; x = a == b; x = a != b; }", None),
+        (
+            b"{ x = a + b; x = a - 1; x = 2 * b; x = a < b; x = a <= b; x = a == b; x = a != b; }",
+            None,
+        ),
         (b"{ x = a + b + c; }", syntax(12)),
         (b"{ x = a > b; }", syntax(8)),
         (b"{ x = !a; x = !-1; }", None),
         (b"{ x = !!a; }", syntax(7)),
-        (b"{ x = p->a; x = this->a[1].b.c[2]; x = &p->a; x = &this->a.b; }", None),
+        (
+            b"{ x = p->a; x = this->a[1].b.c[2]; x = &p->a; x = &this->a.b; }",
+            None,
+        ),
         (b"{ x = p->a[b]; }", syntax(11)),
         (b"{ x = &p; }", syntax(8)),
         (b"{ x = p->f(); x = p->K::f(a, 1, this); }", None),
@@ -62,7 +77,10 @@ fn each_form_accepted_and_refused(rt: HostRuntime) -> Result<(), Fail> {
         (b"{ x = p->f(a,); }", syntax(13)),
         (b"{ x = new A; }", None),
         (b"{ x = new A(); }", syntax(11)),
-        (b"{ x = static_cast<A*>(p); x = dynamic_cast<A*>(this); x = (A*)p; }", None),
+        (
+            b"{ x = static_cast<A*>(p); x = dynamic_cast<A*>(this); x = (A*)p; }",
+            None,
+        ),
         (b"{ x = static_cast<A>(p); }", syntax(19)),
         (b"{ x = (A)p; }", syntax(8)),
         (b"{ x = typeid(*p) == typeid(A); }", None),
@@ -84,7 +102,10 @@ fn each_form_accepted_and_refused(rt: HostRuntime) -> Result<(), Fail> {
         (b"{ while (a < b) {} }", syntax(11)),
         (b"{ return; return 1; return this; }", None),
         (b"{ return a + b; }", syntax(11)),
-        (b"{ print(x); print(typeid(*p)); print(dynamic_cast<void*>(p)); dump(p); }", None),
+        (
+            b"{ print(x); print(typeid(*p)); print(dynamic_cast<void*>(p)); dump(p); }",
+            None,
+        ),
         (b"{ print(p->a); }", syntax(9)),
         (b"{ print(typeid(p)); }", syntax(15)),
         (b"{ dump(1); }", syntax(7)),
@@ -106,8 +127,14 @@ fn open_blocks(rt: HostRuntime) -> Result<(), Fail> {
     assert_eq!(rt; said(rt.alloc(), text, 62)?, None);
     assert_eq!(rt; said(rt.alloc(), text, 63)?, Some(Stop::Limit(LimitNo::L3)));
     assert_eq!(rt; said(rt.alloc(), text, 64)?, Some(Stop::Limit(LimitNo::L3)));
-    assert_eq!(rt; said(rt.alloc(), b"{ if (a) { } else }", 63)?, Some(Stop::Limit(LimitNo::L3)));
-    assert_eq!(rt; said(rt.alloc(), b"{ if (a) float }", 63)?, Some(Stop::Refused(Rule::LeftOut, 9)));
+    assert_eq!(rt;
+        said(rt.alloc(), b"{ if (a) { } else }", 63)?,
+        Some(Stop::Limit(LimitNo::L3))
+    );
+    assert_eq!(rt;
+        said(rt.alloc(), b"{ if (a) float }", 63)?,
+        Some(Stop::Refused(Rule::LeftOut, 9))
+    );
     assert_eq!(rt; said(rt.alloc(), b"{ if (a) ; }", 63)?, syntax(9));
     Ok(())
 }
@@ -141,7 +168,10 @@ fn the_tree_of_a_body(rt: HostRuntime) -> Result<(), Fail> {
                     assert_eq!(rt; place.parts.len(), 2);
                     assert!(rt; matches!(&place.pointer, PointerText::Name(_)));
                     assert_eq!(rt; place.parts.as_slice()[0].index, Some((3, 32)));
-                    assert_eq!(rt; place.parts.as_slice()[1].name.name.as_slice(), b"b".as_slice());
+                    assert_eq!(rt;
+                        place.parts.as_slice()[1].name.name.as_slice(),
+                        b"b".as_slice()
+                    );
                 }
                 _ => assert!(rt; false),
             }

@@ -44,26 +44,26 @@ both_some (Some U) (Some V) X e = let x : X ≡ U ++ V = cc in (U, V, refl, refl
 
 -- a gathered list has all of each alternative
 pub gather_each : {A B : Type 0} (f : A → Option (List B)) (xs : List A) (X : List B) (a : A) → gather f xs ≡ Some X → In a xs
-  → (Y : List B) × (f a ≡ Some Y) × ((b : B) → In b Y → In b X)
+    → (Y : List B) × (f a ≡ Some Y) × ((b : B) → In b Y → In b X)
 gather_each f [] X a e h = elim h [ ]
 gather_each f (x ∷ xs) X a e (inl i) =
-  let j = both_some (f x) (gather f xs) X e in
-  (j.0, ap f i ∙ j.2, λ b k. subst (In b) (sym j.4) (In-left b j.0 j.1 k))
+    let j = both_some (f x) (gather f xs) X e in
+    (j.0, ap f i ∙ j.2, λ b k. subst (In b) (sym j.4) (In-left b j.0 j.1 k))
 gather_each f (x ∷ xs) X a e (inr i) =
-  let j = both_some (f x) (gather f xs) X e in
-  let r = gather_each f xs j.1 a j.3 i in
-  (r.0, r.1, λ b k. subst (In b) (sym j.4) (In-right b j.0 j.1 (r.2 b k)))
+    let j = both_some (f x) (gather f xs) X e in
+    let r = gather_each f xs j.1 a j.3 i in
+    (r.0, r.1, λ b k. subst (In b) (sym j.4) (In-right b j.0 j.1 (r.2 b k)))
 
 -- and nothing else
 pub gather_some : {A B : Type 0} (f : A → Option (List B)) (xs : List A) (X : List B) (b : B) → gather f xs ≡ Some X → In b X
-  → (a : A) × (Y : List B) × (In a xs) × (f a ≡ Some Y) × (In b Y)
+    → (a : A) × (Y : List B) × (In a xs) × (f a ≡ Some Y) × (In b Y)
 gather_some f [] X b e h = let x : X ≡ [] = cc in absurd (subst (In b) x h)
 gather_some f (x ∷ xs) X b e h =
-  let j = both_some (f x) (gather f xs) X e in
-  elim (In-split b j.0 j.1 (subst (In b) j.4 h)) [
-    inl k ↦ (x, j.0, inl refl, j.2, k)
-  | inr k ↦ (let r = gather_some f xs j.1 b j.3 k in (r.0, r.1, inr r.2, r.3, r.4))
-  ]
+    let j = both_some (f x) (gather f xs) X e in
+    elim (In-split b j.0 j.1 (subst (In b) j.4 h)) [
+      | inl k ↦ (x, j.0, inl refl, j.2, k)
+      | inr k ↦ (let r = gather_some f xs j.1 b j.3 k in (r.0, r.1, inr r.2, r.3, r.4))
+    ]
 
 -- the first token of a derivation
 of_token : (s t : Sort) (ss : List Symbol) (ts : List Sort) → Derives (tok s ∷ ss) (t ∷ ts) → (s ≡ t) × Derives ss ts
@@ -74,24 +74,24 @@ of_part p ss ts (choose rhs i d) = (rhs, i, d)
 
 -- each derivation goes through a step
 pub step_complete : (n : ℕ) (t : Sort) (f : List Symbol) (X : List (List Symbol)) (k : List Symbol) (ts : List Sort) → step n t f ≡ Some X
-  → Derives (f ++ k) (t ∷ ts) → (x : List Symbol) × In x X × Derives (x ++ k) ts
+    → Derives (f ++ k) (t ∷ ts) → (x : List Symbol) × In x X × Derives (x ++ k) ts
 step_complete zero t f X k ts e d = absurd (cc)
 step_complete (suc n) t [] X k ts e d = absurd (cc)
 step_complete (suc n) t (tok s ∷ ss) X k ts e d =
-  let j = of_token s t (ss ++ k) ts d in
-  let is : is_same s t ≡ true = subst (λ u. is_same s u ≡ true) j.0 (is_same_refl s) in
-  let x : X ≡ ss ∷ [] = (let c : cond (is_same s t) (ss ∷ []) [] ≡ ss ∷ [] = rw is refl in cc) in
-  (ss, subst (In ss) (sym x) (inl refl), j.1)
+    let j = of_token s t (ss ++ k) ts d in
+    let is : is_same s t ≡ true = subst (λ u. is_same s u ≡ true) j.0 (is_same_refl s) in
+    let x : X ≡ ss ∷ [] = (let c : cond (is_same s t) (ss ∷ []) [] ≡ ss ∷ [] = rw is refl in cc) in
+    (ss, subst (In ss) (sym x) (inl refl), j.1)
 step_complete (suc n) t (part p ∷ ss) X k ts e d =
-  let j = of_part p (ss ++ k) (t ∷ ts) d in
-  let g = gather_each (λ rhs. step n t (rhs ++ ss)) (grammar p) X j.0 e j.1 in
-  let d' : Derives ((j.0 ++ ss) ++ k) (t ∷ ts) = rw append_assoc j.2 in
-  let r = step_complete n t (j.0 ++ ss) g.0 k ts g.1 d' in
-  (r.0, g.2 r.0 r.1, r.2)
+    let j = of_part p (ss ++ k) (t ∷ ts) d in
+    let g = gather_each (λ rhs. step n t (rhs ++ ss)) (grammar p) X j.0 e j.1 in
+    let d' : Derives ((j.0 ++ ss) ++ k) (t ∷ ts) = rw append_assoc j.2 in
+    let r = step_complete n t (j.0 ++ ss) g.0 k ts g.1 d' in
+    (r.0, g.2 r.0 r.1, r.2)
 
 -- and each step goes back
 pub step_sound : (n : ℕ) (t : Sort) (f : List Symbol) (X : List (List Symbol)) (x k : List Symbol) (ts : List Sort) → step n t f ≡ Some X
-  → In x X → Derives (x ++ k) ts → Derives (f ++ k) (t ∷ ts)
+    → In x X → Derives (x ++ k) ts → Derives (f ++ k) (t ∷ ts)
 step_sound zero t f X x k ts e i d = absurd (cc)
 step_sound (suc n) t [] X x k ts e i d = absurd (cc)
 step_sound (suc n) t (tok s ∷ ss) X x k ts e i d = sound_token s t ss x k ts (is_same s t) refl (let c : X ≡ cond (is_same s t) (ss ∷ []) [] = cc in subst (In x) c i) d where
@@ -100,7 +100,7 @@ step_sound (suc n) t (tok s ∷ ss) X x k ts e i d = sound_token s t ss x k ts (
   sound_token s t ss x k ts true e (inr i) d = elim i [ ]
   sound_token s t ss x k ts false e i d = elim i [ ]
 step_sound (suc n) t (part p ∷ ss) X x k ts e i d =
-  let g = gather_some (λ rhs. step n t (rhs ++ ss)) (grammar p) X x e i in
-  let d' = step_sound n t (g.0 ++ ss) g.1 x k ts g.3 g.4 d in
-  let d2 : Derives (g.0 ++ (ss ++ k)) (t ∷ ts) = rw append_assoc at d' in
-  choose g.0 g.2 d2
+    let g = gather_some (λ rhs. step n t (rhs ++ ss)) (grammar p) X x e i in
+    let d' = step_sound n t (g.0 ++ ss) g.1 x k ts g.3 g.4 d in
+    let d2 : Derives (g.0 ++ (ss ++ k)) (t ∷ ts) = rw append_assoc at d' in
+    choose g.0 g.2 d2

@@ -216,9 +216,9 @@ map-In g (x ∷ xs) a (inr h) = inr (map-In g xs a h)
 In-product : (xs ys : List (List Symbol)) (f : List Symbol) → In f (product xs ys) → (x y : List Symbol) × In x xs × In y ys × (f ≡ x ++ y)
 In-product xs [] f h = elim h [ ]
 In-product xs (y ∷ ys) f h = elim (In-split f (map (λ x. x ++ y) xs) (product xs ys) h) [
-    inl k ↦ (let r = In-map (λ x. x ++ y) xs f k in (r.0, y, r.1, inl refl, r.2))
+  | inl k ↦ (let r = In-map (λ x. x ++ y) xs f k in (r.0, y, r.1, inl refl, r.2))
   | inr k ↦ (let r = In-product xs ys f k in (r.0, r.1, r.2, inr r.3, r.4))
-  ]
+]
 
 product-In : (xs ys : List (List Symbol)) (x y : List Symbol) → In x xs → In y ys → In (x ++ y) (product xs ys)
 product-In xs [] x y h k = elim k [ ]
@@ -230,18 +230,18 @@ forms-join : (ms ns : List Task) (x y : List Symbol) → In x (forms ms) → In 
 forms-join [] ns x y (inl e) k = subst (λ u. In (u ++ y) (forms ns)) (sym e) k
 forms-join [] ns x y (inr h) k = elim h [ ]
 forms-join (m ∷ ms) ns x y h k =
-  let r = In-product (means m) (forms ms) x h in
-  let q = product-In (means m) (forms (ms ++ ns)) r.0 (r.1 ++ y) r.2 (forms-join ms ns r.1 y r.3 k) in
-  let e : x ++ y ≡ r.0 ++ (r.1 ++ y) = ap (λ u. u ++ y) r.4 ∙ append_assoc r.0 r.1 y in
-  subst (λ u. In u (forms (m ∷ (ms ++ ns)))) (sym e) q
+    let r = In-product (means m) (forms ms) x h in
+    let q = product-In (means m) (forms (ms ++ ns)) r.0 (r.1 ++ y) r.2 (forms-join ms ns r.1 y r.3 k) in
+    let e : x ++ y ≡ r.0 ++ (r.1 ++ y) = ap (λ u. u ++ y) r.4 ∙ append_assoc r.0 r.1 y in
+    subst (λ u. In u (forms (m ∷ (ms ++ ns)))) (sym e) q
 
 forms-part : (ms ns : List Task) (f : List Symbol) → In f (forms (ms ++ ns)) → (x y : List Symbol) × In x (forms ms) × In y (forms ns) × (f ≡ x ++ y)
 forms-part [] ns f h = ([], f, inl refl, h, refl)
 forms-part (m ∷ ms) ns f h =
-  let r = In-product (means m) (forms (ms ++ ns)) f h in
-  let q = forms-part ms ns r.1 r.3 in
-  let e : f ≡ (r.0 ++ q.0) ++ q.1 = r.4 ∙ (ap (λ u. r.0 ++ u) q.4 ∙ sym (append_assoc r.0 q.0 q.1)) in
-  (r.0 ++ q.0, q.1, product-In (means m) (forms ms) r.0 q.0 r.2 q.2, q.3, e)
+    let r = In-product (means m) (forms (ms ++ ns)) f h in
+    let q = forms-part ms ns r.1 r.3 in
+    let e : f ≡ (r.0 ++ q.0) ++ q.1 = r.4 ∙ (ap (λ u. r.0 ++ u) q.4 ∙ sym (append_assoc r.0 q.0 q.1)) in
+    (r.0 ++ q.0, q.1, product-In (means m) (forms ms) r.0 q.0 r.2 q.2, q.3, e)
 
 left_of : (o : Option (List Task)) (ms : List Task) (x y : List Symbol) (ts : List Sort) → In x (next_forms o) → In y (forms ms) → Derives (x ++ y) ts → (ns : List Task) × (o ≡ Some ns) × Spells (ns ++ ms) ts
 left_of None ms x y ts h k d = elim h [ ]
@@ -250,17 +250,17 @@ left_of (Some ns) ms x y ts h k d = (ns, refl, (x ++ y, forms-join ns ms x y h k
 -- What the tasks read begins with a token that the table allows.
 pub after_complete : (m : Task) (ms : List Task) (t : Sort) (ts : List Sort) → Spells (m ∷ ms) (t ∷ ts) → (ns : List Task) × (after m t ≡ Some ns) × Spells (ns ++ ms) ts
 after_complete m ms t ts s =
-  let r = In-product (means m) (forms ms) s.0 s.1 in
-  let g = gather_each (step 12 t) (means m) (next_forms (after m t)) r.0 (table_ok m t) r.2 in
-  let d : Derives (r.0 ++ r.1) (t ∷ ts) = subst (λ f. Derives f (t ∷ ts)) r.4 s.2 in
-  let q = step_complete 12 t r.0 g.0 r.1 ts g.1 d in
-  left_of (after m t) ms q.0 r.1 ts (g.2 q.0 q.1) r.3 q.2
+    let r = In-product (means m) (forms ms) s.0 s.1 in
+    let g = gather_each (step 12 t) (means m) (next_forms (after m t)) r.0 (table_ok m t) r.2 in
+    let d : Derives (r.0 ++ r.1) (t ∷ ts) = subst (λ f. Derives f (t ∷ ts)) r.4 s.2 in
+    let q = step_complete 12 t r.0 g.0 r.1 ts g.1 d in
+    left_of (after m t) ms q.0 r.1 ts (g.2 q.0 q.1) r.3 q.2
 
 -- And what the table leaves is read on.
 pub after_sound : (m : Task) (ms ns : List Task) (t : Sort) (ts : List Sort) → after m t ≡ Some ns → Spells (ns ++ ms) ts → Spells (m ∷ ms) (t ∷ ts)
 after_sound m ms ns t ts e s =
-  let r = forms-part ns ms s.0 s.1 in
-  let x : In r.0 (next_forms (after m t)) = subst (λ o. In r.0 (next_forms o)) (sym e) r.2 in
-  let g = gather_some (step 12 t) (means m) (next_forms (after m t)) r.0 (table_ok m t) x in
-  let d : Derives (r.0 ++ r.1) ts = subst (λ f. Derives f ts) r.4 s.2 in
-  (g.0 ++ r.1, product-In (means m) (forms ms) g.0 r.1 g.2 r.3, step_sound 12 t g.0 g.1 r.0 r.1 ts g.3 g.4 d)
+    let r = forms-part ns ms s.0 s.1 in
+    let x : In r.0 (next_forms (after m t)) = subst (λ o. In r.0 (next_forms o)) (sym e) r.2 in
+    let g = gather_some (step 12 t) (means m) (next_forms (after m t)) r.0 (table_ok m t) x in
+    let d : Derives (r.0 ++ r.1) ts = subst (λ f. Derives f ts) r.4 s.2 in
+    (g.0 ++ r.1, product-In (means m) (forms ms) g.0 r.1 g.2 r.3, step_sound 12 t g.0 g.1 r.0 r.1 ts g.3 g.4 d)

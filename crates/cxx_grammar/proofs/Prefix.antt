@@ -34,9 +34,9 @@ walk_complete [] ms more s = (ms, refl, s)
 walk_complete (t ∷ pre) [] more (f, inl e, d) = absurd (nothing_derives t (pre ++ more) (subst (λ f. Derives f (t ∷ (pre ++ more))) e d))
 walk_complete (t ∷ pre) [] more (f, inr h, d) = elim h [ ]
 walk_complete (t ∷ pre) (m ∷ ms) more s =
-  let r = after_complete m ms t (pre ++ more) s in
-  let q = walk_complete pre (r.0 ++ ms) more r.2 in
-  (q.0, ap (λ o. go o ms (walk pre)) r.1 ∙ q.1, q.2)
+    let r = after_complete m ms t (pre ++ more) s in
+    let q = walk_complete pre (r.0 ++ ms) more r.2 in
+    (q.0, ap (λ o. go o ms (walk pre)) r.1 ∙ q.1, q.2)
 
 pub walk_sound : (pre : List Sort) (ms ns : List Task) (more : List Sort) → walk pre ms ≡ Some ns → Spells ns more → Spells ms (pre ++ more)
 walk_sound [] ms ns more e s = let is : ms ≡ ns = cc in subst (λ u. Spells u more) (sym is) s
@@ -161,13 +161,13 @@ form_spells m f ts e d = let here : In f (f ∷ []) = inl refl in (f, subst (In 
 
 pub begins_where : (m : Task) (f : List Symbol) (pre : List Sort) (ns : List Task) → forms (m ∷ []) ≡ f ∷ [] → walk pre (m ∷ []) ≡ Some ns → Begins f pre
 begins_where m f pre ns q e =
-  let r = spells_some ns in
-  (r.0, spells_form m f (pre ++ r.0) q (walk_sound pre (m ∷ []) ns r.0 e r.1))
+    let r = spells_some ns in
+    (r.0, spells_form m f (pre ++ r.0) q (walk_sound pre (m ∷ []) ns r.0 e r.1))
 
 pub not_begins_where : (m : Task) (f : List Symbol) (pre : List Sort) → forms (m ∷ []) ≡ f ∷ [] → walk pre (m ∷ []) ≡ None → Begins f pre → ⊥
 not_begins_where m f pre q e b =
-  let r = walk_complete pre (m ∷ []) b.0 (form_spells m f (pre ++ b.0) q b.1) in
-  let p : None ≡ Some r.0 = sym e ∙ r.1 in cc
+    let r = walk_complete pre (m ∷ []) b.0 (form_spells m f (pre ++ b.0) q b.1) in
+    let p : None ≡ Some r.0 = sym e ∙ r.1 in cc
 
 -- no symbol is the place where the list ends
 abbrev clean : List Symbol → Bool
@@ -253,9 +253,9 @@ look_plain t [] h = refl
 look_plain t (l ∷ ls) h =
     let s = split_cond (plain l.1) (all_plain ls) h in
     on (is_same l.0 t) s.0 (look_plain t ls s.1) where
-  on : (b : Bool) → plain l.1 ≡ true → plain_left (look_up t ls) ≡ true → plain_left (cond b (Some l.1) (look_up t ls)) ≡ true
-  on true p q = p
-  on false p q = q
+      on : (b : Bool) → plain l.1 ≡ true → plain_left (look_up t ls) ≡ true → plain_left (cond b (Some l.1) (look_up t ls)) ≡ true
+      on true p q = p
+      on false p q = q
 
 plain_join : (ns ms : List Task) → plain ns ≡ true → plain ms ≡ true → plain (ns ++ ms) ≡ true
 plain_join [] ms p q = q
@@ -278,8 +278,8 @@ only_same false ns e = absurd (cc)
 -- a task changes the state as its token does
 admits_same : (m : Task) (t : Sort) (st : State) (ns : List Task) → plain_of m ≡ true → after m t ≡ Some ns → admits m t st ≡ admit t st
 admits_same (Only s) t st ns p a =
-  let same : s ≡ t = is_same_eq s t (only_same (is_same s t) ns a) in
-  sym (subst (λ u. admit u st ≡ Some st) same (flat s st p))
+    let same : s ≡ t = is_same_eq s t (only_same (is_same s t) ns a) in
+    sym (subst (λ u. admit u st ≡ Some st) same (flat s st p))
 admits_same AName t st ns p a = refl
 admits_same _ t st ns p a = refl
 
@@ -297,13 +297,13 @@ found (l ∷ ts) st (m ∷ ms) e p h = on (λ st' ns p' k. found ts st' (ns ++ m
   on : ((st' : State) (ns : List Task) → plain (ns ++ ms) ≡ true → run ts st' (ns ++ ms) ≡ Stopped e → Found st' (ns ++ ms) ts e) → (o : Option (List Task)) → after m l.sort ≡ o → (r : Option State) → admits m l.sort st ≡ r → go_on l o r ms (run ts) ≡ Stopped e → Found st (m ∷ ms) (l ∷ ts) e
   on ih None a r b h = let q : e ≡ refusal l = cc in at_token [] ts l (m ∷ ms) st refl refl refl (ap (λ o. go o ms (walk [])) a) q
   on ih (Some ns) a None b h =
-    let hp = split_cond (plain_of m) (plain ms) p in
-    let q : e ≡ excess l = cc in
-    at_excess [] ts l (ns ++ ms) st refl refl (ap (λ o. go o ms (walk [])) a) (sym (admits_same m l.sort st ns hp.0 a) ∙ b) q
+      let hp = split_cond (plain_of m) (plain ms) p in
+      let q : e ≡ excess l = cc in
+      at_excess [] ts l (ns ++ ms) st refl refl (ap (λ o. go o ms (walk [])) a) (sym (admits_same m l.sort st ns hp.0 a) ∙ b) q
   on ih (Some ns) a (Some st') b h =
-    let hp = split_cond (plain_of m) (plain ms) p in
-    let pn : plain ns ≡ true = subst (λ o. plain_left o ≡ true) a (look_plain l.sort (lines m) (lines_plain m)) in
-    before m ms ns l ts e st st' a (sym (admits_same m l.sort st ns hp.0 a) ∙ b) (ih st' ns (plain_join ns ms pn hp.1) h)
+      let hp = split_cond (plain_of m) (plain ms) p in
+      let pn : plain ns ≡ true = subst (λ o. plain_left o ≡ true) a (look_plain l.sort (lines m) (lines_plain m)) in
+      before m ms ns l ts e st st' a (sym (admits_same m l.sort st ns hp.0 a) ∙ b) (ih st' ns (plain_join ns ms pn hp.1) h)
 
 of_found : (m : Task) (f : List Symbol) (ts : List Lexeme) (st : State) (e : Stop) → forms (m ∷ []) ≡ f ∷ [] → clean f ≡ true → In Bad (sorts ts) → Found st (m ∷ []) ts e → Fault f st ts e
 of_found m f ts st e i c z (at_token pre post l ns st' s h w n q) = faults.at_token pre post l st' s h (begins_where m f (sorts pre) ns i w) (not_begins_where m f (sorts (pre ++ l ∷ [])) i n) q
@@ -321,14 +321,14 @@ finished [] rest st (m ∷ ms) p h = absurd (cc)
 finished (l ∷ ts) rest st [] p h = let q : l ∷ ts ≡ rest = cc in ([], st, q, refl, refl)
 finished (l ∷ ts) rest st (m ∷ ms) p h = on (λ st' ns p' k. finished ts rest st' (ns ++ ms) p' k) (after m l.sort) refl (admits m l.sort st) refl h where
   on : ((st' : State) (ns : List Task) → plain (ns ++ ms) ≡ true → run ts st' (ns ++ ms) ≡ Done rest → (front : List Lexeme) × (st2 : State) × (ts ≡ front ++ rest) × (walk (sorts front) (ns ++ ms) ≡ Some []) × (passes st' (sorts front) ≡ Some st2)) → (o : Option (List Task)) → after m l.sort ≡ o → (r : Option State) → admits m l.sort st ≡ r → go_on l o r ms (run ts) ≡ Done rest
-    → (front : List Lexeme) × (st2 : State) × (l ∷ ts ≡ front ++ rest) × (walk (sorts front) (m ∷ ms) ≡ Some []) × (passes st (sorts front) ≡ Some st2)
+      → (front : List Lexeme) × (st2 : State) × (l ∷ ts ≡ front ++ rest) × (walk (sorts front) (m ∷ ms) ≡ Some []) × (passes st (sorts front) ≡ Some st2)
   on ih None a r b h = absurd (cc)
   on ih (Some ns) a None b h = absurd (cc)
   on ih (Some ns) a (Some st') b h =
-    let hp = split_cond (plain_of m) (plain ms) p in
-    let pn : plain ns ≡ true = subst (λ o. plain_left o ≡ true) a (look_plain l.sort (lines m) (lines_plain m)) in
-    let r = ih st' ns (plain_join ns ms pn hp.1) h in
-    (l ∷ r.0, r.1, ap (λ u. l ∷ u) r.2, ap (λ o. go o ms (walk (sorts r.0))) a ∙ r.3, ap (λ o. and_then o (λ v. passes v (sorts r.0))) (sym (admits_same m l.sort st ns hp.0 a) ∙ b) ∙ r.4)
+      let hp = split_cond (plain_of m) (plain ms) p in
+      let pn : plain ns ≡ true = subst (λ o. plain_left o ≡ true) a (look_plain l.sort (lines m) (lines_plain m)) in
+      let r = ih st' ns (plain_join ns ms pn hp.1) h in
+      (l ∷ r.0, r.1, ap (λ u. l ∷ u) r.2, ap (λ o. go o ms (walk (sorts r.0))) a ∙ r.3, ap (λ o. and_then o (λ v. passes v (sorts r.0))) (sym (admits_same m l.sort st ns hp.0 a) ∙ b) ∙ r.4)
 
 run_done : (ts : List Lexeme) (st : State) → run ts st [] ≡ Done ts
 run_done [] st = refl
@@ -336,10 +336,10 @@ run_done (l ∷ ts) st = refl
 
 front_of : (m : Task) (f : List Symbol) (ts rest : List Lexeme) (st st' : State) → plain (m ∷ []) ≡ true → forms (m ∷ []) ≡ f ∷ [] → Leads st (m ∷ []) ts st' [] rest → FrontIs f st ts rest
 front_of m f ts rest st st' p i h =
-  let r = finished ts rest st (m ∷ []) p (h [] ∙ run_done rest st') in
-  let s = walk_sound (sorts r.0) (m ∷ []) [] [] r.3 ([], inl refl, nothing) in
-  let e : sorts r.0 ++ [] ≡ sorts r.0 = grind (arith, common_steps) in
-  record { front = r.0; after = r.1; split = r.2; derives = spells_form m f (sorts r.0) i (subst (Spells (m ∷ [])) e s); admitted = r.4 }
+    let r = finished ts rest st (m ∷ []) p (h [] ∙ run_done rest st') in
+    let s = walk_sound (sorts r.0) (m ∷ []) [] [] r.3 ([], inl refl, nothing) in
+    let e : sorts r.0 ++ [] ≡ sorts r.0 = grind (arith, common_steps) in
+    record { front = r.0; after = r.1; split = r.2; derives = spells_form m f (sorts r.0) i (subst (Spells (m ∷ [])) e s); admitted = r.4 }
 
 -- what the readers of a block and of a source answer, by the grammar
 pub block_ok : {X : Type 0} (rest_of : X → List Lexeme) (st : State) (ts : List Lexeme) (r : Result X Stop) → Follows rest_of st (ABlock ∷ []) ts st [] r → IfOk r (λ x. FrontIs block_form st ts (rest_of x))

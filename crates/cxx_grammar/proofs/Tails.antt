@@ -250,7 +250,6 @@ only_long_at l ts s k h = by_sort l.sort h where
 pub only_long : (rest : List Lexeme) (l : Lexeme) (ts : List Lexeme) (s : State) (k : List Task) → rest ≡ l ∷ ts → is_same Long l.sort ≡ false → run rest s (LongName ∷ k) ≡ run rest s (AName ∷ k)
 only_long rest l ts s k e h0 = subst (λ w. run w s (LongName ∷ k) ≡ run w s (AName ∷ k)) (sym e) (only_long_at l ts s k h0)
 
-
 -- A pointer that is no name is "this".
 pub this_pointer : (t : Sort) → is_pointer t ≡ true → is_name t ≡ false → t ≡ This
 this_pointer This h i = refl

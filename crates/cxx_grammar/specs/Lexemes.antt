@@ -49,6 +49,7 @@ abbrev pub sort_in : List ℕ → Context → Token → Sort
 sort_in text c t = of_kind t.kind where
   bytes : List ℕ
   bytes = bytes_between text t.start t.end
+
   of_kind : Kind → Sort
   of_kind kind.Word = own_or (look_up bytes words Name) (same_bytes bytes c.own)
   of_kind kind.Number = if t.value == 0 then Zero else Number

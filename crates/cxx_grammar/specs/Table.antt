@@ -199,7 +199,7 @@ lines APointer = (Name, []) ∷ (OwnName, []) ∷ (This, []) ∷ []
 lines UnsignedName = (Char, AName ∷ []) ∷ (Short, AName ∷ []) ∷ (Int, AName ∷ []) ∷ (Long, LongName ∷ []) ∷ (Name, []) ∷ (OwnName, []) ∷ []
 lines LongName = (Long, AName ∷ []) ∷ (Name, []) ∷ (OwnName, []) ∷ []
 lines AParam = value_lines []
-lines RightEnd = 
+lines RightEnd =
     (Name, AfterPointer ∷ []) ∷
     (OwnName, AfterPointer ∷ []) ∷
     (This, AfterPointer ∷ []) ∷
@@ -216,7 +216,7 @@ lines RightEnd =
     (OpenParen, AName ∷ Only Star ∷ Only CloseParen ∷ APointer ∷ Only Semicolon ∷ []) ∷
     (Typeid, Only OpenParen ∷ Only Star ∷ APointer ∷ Only CloseParen ∷ Only Equal ∷ Only Typeid ∷ Only OpenParen ∷ AName ∷ Only CloseParen ∷ Only Semicolon ∷ []) ∷ []
 lines ReadPlaceEnd = (Name, Only Arrow ∷ AName ∷ Named Read ∷ []) ∷ (OwnName, Only Arrow ∷ AName ∷ Named Read ∷ []) ∷ (This, Only Arrow ∷ AName ∷ Named Read ∷ []) ∷ []
-lines AfterOperand = 
+lines AfterOperand =
     (Plus, AnOperand ∷ Only Semicolon ∷ []) ∷
     (Minus, AnOperand ∷ Only Semicolon ∷ []) ∷
     (Star, AnOperand ∷ Only Semicolon ∷ []) ∷
@@ -225,7 +225,7 @@ lines AfterOperand =
     (Equal, AnOperand ∷ Only Semicolon ∷ []) ∷
     (NotEqual, AnOperand ∷ Only Semicolon ∷ []) ∷
     (Semicolon, []) ∷ []
-lines AfterPointer = 
+lines AfterPointer =
     (Arrow, AName ∷ Member Read ∷ []) ∷
     (Plus, AnOperand ∷ Only Semicolon ∷ []) ∷
     (Minus, AnOperand ∷ Only Semicolon ∷ []) ∷
@@ -235,14 +235,14 @@ lines AfterPointer =
     (Equal, AnOperand ∷ Only Semicolon ∷ []) ∷
     (NotEqual, AnOperand ∷ Only Semicolon ∷ []) ∷
     (Semicolon, []) ∷ []
-lines (Member u) = 
+lines (Member u) =
     (OpenParen, ArgumentsEnd ∷ Only Semicolon ∷ []) ∷
     (DoubleColon, AName ∷ Only OpenParen ∷ ArgumentsEnd ∷ Only Semicolon ∷ []) ∷
     (OpenBracket, ANumber ∷ Only CloseBracket ∷ Tail u ∷ []) ∷
     (Dot, AName ∷ Named u ∷ []) ∷ end_of u ∷ []
 lines (Named u) = (OpenBracket, ANumber ∷ Only CloseBracket ∷ Tail u ∷ []) ∷ (Dot, AName ∷ Named u ∷ []) ∷ end_of u ∷ []
 lines (Tail u) = (Dot, AName ∷ Named u ∷ []) ∷ end_of u ∷ []
-lines ArgumentsEnd = 
+lines ArgumentsEnd =
     (CloseParen, []) ∷
     (Name, MoreArgumentsEnd ∷ []) ∷
     (OwnName, MoreArgumentsEnd ∷ []) ∷
@@ -254,7 +254,7 @@ lines ArgumentsEnd =
     (False, MoreArgumentsEnd ∷ []) ∷ []
 lines MoreArgumentsEnd = (CloseParen, []) ∷ (Comma, AnOperand ∷ MoreArgumentsEnd ∷ []) ∷ []
 lines InitEnd = (Assign, RightEnd ∷ []) ∷ (Semicolon, []) ∷ []
-lines ResultEnd = 
+lines ResultEnd =
     (Semicolon, []) ∷
     (Name, Only Semicolon ∷ []) ∷
     (OwnName, Only Semicolon ∷ []) ∷
@@ -265,7 +265,7 @@ lines ResultEnd =
     (True, Only Semicolon ∷ []) ∷
     (False, Only Semicolon ∷ []) ∷ []
 lines AfterName = (Star, AName ∷ InitEnd ∷ []) ∷ (Assign, RightEnd ∷ []) ∷ (Arrow, AName ∷ Member Written ∷ []) ∷ []
-lines PrintEnd = 
+lines PrintEnd =
     (Name, Only CloseParen ∷ Only Semicolon ∷ []) ∷
     (OwnName, Only CloseParen ∷ Only Semicolon ∷ []) ∷
     (This, Only CloseParen ∷ Only Semicolon ∷ []) ∷
@@ -281,7 +281,7 @@ lines StatementsEnd = statement_lines
 lines ElseEnd = (Else, ABlock ∷ StatementsEnd ∷ []) ∷ statement_lines
 lines BaseAfterVirtual = (Public, AName ∷ []) ∷ (Protected, AName ∷ []) ∷ (Private, AName ∷ []) ∷ (Name, []) ∷ (OwnName, []) ∷ []
 lines BaseAfterAccess = (Virtual, AName ∷ []) ∷ (Name, []) ∷ (OwnName, []) ∷ []
-lines ABase = 
+lines ABase =
     (Virtual, BaseAfterVirtual ∷ []) ∷
     (Public, BaseAfterAccess ∷ []) ∷
     (Protected, BaseAfterAccess ∷ []) ∷

@@ -120,7 +120,13 @@ fn closing(bad: Option<u32>) -> Lexeme
 /// The lexemes of tokens, where a token of this sort stood before them.
 ///
 /// The list is closed by a lexeme `Bad`, at the first place where no token stands, if there is one.
-pub fn lexemes(alloc: Global, text: &[u8], tokens: &[Token], bad: Option<u32>, last: Sort) -> Result<Vec<Lexeme>, NoMemory>
+pub fn lexemes(
+    alloc: Global,
+    text: &[u8],
+    tokens: &[Token],
+    bad: Option<u32>,
+    last: Sort,
+) -> Result<Vec<Lexeme>, NoMemory>
     ensures { IfOk result (λ v. v.items ≡ lexemes text.now (record { own = []; last = last }) tokens.now bad) }
 {
     let mut out = Vec::new(alloc);

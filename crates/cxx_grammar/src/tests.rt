@@ -28,8 +28,31 @@ fn sorts_of_texts(rt: HostRuntime) -> Result<(), Fail> {
         OpenParen, OwnName, Semicolon, Struct, Zero,
     };
     check(&rt, rt.alloc(), b"", &[End, Bad])?;
-    check(&rt, rt.alloc(), b"struct A { A B structs", &[Struct, Name, OpenBrace, OwnName, Name, Name, End, Bad])?;
-    check(&rt, rt.alloc(), b"A struct B; A B", &[Name, Struct, Name, Semicolon, Name, OwnName, End, Bad])?;
-    check(&rt, rt.alloc(), b"main ( ) { } else { {", &[Main, OpenParen, CloseParen, OpenBlock, CloseBrace, Else, OpenBlock, OpenBrace, End, Bad])?;
-    check(&rt, rt.alloc(), b"0 10 float #", &[Zero, Number, LeftOut, Bad])
+    check(
+        &rt,
+        rt.alloc(),
+        b"struct A { A B structs",
+        &[Struct, Name, OpenBrace, OwnName, Name, Name, End, Bad],
+    )?;
+    check(
+        &rt,
+        rt.alloc(),
+        b"A struct B; A B",
+        &[Name, Struct, Name, Semicolon, Name, OwnName, End, Bad],
+    )?;
+    check(
+        &rt,
+        rt.alloc(),
+        b"main ( ) { } else { {",
+        &[
+            Main, OpenParen, CloseParen, OpenBlock, CloseBrace, Else, OpenBlock, OpenBrace, End,
+            Bad,
+        ],
+    )?;
+    check(
+        &rt,
+        rt.alloc(),
+        b"0 10 float #",
+        &[Zero, Number, LeftOut, Bad],
+    )
 }

@@ -29,7 +29,7 @@ pub statements-loop-items-preserved : goal.statements-loop-items-preserved
 statements-loop-items-preserved t c = record {
   shorter = omega (arith, ap length c.in_ok-first.ensures.ok, c.in_ok-read.ensures.shorter);
   reads = next_statement _ _ _ _ _ _ _ c.loop-items.invariant.reads (rw c.in_ok-first.ensures.ok c.in_ok-read.ensures.reads) c.in_ok-push.ensures.items;
-  follows = λ m k. c.loop-items.invariant.follows m k ∙ (rw c.in_ok-first.ensures.ok (c.in_ok-read.ensures.follows m k))
+  follows = λ m k. c.loop-items.invariant.follows m k ∙ (rw c.in_ok-first.ensures.ok (c.in_ok-read.ensures.follows m k));
 }
 
 pub statement-returns-in-This-clause-follows : goal.statement-returns-in-This-clause-follows

@@ -23,7 +23,7 @@ abbrev pub invariant-statements-loop-items : goal.invariant-statements-loop-item
 invariant-statements-loop-items l = record {
   shorter : length l.left ≤ length l.fn.rest;
   reads : StatementsSoFar l.text l.fn.rest l.left l.items.items;
-  follows : (m : Bool) → Leads (record { blocks = l.depth; main = m }) (StatementsEnd ∷ []) l.fn.rest (record { blocks = l.depth; main = m }) (StatementsEnd ∷ []) l.left
+  follows : (m : Bool) → Leads (record { blocks = l.depth; main = m }) (StatementsEnd ∷ []) l.fn.rest (record { blocks = l.depth; main = m }) (StatementsEnd ∷ []) l.left;
 }
 
 abbrev pub decreases-statements-loop-items : goal.decreases-statements-loop-items

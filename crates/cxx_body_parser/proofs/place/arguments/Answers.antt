@@ -17,7 +17,7 @@ pub loop-items-init : goal.loop-items-init
 loop-items-init c = record {
   shorter = omega (arith, c.in_ok-item.ensures.shorter);
   reads = first_argument _ _ _ _ _ (rw c.new-items.ensures at c.in_ok-push.ensures.ok) c.in_ok-item.ensures.reads;
-  follows = λ s k. arguments_begin _ _ _ s k c.in_ok-first.ensures.ok (sym c.is_same.ensures.same ∙ c.if-is_same.false) ∙ c.in_ok-item.ensures.follows s (MoreArgumentsEnd ∷ k)
+  follows = λ s k. arguments_begin _ _ _ s k c.in_ok-first.ensures.ok (sym c.is_same.ensures.same ∙ c.if-is_same.false) ∙ c.in_ok-item.ensures.follows s (MoreArgumentsEnd ∷ k);
 }
 
 pub returns-then-is_same-2-clause-reads : goal.returns-then-is_same-2-clause-reads
@@ -27,5 +27,5 @@ pub loop-items-preserved : goal.loop-items-preserved
 loop-items-preserved c = record {
   shorter = omega (arith, ap length c.in_ok-sign.ensures.ok, c.in_ok-item-2.ensures.shorter);
   reads = next_argument _ _ _ _ _ _ _ _ _ c.in_ok-push-2.ensures.ok c.loop-items.invariant.reads (record { front = c.in_ok-sign.ensures.ok; sort = search rules }) c.in_ok-item-2.ensures.reads;
-  follows = λ s k. c.loop-items.invariant.follows s k ∙ (takes _ MoreArgumentsEnd Comma (AnOperand ∷ MoreArgumentsEnd ∷ []) _ _ s k c.in_ok-sign.ensures.ok (search rules) refl refl ∙ c.in_ok-item-2.ensures.follows s (MoreArgumentsEnd ∷ k))
+  follows = λ s k. c.loop-items.invariant.follows s k ∙ (takes _ MoreArgumentsEnd Comma (AnOperand ∷ MoreArgumentsEnd ∷ []) _ _ s k c.in_ok-sign.ensures.ok (search rules) refl refl ∙ c.in_ok-item-2.ensures.follows s (MoreArgumentsEnd ∷ k));
 }

@@ -9,7 +9,7 @@ abbrev pub invariant-loop-items : goal.invariant-loop-items
 invariant-loop-items l = record {
   shorter : length l.left ≤ length l.fn.rest;
   reads : ArgumentsSoFar l.text l.fn.rest l.left l.items;
-  follows : (s : State) → Leads s (ArgumentsEnd ∷ []) l.fn.rest s (MoreArgumentsEnd ∷ []) l.left
+  follows : (s : State) → Leads s (ArgumentsEnd ∷ []) l.fn.rest s (MoreArgumentsEnd ∷ []) l.left;
 }
 
 abbrev pub decreases-loop-items : goal.decreases-loop-items

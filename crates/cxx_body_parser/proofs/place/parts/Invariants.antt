@@ -9,7 +9,7 @@ abbrev pub invariant-loop-items : goal.invariant-loop-items
 invariant-loop-items l = record {
   shorter : length l.left ≤ length l.fn.rest;
   reads : PartsSoFar l.text l.name l.fn.rest l.left l.items;
-  follows : (s : State) (u : Use) → Leads s (Named u ∷ []) l.fn.rest s (Tail u ∷ []) l.left
+  follows : (s : State) (u : Use) → Leads s (Named u ∷ []) l.fn.rest s (Tail u ∷ []) l.left;
 }
 
 abbrev pub decreases-loop-items : goal.decreases-loop-items
