@@ -20,7 +20,7 @@ fn said(alloc: Global, text: &[u8], depth: u32) -> Result<Option<Stop>, NoMemory
     }
     Ok(match parse_body(alloc, text, &list, 0, depth) {
         Err(stop) => Some(stop),
-        Ok((_tree, next)) if next + 1 == list.tokens.len() => None,
+        Ok((_tree, next)) if next.checked_add(1) == Some(list.tokens.len()) => None,
         Ok(_) => Some(Stop::NoMemory),
     })
 }
@@ -163,6 +163,7 @@ fn the_tree_of_a_body(rt: HostRuntime) -> Result<(), Fail> {
     match &tree.statements[1].kind {
         StatementKind::If(Operand::Name(_), then, Some(other)) => {
             assert_eq!(rt; other.statements.len(), 0);
+            assert_eq!(rt; then.statements.len(), 1);
             match &then.statements[0].kind {
                 StatementKind::Write(place, Operand::Constant(Constant::Number(true, 5, 39))) => {
                     assert_eq!(rt; place.parts.len(), 2);
