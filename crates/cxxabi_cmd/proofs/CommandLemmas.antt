@@ -16,3 +16,7 @@ is_one_word f xs x bytes word test some few at value eq =
     let one = one_item f xs x some few at in
     let tests = bytes_eq-Decides bytes word in
     (λ yes. one ∙ ap (λ b. b ∷ []) (sym value ∙ tests.0 (sym eq ∙ yes)), λ same. eq ∙ tests.1 (let here : f x ∷ [] ≡ word ∷ [] = sym one ∙ same in value ∙ (cc)))
+
+-- the one item of a list is this text
+pub says_word : {X : Type 0} (f : X → List ℕ) (xs : List X) (x : X) (bytes word : List ℕ) → 1 ≤ length xs → length xs < 2 → x ≡ get_or xs 0 x → bytes ≡ f x → bytes ≡ word → map f xs ≡ word ∷ []
+says_word f xs x bytes word some few at value is = one_item f xs x some few at ∙ ap (λ b. b ∷ []) (sym value ∙ is)

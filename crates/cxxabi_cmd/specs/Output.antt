@@ -1,44 +1,37 @@
 -- Which text and which status belong to words and the bytes of a source.
-use Rattle.std.specs.Prelude.{◌≡◌, ℕ, ◌<◌, ◌≤◌, List, [], ◌∷◌, ◌++◌, length, map, codes, Option, Some, IfSome, string_bytes, String}
-use Rattle.cxx_hierarchy.specs.declared.stop.Rule.TheVariants.{Syntax}
-use Rattle.cxx_hierarchy.specs.declared.stop.LimitNo.TheVariants.{L1, L6}
+use Rattle.std.specs.Prelude.{◌≡◌, ℕ, ◌<◌, ◌≤◌, List, [], ◌∷◌, ◌++◌, length, map, codes, Option, Some, None, IfSome, string_bytes, String}
+use Rattle.std.specs.Fmt.{decimal}
+use Rattle.cxx_hierarchy.specs.declared.stop.Rule.TheVariants.{Syntax, UnknownName}
+use Rattle.cxx_hierarchy.specs.declared.stop.LimitNo.TheVariants.{L1}
+use Rattle.cxx_hierarchy.specs.declared.stop.Stop.{Stop}
+use Rattle.cxx_hierarchy.specs.declared.stop.Stop.TheVariants as stop
 use Rattle.cxx_hierarchy.specs.Classes.{Classes}
-use Rattle.cxx_hierarchy.specs.ClassPass.{faults_of}
-use Rattle.cxx_hierarchy.specs.Resolved.{resolved}
-use Rattle.cxx_decl_parser.specs.declared.simple.SimpleSource.{SimpleSource}
-use Rattle.cxx_decl_parser.specs.Grammar.{IsSimple}
+use Rattle.cxx_body_parser.specs.declared.tree.BodyTree.{BodyTree}
+use Rattle.cxx_decl_parser.specs.declared.source_text.SourceText.{SourceText}
 use Rattle.cxx_resolve.specs.declared.program.SimpleProgram.{SimpleProgram}
-use Rattle.cxx_resolve.specs.Resolves.{Resolves}
+use Rattle.cxx_resolve.specs.Main.{MainResolves}
 use Rattle.path_model.specs.Runs.{Ran, Ending, Done as IsDone, UndefinedAt, OutOfSteps as IsOutOfSteps, LimitMet, run_of}
 use Rattle.path_model.specs.Rules.{undefined_no}
 use Rattle.abi_layout.specs.declared.class_layout.ClassLayout.{ClassLayout}
-use Rattle.abi_layout.specs.Places.{places_of}
-use Rattle.abi_layout.specs.Laid.{IsLaid, AreSmall, HasTooLarge}
+use Rattle.abi_layout.specs.Places.{Places, places_of}
+use Rattle.abi_layout.specs.Laid.{IsLaid}
 use Rattle.abi_print.specs.Texts.{text_of}
+use Rattle.cxxabi_cmd.specs.declared.command.Command.{Command}
+use Rattle.cxxabi_cmd.specs.declared.command.Command.TheVariants.{Check, Run}
 use Rattle.cxxabi_cmd.specs.declared.status.Status.{Status}
 use Rattle.cxxabi_cmd.specs.declared.status.Status.TheVariants.{Done, Refused, Usage, Undefined, OutOfSteps, Limit, ReadFault, WriteFault, NoMemory}
+use Rattle.cxxabi_cmd.specs.Commands.{Says, IsCommand}
 use Rattle.cxxabi_cmd.specs.Statuses.{last_line}
 use Rattle.cxxabi_cmd.specs.Streams.{IsPartOf}
+use Rattle.cxxabi_cmd.specs.Verdict.{Verdict, Stops, Accepts}
 
 -- the bytes of each word
 abbrev pub texts_of : {Z : Type 0} → List (String Z) → List (List ℕ)
 texts_of words = map string_bytes words
 
--- the one command: the word `run`
-abbrev pub IsCommand : List (List ℕ) → Type 0
-IsCommand words = words ≡ codes "run" ∷ []
-
--- the source tells these bytes, where the words are the command, which reads it
+-- the source tells these bytes, where the words are a command, each of which reads it
 abbrev pub Tells : List (List ℕ) → Option (List ℕ) → List ℕ → Type 0
 Tells words remaining bytes = IsCommand words → remaining ≡ Some bytes
-
--- the text is of the form, its class records pass, and its `main` resolves to this program over these classes
-pub record IsProgram (text : List ℕ) (h : Classes) (program : SimpleProgram) : Type 0 where
-  pub source : SimpleSource
-  pub reads : IsSimple text source
-  pub passes : faults_of source.records ≡ []
-  pub classes : h ≡ resolved source.records
-  pub main : Resolves h source.main program
 
 -- the status of a run's end
 abbrev pub status_of : Ending → Status
@@ -67,16 +60,40 @@ line_alone status = record { text = last_line status budget; status = status }
 abbrev pub run_answer : Ran → Answer
 run_answer ran = record { text = text_of ran.outs ++ last_line (status_of ran.ending) budget; status = status_of ran.ending }
 
+-- the status of a source that is not accepted
+abbrev pub status_of_stop : Stop → Status
+status_of_stop (stop.Refused rule at) = Refused rule at
+status_of_stop (stop.Limit limit) = Limit limit
+status_of_stop stop.NoMemory = NoMemory
+
+-- how many classes there are
+abbrev pub count_answer : Classes → Answer
+count_answer h = record { text = decimal (length h) ++ codes " classes\n"; status = Done }
+
+-- a source that has a main alone besides its classes, all of the form that is run, is this program
+pub record IsProgram (source : SourceText) (h : Classes) (program : SimpleProgram) : Type 0 where
+  pub globals : source.globals ≡ []
+  pub bodies : source.bodies ≡ []
+  pub tree : BodyTree
+  pub main : source.main ≡ Some tree
+  pub resolves : MainResolves h tree program
+
+-- what a command answers to an accepted source of so many bytes
+pub data Yields (size : ℕ) (source : SourceText) (h : Classes) : Command → Answer → Type 0 where
+  counted : Yields size source h Check (count_answer h)
+  no_main : source.main ≡ None → Yields size source h Run (line_alone (Refused UnknownName size))
+  not_taken : (tree : BodyTree) → source.main ≡ Some tree → ((program : SimpleProgram) → IsProgram source h program → ⊥) →
+      Yields size source h Run (line_alone (Refused Syntax 0))
+  ran : (program : SimpleProgram) (rows : List ClassLayout) → IsProgram source h program → IsLaid h rows →
+      Yields size source h Run (run_answer (run_by h rows program))
+
 -- what is answered to words and the bytes of a source
 pub data Output (words : List (List ℕ)) (bytes : List ℕ) : Answer → Type 0 where
   usage : (IsCommand words → ⊥) → Output words bytes (line_alone Usage)
   too_long : IsCommand words → 262144 < length bytes → Output words bytes (line_alone (Limit L1))
-  refused : IsCommand words → length bytes ≤ 262144 → ((h : Classes) (program : SimpleProgram) → IsProgram bytes h program → ⊥) →
-      Output words bytes (line_alone (Refused Syntax 0))
-  too_large : (h : Classes) (program : SimpleProgram) → IsCommand words → length bytes ≤ 262144 →
-      IsProgram bytes h program → HasTooLarge h → Output words bytes (line_alone (Limit L6))
-  ran : (h : Classes) (program : SimpleProgram) (rows : List ClassLayout) → IsCommand words → length bytes ≤ 262144 →
-      IsProgram bytes h program → IsLaid h rows → AreSmall rows → Output words bytes (run_answer (run_by h rows program))
+  stopped : (stop : Stop) → IsCommand words → length bytes ≤ 262144 → Verdict bytes (Stops stop) → Output words bytes (line_alone (status_of_stop stop))
+  yielded : (command : Command) (source : SourceText) (h : Classes) (answer : Answer) → Says words command → length bytes ≤ 262144 →
+      Verdict bytes (Accepts source h) → Yields (length bytes) source h command answer → Output words bytes answer
 
 -- an answer was written: neither a fault nor want of memory
 abbrev pub IsAnswered : Status → Type 0

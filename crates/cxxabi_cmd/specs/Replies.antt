@@ -1,14 +1,22 @@
 -- What the parts of the top call answer.
-use Rattle.std.specs.Prelude.{Option, Some, None, List, ℕ}
+use Rattle.std.specs.Prelude.{◌≡◌, Option, Some, None, List, ℕ}
 use Rattle.std.specs.Option.{option_map}
 use Rattle.byte_code.specs.declared.code.Code.{Code}
 use Rattle.byte_machine.specs.Turn.{State}
 use Rattle.byte_machine.specs.MachineState.{code_of, state_of}
 use Rattle.cxx_hierarchy.specs.Classes.{Classes}
+use Rattle.cxx_decl_parser.specs.declared.source_text.SourceText.{SourceText}
 use Rattle.cxx_resolve.specs.declared.program.SimpleProgram.{SimpleProgram}
-use Rattle.cxxabi_cmd.specs.declared.run.Reply.{Reply}
-use Rattle.cxxabi_cmd.specs.declared.run.Accepted.{Accepted}
+use Rattle.abi_layout.specs.declared.class_layout.ClassLayout.{ClassLayout}
+use Rattle.abi_layout.specs.Kinds.{IsStatic}
+use Rattle.abi_layout.specs.Places.{places_of}
+use Rattle.abi_layout.specs.Sound.{IsSound}
+use Rattle.abi_layout.specs.Laid.{IsLaid}
+use Rattle.cxxabi_cmd.specs.declared.reply.Reply.{Reply}
+use Rattle.cxxabi_cmd.specs.declared.command.Command.{Command}
+use Rattle.cxxabi_cmd.specs.declared.command.Command.TheVariants.{Run}
 use Rattle.cxxabi_cmd.specs.Output.{Answer, IsProgram}
+use Rattle.cxxabi_cmd.specs.Handed.{IsMachineOf}
 
 abbrev pub answer_of : Reply → Answer
 answer_of reply = record { text = reply.text.items; status = reply.status }
@@ -17,7 +25,24 @@ answer_of reply = record { text = reply.text.items; status = reply.status }
 abbrev pub machine_of : Reply → Option (Code × State)
 machine_of reply = option_map (λ m. (code_of m, state_of m)) reply.machine
 
--- the program of a text, or that there is none
-abbrev pub IsAccepted : List ℕ → Option Accepted → Type 0
-IsAccepted bytes None = (h : Classes) (program : SimpleProgram) → IsProgram bytes h program → ⊥
-IsAccepted bytes (Some accepted) = IsProgram bytes accepted.hierarchy accepted.program
+-- the layout of the classes, where none is dynamic
+pub record IsLayout (h : Classes) (rows : List ClassLayout) : Type 0 where
+  pub laid : IsLaid h rows
+  pub sound : IsSound h (places_of h rows)
+
+abbrev pub IsLayoutOf : Classes → Option (List ClassLayout) → Type 0
+IsLayoutOf h None = IsStatic h → ⊥
+IsLayoutOf h (Some rows) = IsLayout h rows
+
+-- the machine of a program of the source
+pub record IsRunBy (source : SourceText) (h : Classes) (code : Code) (state : State) : Type 0 where
+  pub rows : List ClassLayout
+  pub program : SimpleProgram
+  pub is_program : IsProgram source h program
+  pub laid : IsLaid h rows
+  pub machine : IsMachineOf h rows program code state
+
+-- the machine of the run that a command makes, or none where it makes none
+abbrev pub HandsBy : Command → SourceText → Classes → Option (Code × State) → Type 0
+HandsBy command source h None = command ≡ Run → (program : SimpleProgram) (rows : List ClassLayout) → IsProgram source h program → IsLaid h rows → ⊥
+HandsBy command source h (Some machine) = (command ≡ Run) × IsRunBy source h machine.0 machine.1

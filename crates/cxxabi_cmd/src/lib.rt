@@ -10,7 +10,10 @@
 //! memory; the whole text is made before the first byte is written.
 #![tactic(auto)]
 
+mod answer;
+pub mod command;
 pub mod reading;
+mod reply;
 pub mod run;
 pub mod sink;
 pub mod sinks;
@@ -19,6 +22,7 @@ pub mod sources;
 pub mod status;
 #[cfg(test)]
 mod tests;
+mod verdict;
 pub mod writing;
 
 pub use crate::run::{one_output, run_cxxabi};

@@ -1,0 +1,72 @@
+-- What the passes over a source say of it.
+use Rattle.std.specs.Prelude.{◌≡◌, ℕ, false, Option, Some, List, []}
+use Rattle.cxx_text.specs.declared.token.Token.{Token}
+use Rattle.cxx_text.specs.Cover.{AreTokens}
+use Rattle.cxx_grammar.specs.declared.sort.Lexeme.{Lexeme}
+use Rattle.cxx_grammar.specs.Grammar.{source_form}
+use Rattle.cxx_grammar.specs.Lexemes.{lexemes, source_start}
+use Rattle.cxx_grammar.specs.Fault.{State, Fault as Event}
+use Rattle.cxx_hierarchy.specs.declared.records.ClassId.{ClassId}
+use Rattle.cxx_hierarchy.specs.declared.stop.Stop.{Stop}
+use Rattle.cxx_hierarchy.specs.declared.stop.Stop.TheVariants.{Limit}
+use Rattle.cxx_hierarchy.specs.declared.stop.LimitNo.TheVariants.{L6}
+use Rattle.cxx_hierarchy.specs.Classes.{Classes}
+use Rattle.cxx_hierarchy.specs.ClassPass.{faults_of, first_of}
+use Rattle.cxx_hierarchy.specs.Resolved.{resolved}
+use Rattle.cxx_decl_parser.specs.declared.source_text.SourceText.{SourceText}
+use Rattle.cxx_decl_parser.specs.Sources.{SourceReads}
+use Rattle.cxx_overrider.specs.Faults.{Spot, spot, size_part, IsBefore, Fault as MeaningFault}
+use Rattle.abi_layout.specs.Kinds.{IsStatic}
+use Rattle.abi_layout.specs.Laid.{IsTooLarge}
+
+-- the tokens of the text, up to its end or to the first place where none stands, have these sorts
+pub record AreLexemes (text : List ℕ) (all : List Lexeme) : Type 0 where
+  pub tokens : List Token
+  pub bad : Option ℕ
+  pub cover : AreTokens text tokens bad
+  pub sorted : all ≡ lexemes text source_start tokens bad
+
+-- the text spells the source
+pub record IsSource (text : List ℕ) (source : SourceText) : Type 0 where
+  pub all : List Lexeme
+  pub sorts : AreLexemes text all
+  pub rest : List Lexeme
+  pub reads : SourceReads text source all rest
+
+-- no block is open, and no main was read
+abbrev pub at_start : State
+at_start = record { blocks = 0; main = false }
+
+-- the first event of reading the text
+pub record StopsText (text : List ℕ) (stop : Stop) : Type 0 where
+  pub all : List Lexeme
+  pub sorts : AreLexemes text all
+  pub event : Event source_form at_start all stop
+
+-- the pass over the meanings of the classes and their sizes: what it refuses, and where in the pass. Sizes are asked of
+-- sources without a dynamic class
+pub data Fault (h : Classes) : Spot → Stop → Type 0 where
+  meaning : (at : Spot) (stop : Stop) → MeaningFault h at stop → Fault h at stop
+  size : (c : ClassId) → IsStatic h → IsTooLarge h c → Fault h (spot c size_part 0 0) (Limit L6)
+
+-- a fault, and none is met before it
+pub record IsFirstFault (h : Classes) (stop : Stop) : Type 0 where
+  pub at : Spot
+  pub fault : Fault h at stop
+  pub first : (before : Spot) (other : Stop) → Fault h before other → IsBefore before at → ⊥
+
+-- no fault is met
+pub record HasNoFault (h : Classes) : Type 0 where
+  pub none : (at : Spot) (stop : Stop) → Fault h at stop → ⊥
+
+-- what is said of a source: where it stops, or that it is accepted, with its classes
+pub data Judgement : Type 0 where
+  Stops : Stop → Judgement
+  Accepts : SourceText → Classes → Judgement
+
+-- the passes in their order: the text, the class records, and the meanings of the classes with their sizes
+pub data Verdict (text : List ℕ) : Judgement → Type 0 where
+  by_text : (stop : Stop) → StopsText text stop → Verdict text (Stops stop)
+  by_records : (source : SourceText) (stop : Stop) → IsSource text source → first_of (faults_of source.records) ≡ Some stop → Verdict text (Stops stop)
+  by_meanings : (source : SourceText) (stop : Stop) → IsSource text source → faults_of source.records ≡ [] → IsFirstFault (resolved source.records) stop → Verdict text (Stops stop)
+  accepted : (source : SourceText) → IsSource text source → faults_of source.records ≡ [] → HasNoFault (resolved source.records) → Verdict text (Accepts source (resolved source.records))

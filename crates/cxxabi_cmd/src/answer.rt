@@ -1,0 +1,143 @@
+//! What each command answers to an accepted source.
+
+ghost use Rattle.std.specs.Prelude.{◌≡◌, ℕ, Some, None, List, IfOk, MatchOption};
+ghost use Rattle.std.specs.Option.{option_map};
+ghost use Rattle.cxx_hierarchy.specs.declared.stop.Rule.{Rule};
+ghost use Rattle.cxx_resolve.specs.declared.program.SimpleProgram.{SimpleProgram};
+ghost use Rattle.cxx_resolve.specs.Typed.{IsTypedProgram};
+ghost use Rattle.path_model.specs.Rules.{undefined_no};
+ghost use Rattle.path_model.specs.declared.Undefined.{Undefined};
+ghost use Rattle.abi_layout.specs.declared.class_layout.ClassLayout.{ClassLayout};
+ghost use Rattle.abi_layout.specs.Laid.{IsLaid};
+ghost use Rattle.abi_layout.specs.Places.{places_of};
+ghost use Rattle.abi_layout.specs.Sound.{IsSound};
+ghost use Rattle.abi_refine.specs.Endings.{ending_of};
+ghost use Rattle.cxxabi_cmd.specs.Output.{Answer, IsProgram, Yields, IsAnswered, line_alone, run_answer, run_by, status_of};
+ghost use Rattle.cxxabi_cmd.specs.Handed.{IsMachineOf};
+ghost use Rattle.cxxabi_cmd.specs.Replies.{answer_of, machine_of, IsLayoutOf, HandsBy};
+
+use crate::command::Command;
+use crate::reply::{BUDGET, Reply, class_count, line_alone};
+use crate::status::{Status, last_line_of};
+use crate::verdict::Accepted;
+use abi_layout::AbiLayout;
+use abi_refine::{End, Execution, execute};
+use cxx_decl_parser::SourceText;
+use cxx_hierarchy::{Hierarchy, Rule, Stop};
+use cxx_resolve::laws::typed;
+use cxx_resolve::{SimpleProgram, resolve_main};
+use foundation::NoMemory;
+use path_model::Undefined;
+use std::alloc::Global;
+
+// The number of a rule.
+fn number_of(rule: Undefined) -> u8
+    ensures { result ≡ undefined_no rule }
+{
+    match rule {
+        Undefined::NullUse => 1,
+        Undefined::Dangling => 2,
+        Undefined::NotReady => 3,
+        Undefined::OutsideView => 4,
+        Undefined::Unset => 5,
+        Undefined::PureCall => 6,
+        Undefined::BadDowncast => 7,
+        Undefined::NonVirtualDelete => 8,
+        Undefined::NotHeapObject => 9,
+        Undefined::NotComplete => 10,
+        Undefined::MissingReturn => 11,
+        Undefined::Overflow => 12,
+    }
+}
+
+// The status of an end.
+fn status_of(end: End) -> Status
+    ensures { result ≡ status_of (ending_of end) }
+{
+    match end {
+        End::Done => Status::Done,
+        End::Undefined(rule, line) => Status::Undefined(number_of(rule), line),
+        End::OutOfSteps => Status::OutOfSteps,
+        End::Limit(limit) => Status::Limit(limit),
+    }
+}
+
+// What is answered to a program over a layout of its classes.
+fn run_program(
+    alloc: Global,
+    h: &Hierarchy,
+    program: &SimpleProgram,
+    layout: &AbiLayout,
+) -> Result<Reply, NoMemory>
+    requires sound { IsSound h.now (places_of h.now layout.now) }
+    requires typed { IsTypedProgram h.now program.now }
+    ensures answer { IfOk result (λ reply. answer_of reply ≡ run_answer (run_by h.now layout.now program.now)) }
+    ensures machine { IfOk result (λ reply. (machine_of reply ≡ None → ⊥) × (MatchOption (machine_of reply) (Unit {0}) (λ m. IsMachineOf h.now layout.now program.now m.0 m.1))) }
+{
+    let execution = execute(alloc, h, layout, program, BUDGET)?;
+    let status = status_of(execution.end);
+    let Execution { text, machine, .. } = execution;
+    let mut text = text.into_vec();
+    text.extend_from_slice(last_line_of(alloc, status, BUDGET)?.as_bytes())?;
+    Ok(Reply {
+        text,
+        status,
+        machine: Some(machine),
+    })
+}
+
+// The program of a source that has a main, or None where it is not of the form that is run.
+fn program_of(
+    alloc: Global,
+    source: &SourceText,
+    h: &Hierarchy,
+) -> Result<Option<SimpleProgram>, NoMemory>
+    ensures { IfOk result (λ found. MatchOption found ((program : SimpleProgram) → IsProgram source.now h.now program → ⊥) (IsProgram source.now h.now)) }
+{
+    let Some(tree) = &source.main else {
+        return Ok(None);
+    };
+    if !source.globals.as_slice().is_empty() || !source.bodies.as_slice().is_empty() {
+        return Ok(None);
+    }
+    match resolve_main(alloc, h, tree) {
+        Ok(program) => Ok(Some(program)),
+        Err(Stop::NoMemory) => Err(NoMemory),
+        Err(_) => Ok(None),
+    }
+}
+
+// What is answered to `run`.
+fn run_main(alloc: Global, size: u32, accepted: &Accepted) -> Result<Reply, NoMemory>
+    requires { IsLayoutOf accepted.now.hierarchy accepted.now.layout }
+    ensures yields { IfOk result (λ reply. Yields size accepted.now.source accepted.now.hierarchy Command.Run (answer_of reply)) }
+    ensures machine { IfOk result (λ reply. HandsBy Command.Run accepted.now.source accepted.now.hierarchy (machine_of reply)) }
+{
+    if accepted.source.main.is_none() {
+        return line_alone(alloc, Status::Refused(Rule::UnknownName, size));
+    }
+    let Some(program) = program_of(alloc, &accepted.source, &accepted.hierarchy)? else {
+        return line_alone(alloc, Status::Refused(Rule::Syntax, 0));
+    };
+    let Some(layout) = &accepted.layout else {
+        return line_alone(alloc, Status::Refused(Rule::Syntax, 0));
+    };
+    run_program(alloc, &accepted.hierarchy, &program, layout)
+}
+
+// What a command answers to an accepted source of so many bytes.
+pub(crate) fn answer(
+    alloc: Global,
+    command: Command,
+    size: u32,
+    accepted: &Accepted,
+) -> Result<Reply, NoMemory>
+    requires { IsLayoutOf accepted.now.hierarchy accepted.now.layout }
+    ensures yields { IfOk result (λ reply. Yields size accepted.now.source accepted.now.hierarchy command (answer_of reply)) }
+    ensures machine { IfOk result (λ reply. HandsBy command accepted.now.source accepted.now.hierarchy (machine_of reply)) }
+{
+    match command {
+        Command::Check => class_count(alloc, &accepted.hierarchy),
+        Command::Run => run_main(alloc, size, accepted),
+    }
+}

@@ -1,0 +1,50 @@
+//! What is answered, before it is written.
+
+ghost use Rattle.std.specs.Prelude.{◌≡◌, None, IfOk};
+ghost use Rattle.cxxabi_cmd.specs.Output.{line_alone, count_answer};
+ghost use Rattle.cxxabi_cmd.specs.Replies.{answer_of, machine_of};
+
+use crate::status::{Status, last_line_of};
+use byte_machine::Machine;
+use byte_memory::FlatMemory;
+use cxx_hierarchy::Hierarchy;
+use foundation::NoMemory;
+use std::alloc::Global;
+
+/// The steps that a run may take.
+pub(crate) const BUDGET: u32 = 1_000_000;
+
+// What is answered, and the machine of the run where there was one.
+#[derive(Drop)]
+pub(crate) struct Reply {
+    pub(crate) text: Vec<u8>,
+    pub(crate) status: Status,
+    pub(crate) machine: Option<Machine<FlatMemory>>,
+}
+
+// An answer that is its last line alone.
+pub(crate) fn line_alone(alloc: Global, status: Status) -> Result<Reply, NoMemory>
+    ensures answer { IfOk result (λ reply. answer_of reply ≡ line_alone status) }
+    ensures machine { IfOk result (λ reply. machine_of reply ≡ None) }
+{
+    let line = last_line_of(alloc, status, BUDGET)?;
+    Ok(Reply {
+        text: Vec::from_slice(alloc, line.as_bytes())?,
+        status,
+        machine: None,
+    })
+}
+
+// How many classes there are.
+pub(crate) fn class_count(alloc: Global, h: &Hierarchy) -> Result<Reply, NoMemory>
+    ensures answer { IfOk result (λ reply. answer_of reply ≡ count_answer h.now) }
+    ensures machine { IfOk result (λ reply. machine_of reply ≡ None) }
+{
+    let count = h.len();
+    let line = format!(in alloc; "{count} classes\n")?;
+    Ok(Reply {
+        text: Vec::from_slice(alloc, line.as_bytes())?,
+        status: Status::Done,
+        machine: None,
+    })
+}
