@@ -8,5 +8,6 @@
 #![tactic(auto)]
 
 pub mod line;
+mod type_text;
 
 pub use crate::line::append_line;
