@@ -1,5 +1,6 @@
 pub mod Scalars
 pub mod Classes
+pub mod VirtualBases
 pub mod Stops
 pub mod NameTables
 pub mod ClassPass
