@@ -7,6 +7,7 @@
 //! for a number that is the line of the number that the run tells. Want of memory leaves the text as it was.
 #![tactic(auto)]
 
+pub mod layout_text;
 pub mod line;
 mod type_text;
 

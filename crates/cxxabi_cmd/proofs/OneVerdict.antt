@@ -1,0 +1,78 @@
+-- The passes say one thing of a text.
+use Rattle.std.proofs.Common.{◌≡◌, ℕ, Option, Some, None, List, [], refl, sym, ◌∙◌, ap, subst}
+use Rattle.cxx_text.specs.declared.token.Token.{Token}
+use Rattle.cxx_text.proofs.Unique.{tokens_same}
+use Rattle.cxx_grammar.specs.declared.sort.Lexeme.{Lexeme}
+use Rattle.cxx_grammar.specs.Grammar.{source_form}
+use Rattle.cxx_grammar.specs.Lexemes.{lexemes, source_start}
+use Rattle.cxx_grammar.specs.Fault.{Fault as Event, FrontIs}
+use Rattle.cxx_grammar.proofs.OneFault.{fault_same, no_source_fault}
+use Rattle.cxx_hierarchy.specs.declared.stop.Stop.{Stop}
+use Rattle.cxx_hierarchy.specs.Classes.{Classes}
+use Rattle.cxx_hierarchy.specs.ClassPass.{Record, faults_of, first_of}
+use Rattle.cxx_hierarchy.specs.Resolved.{resolved}
+use Rattle.cxx_decl_parser.specs.declared.source_text.SourceText.{SourceText}
+use Rattle.cxx_decl_parser.specs.Sources.{SourceReads}
+use Rattle.cxx_decl_parser.specs.Same.{SameSource}
+use Rattle.cxx_decl_parser.proofs.SameSources.{source_same}
+use Rattle.cxxabi_cmd.specs.Verdict.{AreLexemes, IsSource, StopsText, at_start, IsFirstFault, HasNoFault, Judgement, Stops, Accepts, Verdict, by_text, by_records, by_meanings, accepted}
+use Rattle.cxxabi_cmd.proofs.OneFault.{first_same, first_or_none}
+
+lexemes_same : (text : List ℕ) (a b : List Lexeme) → AreLexemes text a → AreLexemes text b → a ≡ b
+lexemes_same text a b x y =
+    let same = tokens_same text x.tokens y.tokens x.bad y.bad x.cover y.cover in
+    x.sorted ∙ ap (λ (ts : List Token). lexemes text source_start ts x.bad) same.0 ∙ ap (λ (bad : Option ℕ). lexemes text source_start y.tokens bad) same.1 ∙ sym y.sorted
+
+-- a text spells one source
+pub spells_one : (text : List ℕ) (s t : SourceText) → IsSource text s → IsSource text t → SameSource s t
+spells_one text s t x y =
+    let same = lexemes_same text x.all y.all x.sorts y.sorts in
+    source_same text s t x.all x.rest y.rest x.reads (subst (λ (all : List Lexeme). SourceReads text t all y.rest) (sym same) y.reads)
+
+-- and then no event stops its reading
+no_event : (text : List ℕ) (s : SourceText) (e : Stop) → IsSource text s → StopsText text e → ⊥
+no_event text s e x y =
+    let same = lexemes_same text x.all y.all x.sorts y.sorts in
+    no_source_fault at_start x.all x.rest e x.derives (subst (λ (all : List Lexeme). Event source_form at_start all e) (sym same) y.event)
+
+event_same : (text : List ℕ) (d e : Stop) → StopsText text d → StopsText text e → d ≡ e
+event_same text d e x y =
+    let same = lexemes_same text x.all y.all x.sorts y.sorts in
+    fault_same source_form at_start x.all d e x.event (subst (λ (all : List Lexeme). Event source_form at_start all e) (sym same) y.event)
+
+-- what two judgements have in common that say the same
+abbrev pub SameJudgement : Judgement → Judgement → Type 0
+SameJudgement (Stops d) (Stops e) = d ≡ e
+SameJudgement (Stops d) (Accepts t k) = ⊥
+SameJudgement (Accepts s h) (Stops e) = ⊥
+SameJudgement (Accepts s h) (Accepts t k) = SameSource s t × (h ≡ k)
+
+-- records that are refused do not pass
+refused_passes : (a b : List Record) (e : Stop) → a ≡ b → first_of (faults_of a) ≡ Some e → faults_of b ≡ [] → ⊥
+refused_passes a b e same first none = let clash : None ≡ Some e = ap first_of (sym none) ∙ ap (λ (r : List Record). first_of (faults_of r)) (sym same) ∙ first in cc
+
+same_first : (a b : List Record) (d e : Stop) → a ≡ b → first_of (faults_of a) ≡ Some d → first_of (faults_of b) ≡ Some e → d ≡ e
+same_first a b d e same one other = let both : Some d ≡ Some e = sym one ∙ ap (λ (r : List Record). first_of (faults_of r)) same ∙ other in cc
+
+-- the text has one verdict
+pub one_verdict : (text : List ℕ) (a b : Judgement) → Verdict text a → Verdict text b → SameJudgement a b
+one_verdict text _ _ (by_text d x) (by_text e y) = event_same text d e x y
+one_verdict text _ _ (by_text d x) (by_records t e y first) = absurd (no_event text t d y x)
+one_verdict text _ _ (by_text d x) (by_meanings t e y none first) = absurd (no_event text t d y x)
+one_verdict text _ _ (by_text d x) (accepted t y none nothing) = absurd (no_event text t d y x)
+one_verdict text _ _ (by_records s d x first) (by_text e y) = absurd (no_event text s e x y)
+one_verdict text _ _ (by_records s d x first) (by_records t e y first') = same_first s.records t.records d e (spells_one text s t x y).records first first'
+one_verdict text _ _ (by_records s d x first) (by_meanings t e y none first') = absurd (refused_passes s.records t.records d (spells_one text s t x y).records first none)
+one_verdict text _ _ (by_records s d x first) (accepted t y none nothing) = absurd (refused_passes s.records t.records d (spells_one text s t x y).records first none)
+one_verdict text _ _ (by_meanings s d x none first) (by_text e y) = absurd (no_event text s e x y)
+one_verdict text _ _ (by_meanings s d x none first) (by_records t e y first') = absurd (refused_passes t.records s.records e (sym (spells_one text s t x y).records) first' none)
+one_verdict text _ _ (by_meanings s d x none first) (by_meanings t e y none' first') =
+    first_same (resolved s.records) d e first (subst (λ (r : List Record). IsFirstFault (resolved r) e) (sym (spells_one text s t x y).records) first')
+one_verdict text _ _ (by_meanings s d x none first) (accepted t y none' nothing) =
+    absurd (first_or_none (resolved s.records) d first (subst (λ (r : List Record). HasNoFault (resolved r)) (sym (spells_one text s t x y).records) nothing))
+one_verdict text _ _ (accepted s x none nothing) (by_text e y) = absurd (no_event text s e x y)
+one_verdict text _ _ (accepted s x none nothing) (by_records t e y first) = absurd (refused_passes t.records s.records e (sym (spells_one text s t x y).records) first none)
+one_verdict text _ _ (accepted s x none nothing) (by_meanings t e y none' first) =
+    absurd (first_or_none (resolved s.records) e (subst (λ (r : List Record). IsFirstFault (resolved r) e) (sym (spells_one text s t x y).records) first) nothing)
+one_verdict text _ _ (accepted s x none nothing) (accepted t y none' nothing') =
+    let same = spells_one text s t x y in (same, ap (λ (r : List Record). resolved r) same.records)
