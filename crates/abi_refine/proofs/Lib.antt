@@ -1,4 +1,5 @@
 pub mod Turning
+pub mod Telling
 pub mod Running
 pub mod EndingNumbers
 pub mod SampleLemmas

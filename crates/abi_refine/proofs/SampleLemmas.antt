@@ -11,7 +11,7 @@ use Rattle.cxx_hierarchy.specs.Classes.{Class, Classes, class_at}
 use Rattle.cxx_hierarchy.specs.ClassPass.{IsInOrder, NamesEach, is_member, is_function, names_of}
 use Rattle.cxx_hierarchy.specs.Resolved.{resolved, resolved_class, resolved_member, class_of_name}
 use Rattle.cxx_subobject.specs.Subobjects.{whole}
-use Rattle.cxx_resolve.specs.Typed.{IsTypedProgram, new, write, read, print, IsPointer, LeadsToNumber}
+use Rattle.cxx_resolve.specs.Typed.{int, IsTypedProgram, new, write, read, print, IsPointer, LeadsToNumber}
 use Rattle.abi_layout.specs.Plain.{IsPlain, IsPlainClass, IsPlainMember}
 use Rattle.abi_lower.specs.Blocks.{class_id}
 use Rattle.abi_refine.specs.Samples.{sample_records, sample_class, sample_member, sample_place, char_program, unset_program}
@@ -67,10 +67,10 @@ pointer_there : IsPointer classes char_program.variables 0 (class_id 0)
 pointer_there = record { type = refl; known = omega arith }
 
 char_there : LeadsToNumber classes (class_id 0) (sample_place 0) (class_id 0) Char
-char_there = record { base = whole [] tt; class = refl; member = refl }
+char_there = record { base = whole [] tt; class = refl; root = refl; member = refl }
 
 int_there : LeadsToNumber classes (class_id 0) (sample_place 1) (class_id 0) Int
-int_there = record { base = whole [] tt; class = refl; member = refl }
+int_there = record { base = whole [] tt; class = refl; root = refl; member = refl }
 
 pub char_program_typed : IsTypedProgram classes char_program
 char_program_typed = (
@@ -79,7 +79,7 @@ char_program_typed = (
     write 0 (sample_place 0) _ (class_id 0) (class_id 0) Char pointer_there char_there (record { least = omega (arith, ints); greatest = omega (arith, ints) }),
     (
       read 1 0 (sample_place 0) (class_id 0) (class_id 0) Char refl pointer_there char_there tt,
-      (print 1 refl, tt),
+      (print 1 int refl, tt),
     ),
   ),
 )
@@ -89,6 +89,6 @@ unset_program_typed = (
   new 0 (class_id 0) pointer_there,
   (
     read 1 0 (sample_place 1) (class_id 0) (class_id 0) Int refl pointer_there int_there tt,
-    (print 1 refl, tt),
+    (print 1 int refl, tt),
   ),
 )
