@@ -3,3 +3,4 @@ pub mod Telling
 pub mod Running
 pub mod EndingNumbers
 pub mod SampleLemmas
+pub mod BaseSamples

@@ -55,14 +55,14 @@ fn append_lines<M: Memory>(
 
 /// The text of a run, the number of its steps and the answer of its last turn.
 #[derive(Drop)]
-struct Ran {
-    text: Vec<u8>,
-    steps: u32,
-    answer: MachineTurn,
+pub struct Ran {
+    pub text: Vec<u8>,
+    pub steps: u32,
+    pub answer: MachineTurn,
 }
 
-/// Turns a machine that stands for the start of a program until an answer ends the run.
-fn run_machine<M: Memory>(
+/// Turns a machine, over whatever memory, that stands for the start of a program until an answer ends the run.
+pub fn run_machine<M: Memory>(
     alloc: Global,
     h: &Hierarchy,
     layout: &AbiLayout,

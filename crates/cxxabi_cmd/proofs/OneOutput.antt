@@ -48,12 +48,12 @@ no_both text h program rows is laid small large =
     omega arith
 
 same_run : (text : List ℕ) (h k : Classes) (p q : SimpleProgram) (rows others : List ClassLayout) → IsProgram text h p → IsProgram text k q → IsLaid h rows → IsLaid k others →
-    run_answer (run_by h rows p) ≡ run_answer (run_by k others q)
+    run_answer h rows (run_by h rows p) ≡ run_answer k others (run_by k others q)
 same_run text h k p q rows others a b laid other =
     let same = same_program text h k p q a b in
     let here : IsLaid h others = subst (λ (c : Classes). IsLaid c others) (sym same.classes) other in
     let layout = layout_is_one h rows others (plain_program text h p a) laid here in
-    ap (λ (r : List ClassLayout). run_answer (run_by h r p)) layout ∙ ap (λ (x : SimpleProgram). run_answer (run_by h others x)) same.program ∙ ap (λ (c : Classes). run_answer (run_by c others q)) same.classes
+    ap (λ (r : List ClassLayout). run_answer h r (run_by h r p)) layout ∙ ap (λ (x : SimpleProgram). run_answer h others (run_by h others x)) same.program ∙ ap (λ (c : Classes). run_answer c others (run_by c others q)) same.classes
 
 -- words and bytes have one answer
 pub one_output : (words : List (List ℕ)) (bytes : List ℕ) (a b : Answer) → Output words bytes a → Output words bytes b → a ≡ b

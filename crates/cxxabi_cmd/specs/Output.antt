@@ -63,9 +63,9 @@ pub record Answer : Type 0 where
 abbrev pub line_alone : Status → Answer
 line_alone status = record { text = last_line status budget; status = status }
 
--- what a run told, and then its last line
-abbrev pub run_answer : Ran → Answer
-run_answer ran = record { text = text_of ran.outs ++ last_line (status_of ran.ending) budget; status = status_of ran.ending }
+-- what a run told, with the places of the layout, and then its last line
+abbrev pub run_answer : Classes → List ClassLayout → Ran → Answer
+run_answer h rows ran = record { text = text_of (places_of h rows).place ran.outs ++ last_line (status_of ran.ending) budget; status = status_of ran.ending }
 
 -- what is answered to words and the bytes of a source
 pub data Output (words : List (List ℕ)) (bytes : List ℕ) : Answer → Type 0 where
@@ -76,7 +76,7 @@ pub data Output (words : List (List ℕ)) (bytes : List ℕ) : Answer → Type 0
   too_large : (h : Classes) (program : SimpleProgram) → IsCommand words → length bytes ≤ 262144 →
       IsProgram bytes h program → HasTooLarge h → Output words bytes (line_alone (Limit L6))
   ran : (h : Classes) (program : SimpleProgram) (rows : List ClassLayout) → IsCommand words → length bytes ≤ 262144 →
-      IsProgram bytes h program → IsLaid h rows → AreSmall rows → Output words bytes (run_answer (run_by h rows program))
+      IsProgram bytes h program → IsLaid h rows → AreSmall rows → Output words bytes (run_answer h rows (run_by h rows program))
 
 -- an answer was written: neither a fault nor want of memory
 abbrev pub IsAnswered : Status → Type 0

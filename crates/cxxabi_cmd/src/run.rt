@@ -147,7 +147,7 @@ fn status_of(end: End) -> Status
 fn reply_of(alloc: Global, accepted: &Accepted, layout: &AbiLayout) -> Result<Reply, NoMemory>
     requires sound { IsSound accepted.now.hierarchy (places_of accepted.now.hierarchy layout.now) }
     requires typed { IsTypedProgram accepted.now.hierarchy accepted.now.program }
-    ensures answer { IfOk result (λ reply. answer_of reply ≡ run_answer (run_by accepted.now.hierarchy layout.now accepted.now.program)) }
+    ensures answer { IfOk result (λ reply. answer_of reply ≡ run_answer accepted.now.hierarchy layout.now (run_by accepted.now.hierarchy layout.now accepted.now.program)) }
     ensures machine { IfOk result (λ reply. IsRunMachine accepted.now.hierarchy layout.now accepted.now.program (machine_of reply)) }
 {
     let execution = execute(
