@@ -1,4 +1,4 @@
--- A subobject of a subobject is a subobject of the whole, and its place is a sum.
+-- A subobject of a subobject is a subobject of the whole.
 use Rattle.std.proofs.Common.{◌≡◌, ◌+◌, Some, true, false, List, [], ◌∷◌, ◌++◌, refl, ap, sym, ◌∙◌, subst, arith}
 use Rattle.cxx_hierarchy.specs.declared.records.ClassId.{ClassId}
 use Rattle.cxx_hierarchy.specs.Classes.{Classes}
@@ -6,8 +6,6 @@ use Rattle.cxx_subobject.specs.declared.Root.TheVariants.{Whole, Shared}
 use Rattle.cxx_subobject.specs.declared.Subobject.{Subobject}
 use Rattle.cxx_hierarchy.specs.VirtualBases.{HasVirtualBase, direct, further}
 use Rattle.cxx_subobject.specs.Subobjects.{Leads, subobject, whole_of, IsSubobject, whole, shared, last_of, class_of, join}
-use Rattle.abi_layout.specs.Places.{Places}
-use Rattle.abi_layout.specs.Sound.{IsSound}
 
 last_of-append : (c : ClassId) (p q : List ClassId) → last_of c (p ++ q) ≡ last_of (last_of c p) q
 last_of-append c [] q = refl
@@ -52,12 +50,3 @@ class_of-joined h c outer d q (shared v p has leads) e = ap Some (last_of-append
 pub class_of-join : (h : Classes) (c : ClassId) (outer : Subobject) (d : ClassId) (inner : Subobject) → IsSubobject h c outer → class_of outer ≡ Some d → IsSubobject h d inner → class_of (join outer inner) ≡ class_of inner
 class_of-join h c outer d inner s e (whole q leads) = class_of-joined h c outer d q s e
 class_of-join h c outer d inner s e (shared v q has leads) = refl
-
--- as long as no pointer names a part, a shared one lies in the whole alone
-pub place_of-join : (h : Classes) (l : Places) (c : ClassId) (outer : Subobject) (d : ClassId) (inner : Subobject) → IsSound h l → IsSubobject h c outer → class_of outer ≡ Some d → outer ≡ whole_of c → IsSubobject h d inner → l.place c (join outer inner) ≡ l.place c outer + l.place d inner
-place_of-join h l c outer d inner sound s e complete (whole q leads) = sound.joined c d outer (subobject Whole (d ∷ q)) s e (whole q leads) refl
-place_of-join h l c outer d inner sound s e complete (shared v q has leads) =
-    let same : c ≡ d = same_class c d (sym (ap class_of complete) ∙ e) in
-    let here : l.place c outer ≡ 0 = ap (l.place c) complete ∙ sound.root c in
-    let there : l.place c (subobject (Shared v) (v ∷ q)) ≡ l.place d (subobject (Shared v) (v ∷ q)) = ap (λ b. l.place b (subobject (Shared v) (v ∷ q))) same in
-    omega arith

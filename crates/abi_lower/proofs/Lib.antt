@@ -4,6 +4,11 @@ pub mod Joins
 pub mod Same
 pub mod Variables
 pub mod Places
+pub mod Conversions
+pub mod Identity
+pub mod Told
+pub mod ConvertStep
+pub mod EqualStep
 pub mod PrintStep
 pub mod ReadStep
 pub mod LeafWrite

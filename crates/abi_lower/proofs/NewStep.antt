@@ -30,6 +30,7 @@ use Rattle.byte_machine.specs.Runs.{opened}
 use Rattle.byte_machine.proofs.Leads.{Leads, leads_end, leads_new, leads_full, room_within}
 use Rattle.abi_lower.specs.Blocks.{Setup, block_of}
 use Rattle.abi_lower.specs.Stands.{Stands, ObjectsStand, LeavesStand, VariablesStand, Means, PointsTo, IsRegionOf, Agrees, listed_as}
+use Rattle.abi_lower.proofs.Told.{told_nothing}
 use Rattle.abi_lower.proofs.Variables.{VariablesStand-set, register_inside}
 use Rattle.abi_lower.proofs.Places.{value_size_positive}
 
@@ -50,7 +51,6 @@ Means-grow x classes regions n (Pointer k at) (PointerType d) word c r h = recor
   there = slice_get-push_before regions r k (slice_get_within regions k h.region h.there) ∙ h.there;
   base = h.base;
   class = h.class;
-  complete = h.complete;
   address = h.address;
 }
 
@@ -158,7 +158,7 @@ new_case x s r v c false sound none st p e =
         variables = VariablesStand-set x (s.classes ++ c ∷ []) (r.memory.regions ++ region_at x c at ∷ []) s.variables r.registers v (PointerType c) (Pointer (length s.classes) (whole_of c)) (Some at)
             (VariablesStand-grow x s.classes r.memory.regions s.variables r.registers c (region_at x c at) st.variables) p.type (points at);
       },
-      none,
+      told_nothing x (s.classes ++ c ∷ []) (r.memory.regions ++ region_at x c at ∷ []) r.outs none,
       refl,
     )))
   where
@@ -179,7 +179,6 @@ new_case x s r v c false sound none st p e =
       there = rw (← st.objects.count) (slice_get-push r.memory.regions (region_at x c at));
       base = whole [] tt;
       class = refl;
-      complete = refl;
       address = ap Some (omega (arith, sound.root c));
     }
 

@@ -19,7 +19,7 @@ use Rattle.byte_machine.specs.declared.heap.Opened.{Opened}
 use Rattle.byte_machine.proofs.Leads.{Reached}
 use Rattle.abi_lower.specs.Blocks.{Setup, pointed, pointed_in, class_or_first, declaring, offset, scalar_of}
 use Rattle.abi_lower.specs.Stands.{PointsTo, IsRegionOf, ObjectsStand}
-use Rattle.abi_lower.proofs.Joins.{join_is_subobject, class_of-join, place_of-join}
+use Rattle.abi_lower.proofs.Joins.{join_is_subobject, class_of-join}
 
 pub size_bounds : (t : Scalar) → (0 < size_of t) × (size_of t < 9)
 size_bounds TheBool = (omega arith, omega arith)
@@ -62,7 +62,7 @@ leaf_there x classes regions k at c word place d t pt to = record {
 -- its address
 pub address-is : (x : Setup) (classes : List ClassId) (regions : List Region) (k : ℕ) (at : Subobject) (c : ClassId) (word : Option ℕ) (place : MemberPlace) (d : ClassId) (t : Scalar) (start : ℕ) → IsSound x.h x.places → (pt : PointsTo x classes regions k at c word) → LeadsToNumber x.h c place d t → (start + x.places.place pt.whole at) + (x.places.place c place.base + x.places.member d place.member) ≡ start + leaf_place x.places pt.whole (join at place.base) d place.member
 address-is x classes regions k at c word place d t start sound pt to =
-    let j : x.places.place pt.whole (join at place.base) ≡ x.places.place pt.whole at + x.places.place c place.base = place_of-join x.h x.places pt.whole at c place.base sound pt.base pt.class pt.complete to.base in
+    let j : x.places.place pt.whole (join at place.base) ≡ x.places.place pt.whole at + x.places.place c place.base = sound.joined pt.whole c at place.base pt.base pt.class to.base to.root in
     omega arith
 
 -- its bytes can be reached

@@ -1,12 +1,12 @@
 -- The ranges of the number types, and the bytes of their numbers.
-use Rattle.std.proofs.Common.{◌≡◌, ℕ, suc, ◌+◌, ◌-◌, ◌*◌, ◌%◌, ◌<◌, ◌≤◌, ◌^◌, true, false, refl, arith, pos, ◌-ℤ◌, ◌+ℤ◌, ◌≤ℤ◌, ◌<ℤ◌}
+use Rattle.std.proofs.Common.{◌≡◌, ℕ, suc, ◌+◌, ◌-◌, ◌*◌, ◌%◌, ◌<◌, ◌≤◌, ◌^◌, Bool, true, false, refl, arith, pos, ◌-ℤ◌, ◌+ℤ◌, ◌≤ℤ◌, ◌<ℤ◌}
 use Rattle.std.specs.Prelude.{ℤ, negsuc, zero}
 use Rattle.std.specs.Int.{int_rem_euclid}
 use Rattle.std.proofs.lemmas.Int.{ints}
 use Rattle.std.proofs.Math.Nat.{mod-lt}
 use Rattle.cxx_hierarchy.specs.declared.records.Scalar.{Scalar}
 use Rattle.cxx_hierarchy.specs.declared.records.Scalar.TheVariants.{Bool as TheBool, Char, SChar, UChar, Short, UShort, Int, UInt, Long, ULong, LongLong, ULongLong}
-use Rattle.cxx_hierarchy.specs.Scalars.{is_signed, count_of, below_zero, IsInRange, wrapped, truth_of, stored_as, PromotesToInt}
+use Rattle.cxx_hierarchy.specs.Scalars.{size_of, is_signed, count_of, below_zero, IsInRange, wrapped, truth_of, stored_as, PromotesToInt}
 use Rattle.byte_code.specs.Numbers.{IsInBytes, IsInRange as FitsWidth}
 use Rattle.abi_lower.specs.Blocks.{width_of, register_width}
 
@@ -33,15 +33,29 @@ fits_width ULong z r = unsigned_fits 8 18446744073709551616 z (omega arith) r.le
 fits_width LongLong z r = signed_fits 8 9223372036854775808 z refl r.least r.greatest
 fits_width ULongLong z r = unsigned_fits 8 18446744073709551616 z (omega arith) r.least r.greatest
 
--- an int stands in a register
-pub fits_register : (z : ℤ) → IsInRange Int z → FitsWidth register_width z
-fits_register z r = signed_fits 8 9223372036854775808 z refl (wider_least z r.least) (wider_greatest z r.greatest)
-  where
-    wider_least : (z : ℤ) → pos 0 ≤ℤ (z +ℤ pos 2147483648) → pos 0 ≤ℤ (z +ℤ pos 9223372036854775808)
-    wider_least z h = omega (arith, ints)
+widened : (n : ℕ) (signed : Bool) (z : ℤ) → 256 ^ n ≤ 256 ^ 8 → IsInBytes n signed z → IsInBytes 8 signed z
+widened n false (pos a) more h = omega (arith, h, more)
+widened n false (negsuc a) more h = absurd h
+widened n true (pos a) more h = omega (arith, h, more)
+widened n true (negsuc a) more h = omega (arith, h, more)
 
-    wider_greatest : (z : ℤ) → (z +ℤ pos 2147483648) <ℤ pos 4294967296 → (z +ℤ pos 9223372036854775808) <ℤ pos 18446744073709551616
-    wider_greatest z h = omega (arith, ints)
+size_fits : (t : Scalar) → 256 ^ size_of t ≤ 256 ^ 8
+size_fits TheBool = omega arith
+size_fits Char = omega arith
+size_fits SChar = omega arith
+size_fits UChar = omega arith
+size_fits Short = omega arith
+size_fits UShort = omega arith
+size_fits Int = omega arith
+size_fits UInt = omega arith
+size_fits Long = omega arith
+size_fits ULong = omega arith
+size_fits LongLong = omega arith
+size_fits ULongLong = omega arith
+
+-- a number of a type stands in a register
+pub fits_register : (t : Scalar) (z : ℤ) → IsInRange t z → FitsWidth (register_width t) z
+fits_register t z r = widened (size_of t) (is_signed t) z (size_fits t) (fits_width t z r)
 
 count_positive : (t : Scalar) → 0 < count_of t
 count_positive TheBool = omega arith

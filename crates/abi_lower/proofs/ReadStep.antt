@@ -22,6 +22,7 @@ use Rattle.byte_machine.proofs.Leads.{Leads, Reached, leads_end, leads_set, lead
 use Rattle.abi_lower.specs.Blocks.{Setup, block_of, read_block, width_of}
 use Rattle.abi_lower.specs.Stands.{Stands, Means, Agrees}
 use Rattle.abi_lower.proofs.Ranges.{fits_width, promotes}
+use Rattle.abi_lower.proofs.Told.{told_nothing}
 use Rattle.abi_lower.proofs.Variables.{VariablesStand-set, register_inside}
 use Rattle.abi_lower.proofs.Places.{offset-is, scalar_of-is, leaf_there, address-is, reached}
 
@@ -32,7 +33,7 @@ leaf_case x s r v pointer far a t (Pointer k at) none st target small reach mean
 leaf_case x s r v pointer far a t (Number z) none st target small reach means =
     leads_set_leaf pointer far (width_of t) a (low_of (size_of t) z) reach means.0
     (leads_load v pointer far (width_of t) a (low_of (size_of t) z) reach means.0 (register_inside x s.classes r.memory.regions s.variables r.registers v int st.variables target)
-    (leads_end (record { objects = st.objects; leaves = st.leaves; variables = VariablesStand-set x s.classes r.memory.regions s.variables r.registers v int (Number z) (Some (extended (width_of t) (low_of (size_of t) z))) st.variables target word }, none, refl)))
+    (leads_end (record { objects = st.objects; leaves = st.leaves; variables = VariablesStand-set x s.classes r.memory.regions s.variables r.registers v int (Number z) (Some (extended (width_of t) (low_of (size_of t) z))) st.variables target word }, told_nothing x s.classes r.memory.regions r.outs none, refl)))
   where
     word : Means x s.classes r.memory.regions 8 (Number z) int (Some (extended (width_of t) (low_of (size_of t) z)))
     word = (ap Some (extended-low_of (width_of t) z (fits_width t z means.1)), promotes t z small means.1)

@@ -39,3 +39,17 @@ same_subobject-true s t e =
     let root : s.root ≡ t.root = same_root-true s.root t.root parts.0 in
     let path : s.path ≡ t.path = same_path-true s.path t.path parts.1 in
     λ i. subobject (root i) (path i)
+
+same_id-refl : (a : ClassId) → nat_eq a.0 a.0 ≡ true
+same_id-refl a = grind (arith, nat_tests)
+
+same_path-refl : (p : List ClassId) → same_path p p ≡ true
+same_path-refl [] = refl
+same_path-refl (c ∷ p) = rw (same_id-refl c) (same_path-refl p)
+
+same_root-refl : (r : Root) → same_root r r ≡ true
+same_root-refl Whole = refl
+same_root-refl (Shared v) = same_id-refl v
+
+pub same_subobject-refl : (s : Subobject) → same_subobject s s ≡ true
+same_subobject-refl s = rw (same_root-refl s.root) (same_path-refl s.path)

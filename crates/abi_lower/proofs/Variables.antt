@@ -1,5 +1,5 @@
 -- The variables and their registers.
-use Rattle.std.proofs.Common.{◌≡◌, ◌≢◌, ℕ, zero, suc, ◌<◌, ⊎_elim, Option, Some, List, [], ◌∷◌, subst, refl, ap, ◌∙◌, arith, length, set}
+use Rattle.std.proofs.Common.{◌≡◌, ◌≢◌, ℕ, zero, suc, ◌<◌, ◌≤◌, ⊎_elim, Option, Some, List, [], ◌∷◌, subst, refl, ap, ◌∙◌, arith, length, set}
 use Rattle.std.specs.List.{slice_get}
 use Rattle.std.proofs.lemmas.Bool.{cases_eq}
 use Rattle.std.proofs.lemmas.List.{length-set}
@@ -59,13 +59,13 @@ VariablesStand-set x classes regions variables registers into type value word st
     other_case : (v : ℕ) (type' : ValueType ClassId) → slice_get x.types v ≡ Some type' → (v ≡ into → ⊥) → Means x classes regions 8 (value_in (slice_get (set variables into value) v)) type' (word_at (set registers into word) v)
     other_case v type' there ne = rw (slice_get-set_other variables into v value ne, word_at-set_other registers into v word ne) (st.values v type' there)
 
--- the free register is set
-pub VariablesStand-scratch : (x : Setup) (classes : List ClassId) (regions : List Region) (variables : List Value) (registers : List (Option ℕ)) (word : Option ℕ) → VariablesStand x classes regions variables registers → VariablesStand x classes regions variables (set registers (length x.types) word)
-VariablesStand-scratch x classes regions variables registers word st = record {
+-- a free register is set
+pub VariablesStand-free : (x : Setup) (classes : List ClassId) (regions : List Region) (variables : List Value) (registers : List (Option ℕ)) (free : ℕ) (word : Option ℕ) → length x.types ≤ free → VariablesStand x classes regions variables registers → VariablesStand x classes regions variables (set registers free word)
+VariablesStand-free x classes regions variables registers free word past st = record {
   count = st.count;
-  register_count = length-set registers (length x.types) word ∙ st.register_count;
-  values = λ v type here. rw (word_at-set_other registers (length x.types) v word (other v type here)) (st.values v type here);
+  register_count = length-set registers free word ∙ st.register_count;
+  values = λ v type here. rw (word_at-set_other registers free v word (other v type here)) (st.values v type here);
 }
   where
-    other : (v : ℕ) (type : ValueType ClassId) → slice_get x.types v ≡ Some type → v ≡ length x.types → ⊥
+    other : (v : ℕ) (type : ValueType ClassId) → slice_get x.types v ≡ Some type → v ≡ free → ⊥
     other v type here e = let inside = slice_get_within x.types v type here in absurd (omega (arith, inside))

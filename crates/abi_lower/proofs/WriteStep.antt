@@ -19,25 +19,26 @@ use Rattle.byte_code.specs.Numbers.{low_of, word_of}
 use Rattle.byte_code.proofs.Words.{word_of-low}
 use Rattle.byte_machine.specs.Effect.{Running, word_at}
 use Rattle.byte_machine.proofs.Leads.{Leads, Reached, leads_end, leads_const, leads_set, leads_unset, leads_store}
-use Rattle.abi_lower.specs.Blocks.{Setup, block_of, width_of, scratch}
+use Rattle.abi_lower.specs.Blocks.{Setup, block_of, width_of, first_free}
 use Rattle.abi_lower.specs.Stands.{Stands, LeavesStand, Means, Agrees}
 use Rattle.abi_lower.proofs.Ranges.{stored_in_range}
-use Rattle.abi_lower.proofs.Variables.{VariablesStand-scratch, word_at-set_same}
+use Rattle.abi_lower.proofs.Told.{told_nothing}
+use Rattle.abi_lower.proofs.Variables.{VariablesStand-free, word_at-set_same}
 use Rattle.abi_lower.proofs.Places.{size_bounds, offset-is, scalar_of-is, leaf_there, address-is, reached}
 use Rattle.abi_lower.proofs.LeafWrite.{Written, LeavesStand-write}
 
 kept_by-is : (x : Setup) (place : MemberPlace) (c d : ClassId) (t : Scalar) (z : ℤ) → LeadsToNumber x.h c place d t → kept_by x.h place z ≡ Number (stored_as t z)
 kept_by-is x place c d t z to = rw (to.class, to.member) refl
 
-write_case : (x : Setup) (s : State) (r : Running) (pointer : ℕ) (place : MemberPlace) (c d : ClassId) (t : Scalar) (z : ℤ) (value : Value) → IsSound x.h x.places → r.outs ≡ [] → Stands x s r.memory r.registers r.objects r.heap → LeadsToNumber x.h c place d t → word_at r.registers (scratch x) ≡ Some (word_of (stored_as t z)) → Means x s.classes r.memory.regions 8 value (PointerType c) (word_at r.registers pointer) →
-    Leads (Check (SetRegister pointer) ∷ (Store (scratch x) pointer (x.places.place c place.base + x.places.member d place.member) (width_of t) ∷ [])) r (Agrees x (written x.h r.line s value place z))
+write_case : (x : Setup) (s : State) (r : Running) (pointer : ℕ) (place : MemberPlace) (c d : ClassId) (t : Scalar) (z : ℤ) (value : Value) → IsSound x.h x.places → r.outs ≡ [] → Stands x s r.memory r.registers r.objects r.heap → LeadsToNumber x.h c place d t → word_at r.registers (first_free x) ≡ Some (word_of (stored_as t z)) → Means x s.classes r.memory.regions 8 value (PointerType c) (word_at r.registers pointer) →
+    Leads (Check (SetRegister pointer) ∷ (Store (first_free x) pointer (x.places.place c place.base + x.places.member d place.member) (width_of t) ∷ [])) r (Agrees x (written x.h r.line s value place z))
 write_case x s r pointer place c d t z Unset sound none st to constant means = leads_unset pointer means (refl, none)
 write_case x s r pointer place c d t z (Number n) sound none st to constant means = absurd means
 write_case x s r pointer place c d t z (Pointer k at) sound none st to constant pt =
     rw (kept_by-is x place c d t z to)
     (leads_set pointer a pt.address
-    (leads_store (scratch x) pointer offset' (width_of t) a word reach constant
-    (leads_end (record { objects = st.objects; leaves = leaves; variables = st.variables }, none, refl))))
+    (leads_store (first_free x) pointer offset' (width_of t) a word reach constant
+    (leads_end (record { objects = st.objects; leaves = leaves; variables = st.variables }, told_nothing x s.classes r.memory.regions r.outs none, refl))))
   where
     a : ℕ
     a = pt.region.start + x.places.place pt.whole at
@@ -69,17 +70,17 @@ write_case x s r pointer place c d t z (Pointer k at) sound none st to constant 
 pub step_write : (x : Setup) (s : State) (r : Running) (pointer : ℕ) (place : MemberPlace) (z : ℤ) (c d : ClassId) (t : Scalar) → IsSound x.h x.places → r.outs ≡ [] → Stands x s r.memory r.registers r.objects r.heap → IsPointer x.h x.types pointer c → LeadsToNumber x.h c place d t → Leads (block_of x (Write pointer place z)) r (Agrees x (written x.h r.line s (variable_at s pointer) place z))
 step_write x s r pointer place z c d t sound none st p to =
     rw (offset-is x pointer place c d t p to, scalar_of-is x place c d t to)
-    (leads_const (scratch x) word inside
-    (write_case x s (record r { registers = registers }) pointer place c d t z (variable_at s pointer) sound none stands to (word_at-set_same r.registers (scratch x) (Some word) inside) (stands.variables.values pointer (PointerType c) p.type)))
+    (leads_const (first_free x) word inside
+    (write_case x s (record r { registers = registers }) pointer place c d t z (variable_at s pointer) sound none stands to (word_at-set_same r.registers (first_free x) (Some word) inside) (stands.variables.values pointer (PointerType c) p.type)))
   where
     word : ℕ
     word = word_of (stored_as t z)
 
     registers : List (Option ℕ)
-    registers = set r.registers (scratch x) (Some word)
+    registers = set r.registers (first_free x) (Some word)
 
-    inside : scratch x < length r.registers
+    inside : first_free x < length r.registers
     inside = omega (arith, st.variables.register_count)
 
     stands : Stands x s r.memory registers r.objects r.heap
-    stands = record { objects = st.objects; leaves = st.leaves; variables = VariablesStand-scratch x s.classes r.memory.regions s.variables r.registers (Some word) st.variables }
+    stands = record { objects = st.objects; leaves = st.leaves; variables = VariablesStand-free x s.classes r.memory.regions s.variables r.registers (first_free x) (Some word) (omega arith) st.variables }

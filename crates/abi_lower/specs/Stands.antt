@@ -1,17 +1,17 @@
 -- What it means that bytes and registers stand for a state of the subobject machine.
-use Rattle.std.specs.Prelude.{◌≡◌, ℕ, ◌+◌, ◌<◌, ◌≤◌, ◌^◌, true, Option, Some, None, List, [], length, map, slice_get}
+use Rattle.std.specs.Prelude.{◌≡◌, ℕ, ◌+◌, ◌<◌, ◌≤◌, ◌^◌, true, Option, Some, None, List, [], ◌∷◌, length, slice_get}
 use Rattle.cxx_hierarchy.specs.declared.records.ClassId.{ClassId}
 use Rattle.cxx_hierarchy.specs.declared.records.ValueType.{ValueType}
 use Rattle.cxx_hierarchy.specs.declared.records.ValueType.TheVariants.{Number as NumberType, Pointer as PointerType}
 use Rattle.cxx_hierarchy.specs.Stops.{limit_no}
 use Rattle.cxx_hierarchy.specs.Scalars.{IsInRange}
 use Rattle.cxx_subobject.specs.declared.Subobject.{Subobject}
-use Rattle.cxx_subobject.specs.Subobjects.{IsSubobject, class_of, whole_of}
+use Rattle.cxx_subobject.specs.Subobjects.{IsSubobject, class_of}
 use Rattle.abi_layout.specs.Places.{size_of_value}
 use Rattle.abi_layout.specs.Sound.{IsLeaf, leaf_place}
 use Rattle.path_model.specs.Rules.{undefined_no}
 use Rattle.path_model.specs.Values.{State, Value, Leaves, Unset, Number, Pointer, value_in}
-use Rattle.path_model.specs.Steps.{Out, NumberOut, Move, Goes, Refuses, Limits, Ends, heap_total}
+use Rattle.path_model.specs.Steps.{Out, NumberOut, PointerOut, Move, Goes, Refuses, Limits, Ends, heap_total}
 use Rattle.byte_memory.specs.declared.memory.Region.{Region}
 use Rattle.byte_memory.specs.Regions.{IsAscending, total_of}
 use Rattle.byte_memory.specs.Bytes.{number_from}
@@ -19,14 +19,22 @@ use Rattle.byte_memory.specs.Store.{Store}
 use Rattle.byte_code.specs.Numbers.{low_of}
 use Rattle.byte_machine.specs.declared.heap.Opened.{Opened}
 use Rattle.byte_machine.specs.declared.turn.RawOut.{RawOut}
-use Rattle.byte_machine.specs.declared.turn.RawOut.TheVariants.{Number as RawNumber}
+use Rattle.byte_machine.specs.declared.turn.RawOut.TheVariants.{Number as RawNumber, Address as RawAddress}
 use Rattle.byte_machine.specs.declared.turn.MachineTurn.{MachineTurn}
 use Rattle.byte_machine.specs.declared.turn.MachineTurn.TheVariants.{Went, Ended, Refused, Limit}
 use Rattle.byte_machine.specs.Effect.{Running, word_at}
 use Rattle.byte_machine.specs.Turn.{State as Bytes}
 use Rattle.abi_lower.specs.Blocks.{Setup}
 
--- a word is the address of a subobject: the start of its object's region, plus its place
+-- the address is that of a subobject of an object of class c: the start of the object's region, plus its place
+pub record LiesAt (x : Setup) (classes : List ClassId) (regions : List Region) (k : ℕ) (c : ClassId) (at : Subobject) (address : ℕ) : Type 0 where
+  pub region : Region
+  pub object : slice_get classes k ≡ Some c
+  pub there : slice_get regions k ≡ Some region
+  pub base : IsSubobject x.h c at
+  pub address_is : address ≡ region.start + x.places.place c at
+
+-- a word is the address of a subobject of class c
 pub record PointsTo (x : Setup) (classes : List ClassId) (regions : List Region) (k : ℕ) (at : Subobject) (c : ClassId) (word : Option ℕ) : Type 0 where
   pub whole : ClassId
   pub region : Region
@@ -34,8 +42,6 @@ pub record PointsTo (x : Setup) (classes : List ClassId) (regions : List Region)
   pub there : slice_get regions k ≡ Some region
   pub base : IsSubobject x.h whole at
   pub class : class_of at ≡ Some c
-  -- as long as no statement makes a pointer to a part, each pointer names a whole
-  pub complete : at ≡ whole_of whole
   pub address : word ≡ Some (region.start + x.places.place whole at)
 
 -- n bytes, as a word or as none, are a value of a type: a number stands modulo 256 ^ n
@@ -74,10 +80,10 @@ pub record LeavesStand (x : Setup) (classes : List ClassId) (leaf : Leaves) (mem
       Means x classes memory.regions (size_of_value type) (leaf k s m) type (number_from memory.byte (r.start + leaf_place x.places c s d m) (size_of_value type))
   pub fresh : (k : ℕ) (s : Subobject) (m : ℕ) → length classes ≤ k → leaf k s m ≡ Unset
 
--- register n is variable n, and one more register is free
+-- register n is variable n, and two more registers are free
 pub record VariablesStand (x : Setup) (classes : List ClassId) (regions : List Region) (variables : List Value) (registers : List (Option ℕ)) : Type 0 where
   pub count : length variables ≡ length x.types
-  pub register_count : length registers ≡ length x.types + 1
+  pub register_count : length registers ≡ length x.types + 2
   pub values : (v : ℕ) (type : ValueType ClassId) → slice_get x.types v ≡ Some type → Means x classes regions 8 (value_in (slice_get variables v)) type (word_at registers v)
 
 -- what the ops of a block work on stands for a state
@@ -92,13 +98,23 @@ pub record StandsFor (x : Setup) (s : State) (b : Bytes) : Type 0 where
   pub block : b.block ≡ s.next
   pub going : b.answer ≡ None
 
--- what the machine tells for a value that a run tells
-abbrev pub raw_of : Out → RawOut
-raw_of (NumberOut z) = RawNumber z
+-- what the machine tells reads as what a run tells: the number, or the address of the subobject
+abbrev pub ReadsAs : Setup → List ClassId → List Region → RawOut → Out → Type 0
+ReadsAs x classes regions (RawNumber w) (NumberOut z) = w ≡ z
+ReadsAs x classes regions (RawNumber w) (PointerOut k c at) = ⊥
+ReadsAs x classes regions (RawAddress a) (NumberOut z) = ⊥
+ReadsAs x classes regions (RawAddress a) (PointerOut k c at) = LiesAt x classes regions k c at a
+
+-- item by item
+abbrev pub ReadAs : Setup → List ClassId → List Region → List RawOut → List Out → Type 0
+ReadAs x classes regions [] [] = Unit {0}
+ReadAs x classes regions [] (out ∷ outs) = ⊥
+ReadAs x classes regions (raw ∷ told) [] = ⊥
+ReadAs x classes regions (raw ∷ told) (out ∷ outs) = ReadsAs x classes regions raw out × ReadAs x classes regions told outs
 
 -- what a block leads to agrees with the move of its statement
 abbrev pub Agrees : Setup → Move → Running → MachineTurn → Type 0
-Agrees x (Goes s outs) new turn = Stands x s new.memory new.registers new.objects new.heap × (new.outs ≡ map raw_of outs) × (turn ≡ Went)
+Agrees x (Goes s outs) new turn = Stands x s new.memory new.registers new.objects new.heap × ReadAs x s.classes new.memory.regions new.outs outs × (turn ≡ Went)
 Agrees x (Refuses rule line) new turn = (turn ≡ Refused (undefined_no rule) line) × (new.outs ≡ [])
 Agrees x (Limits limit) new turn = (turn ≡ Limit (limit_no limit)) × (new.outs ≡ [])
 Agrees x Ends new turn = (turn ≡ Ended) × (new.outs ≡ [])

@@ -1,6 +1,6 @@
 //! The blocks of a program.
 
-ghost use Rattle.std.specs.Prelude.{◌≡◌, ℕ, ◌+◌, ◌<◌, Some, None, IfOk, List, length, slice_get, map, ◌++◌, ◌∷◌, []};
+ghost use Rattle.std.specs.Prelude.{◌≡◌, ℕ, ◌+◌, ◌<◌, ◌^◌, Some, None, IfOk, List, length, slice_get, map, ◌++◌, ◌∷◌, []};
 ghost use Rattle.std.specs.List.{AllByRecursion};
 ghost use Rattle.cxx_hierarchy.specs.declared.records.ClassId.{ClassId};
 ghost use Rattle.cxx_hierarchy.specs.declared.records.Scalar.{Scalar};
@@ -8,16 +8,16 @@ ghost use Rattle.cxx_hierarchy.specs.Classes.{leaf_type};
 ghost use Rattle.cxx_hierarchy.specs.Scalars.{stored_as};
 ghost use Rattle.byte_code.specs.Numbers.{word_of};
 ghost use Rattle.cxx_subobject.specs.Subobjects.{class_of};
-ghost use Rattle.cxx_resolve.specs.Typed.{IsTyped, IsTypedProgram, IsPointer, LeadsToNumber};
+ghost use Rattle.cxx_resolve.specs.Typed.{IsTyped, IsTypedProgram, IsPointer, IsConverted, LeadsToNumber};
 ghost use Rattle.abi_layout.specs.Places.{places_of};
 ghost use Rattle.abi_layout.specs.Sound.{IsSound};
-ghost use Rattle.abi_lower.specs.Blocks.{setup, class_or_first, pointed, pointed_in, declaring, scalar_in, scalar_of, offset, width_of, write_block, read_block, print_block, block_of, block_for, closing, code_for};
+ghost use Rattle.abi_lower.specs.Blocks.{setup, class_or_first, pointed, pointed_in, declaring, scalar_in, scalar_of, offset, base_offset, width_of, write_block, read_block, convert_block, equal_block, print_block, print_as as print_as_of, block_of, block_for, closing, code_for};
 
-use crate::convert::{kept, width};
+use crate::convert::{kept, register_width, width};
 use abi_layout::AbiLayout;
-use byte_code::{Block, BlockList, Check, Code, Op, OpList, PrintAs, Width};
+use byte_code::{ArithKind, Block, BlockList, Check, Code, Op, OpList, PrintAs};
 use cxx_hierarchy::{ClassId, FieldType, Hierarchy, Scalar, ValueType};
-use cxx_resolve::{MemberPlace, SimpleProgram, Statement, TypedLine};
+use cxx_resolve::{Converted, MemberPlace, SimpleProgram, Statement, TypedLine};
 use foundation::{NoMemory, Sequence};
 use std::alloc::Global;
 
@@ -76,6 +76,32 @@ fn access(
     (offset, member_scalar(h, d, place.member))
 }
 
+/// How many bytes the base of a conversion lies from the address that the pointer variable has.
+fn distance(
+    h: &Hierarchy,
+    layout: &AbiLayout,
+    types: &[ValueType<ClassId>],
+    from: &Converted,
+) -> u32
+    requires sound { IsSound h.now (places_of h.now layout.now) }
+    requires typed { (c d : ClassId) × IsConverted h.now types.now from.now c d }
+    ensures { result ≡ base_offset (setup h.now (places_of h.now layout.now) types.now) from.now }
+{
+    let c = pointed_class(types, from.pointer);
+    layout.place(h, c, &from.base)
+}
+
+/// How the register of a variable is printed.
+fn print_as(types: &[ValueType<ClassId>], variable: u32) -> PrintAs
+    ensures { result ≡ print_as_of (slice_get types.now variable) }
+{
+    match types.get(variable as usize) {
+        Some(ValueType::Pointer(_)) => PrintAs::Address,
+        Some(ValueType::Number(t)) => PrintAs::Number(register_width(*t)),
+        None => PrintAs::Number(register_width(Scalar::Int)),
+    }
+}
+
 /// A list of these ops.
 fn op_list(alloc: Global, ops: &[Op]) -> Result<OpList, NoMemory>
     ensures { IfOk result (λ list. list ≡ ops.now) }
@@ -87,21 +113,21 @@ fn op_list(alloc: Global, ops: &[Op]) -> Result<OpList, NoMemory>
 /// The ops that write a number to a member of the type `scalar`.
 fn write_ops(
     alloc: Global,
-    scratch: u32,
+    free: u32,
     pointer: u32,
     offset: u32,
     scalar: Scalar,
     value: i64,
 ) -> Result<OpList, NoMemory>
-    ensures { IfOk result (λ ops. ops ≡ write_block pointer scratch offset (width_of scalar) (word_of (stored_as scalar value))) }
+    ensures { IfOk result (λ ops. ops ≡ write_block pointer free offset (width_of scalar) (word_of (stored_as scalar value))) }
 {
     let constant = Op::Const {
-        to: scratch,
+        to: free,
         value: kept(scalar, value),
     };
     let check = Op::Check(Check::SetRegister { register: pointer });
     let store = Op::Store {
-        from: scratch,
+        from: free,
         base: pointer,
         offset,
         width: width(scalar),
@@ -136,34 +162,90 @@ fn read_ops(
     op_list(alloc, &[check, check_leaf, load])
 }
 
-/// The ops that print a number.
-fn print_ops(alloc: Global, variable: u32) -> Result<OpList, NoMemory>
-    ensures { IfOk result (λ ops. ops ≡ print_block variable) }
+/// The ops that convert a pointer to a base that lies so many bytes behind it.
+fn convert_ops(alloc: Global, variable: u32, pointer: u32, offset: u32) -> Result<OpList, NoMemory>
+    ensures { IfOk result (λ ops. ops ≡ convert_block variable pointer offset) }
+{
+    let check = Op::Check(Check::SetRegister { register: pointer });
+    let add = Op::Add {
+        to: variable,
+        base: pointer,
+        offset,
+    };
+    op_list(alloc, &[check, add])
+}
+
+/// A pointer variable, and how many bytes its base lies behind it.
+#[derive(Clone, Copy)]
+struct Side {
+    pointer: u32,
+    offset: u32,
+}
+
+/// The ops that compare two pointers, each converted into one of two registers from `free` on.
+fn equal_ops(
+    alloc: Global,
+    variable: u32,
+    free: u32,
+    left: Side,
+    right: Side,
+) -> Result<OpList, NoMemory>
+    requires { free + 1 < 2 ^ 32 }
+    ensures { IfOk result (λ ops. ops ≡ equal_block variable free (free + 1) left.pointer left.offset right.pointer right.offset) }
+{
+    let check_left = Op::Check(Check::SetRegister {
+        register: left.pointer,
+    });
+    let check_right = Op::Check(Check::SetRegister {
+        register: right.pointer,
+    });
+    let add_left = Op::Add {
+        to: free,
+        base: left.pointer,
+        offset: left.offset,
+    };
+    let add_right = Op::Add {
+        to: free + 1,
+        base: right.pointer,
+        offset: right.offset,
+    };
+    let compare = Op::Arith {
+        kind: ArithKind::Equal,
+        to: variable,
+        left: free,
+        right: free + 1,
+    };
+    op_list(
+        alloc,
+        &[check_left, check_right, add_left, add_right, compare],
+    )
+}
+
+/// The ops that print a variable.
+fn print_ops(alloc: Global, variable: u32, what: PrintAs) -> Result<OpList, NoMemory>
+    ensures { IfOk result (λ ops. ops ≡ print_block variable what) }
 {
     let check = Op::Check(Check::SetRegister { register: variable });
-    let signed_word = Width {
-        bytes: 8,
-        signed: true,
-    };
     let print = Op::Print {
         from: variable,
-        what: PrintAs::Number(signed_word),
+        what,
     };
     op_list(alloc, &[check, print])
 }
 
-/// The ops of a statement; `scratch` is the number of the register after those of the variables.
+/// The ops of a statement; `free` is the number of the first register after those of the variables.
 fn lower_statement(
     alloc: Global,
     h: &Hierarchy,
     layout: &AbiLayout,
     types: &[ValueType<ClassId>],
-    scratch: u32,
+    free: u32,
     statement: &Statement,
 ) -> Result<OpList, NoMemory>
     requires sound { IsSound h.now (places_of h.now layout.now) }
     requires typed { IsTyped h.now types.now statement.now }
-    requires scratch { scratch ≡ length types.now }
+    requires free { free ≡ length types.now }
+    requires room { free + 1 < 2 ^ 32 }
     ensures { IfOk result (λ ops. ops ≡ block_of (setup h.now (places_of h.now layout.now) types.now) statement.now) }
 {
     match statement {
@@ -179,7 +261,7 @@ fn lower_statement(
             value,
         } => {
             let (offset, scalar) = access(h, layout, types, *pointer, place);
-            write_ops(alloc, scratch, *pointer, offset, scalar, *value)
+            write_ops(alloc, free, *pointer, offset, scalar, *value)
         }
         Statement::Read {
             variable,
@@ -189,7 +271,26 @@ fn lower_statement(
             let (offset, scalar) = access(h, layout, types, *pointer, place);
             read_ops(alloc, *variable, *pointer, offset, scalar)
         }
-        Statement::Print { variable } => print_ops(alloc, *variable),
+        Statement::Convert { variable, from } => {
+            let offset = distance(h, layout, types, from);
+            convert_ops(alloc, *variable, from.pointer, offset)
+        }
+        Statement::Equal {
+            variable,
+            left,
+            right,
+        } => {
+            let left = Side {
+                pointer: left.pointer,
+                offset: distance(h, layout, types, left),
+            };
+            let right = Side {
+                pointer: right.pointer,
+                offset: distance(h, layout, types, right),
+            };
+            equal_ops(alloc, *variable, free, left, right)
+        }
+        Statement::Print { variable } => print_ops(alloc, *variable, print_as(types, *variable)),
     }
 }
 
@@ -207,17 +308,18 @@ fn lower_lines(
     h: &Hierarchy,
     layout: &AbiLayout,
     types: &[ValueType<ClassId>],
-    scratch: u32,
+    free: u32,
     lines: &[TypedLine],
 ) -> Result<BlockList, NoMemory>
     requires sound { IsSound h.now (places_of h.now layout.now) }
     requires typed { AllByRecursion (λ line. IsTyped h.now types.now line.what) lines.now }
-    requires scratch { scratch ≡ length types.now }
+    requires free { free ≡ length types.now }
+    requires room { free + 1 < 2 ^ 32 }
     ensures { IfOk result (λ blocks. blocks ≡ map (block_for (setup h.now (places_of h.now layout.now) types.now)) lines.now ++ closing ∷ []) }
 {
     let mut blocks = Sequence::new(alloc);
     for line in lines {
-        let ops = lower_statement(alloc, h, layout, types, scratch, &line.what)?;
+        let ops = lower_statement(alloc, h, layout, types, free, &line.what)?;
         blocks.push(Block {
             ops,
             line: line.line,
@@ -229,7 +331,7 @@ fn lower_lines(
 
 /// The code of a program whose types fit, over a sound layout: a block for each line, and one that ends the run.
 ///
-/// Variable n is register n. Want of memory is the one refusal; a program of more variables than there are
+/// Variable n is register n, and two more registers are free. Want of memory is the one refusal; a program of more variables than there are
 /// numbers of registers meets it too.
 pub fn lower(
     alloc: Global,
@@ -242,15 +344,15 @@ pub fn lower(
     ensures { IfOk result (λ code. code ≡ code_for (setup h.now (places_of h.now layout.now) program.now.variables) program.now.lines) }
 {
     let types = program.variables.as_slice();
-    if types.len() >= u32::MAX as usize {
+    if types.len() >= u32::MAX as usize - 1 {
         return Err(NoMemory);
     }
-    let scratch = types.len() as u32;
-    let blocks = lower_lines(alloc, h, layout, types, scratch, program.lines.as_slice())?;
+    let free = types.len() as u32;
+    let blocks = lower_lines(alloc, h, layout, types, free, program.lines.as_slice())?;
     Ok(Code {
         blocks,
         start: 0,
         globals: 0,
-        registers: scratch + 1,
+        registers: free + 2,
     })
 }

@@ -4,7 +4,7 @@ ghost use Rattle.std.specs.Prelude.{◌≡◌, ℕ, ℤ, ◌≤◌, ◌<◌, ◌
 ghost use Rattle.std.specs.Int.{int_rem_euclid};
 ghost use Rattle.cxx_hierarchy.specs.Scalars.{stored_as};
 ghost use Rattle.byte_code.specs.Numbers.{word_of};
-ghost use Rattle.abi_lower.specs.Blocks.{width_of};
+ghost use Rattle.abi_lower.specs.Blocks.{width_of, register_width as register_width_of};
 
 use byte_code::Width;
 use cxx_hierarchy::Scalar;
@@ -46,6 +46,16 @@ pub fn width(scalar: Scalar) -> Width
             bytes: 8,
             signed: false,
         },
+    }
+}
+
+/// The bytes of a register, read as a number of the type.
+pub fn register_width(scalar: Scalar) -> Width
+    ensures { result ≡ register_width_of scalar }
+{
+    Width {
+        bytes: 8,
+        signed: width(scalar).signed,
     }
 }
 

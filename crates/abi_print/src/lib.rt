@@ -1,10 +1,11 @@
 //! The texts that a run prints.
 //!
 //! This crate owns the text of what a run tells (`specs/Texts.antt`): for each number its decimal digits, with `-`
-//! before one below 0, and a line feed.
+//! before one below 0, for each pointer its object's number and the place of its subobject in it, and a line feed.
+//! The places are those of a layout, which this crate does not know.
 //!
-//! The layer above may rely on: `append_line` puts the line of what the machine tells at the end of a text, and
-//! for a number that is the line of the number that the run tells. Want of memory leaves the text as it was.
+//! The layer above may rely on: `append_line` puts the line of what the machine tells at the end of a text; an
+//! address is read by the heap objects that the machine has listed. Want of memory leaves the text as it was.
 #![tactic(auto)]
 
 pub mod layout_text;

@@ -1,12 +1,12 @@
 -- A run, turn by turn.
 use Rattle.std.proofs.Common.{◌≡◌, ◌≢◌, ℕ, zero, suc, ◌+◌, ◌-◌, ◌<◌, ◌≤◌, Option, Some, None, List, [], ◌∷◌, ◌++◌, subst, sym, refl, ap, ◌∙◌, arith, length, map, append_assoc, replicate, true, false, Bool}
-use Rattle.std.specs.Prelude.{All, nat_eq}
+use Rattle.std.specs.Prelude.{nat_eq}
 use Rattle.std.specs.List.{slice_get}
 use Rattle.std.proofs.lemmas.List.{append-nil, length-replicate}
-use Rattle.std.proofs.lemmas.List.Elements.{All-nil, All-cons}
 use Rattle.std.proofs.lemmas.Grind.{flat_map-append}
 use Rattle.std.proofs.lemmas.Bool.Decides.{nat_tests}
 use Rattle.cxx_resolve.specs.declared.program.SimpleProgram.{SimpleProgram}
+use Rattle.abi_layout.specs.Sound.{IsSound}
 use Rattle.path_model.specs.Values.{State, Unset, value_in}
 use Rattle.path_model.specs.Steps.{Out, NumberOut, Move, Goes, Refuses, Limits, Ends, step}
 use Rattle.path_model.specs.Runs.{Ran, run_of, run_from, ran_by, state_at, next_state, start}
@@ -19,17 +19,18 @@ use Rattle.byte_machine.specs.declared.turn.MachineTurn.TheVariants.{Went, Ended
 use Rattle.byte_machine.specs.Effect.{word_at}
 use Rattle.byte_machine.specs.Turn.{State as Bytes, Turns, TurnsBy, begun, kept}
 use Rattle.abi_lower.specs.Blocks.{Setup, code_for}
-use Rattle.abi_lower.specs.Stands.{StandsFor, raw_of}
-use Rattle.abi_print.specs.Texts.{line_of, text_of, raw_line, raw_text, IsNumber}
+use Rattle.abi_lower.specs.Stands.{StandsFor}
+use Rattle.abi_print.specs.Texts.{line_of, text_of, raw_text}
 use Rattle.abi_refine.specs.Agreed.{Agreed, AgreesBy, CountsOn}
-use Rattle.abi_refine.specs.Reaches.{none, further, ReachesWith}
+use Rattle.abi_refine.specs.Reaches.{further, ReachesWith}
 use Rattle.abi_refine.specs.Endings.{turn_of}
+use Rattle.abi_refine.proofs.Telling.{text_read}
 
 -- what is told so far, and what is left to do
 pub record Going (x : Setup) (program : SimpleProgram) (all : Ran) (b : Bytes) (text : List ℕ) : Type 0 where
   pub stands : StandsFor x (state_at x.h x.places.size program b.taken) b
   pub total : b.taken + b.left ≤ 4000000
-  pub told : text ++ text_of (run_from x.h x.places.size program b.left (state_at x.h x.places.size program b.taken)).outs ≡ text_of all.outs
+  pub told : text ++ text_of x.places.place (run_from x.h x.places.size program b.left (state_at x.h x.places.size program b.taken)).outs ≡ text_of x.places.place all.outs
   pub ending : (run_from x.h x.places.size program b.left (state_at x.h x.places.size program b.taken)).ending ≡ all.ending
 
 -- before the first turn
@@ -38,70 +39,54 @@ Going-start x program b st first budget =
     let here : state_at x.h x.places.size program b.taken ≡ start program = ap (state_at x.h x.places.size program) first in
     record { stands = rw here st; total = omega arith; told = rw here refl; ending = rw here refl }
 
-raw_line-raw : (out : Out) → raw_line (raw_of out) ≡ line_of out
-raw_line-raw (NumberOut z) = refl
-
-raw_text-raw : (outs : List Out) → raw_text (map raw_of outs) ≡ text_of outs
-raw_text-raw [] = refl
-raw_text-raw (out ∷ outs) = rw raw_line-raw (ap (λ t. line_of out ++ t) (raw_text-raw outs))
-
-IsNumber-raw : (out : Out) → IsNumber (raw_of out)
-IsNumber-raw (NumberOut z) = tt
-
-all_numbers : (outs : List Out) → All IsNumber (map raw_of outs)
-all_numbers [] = All-nil IsNumber
-all_numbers (out ∷ outs) = All-cons IsNumber (raw_of out) (map raw_of outs) (IsNumber-raw out) (all_numbers outs)
-
 -- a run that has a step left, by its first step
 run_from-step : (x : Setup) (program : SimpleProgram) (left n : ℕ) (s : State) (move : Move) → left ≡ suc n → step x.h x.places.size program s ≡ move → run_from x.h x.places.size program left s ≡ ran_by move (λ new. run_from x.h x.places.size program n new)
 run_from-step x program left n s move some e = ap (λ k. run_from x.h x.places.size program k s) some ∙ ap (λ m. ran_by m (λ new. run_from x.h x.places.size program n new)) e
 
 -- after a turn that went on
 pub record Gone (x : Setup) (program : SimpleProgram) (all : Ran) (b b' : Bytes) (text : List ℕ) (told : List RawOut) : Type 0 where
-  pub going : Going x program all b' (text ++ raw_text told)
+  pub going : Going x program all b' (text ++ raw_text b'.objects told)
   pub less : b'.left < b.left
   pub taken : b'.taken ≡ b.taken + 1
-  pub numbers : All IsNumber told
 
-went_case : (x : Setup) (program : SimpleProgram) (all : Ran) (b b' : Bytes) (text : List ℕ) (told : List RawOut) (z : Bool) (move : Move) → step x.h x.places.size program (state_at x.h x.places.size program b.taken) ≡ move → Going x program all b text → AgreesBy z x move b b' told Went → Gone x program all b b' text told
-went_case x program all b b' text told true move e going agreed = let h = agreed.0 in cc
-went_case x program all b b' text told false (Refuses rule line) e going agreed = let h = agreed.0.0 in cc
-went_case x program all b b' text told false (Limits limit) e going agreed = let h = agreed.0.0 in cc
-went_case x program all b b' text told false Ends e going agreed = let h = agreed.0.0 in cc
-went_case x program all b b' text told false (Goes s outs) e going (agreed, counts) =
+went_case : (x : Setup) (program : SimpleProgram) (all : Ran) (b b' : Bytes) (text : List ℕ) (told : List RawOut) (z : Bool) (move : Move) → IsSound x.h x.places → step x.h x.places.size program (state_at x.h x.places.size program b.taken) ≡ move → Going x program all b text → AgreesBy z x move b b' told Went → Gone x program all b b' text told
+went_case x program all b b' text told true move sound e going agreed = let h = agreed.0 in cc
+went_case x program all b b' text told false (Refuses rule line) sound e going agreed = let h = agreed.0.0 in cc
+went_case x program all b b' text told false (Limits limit) sound e going agreed = let h = agreed.0.0 in cc
+went_case x program all b b' text told false Ends sound e going agreed = let h = agreed.0.0 in cc
+went_case x program all b b' text told false (Goes s outs) sound e going (agreed, counts) =
     let some : b.left ≡ suc b'.left = omega (arith, counts.left) in
     let taken : b'.taken ≡ suc b.taken = omega (arith, counts.taken) in
     let here : state_at x.h x.places.size program b'.taken ≡ s = ap (state_at x.h x.places.size program) taken ∙ ap (λ m. next_state m (state_at x.h x.places.size program b.taken)) e in
     let ran = run_from-step x program b.left b'.left (state_at x.h x.places.size program b.taken) (Goes s outs) some e in
     let rest = (run_from x.h x.places.size program b'.left s).outs in
-    let told' : text ++ text_of (outs ++ rest) ≡ text_of all.outs = rw ran at going.told in
+    let told' : text ++ text_of x.places.place (outs ++ rest) ≡ text_of x.places.place all.outs = rw ran at going.told in
     let ending' : (run_from x.h x.places.size program b'.left s).ending ≡ all.ending = rw ran at going.ending in
-    let raw' : raw_text told ≡ text_of outs = ap raw_text agreed.1 ∙ raw_text-raw outs in
+    let raw' : raw_text b'.objects told ≡ text_of x.places.place outs = text_read x s.classes b'.memory.regions b'.objects b'.heap told outs sound agreed.0.stands.objects agreed.1 in
     record {
       going = record {
         stands = rw here agreed.0;
         total = omega (arith, going.total);
-        told = rw (here, raw', append_assoc, ← flat_map-append line_of outs rest) told';
+        told = rw (here, raw', append_assoc, ← flat_map-append (line_of x.places.place) outs rest) told';
         ending = rw here ending';
       };
       less = omega arith;
       taken = counts.taken;
-      numbers = subst (λ xs. All IsNumber xs) (sym agreed.1) (all_numbers outs);
     }
 
-pub Going-went : (x : Setup) (program : SimpleProgram) (all : Ran) (b b' : Bytes) (text : List ℕ) (told : List RawOut) → Going x program all b text → Agreed x (step x.h x.places.size program (state_at x.h x.places.size program b.taken)) b b' told Went → Gone x program all b b' text told
-Going-went x program all b b' text told going agreed = went_case x program all b b' text told (nat_eq b.left 0) (step x.h x.places.size program (state_at x.h x.places.size program b.taken)) refl going agreed
+pub Going-went : (x : Setup) (program : SimpleProgram) (all : Ran) (b b' : Bytes) (text : List ℕ) (told : List RawOut) → IsSound x.h x.places → Going x program all b text → Agreed x (step x.h x.places.size program (state_at x.h x.places.size program b.taken)) b b' told Went → Gone x program all b b' text told
+Going-went x program all b b' text told sound going agreed = went_case x program all b b' text told (nat_eq b.left 0) (step x.h x.places.size program (state_at x.h x.places.size program b.taken)) sound refl going agreed
 
 -- after a turn that did not go on
-pub record Stopped (all : Ran) (b b' : Bytes) (text : List ℕ) (told : List RawOut) (turn : MachineTurn) : Type 0 where
-  pub text_is : text ≡ text_of all.outs
+pub record Stopped (x : Setup) (all : Ran) (b b' : Bytes) (text : List ℕ) (told : List RawOut) (turn : MachineTurn) : Type 0 where
+  pub text_is : text ≡ text_of x.places.place all.outs
   pub turn_is : turn ≡ turn_of all.ending
   pub silent : told ≡ []
   pub spent : turn ≡ Spent → b'.taken ≡ b.taken
   pub counted : turn ≢ Spent → b'.taken ≡ b.taken + 1
   pub room : turn ≢ Spent → b.taken + 1 ≤ 4000000
 
-ended_with : (x : Setup) (program : SimpleProgram) (all ran : Ran) (b b' : Bytes) (text : List ℕ) (told : List RawOut) (turn : MachineTurn) → run_from x.h x.places.size program b.left (state_at x.h x.places.size program b.taken) ≡ ran → ran.outs ≡ [] → turn ≡ turn_of ran.ending → told ≡ [] → (turn ≡ Spent → b'.taken ≡ b.taken) → (turn ≢ Spent → CountsOn b b') → Going x program all b text → Stopped all b b' text told turn
+ended_with : (x : Setup) (program : SimpleProgram) (all ran : Ran) (b b' : Bytes) (text : List ℕ) (told : List RawOut) (turn : MachineTurn) → run_from x.h x.places.size program b.left (state_at x.h x.places.size program b.taken) ≡ ran → ran.outs ≡ [] → turn ≡ turn_of ran.ending → told ≡ [] → (turn ≡ Spent → b'.taken ≡ b.taken) → (turn ≢ Spent → CountsOn b b') → Going x program all b text → Stopped x all b b' text told turn
 ended_with x program all ran b b' text told turn e silent is quiet spent counts going =
     let told' = rw (e, silent) at going.told in
     let ending' = rw e at going.ending in
@@ -126,7 +111,7 @@ limit_is_not number e = cc
 ended_is_not : Ended ≢ Spent
 ended_is_not e = cc
 
-ended_case : (x : Setup) (program : SimpleProgram) (all : Ran) (b b' : Bytes) (text : List ℕ) (told : List RawOut) (turn : MachineTurn) (z : Bool) (move : Move) → nat_eq b.left 0 ≡ z → step x.h x.places.size program (state_at x.h x.places.size program b.taken) ≡ move → turn ≢ Went → Going x program all b text → AgreesBy z x move b b' told turn → Stopped all b b' text told turn
+ended_case : (x : Setup) (program : SimpleProgram) (all : Ran) (b b' : Bytes) (text : List ℕ) (told : List RawOut) (turn : MachineTurn) (z : Bool) (move : Move) → nat_eq b.left 0 ≡ z → step x.h x.places.size program (state_at x.h x.places.size program b.taken) ≡ move → turn ≢ Went → Going x program all b text → AgreesBy z x move b b' told turn → Stopped x all b b' text told turn
 ended_case x program all b b' text told turn true move z e ne going agreed =
     let no_step : b.left ≡ 0 = grind (arith, nat_tests) in
     ended_with x program all _ b b' text told turn (ap (λ k. run_from x.h x.places.size program k (state_at x.h x.places.size program b.taken)) no_step) refl agreed.0 agreed.1 (λ spent. agreed.2) (λ other. absurd (other agreed.0)) going
@@ -141,24 +126,13 @@ ended_case x program all b b' text told turn false Ends z e ne going agreed =
     let some : b.left ≡ suc (b.left - 1) = grind (arith, nat_tests) in
     ended_with x program all _ b b' text told turn (run_from-step x program b.left (b.left - 1) _ Ends some e) refl agreed.0.0 agreed.0.1 (λ spent. absurd (not_spent turn _ agreed.0.0 ended_is_not spent)) (λ other. agreed.1) going
 
-pub Going-ended : (x : Setup) (program : SimpleProgram) (all : Ran) (b b' : Bytes) (text : List ℕ) (told : List RawOut) (turn : MachineTurn) → Going x program all b text → Agreed x (step x.h x.places.size program (state_at x.h x.places.size program b.taken)) b b' told turn → turn ≢ Went → Stopped all b b' text told turn
+pub Going-ended : (x : Setup) (program : SimpleProgram) (all : Ran) (b b' : Bytes) (text : List ℕ) (told : List RawOut) (turn : MachineTurn) → Going x program all b text → Agreed x (step x.h x.places.size program (state_at x.h x.places.size program b.taken)) b b' told turn → turn ≢ Went → Stopped x all b b' text told turn
 Going-ended x program all b b' text told turn going agreed ne = ended_case x program all b b' text told turn (nat_eq b.left 0) (step x.h x.places.size program (state_at x.h x.places.size program b.taken)) refl refl ne going agreed
-
--- one more turn
-pub ReachesWith-further : (code : Code) (b mid b' : Bytes) (text : List ℕ) (more : List RawOut) (turn : MachineTurn) → ReachesWith code b mid text → Turns code mid [] b' more turn → ReachesWith code b b' (text ++ raw_text more)
-ReachesWith-further code b mid b' text more turn so_far turns = record {
-  told = so_far.told ++ more;
-  reaches = further mid b' so_far.told more turn so_far.reaches turns;
-  text_is = ap (λ t. t ++ raw_text more) so_far.text_is ∙ sym (flat_map-append raw_line so_far.told more);
-}
 
 -- one more turn that tells nothing
 pub ReachesWith-last : (code : Code) (b mid b' : Bytes) (text : List ℕ) (more : List RawOut) (turn : MachineTurn) → more ≡ [] → ReachesWith code b mid text → Turns code mid [] b' more turn → ReachesWith code b b' text
 ReachesWith-last code b mid b' text more turn silent so_far turns =
-    subst (λ t. ReachesWith code b b' t) (ap (λ m. text ++ raw_text m) silent ∙ append-nil text) (ReachesWith-further code b mid b' text more turn so_far turns)
-
-pub ReachesWith-none : (code : Code) (b : Bytes) → ReachesWith code b b []
-ReachesWith-none code b = record { told = []; reaches = none; text_is = refl }
+    subst (λ t. ReachesWith code b b' t) (ap (λ m. text ++ raw_text b'.objects m) silent ∙ append-nil text) (further mid b' text more turn so_far turns)
 
 -- an answer that ends a run is kept
 kept-some : (turn : MachineTurn) → turn ≢ Went → kept turn ≡ Some turn
@@ -203,8 +177,8 @@ stands_at_start x program steps types = record {
     leaves = record { leaves = λ k c r s d m type here there leaf. cc; fresh = λ k s m past. refl };
     variables = record {
       count = length-replicate (length program.variables) Unset ∙ ap length (sym types);
-      register_count = length-replicate (length x.types + 1) None;
-      values = λ v type here. rw (unset_variable (length program.variables) v) (unset_register (length x.types + 1) v);
+      register_count = length-replicate (length x.types + 2) None;
+      values = λ v type here. rw (unset_variable (length program.variables) v) (unset_register (length x.types + 2) v);
     };
   };
   block = refl;

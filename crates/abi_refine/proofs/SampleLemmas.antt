@@ -1,4 +1,4 @@
--- The programs of the tests are plain, and their types fit.
+-- The types of the programs of the tests fit.
 use Rattle.std.proofs.Common.{◌≡◌, ℕ, zero, suc, Some, [], ◌∷◌, refl, arith, rules}
 use Rattle.std.specs.Prelude.{All, Contains}
 use Rattle.std.proofs.lemmas.Bool.Decides.{nat_tests}
@@ -11,16 +11,13 @@ use Rattle.cxx_hierarchy.specs.Classes.{Class, Classes, class_at}
 use Rattle.cxx_hierarchy.specs.ClassPass.{IsInOrder, NamesEach, is_member, is_function, names_of}
 use Rattle.cxx_hierarchy.specs.Resolved.{resolved, resolved_class, resolved_member, class_of_name}
 use Rattle.cxx_subobject.specs.Subobjects.{whole}
-use Rattle.cxx_resolve.specs.Typed.{IsTypedProgram, new, write, read, print, IsPointer, LeadsToNumber}
+use Rattle.cxx_resolve.specs.Typed.{int, IsTypedProgram, new, write, read, convert, print, IsPointer, LeadsToNumber}
 use Rattle.abi_layout.specs.Plain.{IsPlain, IsPlainClass, IsPlainMember}
 use Rattle.abi_lower.specs.Blocks.{class_id}
-use Rattle.abi_refine.specs.Samples.{sample_records, sample_class, sample_member, sample_place, char_program, unset_program}
+use Rattle.abi_refine.specs.Samples.{sample_records, sample_class, sample_member, sample_place, char_program, unset_program, unset_pointer_program}
 
 abbrev classes : Classes
 classes = resolved sample_records
-
-abbrev the_class : Class
-the_class = resolved_class (class_of_name (names_of sample_records)) sample_class
 
 member_parts : NamesEach is_member sample_class.order 2
 member_parts zero = refl
@@ -33,44 +30,14 @@ function_parts number = grind (arith, nat_tests)
 pub sample_in_order : All IsInOrder sample_records
 sample_in_order = All-cons IsInOrder sample_class [] (record { members = member_parts; functions = function_parts }) (All-nil IsInOrder)
 
-abbrev char_member : Member ClassId
-char_member = resolved_member (class_of_name (names_of sample_records)) (sample_member (99 ∷ []) Char 16)
-
-abbrev int_member : Member ClassId
-int_member = resolved_member (class_of_name (names_of sample_records)) (sample_member (120 ∷ []) Int 23)
-
-members_plain : All IsPlainMember the_class.members
-members_plain =
-    All-cons IsPlainMember char_member (int_member ∷ []) (record { value = search rules; public = refl })
-    (All-cons IsPlainMember int_member [] (record { value = search rules; public = refl }) (All-nil IsPlainMember))
-
-no_item : {X P : Type 0} (x : X) → Contains [] x → P
-no_item x c = absurd (omega (arith, c.1))
-
-plain_class : IsPlainClass classes (class_id 0) the_class
-plain_class = record {
-  bases = λ base c. no_item base c;
-  members = λ member c. All-contains IsPlainMember the_class.members member members_plain c;
-  functions = λ function c. no_item function c;
-  constructor = refl;
-  destructor = refl;
-}
-
-plain_at : (n : ℕ) (class : Class) → class_at classes (class_id n) ≡ Some class → IsPlainClass classes (class_id n) class
-plain_at zero class e = let same : the_class ≡ class = cc in rw (← same) plain_class
-plain_at (suc n) class e = cc
-
-pub sample_plain : IsPlain classes
-sample_plain = record { each = λ c class e. plain_at c.0 class e }
-
 pointer_there : IsPointer classes char_program.variables 0 (class_id 0)
 pointer_there = record { type = refl; known = omega arith }
 
 char_there : LeadsToNumber classes (class_id 0) (sample_place 0) (class_id 0) Char
-char_there = record { base = whole [] tt; class = refl; member = refl }
+char_there = record { base = whole [] tt; class = refl; root = refl; member = refl }
 
 int_there : LeadsToNumber classes (class_id 0) (sample_place 1) (class_id 0) Int
-int_there = record { base = whole [] tt; class = refl; member = refl }
+int_there = record { base = whole [] tt; class = refl; root = refl; member = refl }
 
 pub char_program_typed : IsTypedProgram classes char_program
 char_program_typed = (
@@ -79,7 +46,7 @@ char_program_typed = (
     write 0 (sample_place 0) _ (class_id 0) (class_id 0) Char pointer_there char_there (record { least = omega (arith, ints); greatest = omega (arith, ints) }),
     (
       read 1 0 (sample_place 0) (class_id 0) (class_id 0) Char refl pointer_there char_there tt,
-      (print 1 refl, tt),
+      (print 1 int refl, tt),
     ),
   ),
 )
@@ -89,6 +56,10 @@ unset_program_typed = (
   new 0 (class_id 0) pointer_there,
   (
     read 1 0 (sample_place 1) (class_id 0) (class_id 0) Int refl pointer_there int_there tt,
-    (print 1 refl, tt),
+    (print 1 int refl, tt),
   ),
 )
+
+pub unset_pointer_program_typed : IsTypedProgram classes unset_pointer_program
+unset_pointer_program_typed =
+    (convert 0 _ (class_id 0) (class_id 0) refl (record { pointer = record { type = refl; known = omega arith }; base = record { valid = whole [] tt; class = refl; root = refl } }), tt)

@@ -10,14 +10,15 @@ use Rattle.cxx_hierarchy.specs.declared.records.ClassId.{ClassId}
 use Rattle.cxx_hierarchy.specs.Classes.{Classes}
 use Rattle.cxx_resolve.specs.declared.program.MemberPlace.{MemberPlace}
 use Rattle.cxx_resolve.specs.declared.program.Statement.{Statement}
-use Rattle.cxx_resolve.specs.declared.program.Statement.TheVariants.{New, Write, Read, Print}
+use Rattle.cxx_resolve.specs.declared.program.Statement.TheVariants.{New, Write, Read, Convert, Equal, Print}
 use Rattle.cxx_resolve.specs.declared.program.TypedLine.{TypedLine}
 use Rattle.cxx_resolve.specs.declared.program.SimpleProgram.{SimpleProgram}
 use Rattle.cxx_resolve.specs.Typed.{IsTyped, IsTypedProgram}
+use Rattle.cxx_subobject.specs.declared.Subobject.{Subobject}
 use Rattle.cxx_subobject.specs.Subobjects.{join}
 use Rattle.abi_layout.specs.Sound.{IsSound}
 use Rattle.path_model.specs.Values.{State, Value, Unset, Number, Pointer, variable_at}
-use Rattle.path_model.specs.Steps.{Move, Goes, Refuses, Limits, Ends, made, written, set_to, fetched, printed, move_of, move_in, step, heap_total, rounded}
+use Rattle.path_model.specs.Steps.{Move, Goes, Refuses, Limits, Ends, made, written, set_to, fetched, compared, converted_at, pointer_printed, printed, move_of, move_in, step, heap_total, rounded}
 use Rattle.path_model.specs.Runs.{state_at, next_state}
 use Rattle.byte_memory.proofs.Lists.{slice_get-push, slice_get-push_before}
 use Rattle.byte_code.specs.declared.code.Block.{Block}
@@ -59,15 +60,28 @@ next_fetched line s v Unset place = tt
 next_fetched line s v (Number n) place = tt
 next_fetched line s v (Pointer k at) place = next_set line s v (s.leaf k (join at place.base) place.member)
 
+next_compared : (line : ℕ) (s : State) (v : ℕ) (left right : Value) → IsNext s (compared line s v left right)
+next_compared line s v Unset right = tt
+next_compared line s v (Number n) right = tt
+next_compared line s v (Pointer k at) Unset = tt
+next_compared line s v (Pointer k at) (Number n) = tt
+next_compared line s v (Pointer k at) (Pointer k' at') = refl
+
+next_pointer : (s : State) (k : ℕ) (at : Subobject) (whole : Option ClassId) → IsNext s (pointer_printed s k at whole)
+next_pointer s k at None = tt
+next_pointer s k at (Some c) = refl
+
 next_printed : (line : ℕ) (s : State) (value : Value) → IsNext s (printed line s value)
 next_printed line s Unset = tt
 next_printed line s (Number n) = refl
-next_printed line s (Pointer k at) = tt
+next_printed line s (Pointer k at) = next_pointer s k at (slice_get s.classes k)
 
 next_of : (h : Classes) (sizes : ClassId → ℕ) (line : ℕ) (statement : Statement) (s : State) → IsNext s (move_of h sizes line statement s)
 next_of h sizes line (New v c) s = next_made sizes s v c _ refl
 next_of h sizes line (Write p place z) s = next_written h line s (variable_at s p) place z
 next_of h sizes line (Read v p place) s = next_fetched line s v (variable_at s p) place
+next_of h sizes line (Convert v from) s = next_set line s v (converted_at s from)
+next_of h sizes line (Equal v left right) s = next_compared line s v (converted_at s left) (converted_at s right)
 next_of h sizes line (Print v) s = next_printed line s (variable_at s v)
 
 next_in : (h : Classes) (sizes : ClassId → ℕ) (o : Option TypedLine) (s : State) → IsNext s (move_in h sizes o s)
@@ -135,7 +149,7 @@ turn_agrees x program code s b b' told turn types sound same typed st within tur
     agrees (Goes s' outs) new ok a e out =
         let went : turn ≡ Went = a.2 in
         let e' = rw went at e in
-        rw e' (record { stands = a.0; block = rw st.block (sym ok); going = refl }, out ∙ a.1, went)
+        rw e' (record { stands = a.0; block = rw st.block (sym ok); going = refl }, rw out a.1, went)
     agrees (Refuses rule line) new ok a e out = (a.0, out ∙ a.1)
     agrees (Limits limit) new ok a e out = (a.0, out ∙ a.1)
     agrees Ends new ok a e out = (a.0, out ∙ a.1)

@@ -1,6 +1,6 @@
 //! A whole run.
 
-ghost use Rattle.std.specs.Prelude.{◌≡◌, ℕ, ◌+◌, ◌≤◌, ◌<◌, ◌++◌, IfOk, [], Some, None, false, All};
+ghost use Rattle.std.specs.Prelude.{◌≡◌, ℕ, ◌+◌, ◌≤◌, ◌<◌, ◌++◌, IfOk, [], Some, None, false};
 ghost use Rattle.cxx_resolve.specs.Typed.{IsTypedProgram};
 ghost use Rattle.abi_layout.specs.Places.{places_of};
 ghost use Rattle.abi_layout.specs.Sound.{IsSound};
@@ -10,7 +10,7 @@ ghost use Rattle.byte_machine.specs.Turn.{begun};
 ghost use Rattle.byte_machine.specs.MachineState.{code_of, image_of, state_of, has_failed};
 ghost use Rattle.abi_lower.specs.Blocks.{setup, code_for};
 ghost use Rattle.abi_lower.specs.Stands.{StandsFor};
-ghost use Rattle.abi_print.specs.Texts.{text_of, raw_text, IsNumber};
+ghost use Rattle.abi_print.specs.Texts.{text_of, raw_text};
 ghost use Rattle.abi_refine.specs.Reaches.{ReachesWith};
 ghost use Rattle.abi_refine.specs.Endings.{ending_of, turn_of};
 
@@ -38,27 +38,31 @@ pub struct Execution {
     pub machine: Machine<FlatMemory>,
 }
 
-/// Puts the lines of what a turn told at the end of a text.
-fn append_lines(alloc: Global, text: &mut Vec<u8>, outs: &[RawOut]) -> Result<(), NoMemory>
-    requires { All IsNumber outs.now }
-    ensures { IfOk result (λ _. text.new.items ≡ text.old.items ++ raw_text outs.now) }
+/// Puts the lines of what a turn told, read on the machine that it left, at the end of a text.
+fn append_lines<M: Memory>(
+    alloc: Global,
+    machine: &Machine<M>,
+    text: &mut Vec<u8>,
+    outs: &[RawOut],
+) -> Result<(), NoMemory>
+    ensures { IfOk result (λ _. text.new.items ≡ text.old.items ++ raw_text (state_of machine.now).objects outs.now) }
 {
     for out in outs {
-        append_line(alloc, text, *out)?;
+        append_line(alloc, machine, text, *out)?;
     }
     Ok(())
 }
 
 /// The text of a run, the number of its steps and the answer of its last turn.
 #[derive(Drop)]
-struct Ran {
-    text: Vec<u8>,
-    steps: u32,
-    answer: MachineTurn,
+pub struct Ran {
+    pub text: Vec<u8>,
+    pub steps: u32,
+    pub answer: MachineTurn,
 }
 
-/// Turns a machine that stands for the start of a program until an answer ends the run.
-fn run_machine<M: Memory>(
+/// Turns a machine, over whatever memory, that stands for the start of a program until an answer ends the run.
+pub fn run_machine<M: Memory>(
     alloc: Global,
     h: &Hierarchy,
     layout: &AbiLayout,
@@ -72,7 +76,7 @@ fn run_machine<M: Memory>(
     requires first { (state_of machine.old).taken ≡ 0 }
     requires budget { (state_of machine.old).left ≤ 4000000 }
     requires ready { has_failed machine.old ≡ false }
-    ensures text { IfOk result (λ ran. ran.text.items ≡ text_of (run_of h.now (places_of h.now layout.now).size program.now (state_of machine.old).left).outs) }
+    ensures text { IfOk result (λ ran. ran.text.items ≡ text_of (places_of h.now layout.now).place (run_of h.now (places_of h.now layout.now).size program.now (state_of machine.old).left).outs) }
     ensures answer { IfOk result (λ ran. ran.answer ≡ turn_of (run_of h.now (places_of h.now layout.now).size program.now (state_of machine.old).left).ending) }
     ensures reaches { IfOk result (λ ran. ReachesWith (code_of machine.old) (state_of machine.old) (state_of machine.new) ran.text.items) }
     ensures ended { IfOk result (λ ran. (state_of machine.new).answer ≡ Some ran.answer) }
@@ -87,7 +91,7 @@ fn run_machine<M: Memory>(
         match turn(h, layout, program, machine, &mut outs)? {
             MachineTurn::Went => {
                 steps += 1;
-                append_lines(alloc, &mut text, outs.as_slice())?;
+                append_lines(alloc, machine, &mut text, outs.as_slice())?;
             }
             MachineTurn::OutOfSteps => return Ok(Ran {
                 text,
@@ -118,7 +122,7 @@ pub fn execute(
     requires sound { IsSound h.now (places_of h.now layout.now) }
     requires typed { IsTypedProgram h.now program.now }
     requires budget { (1 ≤ steps) × (steps ≤ 4000000) }
-    ensures text { IfOk result (λ e. e.text ≡ text_of (run_of h.now (places_of h.now layout.now).size program.now steps).outs) }
+    ensures text { IfOk result (λ e. e.text ≡ text_of (places_of h.now layout.now).place (run_of h.now (places_of h.now layout.now).size program.now steps).outs) }
     ensures end { IfOk result (λ e. ending_of e.end ≡ (run_of h.now (places_of h.now layout.now).size program.now steps).ending) }
     ensures code { IfOk result (λ e. code_of e.machine ≡ code_for (setup h.now (places_of h.now layout.now) program.now.variables) program.now.lines) }
     ensures machine { IfOk result (λ e. ReachesWith (code_of e.machine) (begun empty (code_of e.machine) steps) (state_of e.machine) e.text) }

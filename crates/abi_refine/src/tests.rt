@@ -5,17 +5,16 @@ ghost use Rattle.cxx_hierarchy.specs.ClassPass.{IsInOrder};
 ghost use Rattle.cxx_hierarchy.specs.NameTables.{Text};
 ghost use Rattle.cxx_hierarchy.specs.Resolved.{resolved};
 ghost use Rattle.cxx_resolve.specs.Typed.{IsTypedProgram};
-ghost use Rattle.abi_layout.specs.Plain.{IsPlain};
-ghost use Rattle.abi_refine.specs.Samples.{sample_member, sample_part, sample_records, sample_place, char_program, unset_program};
+ghost use Rattle.abi_refine.specs.Samples.{sample_member, sample_part, sample_records, sample_place, char_program, unset_program, unset_pointer_program};
 
 use crate::ending::End;
 use crate::run::execute;
-use abi_layout::lay_out;
+use abi_layout::{is_plain, lay_out};
 use cxx_hierarchy::{
     ClassId, ClassRec, Destructor, FieldType, Hierarchy, Member, Name, PartAt, PartKind,
     RecordList, Scalar, Stop, ValueType, build,
 };
-use cxx_resolve::{MemberPlace, SimpleProgram, Statement, TypedLine};
+use cxx_resolve::{Converted, MemberPlace, SimpleProgram, Statement, TypedLine};
 use cxx_subobject::{Root, Subobject};
 use foundation::{NoMemory, Sequence};
 use path_model::Undefined;
@@ -23,14 +22,14 @@ use std::alloc::Global;
 use std::test::Fail;
 
 /// A name of one byte.
-fn name(alloc: Global, byte: u8) -> Result<Name, NoMemory>
+pub fn name(alloc: Global, byte: u8) -> Result<Name, NoMemory>
     ensures { IfOk result (λ name. name ≡ byte ∷ []) }
 {
     let items = vec![in alloc; byte]?;
     Ok(Sequence::from_vec(items))
 }
 
-fn member(alloc: Global, byte: u8, scalar: Scalar, at: u32) -> Result<Member<Name>, NoMemory>
+pub fn member(alloc: Global, byte: u8, scalar: Scalar, at: u32) -> Result<Member<Name>, NoMemory>
     ensures { IfOk result (λ m. m ≡ sample_member (byte ∷ []) scalar at) }
 {
     let name = name(alloc, byte)?;
@@ -43,7 +42,7 @@ fn member(alloc: Global, byte: u8, scalar: Scalar, at: u32) -> Result<Member<Nam
     })
 }
 
-fn part(number: u32, ty_at: u32, at: u32) -> PartAt
+pub fn part(number: u32, ty_at: u32, at: u32) -> PartAt
     ensures { result ≡ sample_part number ty_at at }
 {
     PartAt {
@@ -176,9 +175,30 @@ fn unset(alloc: Global) -> Result<SimpleProgram, NoMemory>
     })
 }
 
+/// `P* p = p;`
+fn unset_pointer(alloc: Global) -> Result<SimpleProgram, NoMemory>
+    ensures { IfOk result (λ program. program ≡ unset_pointer_program) }
+{
+    let path = vec![in alloc; ClassId(0)]?;
+    let base = Subobject {
+        root: Root::Whole,
+        path: Sequence::from_vec(path),
+    };
+    let what = Statement::Convert {
+        variable: 0,
+        from: Converted { pointer: 0, base },
+    };
+    let mut variables = Sequence::new(alloc);
+    variables.push(ValueType::Pointer(ClassId(0)))?;
+    let mut lines = Sequence::new(alloc);
+    lines.push(TypedLine { what, line: 7 })?;
+    Ok(SimpleProgram { variables, lines })
+}
+
 #[test]
 fn a_char_keeps_the_low_byte(rt: HostRuntime) -> Result<(), Fail> {
     let h = hierarchy(rt.alloc())?;
+    assert!(rt; is_plain(&h));
     let layout = lay_out(rt.alloc(), &h)?;
     let program = chars(rt.alloc())?;
     let execution = execute(rt.alloc(), &h, &layout, &program, 100)?;
@@ -191,6 +211,7 @@ fn a_char_keeps_the_low_byte(rt: HostRuntime) -> Result<(), Fail> {
 #[test]
 fn an_unset_leaf_is_refused_at_its_line(rt: HostRuntime) -> Result<(), Fail> {
     let h = hierarchy(rt.alloc())?;
+    assert!(rt; is_plain(&h));
     let layout = lay_out(rt.alloc(), &h)?;
     let program = unset(rt.alloc())?;
     let execution = execute(rt.alloc(), &h, &layout, &program, 100)?;
@@ -202,11 +223,24 @@ fn an_unset_leaf_is_refused_at_its_line(rt: HostRuntime) -> Result<(), Fail> {
 #[test]
 fn a_run_of_four_steps_has_printed(rt: HostRuntime) -> Result<(), Fail> {
     let h = hierarchy(rt.alloc())?;
+    assert!(rt; is_plain(&h));
     let layout = lay_out(rt.alloc(), &h)?;
     let program = chars(rt.alloc())?;
     let execution = execute(rt.alloc(), &h, &layout, &program, 4)?;
     assert!(rt; execution.text.as_slice() == b"44\n".as_slice());
     assert!(rt; execution.end == End::OutOfSteps);
     assert_eq!(rt; execution.steps, 4);
+    Ok(())
+}
+
+#[test]
+fn an_unset_pointer_is_refused_at_its_line(rt: HostRuntime) -> Result<(), Fail> {
+    let h = hierarchy(rt.alloc())?;
+    assert!(rt; is_plain(&h));
+    let layout = lay_out(rt.alloc(), &h)?;
+    let program = unset_pointer(rt.alloc())?;
+    let execution = execute(rt.alloc(), &h, &layout, &program, 100)?;
+    assert_eq!(rt; execution.text.len(), 0);
+    assert!(rt; execution.end == End::Undefined(Undefined::Unset, 7));
     Ok(())
 }

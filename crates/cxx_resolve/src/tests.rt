@@ -133,6 +133,7 @@ fn resolves(rt: HostRuntime) -> Result<(), Fail> {
                 assert_eq!(rt; *pointer, 0);
                 assert_eq!(rt; place.base.path.len(), 1);
             }
+            Statement::Convert { .. } | Statement::Equal { .. } => assert!(rt; false),
             Statement::Print { variable } => assert_eq!(rt; *variable, 1),
         }
     }

@@ -27,10 +27,10 @@ says_one _ _ _ _ run check same = absurd (cc)
 says_one _ _ _ _ run run same = refl
 
 one_run : (s t : SourceText) (h : Classes) (p q : SimpleProgram) (rows others : List ClassLayout) → IsHierarchy h → SameSource s t → IsProgram s h p → IsProgram t h q → IsLaid h rows → IsLaid h others →
-    run_answer (run_by h rows p) ≡ run_answer (run_by h others q)
+    run_answer h rows (run_by h rows p) ≡ run_answer h others (run_by h others q)
 one_run s t h p q rows others keeps same one other laid laid' =
-    ap (λ (r : List ClassLayout). run_answer (run_by h r p)) (layout_is_one h rows others (program_static s h p keeps one) laid laid')
-    ∙ ap (λ (x : SimpleProgram). run_answer (run_by h others x)) (one_program s t h p q keeps same one other)
+    ap (λ (r : List ClassLayout). run_answer h r (run_by h r p)) (layout_is_one h rows others (program_static s h p keeps one) laid laid')
+    ∙ ap (λ (x : SimpleProgram). run_answer h others (run_by h others x)) (one_program s t h p q keeps same one other)
 
 -- a command answers one thing to sources that say the same
 pub one_yield : (size : ℕ) (s t : SourceText) (h : Classes) (c d : Command) (a b : Answer) → IsHierarchy h → SameSource s t → Yields size s h c a → Yields size t h d b → c ≡ d → a ≡ b

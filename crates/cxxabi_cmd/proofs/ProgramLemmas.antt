@@ -21,6 +21,7 @@ use Rattle.cxx_resolve.specs.Typed.{IsTypedProgram}
 use Rattle.abi_layout.specs.declared.class_layout.ClassLayout.{ClassLayout}
 use Rattle.abi_layout.specs.Plain.{IsPlain}
 use Rattle.abi_layout.specs.Laid.{IsLaid, AreSmall, HasTooLarge}
+use Rattle.abi_layout.specs.Places.{places_of}
 use Rattle.abi_print.specs.Texts.{text_of}
 use Rattle.path_model.specs.Runs.{Ran, Ending, Done, UndefinedAt, OutOfSteps, LimitMet}
 use Rattle.cxxabi_cmd.specs.declared.run.Accepted.{Accepted}
@@ -109,7 +110,7 @@ pub large_machine : (r : Result Reply Want) (text : List ℕ) (h : Classes) (pro
 large_machine r text h program limit e none same either one is = no_machine r text none (λ k p other. subst HasTooLarge (one_hierarchy text h k program p one is other) (limit_is limit e same either).1)
 
 -- the answer to a program over a layout
-pub ran_output : (r : Result Reply Want) (text : List ℕ) (h : Classes) (program : SimpleProgram) (rows : List ClassLayout) → IfOk r (λ reply. answer_of reply ≡ run_answer (run_by h rows program)) →
+pub ran_output : (r : Result Reply Want) (text : List ℕ) (h : Classes) (program : SimpleProgram) (rows : List ClassLayout) → IfOk r (λ reply. answer_of reply ≡ run_answer h rows (run_by h rows program)) →
     IsProgram text h program → IsLaid h rows → AreSmall rows → length text ≤ 262144 → IfOk r (λ reply. (words : List (List ℕ)) → IsCommand words → Output words text (answer_of reply))
 ran_output (Ok reply) text h program rows answer is laid small short = λ words command. subst (λ (a : Answer). Output words text a) (sym answer) (ran h program rows command short is laid small)
 ran_output (Err w) text h program rows answer is laid small short = answer
@@ -129,13 +130,13 @@ answered_end (UndefinedAt rule line) = tt
 answered_end OutOfSteps = tt
 answered_end (LimitMet limit) = tt
 
-pub ran_answered : (r : Result Reply Want) (run : Ran) → IfOk r (λ reply. answer_of reply ≡ run_answer run) → IfOk r (λ reply. IsAnswered reply.status)
-ran_answered (Ok reply) run answer = subst IsAnswered (sym (ap (λ (a : Answer). a.status) answer)) (answered_end run.ending)
-ran_answered (Err w) run answer = answer
+pub ran_answered : (r : Result Reply Want) (h : Classes) (rows : List ClassLayout) (run : Ran) → IfOk r (λ reply. answer_of reply ≡ run_answer h rows run) → IfOk r (λ reply. IsAnswered reply.status)
+ran_answered (Ok reply) h rows run answer = subst IsAnswered (sym (ap (λ (a : Answer). a.status) answer)) (answered_end run.ending)
+ran_answered (Err w) h rows run answer = answer
 
 abbrev pub answer_with : List ℕ → Status → Answer
 answer_with text status = record { text = text; status = status }
 
 -- the text of a run and its last line
-pub run_answer_is : (run : Ran) (text line whole : List ℕ) (status : Status) → whole ≡ text ++ line → text ≡ text_of run.outs → line ≡ last_line status budget → status ≡ status_of run.ending → answer_with whole status ≡ run_answer run
-run_answer_is run text line whole status joined told last same = rw (joined, told, last, same) refl
+pub run_answer_is : (h : Classes) (rows : List ClassLayout) (run : Ran) (text line whole : List ℕ) (status : Status) → whole ≡ text ++ line → text ≡ text_of (places_of h rows).place run.outs → line ≡ last_line status budget → status ≡ status_of run.ending → answer_with whole status ≡ run_answer h rows run
+run_answer_is h rows run text line whole status joined told last same = rw (joined, told, last, same) refl

@@ -20,7 +20,7 @@ use Rattle.cxxabi_cmd.specs.Output.{IsProgram, budget, run_by}
 -- a machine with this code, in this state: the code is that of the program, and turns over it lead from an empty memory to the state, and told the text of the run
 pub record IsMachineOf (h : Classes) (rows : List ClassLayout) (program : SimpleProgram) (code : Code) (state : State) : Type 0 where
   pub lowered : code ≡ code_for (setup h (places_of h rows) program.variables) program.lines
-  pub turned : ReachesWith code (begun empty code budget) state (text_of (run_by h rows program).outs)
+  pub turned : ReachesWith code (begun empty code budget) state (text_of (places_of h rows).place (run_by h rows program).outs)
 
 -- the source is accepted, and its main is run as this program over this layout
 pub record IsRun (bytes : List ℕ) (h : Classes) (rows : List ClassLayout) (program : SimpleProgram) : Type 0 where

@@ -13,7 +13,7 @@ use Rattle.cxx_resolve.specs.Main.{MainResolves}
 use Rattle.path_model.specs.Runs.{Ran, Ending, Done as IsDone, UndefinedAt, OutOfSteps as IsOutOfSteps, LimitMet, run_of}
 use Rattle.path_model.specs.Rules.{undefined_no}
 use Rattle.abi_layout.specs.declared.class_layout.ClassLayout.{ClassLayout}
-use Rattle.abi_layout.specs.Places.{Places, places_of}
+use Rattle.abi_layout.specs.Places.{places_of}
 use Rattle.abi_layout.specs.Laid.{IsLaid}
 use Rattle.abi_print.specs.Texts.{text_of}
 use Rattle.cxxabi_cmd.specs.declared.command.Command.{Command}
@@ -56,9 +56,9 @@ pub record Answer : Type 0 where
 abbrev pub line_alone : Status → Answer
 line_alone status = record { text = last_line status budget; status = status }
 
--- what a run told, and then its last line
-abbrev pub run_answer : Ran → Answer
-run_answer ran = record { text = text_of ran.outs ++ last_line (status_of ran.ending) budget; status = status_of ran.ending }
+-- what a run told, with the places of the layout, and then its last line
+abbrev pub run_answer : Classes → List ClassLayout → Ran → Answer
+run_answer h rows ran = record { text = text_of (places_of h rows).place ran.outs ++ last_line (status_of ran.ending) budget; status = status_of ran.ending }
 
 -- the status of a source that is not accepted
 abbrev pub status_of_stop : Stop → Status
@@ -85,7 +85,7 @@ pub data Yields (size : ℕ) (source : SourceText) (h : Classes) : Command → A
   not_taken : (tree : BodyTree) → source.main ≡ Some tree → ((program : SimpleProgram) → IsProgram source h program → ⊥) →
       Yields size source h Run (line_alone (Refused Syntax 0))
   ran : (program : SimpleProgram) (rows : List ClassLayout) → IsProgram source h program → IsLaid h rows →
-      Yields size source h Run (run_answer (run_by h rows program))
+      Yields size source h Run (run_answer h rows (run_by h rows program))
 
 -- what is answered to words and the bytes of a source
 pub data Output (words : List (List ℕ)) (bytes : List ℕ) : Answer → Type 0 where

@@ -71,7 +71,7 @@ fn run_program(
 ) -> Result<Reply, NoMemory>
     requires sound { IsSound h.now (places_of h.now layout.now) }
     requires typed { IsTypedProgram h.now program.now }
-    ensures answer { IfOk result (λ reply. answer_of reply ≡ run_answer (run_by h.now layout.now program.now)) }
+    ensures answer { IfOk result (λ reply. answer_of reply ≡ run_answer h.now layout.now (run_by h.now layout.now program.now)) }
     ensures machine { IfOk result (λ reply. (machine_of reply ≡ None → ⊥) × (MatchOption (machine_of reply) (Unit {0}) (λ m. IsMachineOf h.now layout.now program.now m.0 m.1))) }
 {
     let execution = execute(alloc, h, layout, program, BUDGET)?;

@@ -1,5 +1,5 @@
 -- One step of a run.
-use Rattle.std.specs.Prelude.{◌≡◌, ℕ, ℤ, zero, suc, ◌+◌, ◌*◌, ◌/◌, ◌<◌, nat_lt, if◌then◌else◌, Option, Some, None, List, [], ◌∷◌, ◌++◌, length, slice_get, slice_set, sum_by}
+use Rattle.std.specs.Prelude.{ℕ, ℤ, ◌+◌, ◌*◌, ◌/◌, Bool, nat_lt, nat_eq, ◌&&◌, if◌then◌else◌, pos, Option, Some, None, List, [], ◌∷◌, ◌++◌, length, slice_get, slice_set, sum_by}
 use Rattle.cxx_hierarchy.specs.declared.records.ClassId.{ClassId}
 use Rattle.cxx_hierarchy.specs.declared.records.ValueType.{ValueType}
 use Rattle.cxx_hierarchy.specs.declared.records.ValueType.TheVariants.{Number as NumberType, Pointer as PointerType}
@@ -8,19 +8,21 @@ use Rattle.cxx_hierarchy.specs.declared.stop.LimitNo.TheVariants.{L8}
 use Rattle.cxx_hierarchy.specs.Scalars.{stored_as}
 use Rattle.cxx_hierarchy.specs.Classes.{Classes, leaf_type}
 use Rattle.cxx_subobject.specs.declared.Subobject.{Subobject}
-use Rattle.cxx_subobject.specs.Subobjects.{join, whole_of, class_of}
+use Rattle.cxx_subobject.specs.Subobjects.{join, whole_of, class_of, same_subobject}
 use Rattle.cxx_resolve.specs.declared.program.MemberPlace.{MemberPlace}
+use Rattle.cxx_resolve.specs.declared.program.Converted.{Converted}
 use Rattle.cxx_resolve.specs.declared.program.Statement.{Statement}
-use Rattle.cxx_resolve.specs.declared.program.Statement.TheVariants.{New, Write, Read, Print}
+use Rattle.cxx_resolve.specs.declared.program.Statement.TheVariants.{New, Write, Read, Convert, Equal, Print}
 use Rattle.cxx_resolve.specs.declared.program.TypedLine.{TypedLine}
 use Rattle.cxx_resolve.specs.declared.program.SimpleProgram.{SimpleProgram}
 use Rattle.path_model.specs.declared.Undefined.{Undefined}
 use Rattle.path_model.specs.declared.Undefined.TheVariants.{Unset as UnsetRule}
 use Rattle.path_model.specs.Values.{Value, Unset, Number, Pointer, State, Leaves, variable_at, with_leaf}
 
--- what a run tells: a number that is printed
+-- what a run tells: a number that is printed, or a pointer, which names a subobject of an object of a class
 pub data Out : Type 0 where
   NumberOut : ℤ → Out
+  PointerOut : (object : ℕ) (class : ClassId) (at : Subobject) → Out
 
 -- where a step leads: to a state, with what it tells; or to a refusal with its line, to a limit, or to the end
 pub data Move : Type 0 where
@@ -66,6 +68,7 @@ written h line s Unset place z = Refuses UnsetRule line
 written h line s (Number n) place z = Ends
 written h line s (Pointer k at) place z = onward s s.classes (with_leaf s.leaf k (join at place.base) place.member (kept_by h place z)) s.variables []
 
+-- a variable takes a value
 abbrev pub set_to : ℕ → State → ℕ → Value → Move
 set_to line s v Unset = Refuses UnsetRule line
 set_to line s v (Number n) = onward s s.classes s.leaf (slice_set s.variables v (Number n)) []
@@ -77,17 +80,46 @@ fetched line s v Unset place = Refuses UnsetRule line
 fetched line s v (Number n) place = Ends
 fetched line s v (Pointer k at) place = set_to line s v (s.leaf k (join at place.base) place.member)
 
+-- a pointer, converted to a base of its class: it names the base's subobject in the same object (ISO C++03 4.10)
+abbrev pub converted : Subobject → Value → Value
+converted base Unset = Unset
+converted base (Number n) = Number n
+converted base (Pointer k at) = Pointer k (join at base)
+
+-- what a converted pointer variable has
+abbrev pub converted_at : State → Converted → Value
+converted_at s from = converted from.base (variable_at s from.pointer)
+
+-- the value of a `bool`
+abbrev pub truth : Bool → Value
+truth test = Number (if test then pos 1 else pos 0)
+
+-- `bool v = p == q;` of pointers of one class: whether they name one subobject of one object (ISO C++03 5.10)
+abbrev pub compared : ℕ → State → ℕ → Value → Value → Move
+compared line s v Unset right = Refuses UnsetRule line
+compared line s v (Number n) right = Ends
+compared line s v (Pointer k at) Unset = Refuses UnsetRule line
+compared line s v (Pointer k at) (Number n) = Ends
+compared line s v (Pointer k at) (Pointer k' at') = onward s s.classes s.leaf (slice_set s.variables v (truth (nat_eq k k' && same_subobject at at'))) []
+
+-- a pointer to a part of an object of the class
+abbrev pub pointer_printed : State → ℕ → Subobject → Option ClassId → Move
+pointer_printed s k at None = Ends
+pointer_printed s k at (Some c) = onward s s.classes s.leaf s.variables (PointerOut k c at ∷ [])
+
 -- `print(v);`
 abbrev pub printed : ℕ → State → Value → Move
 printed line s Unset = Refuses UnsetRule line
 printed line s (Number n) = onward s s.classes s.leaf s.variables (NumberOut n ∷ [])
-printed line s (Pointer k at) = Ends
+printed line s (Pointer k at) = pointer_printed s k at (slice_get s.classes k)
 
 -- one statement of a line; a variable or a leaf that is read has to be set
 abbrev pub move_of : Classes → (ClassId → ℕ) → ℕ → Statement → State → Move
 move_of h sizes line (New v c) s = made sizes s v c
 move_of h sizes line (Write p place z) s = written h line s (variable_at s p) place z
 move_of h sizes line (Read v p place) s = fetched line s v (variable_at s p) place
+move_of h sizes line (Convert v from) s = set_to line s v (converted_at s from)
+move_of h sizes line (Equal v left right) s = compared line s v (converted_at s left) (converted_at s right)
 move_of h sizes line (Print v) s = printed line s (variable_at s v)
 
 abbrev pub move_in : Classes → (ClassId → ℕ) → Option TypedLine → State → Move

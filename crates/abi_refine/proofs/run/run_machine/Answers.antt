@@ -4,7 +4,8 @@ use Rattle.path_model.specs.Runs.{run_of}
 use Rattle.byte_machine.specs.MachineState.{code_of, state_of}
 use Rattle.abi_layout.specs.Places.{places_of}
 use Rattle.abi_lower.specs.Blocks.{setup}
-use Rattle.abi_refine.proofs.Running.{Going-went, Going-ended, Going-start, ReachesWith-none, ReachesWith-further, ReachesWith-last, answer_is}
+use Rattle.abi_refine.specs.Reaches.{none, further}
+use Rattle.abi_refine.proofs.Running.{Going-went, Going-ended, Going-start, ReachesWith-last, answer_is}
 use Rattle.abi_refine.proofs.run.run_machine.Goals as goal
 
 pub loop-outs-init : goal.loop-outs-init
@@ -17,7 +18,7 @@ loop-outs-init g c =
       ready = c.requires.ready;
       steps = sym c.requires.first;
       going = rw c.new-text.ensures.items (Going-start x c.args.program.now b c.requires.stands c.requires.first c.requires.budget);
-      reaches = rw c.new-text.ensures.items (ReachesWith-none (code_of c.args.machine.now) b);
+      reaches = rw c.new-text.ensures.items none;
     }
 
 pub loop-outs-preserved : goal.loop-outs-preserved
@@ -28,14 +29,14 @@ loop-outs-preserved g c =
     let new = state_of c.turn.new.machine in
     let agreed = rw c.in-Went.is at c.in_ok-answer.ensures.agreed in
     let turned = rw c.loop-outs.invariant.code at c.in_ok-answer.ensures.turned in
-    let gone = Going-went x c.args.program.now all mid new c.loop-outs.text.items c.turn.new.outs c.loop-outs.invariant.going agreed in
+    let gone = Going-went x c.args.program.now all mid new c.loop-outs.text.items c.turn.new.outs c.requires.sound c.loop-outs.invariant.going agreed in
     record {
       code = c.in_ok-answer.ensures.code ∙ c.loop-outs.invariant.code;
       image = c.in_ok-answer.ensures.image ∙ c.loop-outs.invariant.image;
       ready = c.in_ok-answer.ensures.ready;
       steps = ap (λ n. n + 1) c.loop-outs.invariant.steps ∙ sym gone.taken;
       going = rw (c.in_ok-append_lines-in-Went.ensures, c.as_slice.ensures) gone.going;
-      reaches = rw (c.in_ok-append_lines-in-Went.ensures, c.as_slice.ensures) (ReachesWith-further (code_of c.args.machine.now) (state_of c.args.machine.now) mid new c.loop-outs.text.items c.turn.new.outs c.in_ok-answer.answer c.loop-outs.invariant.reaches turned);
+      reaches = rw (c.in_ok-append_lines-in-Went.ensures, c.as_slice.ensures) (further mid new c.loop-outs.text.items c.turn.new.outs c.in_ok-answer.answer c.loop-outs.invariant.reaches turned);
     }
 
 pub returns-in_default : goal.returns-in_default

@@ -5,5 +5,5 @@ use Rattle.cxxabi_cmd.proofs.run.reply_of.Goals as goal
 
 pub returns-clause-answer : goal.returns-clause-answer
 returns-clause-answer c =
-    run_answer_is (run_by c.args.accepted.now.hierarchy c.args.layout.now c.args.accepted.now.program) c.in_ok-execution.execution.text c.as_bytes.result.now c.extend_from_slice.new.self.items c.status_of-status.result
+    run_answer_is c.args.accepted.now.hierarchy c.args.layout.now (run_by c.args.accepted.now.hierarchy c.args.layout.now c.args.accepted.now.program) c.in_ok-execution.execution.text c.as_bytes.result.now c.extend_from_slice.new.self.items c.status_of-status.result
     (c.in_ok-extend_from_slice.ensures.items ∙ ap (λ (t : List ℕ). t ++ c.as_bytes.result.now) c.into_vec-text.ensures) c.in_ok-execution.ensures.text (c.as_bytes.ensures.value ∙ c.in_ok-last_line_of.ensures) (c.status_of-status.ensures ∙ ap status_of c.in_ok-execution.ensures.end)

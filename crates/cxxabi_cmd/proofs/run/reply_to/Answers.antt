@@ -21,7 +21,7 @@ pub returns-in-Ok-clause-machine : goal.returns-in-Ok-clause-machine
 returns-in-Ok-clause-machine c = ran_machine c.reply_of.result c.args.bytes.now c.in-Some.accepted.hierarchy c.in-Some.accepted.program c.in-Ok.layout c.reply_of.ensures.machine (accepted_program c.args.bytes.now c.in_ok-accepted.field-0 c.in-Some.accepted c.in_ok-accepted.ensures c.in-Some.is) c.in-Ok.ensures.laid
 
 pub returns-in-Ok-clause-answered : goal.returns-in-Ok-clause-answered
-returns-in-Ok-clause-answered c = ran_answered c.reply_of.result (run_by c.in-Some.accepted.hierarchy c.in-Ok.layout c.in-Some.accepted.program) c.reply_of.ensures.answer
+returns-in-Ok-clause-answered c = ran_answered c.reply_of.result c.in-Some.accepted.hierarchy c.in-Ok.layout (run_by c.in-Some.accepted.hierarchy c.in-Ok.layout c.in-Some.accepted.program) c.reply_of.ensures.answer
 
 pub returns-in-Err-Limit-clause-output : goal.returns-in-Err-Limit-clause-output
 returns-in-Err-Limit-clause-output c = large_output c.line_alone.result c.args.bytes.now c.in-Some.accepted.hierarchy c.in-Some.accepted.program c.in-Err-Limit.limit c.in-Err-Limit.field-0 c.line_alone.ensures.answer c.in-Err-Limit.field-0-is c.in-Err-Limit.ensures.limit (accepted_program c.args.bytes.now c.in_ok-accepted.field-0 c.in-Some.accepted c.in_ok-accepted.ensures c.in-Some.is) c.requires
