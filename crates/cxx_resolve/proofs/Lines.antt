@@ -57,7 +57,7 @@ pub place_of_member : (h : Classes) (c : ClassId) (name : Text) (base : Subobjec
     IsMemberOf h c name (record { base = base; member = m }) × LeadsToNumber h c (record { base = base; member = m }) c t
 place_of_member h c name base m t same n = (
   record { member = n.member; listed = n.listed; named = n.named; base = same },
-  record { base = subst (IsSubobject h c) (sym same) (whole [] tt); class = ap class_of same; member = n.type },
+  record { base = subst (IsSubobject h c) (sym same) (whole [] tt); class = ap class_of same; root = ap (λ (s : Subobject). s.root) same; member = n.type },
 )
 
 -- the field of another reading goes from the same class

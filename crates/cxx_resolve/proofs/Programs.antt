@@ -106,7 +106,7 @@ line_typed h n types all _ _ (write pointer field value p place t f) small e =
 line_typed h n types all _ _ (read variable pointer field p place t f promotes free) small e =
     typed.read (length types) p place f.class f.declares t (e.kept (length types) int (get_next types int)) (pointer_kept h types all p f.class (shorter types (int ∷ []) all e) f.is_pointer) f.is_number promotes
 line_typed h n types all _ _ (print variable v number type) small e =
-    typed.print v ((shorter types [] all e).kept v int type)
+    typed.print v int ((shorter types [] all e).kept v int type)
 
 lines_typed : (h : Classes) (names : List Text) (types : Types) (lines : List SimpleLine) (ss : List TypedLine) (all : Types) → LinesResolve h names types lines ss all → HasSmallNumbers lines →
     AllByRecursion (λ line. IsTyped h all line.what) ss

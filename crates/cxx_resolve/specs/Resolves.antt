@@ -12,13 +12,13 @@ use Rattle.cxx_hierarchy.specs.NameTables.{Text, place_in}
 use Rattle.cxx_decl_parser.specs.declared.simple.Simple.{Simple}
 use Rattle.cxx_decl_parser.specs.declared.simple.Simple.TheVariants.{New, Write, Read, Print}
 use Rattle.cxx_decl_parser.specs.declared.simple.SimpleLine.{SimpleLine}
-use Rattle.cxx_subobject.specs.Subobjects.{whole_of}
+use Rattle.cxx_subobject.specs.Subobjects.{whole_of, class_of}
 use Rattle.cxx_resolve.specs.declared.program.MemberPlace.{MemberPlace}
 use Rattle.cxx_resolve.specs.declared.program.Statement.{Statement}
-use Rattle.cxx_resolve.specs.declared.program.Statement.TheVariants.{New as Makes, Write as Writes, Read as Reads, Print as Prints}
+use Rattle.cxx_resolve.specs.declared.program.Statement.TheVariants.{New as Makes, Write as Writes, Read as Reads, Convert as Converts, Equal as Equals, Print as Prints}
 use Rattle.cxx_resolve.specs.declared.program.TypedLine.{TypedLine}
 use Rattle.cxx_resolve.specs.declared.program.SimpleProgram.{SimpleProgram}
-use Rattle.cxx_resolve.specs.Typed.{Types, int, IsPointer, LeadsToNumber}
+use Rattle.cxx_resolve.specs.Typed.{Types, int, bool, IsPointer, LeadsToNumber}
 
 -- the place is that of a member of the name, which the class declares
 pub record IsMemberOf (h : Classes) (c : ClassId) (name : Text) (place : MemberPlace) : Type 0 where
@@ -58,11 +58,17 @@ name_declared (Write pointer field value) = []
 name_declared (Read variable pointer field) = variable ∷ []
 name_declared (Print variable) = []
 
+abbrev pub pointer_to : Option ClassId → Types
+pointer_to None = []
+pointer_to (Some c) = Pointer c ∷ []
+
 -- and its type
 abbrev pub type_declared : Statement → Types
 type_declared (Makes variable c) = Pointer c ∷ []
 type_declared (Writes pointer place value) = []
 type_declared (Reads variable pointer place) = int ∷ []
+type_declared (Converts variable from) = pointer_to (class_of from.base)
+type_declared (Equals variable left right) = bool ∷ []
 type_declared (Prints variable) = []
 
 -- the lines of `main` one after the other, from the variables declared so far to those at the end

@@ -17,5 +17,7 @@ pub mod resolution;
 mod tests;
 mod variables;
 
-pub use crate::program::{LineList, MemberPlace, SimpleProgram, Statement, TypeList, TypedLine};
+pub use crate::program::{
+    Converted, LineList, MemberPlace, SimpleProgram, Statement, TypeList, TypedLine,
+};
 pub use crate::resolution::resolve_simple;

@@ -17,6 +17,14 @@ pub struct MemberPlace {
     pub member: u32,
 }
 
+/// A pointer variable, converted to a base: the base is a subobject of the class that the variable points to. The
+/// whole of that class stands for no conversion.
+#[derive(Debug, Drop)]
+pub struct Converted {
+    pub pointer: u32,
+    pub base: Subobject,
+}
+
 /// A statement over numbers of variables.
 #[derive(Debug, Drop)]
 pub enum Statement {
@@ -36,6 +44,17 @@ pub enum Statement {
         variable: u32,
         pointer: u32,
         place: MemberPlace,
+    },
+    /// `B* variable = pointer;`
+    Convert {
+        variable: u32,
+        from: Converted,
+    },
+    /// `bool variable = left == right;`
+    Equal {
+        variable: u32,
+        left: Converted,
+        right: Converted,
     },
     /// `print(variable);`
     Print {
