@@ -1,4 +1,8 @@
+pub mod Bases
+pub mod Each
+pub mod FormCases
+pub mod FormLines
+pub mod Found
 pub mod Lines
-pub mod Members
 pub mod Programs
 pub mod SoFar

@@ -125,8 +125,8 @@ declared_form (Number number) x (Some value) = number_form number x.name value
 declared_form (Pointer class) x (Some value) = pointer_form class x.name value
 
 abbrev pub write_value : Option (Text × Text) → Option ℤ → Option Simple
-write_value names None = None
-write_value None (Some z) = None
+write_value None z = None
+write_value (Some names) None = None
 write_value (Some names) (Some z) = Some (Write names.0 names.1 z)
 
 abbrev pub write_form : PlaceText → Operand → Option Simple

@@ -194,11 +194,11 @@ fn written(alloc: Global, place: &PlaceText, value: &Operand) -> Result<Option<S
     let Operand::Constant(constant) = value else {
         return Ok(None);
     };
-    let Some(number) = int_of(constant) else {
+    let Some((pointer, field)) = arrow(alloc, place)? else {
         return Ok(None);
     };
-    match arrow(alloc, place)? {
-        Some((pointer, field)) => Ok(Some(Simple::Write(pointer, field, number))),
+    match int_of(constant) {
+        Some(number) => Ok(Some(Simple::Write(pointer, field, number))),
         None => Ok(None),
     }
 }

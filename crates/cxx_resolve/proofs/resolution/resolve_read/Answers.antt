@@ -3,7 +3,7 @@ use Rattle.std.proofs.Common.{◌≡◌, refl, inr, subst, sym}
 use Rattle.std.specs.Prelude.{ℕ, None}
 use Rattle.std.proofs.lemmas.Result.{err_from_is_err_and}
 use Rattle.cxx_hierarchy.specs.NameTables.{number_in}
-use Rattle.cxx_decl_parser.specs.declared.simple.Simple.TheVariants.{Read}
+use Rattle.cxx_resolve.specs.declared.simple.Simple.TheVariants.{Read}
 use Rattle.cxx_resolve.specs.declared.program.Statement.TheVariants.{Read as Reads}
 use Rattle.cxx_resolve.specs.Resolves.{read, LineResolves}
 use Rattle.cxx_resolve.proofs.Lines.{refused_more, no_read, is_free, not_taken, is_small, not_small, same_field}
