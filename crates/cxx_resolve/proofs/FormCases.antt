@@ -6,7 +6,6 @@ use Rattle.std.proofs.lemmas.Slice.Eq.{bytes_eq-Decides}
 use Rattle.std.proofs.lemmas.Bool.Decides.{nat_tests}
 use Rattle.std.proofs.lemmas.Option.{slice_get-get_or}
 use Rattle.std.proofs.Math.Seq.{take-suc}
-use Rattle.std.proofs.Math.ListN.{take_of_length-le}
 use Rattle.cxx_hierarchy.specs.declared.records.Scalar.{Scalar}
 use Rattle.cxx_hierarchy.specs.declared.records.Scalar.TheVariants as scalar
 use Rattle.cxx_hierarchy.specs.declared.records.ValueType.TheVariants.{Number, Pointer}

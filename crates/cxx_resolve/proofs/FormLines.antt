@@ -3,7 +3,7 @@ use Rattle.std.proofs.Common.{◌≡◌, ℕ, zero, suc, ◌+◌, ◌<◌, ◌�
 use Rattle.std.specs.Prelude.{Some, None, slice_get}
 use Rattle.std.proofs.lemmas.Option.{slice_get-get_or}
 use Rattle.std.proofs.Math.Seq.{take-suc}
-use Rattle.std.proofs.Math.ListN.{take_of_length-le}
+use Rattle.std.proofs.lemmas.List.{take_all}
 use Rattle.cxx_body_parser.specs.declared.tree.Statement.{Statement}
 use Rattle.cxx_resolve.specs.declared.simple.Simple.{Simple}
 use Rattle.cxx_resolve.specs.declared.simple.SimpleLine.{SimpleLine}
@@ -36,7 +36,7 @@ more_lines ss i s xs next_xs x far within at form line grown =
     (subst (SayLines (take i ss ++ s ∷ [])) (sym grown) (append_line (take i ss) xs s x far (said s.kind x.what form) line))
 
 pub all_lines : (ss : List Statement) (i : ℕ) (xs : List SimpleLine) → SayLines (take i ss) xs → length ss ≤ i → SayLines ss xs
-all_lines ss i xs far all = subst (λ (ts : List Statement). SayLines ts xs) (take_of_length-le ss all) far
+all_lines ss i xs far all = subst (λ (ts : List Statement). SayLines ts xs) (take_all i ss all) far
 
 record Says (s : Statement) : Type 0 where
   simple : Simple

@@ -5,4 +5,6 @@ pub mod FormLines
 pub mod Found
 pub mod Lines
 pub mod Programs
+pub mod Reached
 pub mod SoFar
+pub mod Whole

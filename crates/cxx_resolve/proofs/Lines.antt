@@ -17,7 +17,7 @@ use Rattle.cxx_resolve.specs.declared.program.MemberPlace.{MemberPlace}
 use Rattle.cxx_resolve.specs.declared.program.Converted.{Converted}
 use Rattle.cxx_resolve.specs.declared.program.Statement.{Statement}
 use Rattle.cxx_resolve.specs.Typed.{Types, IsPointer, IsConverted}
-use Rattle.cxx_resolve.specs.LookUps.{IsOneBase}
+use Rattle.cxx_resolve.specs.LookUps.{IsUniqueBase}
 use Rattle.cxx_resolve.specs.Resolves.{Numbering, IsMemberOf, IsField, IsPointerTo, LineResolves, new, write, read, convert, equal, print}
 use Rattle.cxx_resolve.specs.Answers.{IsRefusal, IsNumberAt, IsPointerAt, IsLesser}
 use Rattle.cxx_resolve.proofs.Bases.{base_before}
@@ -122,7 +122,7 @@ pub same_converted : (h : Classes) (n : Numbering) (types : Types) (pointer : Te
 unfolding converted_of
 same_converted h n types pointer a b c d e f g =
     let same = same_pointer n types pointer a.pointer b.pointer c d (pointer_at h n types pointer a c e f) (pointer_at h n types pointer b d e g) in
-    let base : a.base ≡ b.base = one_base h d e a.base b.base (subst (λ (z : ClassId). IsOneBase h z e a.base) same.1 f.only) g.only in
+    let base : a.base ≡ b.base = one_base h d e a.base b.base (subst (λ (z : ClassId). IsUniqueBase h z e a.base) same.1 f.only) g.only in
     ap (λ (p : ℕ). converted_of p a.base) same.0 ∙ ap (λ (s : Subobject). converted_of b.pointer s) base
 
 same_id : (c d : ClassId) → c.0 ≡ d.0 → c ≡ d

@@ -26,7 +26,7 @@ use Rattle.cxx_resolve.specs.Answers.{IsLesser}
 use Rattle.cxx_resolve.proofs.Lines.{same_field, same_converted, same_pointer, pointer_at, is_lesser, one_lesser}
 
 -- a class of a name is one
-same_class : (h : Classes) → IsHierarchy h → (name : Text) (c d : ClassId) → slice_get (class_names h) c.0 ≡ Some name → slice_get (class_names h) d.0 ≡ Some name → c ≡ d
+pub same_class : (h : Classes) → IsHierarchy h → (name : Text) (c d : ClassId) → slice_get (class_names h) c.0 ≡ Some name → slice_get (class_names h) d.0 ≡ Some name → c ≡ d
 same_class h keeps name c d at_c at_d =
     let x = mapped (λ (class : Class). class.name) h c.0 name at_c in
     let y = mapped (λ (class : Class). class.name) h d.0 name at_d in

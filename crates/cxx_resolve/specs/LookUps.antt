@@ -1,22 +1,83 @@
--- TEMPORARY: replaced by cxx_lookup's definitions.
-use Rattle.std.specs.Prelude.{◌≡◌, ℕ, Some, slice_get}
+-- Which declaration a member's name finds (ISO C++03 10.2; Rossie and Friedman).
+use Rattle.std.specs.Prelude.{◌≡◌, ◌⊎◌, ℕ, Option, Some, None, List, [], slice_get}
+use Rattle.std.specs.Option.{option_map}
 use Rattle.cxx_hierarchy.specs.declared.records.ClassId.{ClassId}
-use Rattle.cxx_hierarchy.specs.declared.records.Member.{Member}
+use Rattle.cxx_hierarchy.specs.declared.records.Member.{Member as MemberRecord}
+use Rattle.cxx_hierarchy.specs.declared.records.Function.{Function as FunctionRecord}
 use Rattle.cxx_hierarchy.specs.Classes.{Classes, members_of}
-use Rattle.cxx_hierarchy.specs.NameTables.{Text}
 use Rattle.cxx_subobject.specs.declared.Subobject.{Subobject}
 use Rattle.cxx_subobject.specs.Subobjects.{IsSubobject, class_of}
+use Rattle.cxx_subobject.specs.Inside.{IsInside}
+use Rattle.cxx_resolve.specs.declared.look_up.Found.{Found}
+use Rattle.cxx_resolve.specs.declared.look_up.Found.TheVariants.{Member, Function}
+use Rattle.cxx_resolve.specs.declared.look_up.LookupFault.{LookupFault}
+use Rattle.cxx_resolve.specs.declared.look_up.LookupFault.TheVariants.{AmbiguousName, NoSuchMember, NoMemory}
+use Rattle.cxx_resolve.specs.declared.look_up.BaseFault.{BaseFault}
+use Rattle.cxx_resolve.specs.declared.look_up.BaseFault.TheVariants.{AmbiguousBase, NotBase, NoMemory as BaseNoMemory}
 
-pub record IsMemberFound (h : Classes) (c : ClassId) (name : Text) (s : Subobject) (m : ℕ) : Type 0 where
-  pub valid : IsSubobject h c s
-  pub class : ClassId
-  pub of_class : class_of s ≡ Some class
-  pub member : Member ClassId
-  pub listed : slice_get (members_of h class) m ≡ Some member
-  pub named : member.name ≡ name
-  pub only : (t : Subobject) (k : ℕ) → (s ≡ t) × (m ≡ k)
+-- the subobject that has the declaration
+abbrev pub place_of : Found → Subobject
+place_of (Member s number) = s
+place_of (Function s number) = s
 
-pub record IsOneBase (h : Classes) (c d : ClassId) (s : Subobject) : Type 0 where
+abbrev pub name_in : Classes → Option ClassId → Found → Option (List ℕ)
+name_in h None found = None
+name_in h (Some c) (Member s number) = option_map (λ (m : MemberRecord ClassId). m.name) (slice_get (members_of h c) number)
+name_in h (Some c) (Function s number) = None
+
+-- the name that is declared: that of the member or function of the number in the subobject's class
+abbrev pub name_of : Classes → Found → Option (List ℕ)
+name_of h found = name_in h (class_of (place_of found)) found
+
+-- the name is declared there, in a subobject of c
+pub record IsDeclared (h : Classes) (c : ClassId) (name : List ℕ) (found : Found) : Type 0 where
+  pub valid : IsSubobject h c (place_of found)
+  pub named : name_of h found ≡ Some name
+
+-- no other declaration hides it: one hides those in subobjects that lie in its own
+pub record Remains (h : Classes) (c : ClassId) (name : List ℕ) (found : Found) : Type 0 where
+  pub declared : IsDeclared h c name found
+  pub unhidden : (other : Found) → IsDeclared h c name other → IsInside h (place_of other) (place_of found) → other ≡ found
+
+-- it is what the name finds: the one declaration that remains
+pub record IsFound (h : Classes) (c : ClassId) (name : List ℕ) (found : Found) : Type 0 where
+  pub remains : Remains h c name found
+  pub only : (other : Found) → Remains h c name other → other ≡ found
+
+-- two declarations remain
+pub record TwoRemain (h : Classes) (c : ClassId) (name : List ℕ) : Type 0 where
+  pub one : Found
+  pub other : Found
+  pub one_remains : Remains h c name one
+  pub other_remains : Remains h c name other
+  pub differ : one ≡ other → ⊥
+
+-- the fault that stands in place of an answer; want of memory is free
+abbrev pub IsLookupFault : Classes → ClassId → List ℕ → LookupFault → Type 0
+IsLookupFault h c name AmbiguousName = TwoRemain h c name
+IsLookupFault h c name NoSuchMember = (found : Found) → IsDeclared h c name found → ⊥
+IsLookupFault h c name NoMemory = Unit {0}
+
+-- s is a subobject of c, and of the class of the base
+pub record IsOfClass (h : Classes) (c base : ClassId) (s : Subobject) : Type 0 where
   pub valid : IsSubobject h c s
-  pub of_class : class_of s ≡ Some d
-  pub only : (t : Subobject) → IsSubobject h c t → class_of t ≡ Some d → t ≡ s
+  pub class : class_of s ≡ Some base
+
+-- s is the one subobject of c that is of the class of the base
+pub record IsUniqueBase (h : Classes) (c base : ClassId) (s : Subobject) : Type 0 where
+  pub is : IsOfClass h c base s
+  pub only : (t : Subobject) → IsOfClass h c base t → t ≡ s
+
+-- c has two subobjects of the class of the base
+pub record HasTwoBases (h : Classes) (c base : ClassId) : Type 0 where
+  pub one : Subobject
+  pub other : Subobject
+  pub is_one : IsOfClass h c base one
+  pub is_other : IsOfClass h c base other
+  pub differ : one ≡ other → ⊥
+
+-- the fault that stands in place of an answer; want of memory is free
+abbrev pub IsBaseFault : Classes → ClassId → ClassId → BaseFault → Type 0
+IsBaseFault h c base AmbiguousBase = HasTwoBases h c base
+IsBaseFault h c base NotBase = (s : Subobject) → IsOfClass h c base s → ⊥
+IsBaseFault h c base BaseNoMemory = Unit {0}

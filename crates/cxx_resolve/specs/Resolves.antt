@@ -8,7 +8,6 @@ use Rattle.cxx_hierarchy.specs.declared.records.ValueType.TheVariants.{Pointer}
 use Rattle.cxx_hierarchy.specs.Scalars.{IsInRange, PromotesToInt}
 use Rattle.cxx_hierarchy.specs.Classes.{Classes, class_names}
 use Rattle.cxx_hierarchy.specs.NameTables.{Text, place_in}
-use Rattle.cxx_subobject.specs.declared.Subobject.{Subobject}
 use Rattle.cxx_subobject.specs.Subobjects.{class_of}
 use Rattle.cxx_resolve.specs.declared.simple.Simple.{Simple}
 use Rattle.cxx_resolve.specs.declared.simple.Simple.TheVariants.{New, Write, Read, Convert, Equal, Print}
@@ -20,11 +19,12 @@ use Rattle.cxx_resolve.specs.declared.program.Statement.TheVariants.{New as Make
 use Rattle.cxx_resolve.specs.declared.program.TypedLine.{TypedLine}
 use Rattle.cxx_resolve.specs.declared.program.SimpleProgram.{SimpleProgram}
 use Rattle.cxx_resolve.specs.Typed.{Types, int, bool, IsPointer, IsConverted, LeadsToNumber}
-use Rattle.cxx_resolve.specs.LookUps.{IsMemberFound, IsOneBase}
+use Rattle.cxx_resolve.specs.declared.look_up.Found.TheVariants.{Member}
+use Rattle.cxx_resolve.specs.LookUps.{IsFound, IsUniqueBase}
 
 -- the place is that of the one declaration of the name that is left, which is a member's (ISO C++03 10.2)
 abbrev pub IsMemberOf : Classes → ClassId → Text → MemberPlace → Type 0
-IsMemberOf h c name place = IsMemberFound h c name place.base place.member
+IsMemberOf h c name place = IsFound h c name (Member place.base place.member)
 
 -- the number of each variable declared so far, by its name
 abbrev pub Numbering : Type 0
@@ -42,7 +42,7 @@ pub record IsField (h : Classes) (number_of : Numbering) (types : Types) (pointe
 -- the pointer of the name points to class c, and is converted to the one subobject of class d (ISO C++03 4.10)
 pub record IsPointerTo (h : Classes) (number_of : Numbering) (types : Types) (pointer : Text) (from : Converted) (c d : ClassId) : Type 0 where
   pub number : number_of pointer ≡ Some from.pointer
-  pub only : IsOneBase h c d from.base
+  pub only : IsUniqueBase h c d from.base
   pub converted : IsConverted h types from c d
 
 -- a statement, by the variables declared before it (ISO C++03 3.3.1, 3.4.5, 5.3.4); a new variable takes the next number

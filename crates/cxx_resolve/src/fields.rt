@@ -1,8 +1,8 @@
 //! Fields and bases of the class that a pointer points to.
 
 ghost use Rattle.std.specs.Prelude.{◌≡◌, ◌<◌, ℕ, Some, IfOk, IfErr, MatchOption, length};
-ghost use Rattle.cxx_hierarchy.specs.Classes.{value_type_in};
-ghost use Rattle.cxx_hierarchy.specs.NameTables.{number_in};
+ghost use Rattle.cxx_hierarchy.specs.Classes.{Classes, value_type_in};
+ghost use Rattle.cxx_hierarchy.specs.NameTables.{Text, number_in};
 ghost use Rattle.cxx_hierarchy.specs.declared.records.ClassId.{ClassId};
 ghost use Rattle.cxx_hierarchy.specs.declared.records.Scalar.{Scalar};
 ghost use Rattle.cxx_hierarchy.specs.declared.records.ValueType.TheVariants.{Number};
@@ -11,7 +11,7 @@ ghost use Rattle.cxx_subobject.specs.Subobjects.{class_of};
 ghost use Rattle.cxx_resolve.specs.declared.program.MemberPlace.{MemberPlace};
 ghost use Rattle.cxx_resolve.specs.declared.program.Converted.{Converted};
 ghost use Rattle.cxx_resolve.specs.SimpleHierarchy.{IsSimpleHierarchy};
-ghost use Rattle.cxx_resolve.specs.LookUps.{IsOneBase};
+ghost use Rattle.cxx_resolve.specs.LookUps.{IsFound, IsLookupFault, IsUniqueBase, IsBaseFault};
 ghost use Rattle.cxx_resolve.specs.Resolves.{IsField, IsMemberOf, IsPointerTo};
 ghost use Rattle.cxx_resolve.specs.Answers.{IsRefusal, IsNumberAt, IsLesser, IsPointerAt, HasCommon, HasPointerTo};
 
@@ -57,6 +57,28 @@ fn number_at(h: &Hierarchy, place: &MemberPlace) -> Option<(ClassId, Scalar)>
     Some((class, scalar))
 }
 
+/// What stands in place of a field.
+fn lookup_stop(fault: LookupFault) -> Stop
+    ensures { (h : Classes) (c : ClassId) (name : Text) → IsLookupFault h c name fault → IsRefusal ((place : MemberPlace) → IsMemberOf h c name place → ⊥) result }
+{
+    match fault {
+        LookupFault::NoMemory => Stop::NoMemory,
+        LookupFault::AmbiguousName => Stop::Refused(Rule::Syntax, 0),
+        LookupFault::NoSuchMember => Stop::Refused(Rule::Syntax, 0),
+    }
+}
+
+/// The place of what a name finds, where it is a member.
+fn member_place(found: Found) -> Result<MemberPlace, Stop>
+    ensures ok { (h : Classes) (c : ClassId) (name : Text) → IsFound h c name found → IfOk result (IsMemberOf h c name) }
+    ensures err { (h : Classes) (c : ClassId) (name : Text) → IsFound h c name found → IfErr result (IsRefusal ((place : MemberPlace) → IsMemberOf h c name place → ⊥)) }
+{
+    match found {
+        Found::Member(base, member) => Ok(MemberPlace { base, member }),
+        Found::Function(_, _) => Err(Stop::Refused(Rule::Syntax, 0)),
+    }
+}
+
 /// The place of the one declaration of a name that is left in a class, where it is a member's.
 fn member_of(
     alloc: Global,
@@ -70,11 +92,8 @@ fn member_of(
     ensures err { IfErr result (IsRefusal ((place : MemberPlace) → IsMemberOf h.now class name.now place → ⊥)) }
 {
     match lookup(alloc, h, class, name.as_slice()) {
-        Ok(Found::Member(base, member)) => Ok(MemberPlace { base, member }),
-        Ok(Found::Function(_, _)) => Err(Stop::Refused(Rule::Syntax, 0)),
-        Err(LookupFault::NoMemory) => Err(Stop::NoMemory),
-        Err(LookupFault::AmbiguousName) => Err(Stop::Refused(Rule::Syntax, 0)),
-        Err(LookupFault::NoSuchMember) => Err(Stop::Refused(Rule::Syntax, 0)),
+        Ok(found) => member_place(found),
+        Err(fault) => Err(lookup_stop(fault)),
     }
 }
 
@@ -103,25 +122,32 @@ pub(crate) fn field_of(
     Ok((number, place, scalar))
 }
 
-/// A pointer to a class, converted to the one subobject of another or of the same class.
-fn converted(
+/// What stands in place of a base.
+fn base_stop(fault: BaseFault) -> Stop
+    ensures { (h : Classes) (c d : ClassId) → IsBaseFault h c d fault → IsRefusal ((base : Subobject) → IsUniqueBase h c d base → ⊥) result }
+{
+    match fault {
+        BaseFault::NoMemory => Stop::NoMemory,
+        BaseFault::AmbiguousBase => Stop::Refused(Rule::Syntax, 0),
+        BaseFault::NotBase => Stop::Refused(Rule::Syntax, 0),
+    }
+}
+
+/// The one subobject of a class that is of another or of the same class.
+fn base_of(
     alloc: Global,
     h: &Hierarchy,
-    pointer: u32,
     class: ClassId,
     target: ClassId,
-) -> Result<Converted, Stop>
+) -> Result<Subobject, Stop>
     requires simple { IsSimpleHierarchy h.now }
     requires known { class.0 < length h.now }
-    ensures pointer { IfOk result (λ from. from.pointer ≡ pointer) }
-    ensures base { IfOk result (λ from. IsOneBase h.now class target from.base) }
-    ensures err { IfErr result (IsRefusal ((base : Subobject) → IsOneBase h.now class target base → ⊥)) }
+    ensures ok { IfOk result (IsUniqueBase h.now class target) }
+    ensures err { IfErr result (IsRefusal ((base : Subobject) → IsUniqueBase h.now class target base → ⊥)) }
 {
     match unique_base(alloc, h, class, target) {
-        Ok(base) => Ok(Converted { pointer, base }),
-        Err(BaseFault::NoMemory) => Err(Stop::NoMemory),
-        Err(BaseFault::AmbiguousBase) => Err(Stop::Refused(Rule::Syntax, 0)),
-        Err(BaseFault::NotBase) => Err(Stop::Refused(Rule::Syntax, 0)),
+        Ok(base) => Ok(base),
+        Err(fault) => Err(base_stop(fault)),
     }
 }
 
@@ -143,7 +169,11 @@ pub(crate) fn pointer_to(
     if class.0 >= h.len() {
         return Err(Stop::Refused(Rule::Syntax, 0));
     }
-    converted(alloc, h, number, class, target)
+    let base = base_of(alloc, h, class, target)?;
+    Ok(Converted {
+        pointer: number,
+        base,
+    })
 }
 
 /// The one of two classes that stands first in the source, which alone can be a base of the other (ISO C++03 10).

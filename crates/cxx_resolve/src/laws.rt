@@ -2,14 +2,14 @@
 
 ghost use Rattle.cxx_resolve.specs.Laws.{ResolveToOne, ResolveToTyped};
 
-/// The lines of a `main` resolve to one program at most.
-#[tactic(auto, using(crate::proofs::Programs::one_program))]
+/// The body of a `main` resolves to one program at most.
+#[tactic(auto, using(crate::proofs::Whole::one_main))]
 pub fn one_program()
     ensures { ResolveToOne }
 {}
 
-/// The types of a resolved program fit, where each number that the source writes is an `int`'s.
-#[tactic(auto, using(crate::proofs::Programs::typed_program))]
+/// The types of a resolved program fit.
+#[tactic(auto, using(crate::proofs::Whole::typed_main))]
 pub fn typed()
     ensures { ResolveToTyped }
 {}

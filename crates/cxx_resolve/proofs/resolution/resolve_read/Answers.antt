@@ -18,7 +18,7 @@ pub returns-then-not-promotes_to_int-clause-err : goal.returns-then-not-promotes
 returns-then-not-promotes_to_int-clause-err c = inr (
   refl,
   no_read _ _ _ _ _ _ (λ p place t f small free.
-      let same = same_field _ c.keeps.ensures _ _ _ _ c.in_ok-from.from p c.in_ok-from.place place c.in_ok-from.scalar t c.in_ok-from.ensures.ok f in
+      let same = same_field _ _ _ _ _ c.in_ok-from.from p c.in_ok-from.place place c.in_ok-from.scalar t c.in_ok-from.ensures.ok f in
       not_small c.promotes_to_int.result c.in_ok-from.scalar t c.promotes_to_int.ensures same.2 small c.if-not-promotes_to_int.true),
 )
 
