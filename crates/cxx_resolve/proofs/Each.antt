@@ -1,5 +1,5 @@
 -- What holds of each element of a list, by a walk over it.
-use Rattle.std.proofs.Common.{◌≡◌, ℕ, ◌+◌, ◌<◌, ◌≤◌, ⊎_elim, Bool, true, false, Some, List, length, get_or, refl, subst, sym, ◌∙◌, arith}
+use Rattle.std.proofs.Common.{◌≡◌, ℕ, ◌+◌, ◌<◌, ◌≤◌, ⊎_elim, Bool, true, false, Some, List, [], ◌∷◌, length, get_or, refl, subst, sym, ◌∙◌, arith}
 use Rattle.std.specs.Prelude.{IsTrue}
 use Rattle.std.specs.List.{slice_get, Contains}
 use Rattle.std.proofs.lemmas.Bool.{cases_order}
@@ -34,3 +34,7 @@ always a = (λ t. a, λ x. refl)
 
 pub not_both : {b : Bool} → b ≡ true → b ≡ false → ⊥
 not_both t f = let e : true ≡ false = sym t ∙ f in cc
+
+pub no_items : {X : Type 0} (xs : List X) → length xs ≤ 0 → xs ≡ []
+no_items [] few = refl
+no_items (x ∷ xs) few = absurd (omega arith)

@@ -30,7 +30,7 @@ use Rattle.cxx_resolve.specs.declared.simple.Simple.{Simple}
 use Rattle.cxx_resolve.specs.declared.simple.Simple.TheVariants.{New, Write, Read, Convert, Equal, Print}
 use Rattle.cxx_resolve.specs.declared.simple.SimpleLine.{SimpleLine}
 use Rattle.cxx_resolve.specs.Form.{arrow, spelled, IsSimple, new, write, read, convert, equal, print, SayLines, none, next}
-use Rattle.cxx_resolve.specs.Forms.{int_of, name_in, field_in, arrow_in, arrow_of, equal_form, read_form, int_form, compared_form, bool_form, number_form, pointer_form, declared_form, write_form, print_form, form_of}
+use Rattle.cxx_resolve.specs.Forms.{int_of, name_in, field_in, arrow_in, arrow_of, equal_form, read_form, int_form, compared_form, bool_form, number_form, pointer_form, declared_form, write_value, write_form, print_form, form_of}
 
 some_is : {X : Type 0} (x y : X) → Some x ≡ Some y → x ≡ y
 some_is x y e = cc
@@ -61,14 +61,27 @@ pointer_of class at x (right.New made) s e = new_of class at x made (bytes_eq ma
 pointer_of class at x (right.Operand (operand.Name p)) s e = subst (IsSimple (kind.Declare (Pointer class) at x (Some (right.Operand (operand.Name p))))) (some_is _ _ e) (convert class at x p)
 pointer_of class at x value s e = absurd (cc)
 
+read_part : (at : ℕ) (x p f : Spot) (index : Option (ℕ × ℕ)) (s : Simple) → read_form x.name (field_in p.name f.name index) ≡ Some s →
+    IsSimple (kind.Declare (Number scalar.Int) at x (Some (right.Place (record { pointer = pointer.Name p; parts = (record { name = f; index = index }) ∷ [] })))) s
+read_part at x p f None s e = subst (IsSimple (kind.Declare (Number scalar.Int) at x (Some (right.Place (arrow p f))))) (some_is _ _ e) (read at x p f)
+read_part at x p f (Some index) s e = absurd (cc)
+
+read_place : (at : ℕ) (x : Spot) (p : PointerText) (parts : List PlacePart) (s : Simple) → read_form x.name (arrow_in p parts) ≡ Some s →
+    IsSimple (kind.Declare (Number scalar.Int) at x (Some (right.Place (record { pointer = p; parts = parts })))) s
+read_place at x (pointer.Name p) (part ∷ []) s e = read_part at x p part.name part.index s e
+read_place at x p parts s e = absurd (cc)
+
 int_right : (at : ℕ) (x : Spot) (value : Right) (s : Simple) → int_form x.name value ≡ Some s → IsSimple (kind.Declare (Number scalar.Int) at x (Some value)) s
-int_right at x (right.Place (record { pointer = pointer.Name p; parts = (record { name = f; index = None }) ∷ [] })) s e =
-    subst (IsSimple (kind.Declare (Number scalar.Int) at x (Some (right.Place (arrow p f))))) (some_is _ _ e) (read at x p f)
+int_right at x (right.Place place) s e = read_place at x place.pointer place.parts s e
 int_right at x value s e = absurd (cc)
 
-bool_right : (at : ℕ) (x : Spot) (value : Right) (s : Simple) → bool_form x.name value ≡ Some s → IsSimple (kind.Declare (Number scalar.Bool) at x (Some value)) s
-bool_right at x (right.Binary (operand.Name p) binary.Equal (operand.Name q)) s e =
+equal_of : (at : ℕ) (x : Spot) (a b : Operand) (s : Simple) → equal_form x.name a b ≡ Some s → IsSimple (kind.Declare (Number scalar.Bool) at x (Some (right.Binary a binary.Equal b))) s
+equal_of at x (operand.Name p) (operand.Name q) s e =
     subst (IsSimple (kind.Declare (Number scalar.Bool) at x (Some (right.Binary (operand.Name p) binary.Equal (operand.Name q))))) (some_is _ _ e) (equal at x p q)
+equal_of at x a b s e = absurd (cc)
+
+bool_right : (at : ℕ) (x : Spot) (value : Right) (s : Simple) → bool_form x.name value ≡ Some s → IsSimple (kind.Declare (Number scalar.Bool) at x (Some value)) s
+bool_right at x (right.Binary a binary.Equal b) s e = equal_of at x a b s e
 bool_right at x value s e = absurd (cc)
 
 number_of : (t : Scalar) (at : ℕ) (x : Spot) (value : Right) (s : Simple) → number_form t x.name value ≡ Some s → IsSimple (kind.Declare (Number t) at x (Some value)) s
@@ -86,9 +99,25 @@ number_written p f negative n at false s t e =
     let nothing : write_form (arrow p f) (operand.Constant (constant.Number negative n at)) ≡ None = rw t refl in
     absurd (cc)
 
+write_part : (p f : Spot) (index : Option (ℕ × ℕ)) (negative : Bool) (n at : ℕ) (s : Simple) →
+    write_form (record { pointer = pointer.Name p; parts = (record { name = f; index = index }) ∷ [] }) (operand.Constant (constant.Number negative n at)) ≡ Some s →
+    IsSimple (kind.Write (record { pointer = pointer.Name p; parts = (record { name = f; index = index }) ∷ [] }) (operand.Constant (constant.Number negative n at))) s
+write_part p f None negative n at s e = number_written p f negative n at (nat_le n 2147483647) s refl e
+write_part p f (Some index) negative n at s e = absurd (cc)
+
+write_place : (p : PointerText) (parts : List PlacePart) (negative : Bool) (n at : ℕ) (s : Simple) →
+    write_form (record { pointer = p; parts = parts }) (operand.Constant (constant.Number negative n at)) ≡ Some s →
+    IsSimple (kind.Write (record { pointer = p; parts = parts }) (operand.Constant (constant.Number negative n at))) s
+write_place (pointer.Name p) (part ∷ []) negative n at s e = write_part p part.name part.index negative n at s e
+write_place p parts negative n at s e = absurd (cc)
+
+no_truth : (names : Option (Text × Text)) (s : Simple) → write_value names None ≡ Some s → ⊥
+no_truth None s e = absurd (cc)
+no_truth (Some names) s e = absurd (cc)
+
 write_of : (place : PlaceText) (value : Operand) (s : Simple) → write_form place value ≡ Some s → IsSimple (kind.Write place value) s
-write_of (record { pointer = pointer.Name p; parts = (record { name = f; index = None }) ∷ [] }) (operand.Constant (constant.Number negative n at)) s e =
-    number_written p f negative n at (nat_le n 2147483647) s refl e
+write_of place (operand.Constant (constant.Number negative n at)) s e = write_place place.pointer place.parts negative n at s e
+write_of place (operand.Constant (constant.Truth b at)) s e = absurd (no_truth (arrow_of place) s e)
 write_of place value s e = absurd (cc)
 
 print_of : (a : Operand) (s : Simple) → print_form a ≡ Some s → IsSimple (kind.Print a) s

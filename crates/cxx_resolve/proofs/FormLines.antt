@@ -29,6 +29,10 @@ append_line : (ss : List Statement) (xs : List SimpleLine) (s : Statement) (x : 
 append_line _ _ s x none a e = next s [] x [] a e none
 append_line _ _ s x (next t rest y ys b g m) a e = next t (rest ++ s ∷ []) y (ys ++ x ∷ []) b g (append_line rest ys s x m a e)
 
+pub begin_lines : (ss : List Statement) (lines : List SimpleLine) → lines ≡ [] → SayLines (take 0 ss) lines
+begin_lines [] lines empty = subst (SayLines []) (sym empty) none
+begin_lines (s ∷ ss) lines empty = subst (SayLines []) (sym empty) none
+
 pub more_lines : (ss : List Statement) (i : ℕ) (s : Statement) (xs next_xs : List SimpleLine) (x : SimpleLine) → SayLines (take i ss) xs → i < length ss → s ≡ get_or ss i s →
     form_of s.kind ≡ Some x.what → x.line ≡ s.line → next_xs ≡ xs ++ x ∷ [] → SayLines (take (i + 1) ss) next_xs
 more_lines ss i s xs next_xs x far within at form line grown =

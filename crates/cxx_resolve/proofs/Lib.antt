@@ -1,4 +1,5 @@
 pub mod Bases
+pub mod ClassTests
 pub mod Each
 pub mod FormCases
 pub mod FormLines
