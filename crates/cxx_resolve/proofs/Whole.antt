@@ -1,5 +1,5 @@
 -- The body of a `main` and its program.
-use Rattle.std.proofs.Common.{◌≡◌, ℕ, ◌≤◌, List, sym, ◌∙◌, ap, subst, refl, arith, Bool, true, false}
+use Rattle.std.proofs.Common.{◌≡◌, ℕ, ◌<◌, ◌≤◌, List, sym, ◌∙◌, ap, subst, refl, arith, Bool, true, false}
 use Rattle.std.specs.Prelude.{ℤ, pos, neg_ℤ, length}
 use Rattle.std.specs.List.{AllByRecursion}
 use Rattle.std.proofs.lemmas.Int.{ints}
@@ -14,7 +14,7 @@ use Rattle.cxx_resolve.specs.declared.simple.Simple.{Simple}
 use Rattle.cxx_resolve.specs.declared.simple.SimpleLine.{SimpleLine}
 use Rattle.cxx_resolve.specs.declared.program.SimpleProgram.{SimpleProgram}
 use Rattle.cxx_resolve.specs.Typed.{IsTypedProgram}
-use Rattle.cxx_resolve.specs.Form.{spelled, IsSimple, new, write, read, convert, equal, print, SayLines, none, next}
+use Rattle.cxx_resolve.specs.Form.{spelled, IsSimple, new, write, read, convert, equal, print, SayLines, none, next, AreSimpleLines}
 use Rattle.cxx_resolve.specs.Resolves.{Resolves, IsSmallWrite, HasSmallNumbers}
 use Rattle.cxx_resolve.specs.Main.{MainResolves}
 use Rattle.cxx_resolve.proofs.FormLines.{lines_one}
@@ -44,3 +44,20 @@ one_main h tree p q keeps a b =
 
 pub typed_main : (h : Classes) (tree : BodyTree) (program : SimpleProgram) → MainResolves h tree program → IsTypedProgram h program
 typed_main h tree program m = typed_program h m.lines program m.resolves (small_lines (out-BodyTree tree).statements.items m.lines m.form)
+
+-- no program, where the lines of the body resolve to none
+pub none_resolves : (h : Classes) (tree : BodyTree) (lines : List SimpleLine) → AreSimpleLines tree lines → ((program : SimpleProgram) → Resolves h lines program → ⊥) →
+    (program : SimpleProgram) → MainResolves h tree program → ⊥
+none_resolves h tree lines form nothing program m =
+    let same = lines_one (out-BodyTree tree).statements.items m.lines lines m.form form in
+    nothing program (subst (λ (ls : List SimpleLine). Resolves h ls program) same m.resolves)
+
+-- nor where the one that they resolve to has too many variables
+pub too_many : (h : Classes) (tree : BodyTree) (lines : List SimpleLine) (p : SimpleProgram) → IsHierarchy h → AreSimpleLines tree lines → Resolves h lines p → 256 < length p.variables →
+    (program : SimpleProgram) → MainResolves h tree program → ⊥
+too_many h tree lines p keeps form resolves many program m =
+    let same = lines_one (out-BodyTree tree).statements.items m.lines lines m.form form in
+    let e : program ≡ p = one_program h lines program p keeps (subst (λ (ls : List SimpleLine). Resolves h ls program) same m.resolves) resolves in
+    let n : length program.variables ≡ length p.variables = ap (λ (q : SimpleProgram). length q.variables) e in
+    let few = m.few in
+    absurd (omega arith)

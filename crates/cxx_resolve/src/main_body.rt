@@ -24,6 +24,7 @@ pub fn resolve_main(alloc: Global, h: &Hierarchy, tree: &BodyTree) -> Result<Sim
     ensures ok { IfOk result (MainResolves h.now tree.now) }
     ensures err { IfErr result (IsRefusal ((program : SimpleProgram) → MainResolves h.now tree.now program → ⊥)) }
 {
+    h.keeps();
     if !is_simple(alloc, h)? {
         return Err(Stop::Refused(Rule::Syntax, 0));
     }
