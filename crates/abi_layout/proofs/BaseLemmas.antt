@@ -10,7 +10,7 @@ use Rattle.cxx_hierarchy.specs.declared.records.Base.{Base}
 use Rattle.cxx_hierarchy.specs.declared.records.Member.{Member}
 use Rattle.cxx_hierarchy.specs.declared.records.ValueType.{ValueType}
 use Rattle.cxx_hierarchy.specs.Classes.{Class, Classes, class_at, bases_of, members_of, bases_in as class_bases_in, members_in as class_members_in, leaf_type, leaf_type_in}
-use Rattle.cxx_subobject.specs.Subobjects.{IsDirectBase, HasVirtualBase, direct, further}
+use Rattle.cxx_hierarchy.specs.VirtualBases.{IsDirectBase, HasVirtualBase, direct, further}
 use Rattle.abi_layout.specs.declared.class_layout.ClassLayout.{ClassLayout}
 use Rattle.abi_layout.specs.Places.{size_of_value, number_in, bases_in, members_in, is_plain_base, place_at, base_place, places_of}
 use Rattle.abi_layout.specs.Sound.{Divides}

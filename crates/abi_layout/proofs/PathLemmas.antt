@@ -4,7 +4,8 @@ use Rattle.std.proofs.lemmas.Bool.{cases_order}
 use Rattle.cxx_hierarchy.specs.declared.records.ClassId.{ClassId}
 use Rattle.cxx_hierarchy.specs.declared.records.ValueType.{ValueType}
 use Rattle.cxx_hierarchy.specs.Classes.{Classes, leaf_type}
-use Rattle.cxx_subobject.specs.Subobjects.{IsDirectBase, Leads, last_of}
+use Rattle.cxx_hierarchy.specs.VirtualBases.{IsDirectBase}
+use Rattle.cxx_subobject.specs.Subobjects.{Leads, last_of}
 use Rattle.abi_layout.specs.declared.class_layout.ClassLayout.{ClassLayout}
 use Rattle.abi_layout.specs.Places.{size_of_value, base_place, place_along, places_of}
 use Rattle.abi_layout.specs.Sound.{Divides}
