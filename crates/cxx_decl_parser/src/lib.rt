@@ -12,7 +12,9 @@
 pub mod class;
 pub mod cursor;
 pub mod parser;
+pub mod part;
 pub mod simple;
+pub mod source_text;
 pub mod statement;
 #[cfg(test)]
 mod tests;
@@ -20,3 +22,6 @@ pub mod words;
 
 pub use crate::parser::{one_source, parse_simple};
 pub use crate::simple::{Simple, SimpleLine, SimpleLines, SimpleSource};
+pub use crate::source_text::{
+    Body, BodyList, BodyOwner, Global, GlobalList, Init, InitList, SourceText,
+};
