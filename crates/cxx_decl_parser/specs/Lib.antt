@@ -7,3 +7,4 @@ pub mod Reading
 pub mod Parts
 pub mod Definitions
 pub mod Sources
+pub mod Readers
