@@ -9,12 +9,13 @@ use Rattle.cxx_hierarchy.specs.Hierarchies.{IsHierarchy}
 use Rattle.cxx_subobject.specs.declared.Root.{Root}
 use Rattle.cxx_subobject.specs.declared.Root.TheVariants.{Whole, Shared}
 use Rattle.cxx_subobject.specs.declared.Subobject.{Subobject}
-use Rattle.cxx_subobject.specs.Subobjects.{IsDirectBase, HasVirtualBase, direct, further, Leads, IsSubobject, whole, shared, subobject, class_of, class_of_path, last_of}
-use Rattle.cxx_subobject.specs.Ordered.{HasOrderedBases, HasNoVirtualBase}
+use Rattle.cxx_hierarchy.specs.VirtualBases.{IsDirectBase, HasVirtualBase, direct, further}
+use Rattle.cxx_subobject.specs.Subobjects.{Leads, IsSubobject, whole, shared, subobject, class_of, class_of_path, last_of}
 use Rattle.cxx_resolve.specs.SimpleHierarchy.{HasSimpleClasses, IsSimpleHierarchy}
 
-same_id : (c d : ClassId) → c.0 ≡ d.0 → c ≡ d
-same_id c d e = ap (λ (n : ℕ). let k : ClassId = record { 0 = n } in k) e
+-- no base is virtual
+pub record HasNoVirtualBase (h : Classes) : Type 0 where
+  pub each : (c : ClassId) (base : Base ClassId) → Contains (bases_of h c) base → base.is_virtual ≡ false
 
 not_virtual : (h : Classes) → HasSimpleClasses h → (c : ClassId) (base : Base ClassId) (o : Option Class) → class_at h c ≡ o → Contains (bases_in o) base → base.is_virtual ≡ false
 not_virtual h simple c base None at (k, lt, e) = absurd (omega arith)

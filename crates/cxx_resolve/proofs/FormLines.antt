@@ -5,9 +5,12 @@ use Rattle.std.proofs.lemmas.Option.{slice_get-get_or}
 use Rattle.std.proofs.Math.Seq.{take-suc}
 use Rattle.std.proofs.lemmas.List.{take_all}
 use Rattle.cxx_body_parser.specs.declared.tree.Statement.{Statement}
+use Rattle.cxx_body_parser.specs.declared.tree.StatementKind.{StatementKind}
+use Rattle.cxx_body_parser.specs.declared.tree.BodyTree.{BodyTree, out-BodyTree}
+use Rattle.cxx_body_parser.specs.Same.{SameBody, same_body, SameStatements, no_statements, more_statements, SameStatement, same_plain, same_if, same_if_else, same_while}
 use Rattle.cxx_resolve.specs.declared.simple.Simple.{Simple}
 use Rattle.cxx_resolve.specs.declared.simple.SimpleLine.{SimpleLine}
-use Rattle.cxx_resolve.specs.Form.{IsSimple, SayLines, none, next}
+use Rattle.cxx_resolve.specs.Form.{IsSimple, SayLines, none, next, AreSimpleLines}
 use Rattle.cxx_resolve.specs.Forms.{form_of}
 use Rattle.cxx_resolve.proofs.FormCases.{says, said, says_one}
 
@@ -17,6 +20,34 @@ simple_line s n = record { what = s; line = n }
 same_line : (a b : SimpleLine) → a.what ≡ b.what → a.line ≡ b.line → a ≡ b
 unfolding simple_line
 same_line a b what line = ap (λ (s : Simple). simple_line s a.line) what ∙ ap (λ (n : ℕ). simple_line b.what n) line
+
+-- a statement that holds a block says nothing
+says_nothing : (s : Statement) (k : StatementKind) (x : Simple) → s.kind ≡ k → form_of k ≡ None → IsSimple s.kind x → ⊥
+says_nothing s k x e nothing says_x =
+    let f : Some x ≡ None = sym (says s.kind x says_x) ∙ ap form_of e ∙ nothing in
+    absurd (cc)
+
+same_says : (s t : Statement) (x y : Simple) → SameStatement s t → IsSimple s.kind x → IsSimple t.kind y → x ≡ y
+same_says s t x y (same_plain place kind) a b = says_one t.kind x y (subst (λ (k : StatementKind). IsSimple k x) kind a) b
+same_says s t x y (same_if place left right then) a b = absurd (says_nothing s _ x left refl a)
+same_says s t x y (same_if_else place left right then other) a b = absurd (says_nothing s _ x left refl a)
+same_says s t x y (same_while place left right body) a b = absurd (says_nothing s _ x left refl a)
+
+same_start : (s t : Statement) → SameStatement s t → s.line ≡ t.line
+same_start s t (same_plain place kind) = place.line
+same_start s t (same_if place left right then) = place.line
+same_start s t (same_if_else place left right then other) = place.line
+same_start s t (same_while place left right body) = place.line
+
+-- statements that say the same say one list of lines
+same_lines : (ss ts : List Statement) (xs ys : List SimpleLine) → SameStatements ss ts → SayLines ss xs → SayLines ts ys → xs ≡ ys
+same_lines _ _ _ _ no_statements none none = refl
+same_lines _ _ _ _ (more_statements same rest) (next s ss x xs a e m) (next t ts y ys b g n) =
+    ap (λ (l : SimpleLine). l ∷ xs) (same_line x y (same_says s t x.what y.what same a b) (e ∙ same_start s t same ∙ sym g))
+    ∙ ap (λ (ls : List SimpleLine). y ∷ ls) (same_lines ss ts xs ys rest m n)
+
+pub bodies_say : (a b : BodyTree) (xs ys : List SimpleLine) → SameBody a b → AreSimpleLines a xs → AreSimpleLines b ys → xs ≡ ys
+bodies_say a b xs ys (same_body same line close) m n = same_lines (out-BodyTree a).statements.items (out-BodyTree b).statements.items xs ys same m n
 
 -- statements say one list of lines
 pub lines_one : (ss : List Statement) (xs ys : List SimpleLine) → SayLines ss xs → SayLines ss ys → xs ≡ ys

@@ -6,9 +6,10 @@ use Rattle.cxx_hierarchy.specs.Classes.{Classes}
 use Rattle.cxx_hierarchy.specs.NameTables.{Text}
 use Rattle.cxx_subobject.specs.declared.Subobject.{Subobject}
 use Rattle.cxx_resolve.specs.declared.program.MemberPlace.{MemberPlace}
-use Rattle.cxx_resolve.specs.declared.look_up.Found.{Found}
-use Rattle.cxx_resolve.specs.declared.look_up.Found.TheVariants.{Member, Function}
-use Rattle.cxx_resolve.specs.LookUps.{IsFound, TwoRemain, IsDeclared, IsUniqueBase, HasTwoBases, IsOfClass}
+use Rattle.cxx_lookup.specs.declared.Found.{Found}
+use Rattle.cxx_lookup.specs.declared.Found.TheVariants.{Member, Function}
+use Rattle.cxx_lookup.specs.Lookup.{IsFound, TwoRemain, IsDeclared}
+use Rattle.cxx_lookup.specs.UniqueBase.{IsUniqueBase, HasTwoBases, IsOfClass}
 use Rattle.cxx_resolve.specs.Resolves.{IsMemberOf}
 
 place_at : Subobject → ℕ → MemberPlace

@@ -17,7 +17,7 @@ use Rattle.cxx_resolve.specs.declared.program.MemberPlace.{MemberPlace}
 use Rattle.cxx_resolve.specs.declared.program.Converted.{Converted}
 use Rattle.cxx_resolve.specs.declared.program.Statement.{Statement}
 use Rattle.cxx_resolve.specs.Typed.{Types, IsPointer, IsConverted}
-use Rattle.cxx_resolve.specs.LookUps.{IsUniqueBase}
+use Rattle.cxx_lookup.specs.UniqueBase.{IsUniqueBase}
 use Rattle.cxx_resolve.specs.Resolves.{Numbering, IsMemberOf, IsField, IsPointerTo, LineResolves, new, write, read, convert, equal, print}
 use Rattle.cxx_resolve.specs.Answers.{IsRefusal, IsNumberAt, IsPointerAt, IsLesser}
 use Rattle.cxx_resolve.proofs.Bases.{base_before}

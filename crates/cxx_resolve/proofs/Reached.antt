@@ -12,7 +12,7 @@ use Rattle.cxx_resolve.specs.declared.program.MemberPlace.{MemberPlace}
 use Rattle.cxx_resolve.specs.declared.program.Converted.{Converted}
 use Rattle.cxx_resolve.specs.declared.program.Statement.TheVariants.{Equal as Equals}
 use Rattle.cxx_resolve.specs.SimpleHierarchy.{IsSimpleHierarchy}
-use Rattle.cxx_resolve.specs.LookUps.{IsUniqueBase}
+use Rattle.cxx_lookup.specs.UniqueBase.{IsUniqueBase}
 use Rattle.cxx_resolve.specs.Typed.{Types, IsPointer, IsConverted}
 use Rattle.cxx_resolve.specs.Resolves.{Numbering, IsMemberOf, IsField, IsPointerTo, LineResolves, equal}
 use Rattle.cxx_resolve.specs.Answers.{IsNumberAt, IsPointerAt, IsLesser, HasCommon, HasPointerTo}

@@ -10,6 +10,7 @@ use Rattle.cxx_hierarchy.specs.Hierarchies.{IsHierarchy}
 use Rattle.cxx_body_parser.specs.declared.tree.Statement.{Statement}
 use Rattle.cxx_body_parser.specs.declared.tree.StatementKind.{StatementKind}
 use Rattle.cxx_body_parser.specs.declared.tree.BodyTree.{BodyTree, out-BodyTree}
+use Rattle.cxx_body_parser.specs.Same.{SameBody}
 use Rattle.cxx_resolve.specs.declared.simple.Simple.{Simple}
 use Rattle.cxx_resolve.specs.declared.simple.SimpleLine.{SimpleLine}
 use Rattle.cxx_resolve.specs.declared.program.SimpleProgram.{SimpleProgram}
@@ -17,7 +18,7 @@ use Rattle.cxx_resolve.specs.Typed.{IsTypedProgram}
 use Rattle.cxx_resolve.specs.Form.{spelled, IsSimple, new, write, read, convert, equal, print, SayLines, none, next, AreSimpleLines}
 use Rattle.cxx_resolve.specs.Resolves.{Resolves, IsSmallWrite, HasSmallNumbers}
 use Rattle.cxx_resolve.specs.Main.{MainResolves}
-use Rattle.cxx_resolve.proofs.FormLines.{lines_one}
+use Rattle.cxx_resolve.proofs.FormLines.{lines_one, bodies_say}
 use Rattle.cxx_resolve.proofs.Programs.{one_program, typed_program}
 
 -- a number that is written is an int's
@@ -37,10 +38,10 @@ small_lines : (ss : List Statement) (lines : List SimpleLine) → SayLines ss li
 small_lines _ _ none = tt
 small_lines _ _ (next s rest line lines a e m) = (small_line s.kind line.what a, small_lines rest lines m)
 
-pub one_main : (h : Classes) (tree : BodyTree) (p q : SimpleProgram) → IsHierarchy h → MainResolves h tree p → MainResolves h tree q → p ≡ q
-one_main h tree p q keeps a b =
-    let same = lines_one (out-BodyTree tree).statements.items a.lines b.lines a.form b.form in
-    one_program h b.lines p q keeps (subst (λ (ls : List SimpleLine). Resolves h ls p) same a.resolves) b.resolves
+pub one_main : (h : Classes) (a b : BodyTree) (p q : SimpleProgram) → IsHierarchy h → SameBody a b → MainResolves h a p → MainResolves h b q → p ≡ q
+one_main h a b p q keeps one m n =
+    let same = bodies_say a b m.lines n.lines one m.form n.form in
+    one_program h n.lines p q keeps (subst (λ (ls : List SimpleLine). Resolves h ls p) same m.resolves) n.resolves
 
 pub typed_main : (h : Classes) (tree : BodyTree) (program : SimpleProgram) → MainResolves h tree program → IsTypedProgram h program
 typed_main h tree program m = typed_program h m.lines program m.resolves (small_lines (out-BodyTree tree).statements.items m.lines m.form)

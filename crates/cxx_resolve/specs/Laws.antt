@@ -3,13 +3,14 @@ use Rattle.std.specs.Prelude.{◌≡◌}
 use Rattle.cxx_hierarchy.specs.Classes.{Classes}
 use Rattle.cxx_hierarchy.specs.Hierarchies.{IsHierarchy}
 use Rattle.cxx_body_parser.specs.declared.tree.BodyTree.{BodyTree}
+use Rattle.cxx_body_parser.specs.Same.{SameBody}
 use Rattle.cxx_resolve.specs.declared.program.SimpleProgram.{SimpleProgram}
 use Rattle.cxx_resolve.specs.Typed.{IsTypedProgram}
 use Rattle.cxx_resolve.specs.Main.{MainResolves}
 
--- a body resolves to one program at most
+-- bodies that say the same resolve to one program at most
 abbrev pub ResolveToOne : Type 0
-ResolveToOne = (h : Classes) (tree : BodyTree) (p q : SimpleProgram) → IsHierarchy h → MainResolves h tree p → MainResolves h tree q → p ≡ q
+ResolveToOne = (h : Classes) (a b : BodyTree) (p q : SimpleProgram) → IsHierarchy h → SameBody a b → MainResolves h a p → MainResolves h b q → p ≡ q
 
 -- and its types fit
 abbrev pub ResolveToTyped : Type 0

@@ -2,7 +2,6 @@ pub mod Typed
 pub mod Form
 pub mod Forms
 pub mod SimpleHierarchy
-pub mod LookUps
 pub mod Resolves
 pub mod Answers
 pub mod Main

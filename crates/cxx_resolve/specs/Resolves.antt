@@ -19,8 +19,9 @@ use Rattle.cxx_resolve.specs.declared.program.Statement.TheVariants.{New as Make
 use Rattle.cxx_resolve.specs.declared.program.TypedLine.{TypedLine}
 use Rattle.cxx_resolve.specs.declared.program.SimpleProgram.{SimpleProgram}
 use Rattle.cxx_resolve.specs.Typed.{Types, int, bool, IsPointer, IsConverted, LeadsToNumber}
-use Rattle.cxx_resolve.specs.declared.look_up.Found.TheVariants.{Member}
-use Rattle.cxx_resolve.specs.LookUps.{IsFound, IsUniqueBase}
+use Rattle.cxx_lookup.specs.declared.Found.TheVariants.{Member}
+use Rattle.cxx_lookup.specs.Lookup.{IsFound}
+use Rattle.cxx_lookup.specs.UniqueBase.{IsUniqueBase}
 
 -- the place is that of the one declaration of the name that is left, which is a member's (ISO C++03 10.2)
 abbrev pub IsMemberOf : Classes → ClassId → Text → MemberPlace → Type 0

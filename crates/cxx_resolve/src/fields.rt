@@ -11,13 +11,15 @@ ghost use Rattle.cxx_subobject.specs.Subobjects.{class_of};
 ghost use Rattle.cxx_resolve.specs.declared.program.MemberPlace.{MemberPlace};
 ghost use Rattle.cxx_resolve.specs.declared.program.Converted.{Converted};
 ghost use Rattle.cxx_resolve.specs.SimpleHierarchy.{IsSimpleHierarchy};
-ghost use Rattle.cxx_resolve.specs.LookUps.{IsFound, IsLookupFault, IsUniqueBase, IsBaseFault};
+ghost use Rattle.cxx_lookup.specs.Lookup.{IsFound, IsLookupFault};
+ghost use Rattle.cxx_lookup.specs.UniqueBase.{IsUniqueBase, IsBaseFault};
 ghost use Rattle.cxx_resolve.specs.Resolves.{IsField, IsMemberOf, IsPointerTo};
 ghost use Rattle.cxx_resolve.specs.Answers.{IsRefusal, IsNumberAt, IsLesser, IsPointerAt, HasCommon, HasPointerTo};
 
-use crate::look_up::{BaseFault, Found, LookupFault, lookup, unique_base};
+use crate::look_up::{lookup, unique_base};
 use crate::program::{Converted, MemberPlace};
 use crate::variables::Variables;
+use cxx_lookup::{BaseFault, Found, LookupFault};
 use cxx_hierarchy::{ClassId, FieldType, Hierarchy, Member, Name, Rule, Scalar, Stop, ValueType};
 use cxx_subobject::Subobject;
 use std::alloc::Global;

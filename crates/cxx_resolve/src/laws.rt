@@ -2,7 +2,7 @@
 
 ghost use Rattle.cxx_resolve.specs.Laws.{ResolveToOne, ResolveToTyped};
 
-/// The body of a `main` resolves to one program at most.
+/// Bodies of a `main` that say the same resolve to one program at most.
 pub fn one_program()
     ensures { ResolveToOne }
 {}

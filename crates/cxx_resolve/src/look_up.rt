@@ -1,20 +1,13 @@
 //! TEMPORARY: replaced by cxx_lookup.
 ghost use Rattle.std.specs.Prelude.{◌≡◌, ◌<◌, length, IfOk, MatchResult};
 ghost use Rattle.cxx_subobject.specs.Preorder.{preorder};
-ghost use Rattle.cxx_resolve.specs.LookUps.{IsFound, IsLookupFault, IsUniqueBase, IsBaseFault};
+ghost use Rattle.cxx_lookup.specs.Lookup.{IsFound, IsLookupFault};
+ghost use Rattle.cxx_lookup.specs.UniqueBase.{IsUniqueBase, IsBaseFault};
 use cxx_hierarchy::{ClassId, Hierarchy};
+use cxx_lookup::{BaseFault, Found, LookupFault};
 use cxx_subobject::{Subobject, SubobjectList};
 use foundation::NoMemory;
 use std::alloc::Global;
-
-#[derive(Drop)]
-pub enum LookupFault { AmbiguousName, NoSuchMember, NoMemory }
-
-#[derive(Drop)]
-pub enum BaseFault { AmbiguousBase, NotBase, NoMemory }
-
-#[derive(Drop)]
-pub enum Found { Member(Subobject, u32), Function(Subobject, u32) }
 
 pub fn lookup(_alloc: Global, _h: &Hierarchy, _c: ClassId, _name: &[u8]) -> Result<Found, LookupFault>
     ensures { MatchResult result (IsFound _h.now _c _name.now) (IsLookupFault _h.now _c _name.now) }

@@ -1,6 +1,6 @@
 -- Two subobjects of a class, or none, are no one base.
 use Rattle.std.proofs.Common.{refl, inr, subst}
-use Rattle.cxx_resolve.specs.LookUps.{IsBaseFault}
+use Rattle.cxx_lookup.specs.UniqueBase.{IsBaseFault}
 use Rattle.cxx_resolve.proofs.Found.{two_bases, no_base}
 use Rattle.cxx_resolve.proofs.fields.base_stop.Goals as goal
 

@@ -1,6 +1,6 @@
 -- Two declarations that remain, or none, are no member that is found.
 use Rattle.std.proofs.Common.{refl, inr, subst}
-use Rattle.cxx_resolve.specs.LookUps.{IsLookupFault}
+use Rattle.cxx_lookup.specs.Lookup.{IsLookupFault}
 use Rattle.cxx_resolve.proofs.Found.{two_members, no_member}
 use Rattle.cxx_resolve.proofs.fields.lookup_stop.Goals as goal
 

@@ -1,5 +1,5 @@
 use Rattle.std.proofs.Common.{subst}
-use Rattle.cxx_resolve.specs.LookUps.{IsLookupFault}
+use Rattle.cxx_lookup.specs.Lookup.{IsLookupFault}
 use Rattle.cxx_hierarchy.specs.NameTables.{Text}
 use Rattle.cxx_resolve.proofs.fields.member_of.Goals as goal
 
