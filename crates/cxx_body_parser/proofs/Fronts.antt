@@ -1,5 +1,5 @@
 -- The front of a list by its length.
-use Rattle.std.proofs.Common.{◌≡◌, ℕ, ◌-◌, ◌+◌, List, ◌++◌, ◌∷◌, length, drop, refl, arith, length-append, sym, subst, ◌∙◌, ap, [], Bool, false, ◌≤◌}
+use Rattle.std.proofs.Common.{◌≡◌, ◌-◌, ◌+◌, List, length, drop, arith, length-append, sym, ◌∙◌, ap}
 use Rattle.std.proofs.Math.Seq.{drop-append_seam}
 use Rattle.cxx_grammar.specs.declared.sort.Lexeme.{Lexeme}
 use Rattle.cxx_grammar.specs.Grammar.{Symbol}

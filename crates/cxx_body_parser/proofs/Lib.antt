@@ -1,3 +1,9 @@
 pub mod Lists
 pub mod Throughs
 pub mod Fronts
+pub mod Heads
+pub mod Leaves
+pub mod SamePlaces
+pub mod SameRights
+pub mod SameValues
+pub mod SameStatements

@@ -1,3 +1,4 @@
 pub mod Operands
 pub mod Statements
 pub mod Through
+pub mod Same

@@ -1,7 +1,7 @@
 -- Which tokens the parts of a statement stand for: each case is a form of a production.
 use Rattle.std.specs.Prelude.{◌≡◌, ℕ, true, false, List, [], ◌∷◌, Option, Some, None}
 use Rattle.cxx_grammar.specs.declared.sort.Sort.{Sort}
-use Rattle.cxx_grammar.specs.declared.sort.Sort.TheVariants.{This, Number, Minus, True, False, Arrow, Dot, Comma, OpenBracket, CloseBracket, OpenParen, CloseParen, DoubleColon, StaticCast, DynamicCast, Less, LessEqual, Greater, Star, Plus, Equal, NotEqual, Bang, Ampersand, New, Typeid}
+use Rattle.cxx_grammar.specs.declared.sort.Sort.TheVariants.{This, Minus, True, False, Arrow, Dot, Comma, OpenBracket, CloseBracket, OpenParen, CloseParen, DoubleColon, StaticCast, DynamicCast, Less, LessEqual, Greater, Star, Plus, Equal, NotEqual, Bang, Ampersand, New, Typeid}
 use Rattle.cxx_grammar.specs.declared.sort.Lexeme.{Lexeme}
 use Rattle.cxx_grammar.specs.Front.{Is, IsName, IsNumber}
 use Rattle.cxx_grammar.specs.Lexemes.{bytes_of}

@@ -4,3 +4,7 @@ pub mod Takes
 pub mod Grammar
 pub mod Refusal
 pub mod Reading
+pub mod Parts
+pub mod Definitions
+pub mod Sources
+pub mod Readers

@@ -9,14 +9,29 @@
 //! texts that spell none, by Syntax at 0. Whether names are distinct and what they name is not judged here.
 #![tactic(auto)]
 
+mod base;
 pub mod class;
+mod class_part;
 pub mod cursor;
+mod draft;
+mod function;
+mod item;
 pub mod parser;
+pub mod part;
 pub mod simple;
+pub mod source;
+pub mod source_text;
 pub mod statement;
 #[cfg(test)]
+mod source_tests;
+#[cfg(test)]
 mod tests;
+mod value;
 pub mod words;
 
 pub use crate::parser::{one_source, parse_simple};
 pub use crate::simple::{Simple, SimpleLine, SimpleLines, SimpleSource};
+pub use crate::source::parse_source;
+pub use crate::source_text::{
+    Body, BodyList, BodyOwner, Global, GlobalList, Init, InitList, SourceText,
+};

@@ -1,4 +1,11 @@
+pub mod Bases
+pub mod ClassTests
+pub mod Each
+pub mod FormCases
+pub mod FormLines
+pub mod Found
 pub mod Lines
-pub mod Members
 pub mod Programs
+pub mod Reached
 pub mod SoFar
+pub mod Whole

@@ -1,5 +1,5 @@
 -- When a line resolves to nothing.
-use Rattle.std.proofs.Common.{◌≡◌, ℕ, ℤ, ◌<◌, List, [], sym, ◌∙◌, ap, subst, refl, inl, inr}
+use Rattle.std.proofs.Common.{◌≡◌, ℕ, ℤ, ◌<◌, ◌≤◌, List, [], sym, ◌∙◌, ap, subst, refl, inl, inr, arith, ◌⊎◌, ⊎_elim}
 use Rattle.std.specs.Prelude.{Option, Some, None, slice_get, length, Bool, true, false, is_none, Contains, IsTrue, ◌↔◌}
 use Rattle.std.proofs.lemmas.Option.{slice_get_within, get_or_from_slice_get}
 use Rattle.cxx_hierarchy.specs.Hierarchies.{IsHierarchy}
@@ -10,14 +10,18 @@ use Rattle.cxx_hierarchy.specs.declared.stop.Stop.{Stop}
 use Rattle.cxx_hierarchy.specs.Scalars.{PromotesToInt}
 use Rattle.cxx_hierarchy.specs.Classes.{Classes, class_names, leaf_type}
 use Rattle.cxx_hierarchy.specs.NameTables.{Text}
-use Rattle.cxx_decl_parser.specs.declared.simple.Simple.TheVariants.{New, Write, Read, Print}
-use Rattle.cxx_subobject.specs.Subobjects.{IsSubobject, whole, whole_of, class_of}
 use Rattle.cxx_subobject.specs.declared.Subobject.{Subobject}
+use Rattle.cxx_subobject.specs.Subobjects.{class_of}
+use Rattle.cxx_resolve.specs.declared.simple.Simple.TheVariants.{New, Write, Read, Convert, Equal, Print}
 use Rattle.cxx_resolve.specs.declared.program.MemberPlace.{MemberPlace}
+use Rattle.cxx_resolve.specs.declared.program.Converted.{Converted}
 use Rattle.cxx_resolve.specs.declared.program.Statement.{Statement}
-use Rattle.cxx_resolve.specs.Typed.{Types, int, LeadsToNumber}
-use Rattle.cxx_resolve.specs.Resolves.{Numbering, IsMemberOf, IsField, LineResolves, new, write, read, print}
-use Rattle.cxx_resolve.specs.Answers.{IsRefusal, IsNumberMember}
+use Rattle.cxx_resolve.specs.Typed.{Types, IsPointer, IsConverted}
+use Rattle.cxx_lookup.specs.UniqueBase.{IsUniqueBase}
+use Rattle.cxx_resolve.specs.Resolves.{Numbering, IsMemberOf, IsField, IsPointerTo, LineResolves, new, write, read, convert, equal, print}
+use Rattle.cxx_resolve.specs.Answers.{IsRefusal, IsNumberAt, IsPointerAt, IsLesser}
+use Rattle.cxx_resolve.proofs.Bases.{base_before}
+use Rattle.cxx_resolve.proofs.Found.{one_member, one_base}
 
 pub refused_more : (A B : Type 0) (stop : Stop) → (A → B) → IsRefusal A stop → IsRefusal B stop
 refused_more A B stop f (inl h) = inl h
@@ -35,39 +39,45 @@ pub no_new : (h : Classes) (n : Numbering) (types : Types) (class variable : Tex
     ((c : ClassId) → slice_get (class_names h) c.0 ≡ Some class → n variable ≡ None → ⊥) → (s : Statement) → LineResolves h n types (New class variable) s → ⊥
 no_new h n types class variable none _ (new _ _ c named free) = none c named free
 
+pub no_convert : (h : Classes) (n : Numbering) (types : Types) (class variable pointer : Text) →
+    ((from : Converted) (c d : ClassId) → slice_get (class_names h) d.0 ≡ Some class → IsPointerTo h n types pointer from c d → n variable ≡ None → ⊥) →
+    (s : Statement) → LineResolves h n types (Convert class variable pointer) s → ⊥
+no_convert h n types class variable pointer none _ (convert _ _ _ from c d named leads free) = none from c d named leads free
+
+pub no_equal : (h : Classes) (n : Numbering) (types : Types) (variable left right : Text) →
+    ((a b : Converted) (c d e : ClassId) → (e ≡ c) ⊎ (e ≡ d) → IsPointerTo h n types left a c e → IsPointerTo h n types right b d e → n variable ≡ None → ⊥) →
+    (s : Statement) → LineResolves h n types (Equal variable left right) s → ⊥
+no_equal h n types variable left right none _ (equal _ _ _ a b c d e one l r free) = none a b c d e one l r free
+
 pub no_print : (h : Classes) (n : Numbering) (types : Types) (variable : Text) →
-    ((v : ℕ) → n variable ≡ Some v → slice_get types v ≡ Some int → ⊥) → (s : Statement) → LineResolves h n types (Print variable) s → ⊥
-no_print h n types variable none _ (print _ v number type) = none v number type
+    ((v : ℕ) → n variable ≡ Some v → v < length types → ⊥) → (s : Statement) → LineResolves h n types (Print variable) s → ⊥
+no_print h n types variable none _ (print _ v number known) = none v number known
 
 -- two pointers of one name are one
-same_pointer : (n : Numbering) (types : Types) (name : Text) (p q : ℕ) (c d : ClassId) → n name ≡ Some p → n name ≡ Some q → slice_get types p ≡ Some (Pointer c) → slice_get types q ≡ Some (Pointer d) → (p ≡ q) × (c ≡ d)
-same_pointer n types name p q c d a b x y =
-    let e : p ≡ q = cc in
-    let g : Some (Pointer c) ≡ Some (Pointer d) = sym x ∙ ap (slice_get types) e ∙ y in
-    (e, cc)
+pub same_pointer : (n : Numbering) (types : Types) (name : Text) (p q : ℕ) (c d : ClassId) → IsPointerAt n types name p c → IsPointerAt n types name q d → (p ≡ q) × (c ≡ d)
+same_pointer n types name p q c d a b =
+    let e : Some p ≡ Some q = sym a.number ∙ b.number in
+    let f : p ≡ q = cc in
+    let g : Some (Pointer c) ≡ Some (Pointer d) = sym a.type ∙ ap (slice_get types) f ∙ b.type in
+    (f, cc)
 
--- the member that a place in the whole of a class leads to
-pub member_of_place : (h : Classes) (c d : ClassId) (name : Text) (place : MemberPlace) (t : Scalar) → IsMemberOf h c name place → LeadsToNumber h c place d t → IsNumberMember h c name place.member t
-member_of_place h c d name place t m leads =
-    let e : Some c ≡ Some d = ap class_of (sym m.base) ∙ leads.class in
-    let same : d ≡ c = cc in
-    record { member = m.member; listed = m.listed; named = m.named; type = subst (λ (z : ClassId). leaf_type h z place.member ≡ Some (Number t)) same leads.member }
+pub field_pointer : (h : Classes) (n : Numbering) (types : Types) (pointer field : Text) (p : ℕ) (place : MemberPlace) (t : Scalar) →
+    (f : IsField h n types pointer field p place t) → IsPointerAt n types pointer p f.class
+field_pointer h n types pointer field p place t f = record { number = f.number; type = f.is_pointer.type }
 
-pub place_of_member : (h : Classes) (c : ClassId) (name : Text) (base : Subobject) (m : ℕ) (t : Scalar) → base ≡ whole_of c → IsNumberMember h c name m t →
-    IsMemberOf h c name (record { base = base; member = m }) × LeadsToNumber h c (record { base = base; member = m }) c t
-place_of_member h c name base m t same n = (
-  record { member = n.member; listed = n.listed; named = n.named; base = same },
-  record { base = subst (IsSubobject h c) (sym same) (whole [] tt); class = ap class_of same; root = ap (λ (s : Subobject). s.root) same; member = n.type },
-)
+pub pointer_at : (h : Classes) (n : Numbering) (types : Types) (pointer : Text) (from : Converted) (c d : ClassId) → IsPointerTo h n types pointer from c d → IsPointerAt n types pointer from.pointer c
+pointer_at h n types pointer from c d leads = record { number = leads.number; type = leads.converted.pointer.type }
 
--- the field of another reading goes from the same class
-pub from_class : (h : Classes) (n : Numbering) (types : Types) (pointer field : Text) (p q : ℕ) (c : ClassId) (place : MemberPlace) (t : Scalar) →
-    n pointer ≡ Some p → slice_get types p ≡ Some (Pointer c) → IsField h n types pointer field q place t → (c.0 < length h) × IsNumberMember h c field place.member t
-from_class h n types pointer field p q c place t number type f =
-    let same = same_pointer n types pointer q p f.class c f.number number f.is_pointer.type type in (
-      subst (λ (z : ClassId). z.0 < length h) same.1 f.is_pointer.known,
-      subst (λ (z : ClassId). IsNumberMember h z field place.member t) same.1 (member_of_place h f.class f.declares field place t f.is_member f.is_number),
-    )
+pub number_at_field : (h : Classes) (n : Numbering) (types : Types) (pointer field : Text) (p : ℕ) (place : MemberPlace) (t : Scalar) →
+    (f : IsField h n types pointer field p place t) → IsNumberAt h place f.declares t
+number_at_field h n types pointer field p place t f = record { class = f.is_number.class; member = f.is_number.member }
+
+pub one_number : (h : Classes) (place : MemberPlace) (d e : ClassId) (s t : Scalar) → IsNumberAt h place d s → IsNumberAt h place e t → s ≡ t
+one_number h place d e s t a b =
+    let f : Some d ≡ Some e = sym a.class ∙ b.class in
+    let g : d ≡ e = cc in
+    let i : Some (Number s) ≡ Some (Number t) = sym a.member ∙ ap (λ (z : ClassId). leaf_type h z place.member) g ∙ b.member in
+    cc
 
 pub contained : {X : Type 0} (xs : List X) (i : ℕ) (x y : X) → slice_get xs i ≡ Some x → x ≡ y → Contains xs y
 contained xs i x y at same = (i, slice_get_within xs i x at, get_or_from_slice_get xs i x y at ∙ same)
@@ -90,17 +100,49 @@ pub not_small : (test : Bool) (s t : Scalar) → (IsTrue test ↔ PromotesToInt 
 not_small true s t h same small e = absurd (cc)
 not_small false s t h same small e = let f : IsTrue false = h.1 (subst PromotesToInt (sym same) small) in absurd (cc)
 
-same_place : (a b : MemberPlace) → a.base ≡ b.base → a.member ≡ b.member → a ≡ b
+pub same_place : (a b : MemberPlace) → a.base ≡ b.base → a.member ≡ b.member → a ≡ b
 same_place a b base member = ap (λ (s : Subobject). let p : MemberPlace = record { base = s; member = a.member } in p) base ∙ ap (λ (m : ℕ). let p : MemberPlace = record { base = b.base; member = m } in p) member
 
 -- two readings of one field have one type
-pub same_field : (h : Classes) → IsHierarchy h → (n : Numbering) (types : Types) (pointer field : Text) (p q : ℕ) (a b : MemberPlace) (s t : Scalar) →
+pub same_field : (h : Classes) (n : Numbering) (types : Types) (pointer field : Text) (p q : ℕ) (a b : MemberPlace) (s t : Scalar) →
     IsField h n types pointer field p a s → IsField h n types pointer field q b t → (p ≡ q) × (a ≡ b) × (s ≡ t)
-same_field h keeps n types pointer field p q a b s t f g =
-    let same = same_pointer n types pointer p q f.class g.class f.number g.number f.is_pointer.type g.is_pointer.type in
-    let x = member_of_place h f.class f.declares field a s f.is_member f.is_number in
-    let y = subst (λ (z : ClassId). IsNumberMember h z field b.member t) (sym same.1) (member_of_place h g.class g.declares field b t g.is_member g.is_number) in
-    let number : a.member ≡ b.member = keeps.members f.class a.member b.member x.member y.member x.listed y.listed (x.named ∙ sym y.named) in
-    let base : a.base ≡ b.base = f.is_member.base ∙ ap whole_of same.1 ∙ sym g.is_member.base in
-    let types' : Some (Number s) ≡ Some (Number t) = sym x.type ∙ ap (leaf_type h f.class) number ∙ y.type in
-    (same.0, same_place a b base number, cc)
+same_field h n types pointer field p q a b s t f g =
+    let same = same_pointer n types pointer p q f.class g.class (field_pointer h n types pointer field p a s f) (field_pointer h n types pointer field q b t g) in
+    let found = one_member h g.class field a b (subst (λ (z : ClassId). IsMemberOf h z field a) same.1 f.is_member) g.is_member in
+    let place : a ≡ b = found in
+    let here = subst (λ (z : MemberPlace). IsNumberAt h z f.declares s) place (number_at_field h n types pointer field p a s f) in
+    (same.0, place, one_number h b f.declares g.declares s t here (number_at_field h n types pointer field q b t g))
+
+converted_of : ℕ → Subobject → Converted
+converted_of p s = record { pointer = p; base = s }
+
+-- a pointer is converted to a class in one way
+pub same_converted : (h : Classes) (n : Numbering) (types : Types) (pointer : Text) (a b : Converted) (c d e : ClassId) →
+    IsPointerTo h n types pointer a c e → IsPointerTo h n types pointer b d e → a ≡ b
+unfolding converted_of
+same_converted h n types pointer a b c d e f g =
+    let same = same_pointer n types pointer a.pointer b.pointer c d (pointer_at h n types pointer a c e f) (pointer_at h n types pointer b d e g) in
+    let base : a.base ≡ b.base = one_base h d e a.base b.base (subst (λ (z : ClassId). IsUniqueBase h z e a.base) same.1 f.only) g.only in
+    ap (λ (p : ℕ). converted_of p a.base) same.0 ∙ ap (λ (s : Subobject). converted_of b.pointer s) base
+
+same_id : (c d : ClassId) → c.0 ≡ d.0 → c ≡ d
+same_id c d e = ap (λ (n : ℕ). let k : ClassId = record { 0 = n } in k) e
+
+-- the class to which two pointers are converted is the lesser one
+pub is_lesser : (h : Classes) → IsHierarchy h → (n : Numbering) (types : Types) (left right : Text) (a b : Converted) (c d e : ClassId) → (e ≡ c) ⊎ (e ≡ d) →
+    IsPointerTo h n types left a c e → IsPointerTo h n types right b d e → IsLesser c d e
+is_lesser h keeps n types left right a b c d e one l r = record {
+  one = one;
+  below_first = base_before h keeps c e a.base l.converted.base.valid l.converted.base.root l.converted.base.class;
+  below_second = base_before h keeps d e b.base r.converted.base.valid r.converted.base.root r.converted.base.class;
+}
+
+pub one_lesser : (c d e f : ClassId) → IsLesser c d e → IsLesser c d f → e ≡ f
+one_lesser c d e f a b =
+    let x = a.below_first in
+    let y = a.below_second in
+    let z = b.below_first in
+    let w = b.below_second in
+    let number : ClassId → ℕ = λ (k : ClassId). k.0 in
+    same_id e f (⊎_elim (λ p. ⊎_elim (λ q. ap number (p ∙ sym q)) (λ q. let u : e.0 ≡ c.0 = ap number p in let v : f.0 ≡ d.0 = ap number q in omega arith) b.one)
+    (λ p. ⊎_elim (λ q. let u : e.0 ≡ d.0 = ap number p in let v : f.0 ≡ c.0 = ap number q in omega arith) (λ q. ap number (p ∙ sym q)) b.one) a.one)

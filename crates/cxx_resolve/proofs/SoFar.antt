@@ -7,8 +7,8 @@ use Rattle.cxx_hierarchy.specs.declared.names.NameTable.{NameTable}
 use Rattle.cxx_hierarchy.specs.Classes.{Classes}
 use Rattle.cxx_hierarchy.specs.NameTables.{Text, place_in, number_in, Numbers}
 use Rattle.cxx_hierarchy.specs.Hierarchies.{IsHierarchy}
-use Rattle.cxx_decl_parser.specs.declared.simple.Simple.{Simple}
-use Rattle.cxx_decl_parser.specs.declared.simple.SimpleLine.{SimpleLine}
+use Rattle.cxx_resolve.specs.declared.simple.Simple.{Simple}
+use Rattle.cxx_resolve.specs.declared.simple.SimpleLine.{SimpleLine}
 use Rattle.cxx_resolve.specs.declared.program.Statement.{Statement}
 use Rattle.cxx_resolve.specs.declared.program.TypedLine.{TypedLine}
 use Rattle.cxx_resolve.specs.declared.program.SimpleProgram.{SimpleProgram}

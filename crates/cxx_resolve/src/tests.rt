@@ -5,7 +5,7 @@ ghost use Rattle.cxx_hierarchy.specs.ClassPass.{IsInOrder};
 
 use crate::program::{SimpleProgram, Statement};
 use crate::resolution::resolve_simple;
-use cxx_decl_parser::{Simple, SimpleLine, SimpleLines};
+use crate::simple::{Simple, SimpleLine, SimpleLines};
 use cxx_hierarchy::{
     ClassId, ClassRec, Destructor, FieldType, Hierarchy, Member, Name, PartAt, PartKind, Rule,
     Scalar, Stop, ValueType, build,

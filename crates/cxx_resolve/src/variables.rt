@@ -1,13 +1,12 @@
 //! The variables of a `main` that are declared so far.
 
-ghost use Rattle.std.specs.Prelude.{◌≡◌, ◌<◌, ◌^◌, ◌++◌, ◌∷◌, [], None, Some, List, ℕ, is_none, length, slice_get, MatchOption, OnOk};
+ghost use Rattle.std.specs.Prelude.{◌≡◌, ◌<◌, ◌^◌, ◌++◌, ◌∷◌, [], None, Some, List, ℕ, is_none, length, MatchOption, OnOk};
 ghost use Rattle.cxx_hierarchy.specs.NameTables.{Text, Numbers, number_in};
 ghost use Rattle.cxx_hierarchy.specs.declared.records.ClassId.{ClassId};
-ghost use Rattle.cxx_hierarchy.specs.declared.records.ValueType.TheVariants.{Pointer};
-ghost use Rattle.cxx_resolve.specs.Typed.{int};
+ghost use Rattle.cxx_resolve.specs.Answers.{IsPointerAt};
 
 use crate::program::TypeList;
-use cxx_hierarchy::{ClassId, Name, NameTable, Scalar, ValueType};
+use cxx_hierarchy::{ClassId, Name, NameTable, ValueType};
 use foundation::{NoMemory, Sequence};
 use std::alloc::Global;
 
@@ -46,7 +45,7 @@ impl Variables {
 
     /// The pointer of a name, and the class that it points to.
     pub(crate) fn pointer(&self, name: &Name) -> Option<(u32, ClassId)>
-        ensures { MatchOption result ((p : ℕ) (c : ClassId) → number_in self.now.table name.now ≡ Some p → slice_get self.now.types p ≡ Some (Pointer c) → ⊥) (λ r. (number_in self.now.table name.now ≡ Some r.0) × (slice_get self.now.types r.0 ≡ Some (Pointer r.1))) }
+        ensures { MatchOption result ((p : ℕ) (c : ClassId) → IsPointerAt (number_in self.now.table) self.now.types name.now p c → ⊥) (λ r. IsPointerAt (number_in self.now.table) self.now.types name.now r.0 r.1) }
     {
         let number = self.table.find(name.as_slice())?;
         match self.types.as_slice().get(number)? {
@@ -55,15 +54,15 @@ impl Variables {
         }
     }
 
-    /// The `int` variable of a name.
-    pub(crate) fn int(&self, name: &Name) -> Option<u32>
-        ensures { MatchOption result ((v : ℕ) → number_in self.now.table name.now ≡ Some v → slice_get self.now.types v ≡ Some int → ⊥) (λ v. (number_in self.now.table name.now ≡ Some v) × (slice_get self.now.types v ≡ Some int)) }
+    /// The variable of a name.
+    pub(crate) fn number(&self, name: &Name) -> Option<u32>
+        ensures { MatchOption result ((v : ℕ) → number_in self.now.table name.now ≡ Some v → v < length self.now.types → ⊥) (λ v. (number_in self.now.table name.now ≡ Some v) × (v < length self.now.types)) }
     {
         let number = self.table.find(name.as_slice())?;
-        match self.types.as_slice().get(number)? {
-            ValueType::Number(Scalar::Int) => Some(number as u32),
-            _ => None,
+        if number >= self.types.len() {
+            return None;
         }
+        Some(number as u32)
     }
 
     /// Declares one more variable, whose name is free.

@@ -1,4 +1,4 @@
-use Rattle.std.proofs.Common.{◌≡◌, ℕ, ◌+◌, ◌*◌, ◌≤◌, Bool, List, [], ◌∷◌, ◌++◌, length}
+use Rattle.std.proofs.Common.{◌+◌, ◌*◌, ◌≤◌, Bool, [], ◌∷◌, length}
 use Rattle.cxx_body_parser.proofs.Lists.{StatementsSoFar}
 use Rattle.cxx_grammar.specs.Table.{StatementsEnd}
 use Rattle.cxx_grammar.specs.Run.{Leads}

@@ -1,7 +1,7 @@
-use Rattle.std.proofs.Common.{◌≡◌, ◌-◌, ◌⊎◌, false, length, drop, rules, subst, sym, Err, IfErr}
+use Rattle.std.proofs.Common.{◌≡◌, ◌⊎◌, false, rules, subst, sym, Err, IfErr}
 use Rattle.cxx_hierarchy.specs.declared.stop.Stop.TheVariants as stop
 use Rattle.cxx_grammar.specs.Grammar.{block_form}
-use Rattle.cxx_grammar.specs.Fault.{State, Fault, FrontIs}
+use Rattle.cxx_grammar.specs.Fault.{Fault, FrontIs}
 use Rattle.cxx_grammar.proofs.Prefix.{block_front, block_stop}
 use Rattle.cxx_body_parser.specs.Statements.{BodyReads}
 use Rattle.cxx_body_parser.proofs.Fronts.{rest_dropped}

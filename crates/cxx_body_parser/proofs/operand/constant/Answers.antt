@@ -1,4 +1,3 @@
-use Rattle.std.proofs.Common.{◌∙◌}
 use Rattle.cxx_body_parser.proofs.operand.constant.Goals as goal
 
 pub returns-clause-reads : goal.returns-clause-reads

@@ -1,4 +1,4 @@
-use Rattle.std.proofs.Common.{rules, refl, arith, sym, ap, length, ◌∷◌, [], ◌∙◌}
+use Rattle.std.proofs.Common.{rules, refl, arith, ap, length, ◌∷◌, [], ◌∙◌}
 use Rattle.cxx_grammar.specs.declared.sort.Sort.TheVariants.{Dot}
 use Rattle.cxx_grammar.specs.Table.{Tail, Named, AName}
 use Rattle.cxx_grammar.proofs.Steps.{takes}

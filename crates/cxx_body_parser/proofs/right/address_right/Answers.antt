@@ -1,4 +1,4 @@
-use Rattle.std.proofs.Common.{rules, refl, sym, ap, Some, ◌∷◌, [], ◌∙◌}
+use Rattle.std.proofs.Common.{rules, refl, ◌∷◌, [], ◌∙◌}
 use Rattle.cxx_grammar.specs.declared.sort.Sort.TheVariants.{Semicolon, Ampersand, Arrow}
 use Rattle.cxx_grammar.specs.Table.{Only, RightEnd, ReadPlaceEnd, APointer, AName, Named, Read}
 use Rattle.cxx_grammar.proofs.Tails.{read_place}

@@ -1,4 +1,4 @@
-use Rattle.std.proofs.Common.{rules, refl, sym, ap, Some, ◌∷◌, [], ◌∙◌}
+use Rattle.std.proofs.Common.{rules, sym, ◌∷◌, [], ◌∙◌}
 use Rattle.cxx_grammar.specs.declared.sort.Sort.TheVariants.{Semicolon}
 use Rattle.cxx_grammar.specs.Table.{Only, AnOperand, AfterOperand}
 use Rattle.cxx_grammar.proofs.Tails.{operator}

@@ -1,4 +1,4 @@
-use Rattle.std.proofs.Common.{rules, refl, sym, ap, Some, ◌∷◌, [], ◌∙◌}
+use Rattle.std.proofs.Common.{refl}
 use Rattle.cxx_body_parser.specs.Operands.{a_cast, a_named_cast}
 use Rattle.cxx_body_parser.proofs.right.cast_right.Goals as goal
 

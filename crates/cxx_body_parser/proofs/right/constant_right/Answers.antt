@@ -1,4 +1,3 @@
-use Rattle.std.proofs.Common.{rules, refl, sym, ap, Some, ◌∷◌, [], ◌∙◌}
 use Rattle.cxx_body_parser.specs.Operands.{constant_operand}
 use Rattle.cxx_body_parser.proofs.right.constant_right.Goals as goal
 

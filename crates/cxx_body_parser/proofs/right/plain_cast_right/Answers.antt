@@ -1,4 +1,4 @@
-use Rattle.std.proofs.Common.{rules, refl, sym, ap, Some, ◌∷◌, [], ◌∙◌}
+use Rattle.std.proofs.Common.{refl}
 use Rattle.cxx_body_parser.specs.Operands.{a_cast, a_plain_cast}
 use Rattle.cxx_body_parser.proofs.right.plain_cast_right.Goals as goal
 

@@ -1,7 +1,6 @@
-use Rattle.std.proofs.Common.{rules, refl, sym, ap, Some, ◌∷◌, [], ◌∙◌}
+use Rattle.std.proofs.Common.{rules, refl, sym, ◌∷◌, [], ◌∙◌}
 use Rattle.cxx_grammar.specs.declared.sort.Sort.TheVariants.{Semicolon, Arrow}
 use Rattle.cxx_grammar.specs.Table.{Only, AName, Member, Read, AfterOperand, AfterPointer}
-use Rattle.cxx_grammar.specs.Run.{run}
 use Rattle.cxx_grammar.proofs.Tails.{no_arrow}
 use Rattle.cxx_grammar.proofs.Steps.{same_error, takes}
 use Rattle.cxx_body_parser.proofs.Throughs.{through_right, tasks_read}

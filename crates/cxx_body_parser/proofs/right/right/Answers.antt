@@ -1,5 +1,3 @@
-use Rattle.std.proofs.Common.{rules, refl, sym, ap, Some, ◌∷◌, [], ◌∙◌}
-use Rattle.cxx_body_parser.specs.Operands.{an_operand}
 use Rattle.cxx_body_parser.proofs.right.right.Goals as goal
 
 pub returns-clause-reads : goal.returns-clause-reads

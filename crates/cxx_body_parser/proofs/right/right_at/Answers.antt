@@ -1,6 +1,6 @@
 use Rattle.std.proofs.Common.{rules, refl, ◌∷◌, []}
 use Rattle.cxx_grammar.specs.declared.sort.Sort.TheVariants.{Semicolon, StaticCast, DynamicCast, Less, Star, Greater, OpenParen, CloseParen}
-use Rattle.cxx_grammar.specs.Table.{Task, Only, RightEnd, AfterPointer, AfterOperand, AConstant, AName, APointer}
+use Rattle.cxx_grammar.specs.Table.{Only, RightEnd, AfterPointer, AfterOperand, AConstant, AName, APointer}
 use Rattle.cxx_grammar.proofs.Tails.{pointer_right, constant_right_at}
 use Rattle.cxx_grammar.proofs.Steps.{same_answer, takes}
 use Rattle.cxx_body_parser.proofs.right.right_at.Goals as goal

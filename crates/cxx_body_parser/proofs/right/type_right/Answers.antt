@@ -1,4 +1,4 @@
-use Rattle.std.proofs.Common.{rules, refl, sym, ap, Some, ◌∷◌, [], ◌∙◌}
+use Rattle.std.proofs.Common.{refl}
 use Rattle.cxx_body_parser.specs.Operands.{a_type_equal}
 use Rattle.cxx_body_parser.proofs.right.type_right.Goals as goal
 

@@ -1,8 +1,6 @@
-use Rattle.std.proofs.Common.{rules, refl, sym, ap, Some, true, false, List, ◌∷◌, [], ◌∙◌}
+use Rattle.std.proofs.Common.{rules, refl}
 use Rattle.cxx_body_parser.specs.Statements.{a_bool, a_char, a_short, an_int, a_signed_char}
-use Rattle.cxx_grammar.specs.Table.{Task, scalar_rest, LongName, AName}
-use Rattle.cxx_grammar.specs.Run.{Follows}
-use Rattle.std.proofs.Common.{subst, ◌≡◌}
+use Rattle.std.proofs.Common.{◌≡◌}
 use Rattle.cxx_grammar.specs.declared.sort.Sort.TheVariants.{Unsigned}
 use Rattle.cxx_grammar.proofs.Tails.{long_word}
 use Rattle.cxx_body_parser.proofs.scalar.scalar.Goals as goal

@@ -1,7 +1,7 @@
-use Rattle.std.proofs.Common.{rules, refl, sym, ap, Some, true, false, List, ◌∷◌, [], ◌∙◌}
+use Rattle.std.proofs.Common.{rules, refl, ◌∷◌, []}
 use Rattle.cxx_body_parser.specs.Statements.{an_unsigned_char, an_unsigned_short, an_unsigned_int, an_unsigned}
 use Rattle.cxx_grammar.specs.declared.sort.Sort.TheVariants.{Long}
-use Rattle.cxx_grammar.specs.Table.{Task, UnsignedName, LongName, AName}
+use Rattle.cxx_grammar.specs.Table.{UnsignedName, LongName, AName}
 use Rattle.cxx_grammar.proofs.Tails.{unsigned_alone}
 use Rattle.cxx_grammar.proofs.Steps.{same_answer, takes}
 use Rattle.cxx_body_parser.proofs.scalar.unsigned.Goals as goal

@@ -1,4 +1,4 @@
-use Rattle.std.proofs.Common.{rules, refl, sym, ap, Some, true, false, List, ◌∷◌, [], ◌∙◌}
+use Rattle.std.proofs.Common.{rules, refl}
 use Rattle.cxx_body_parser.specs.Statements.{an_unsigned_long, an_unsigned_long_long}
 use Rattle.cxx_body_parser.proofs.scalar.unsigned_long.Goals as goal
 

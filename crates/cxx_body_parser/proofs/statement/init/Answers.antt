@@ -1,7 +1,7 @@
-use Rattle.std.proofs.Common.{rules, refl, sym, ap, Some, true, false, List, ◌∷◌, [], ◌∙◌}
+use Rattle.std.proofs.Common.{rules, refl, ◌∷◌, [], ◌∙◌}
 use Rattle.cxx_body_parser.specs.Statements.{an_init, no_init}
 use Rattle.cxx_grammar.specs.declared.sort.Sort.TheVariants.{Semicolon, Assign}
-use Rattle.cxx_grammar.specs.Table.{Task, Only, InitEnd, RightEnd}
+use Rattle.cxx_grammar.specs.Table.{Only, InitEnd, RightEnd}
 use Rattle.cxx_grammar.proofs.Steps.{same_error, takes}
 use Rattle.cxx_body_parser.proofs.statement.init.Goals as goal
 

@@ -1,6 +1,6 @@
-use Rattle.std.proofs.Common.{rules, refl, sym, ap, Some, true, false, List, ◌∷◌, [], ◌∙◌}
+use Rattle.std.proofs.Common.{rules, refl, ◌∷◌, []}
 use Rattle.cxx_grammar.specs.declared.sort.Sort.TheVariants.{Star, Assign, Arrow}
-use Rattle.cxx_grammar.specs.Table.{Task, AfterName, AName, InitEnd, RightEnd, Member, Written}
+use Rattle.cxx_grammar.specs.Table.{AfterName, AName, InitEnd, RightEnd, Member, Written}
 use Rattle.cxx_grammar.proofs.Steps.{same_answer, takes}
 use Rattle.cxx_body_parser.proofs.statement.name_statement.Goals as goal
 

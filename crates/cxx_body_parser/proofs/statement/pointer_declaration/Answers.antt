@@ -1,4 +1,4 @@
-use Rattle.std.proofs.Common.{rules, refl, sym, ap, Some, true, false, List, ◌∷◌, [], ◌∙◌}
+use Rattle.std.proofs.Common.{refl}
 use Rattle.cxx_body_parser.specs.Statements.{a_class_pointer}
 use Rattle.cxx_body_parser.proofs.statement.pointer_declaration.Goals as goal
 

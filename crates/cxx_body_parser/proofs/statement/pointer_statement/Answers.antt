@@ -1,9 +1,6 @@
-use Rattle.std.proofs.Common.{rules, refl, sym, ap, Some, true, false, List, ◌∷◌, [], ◌∙◌}
+use Rattle.std.proofs.Common.{rules, refl, ◌∷◌, [], ◌∙◌}
 use Rattle.cxx_grammar.specs.declared.sort.Sort.TheVariants.{Semicolon}
-use Rattle.cxx_grammar.specs.Table.{Task, Only, AName, Member, Written, end_tasks}
-use Rattle.cxx_body_parser.specs.Through.{ThroughReads, tasks_after}
-use Rattle.std.proofs.Common.{subst, ◌≡◌, ◌++◌}
-use Rattle.cxx_grammar.specs.Run.{run}
+use Rattle.cxx_grammar.specs.Table.{Only, AName, Member, Written, end_tasks}
 use Rattle.cxx_grammar.proofs.Steps.{same_error}
 use Rattle.cxx_body_parser.proofs.statement.pointer_statement.Goals as goal
 

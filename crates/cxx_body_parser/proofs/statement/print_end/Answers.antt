@@ -1,6 +1,6 @@
-use Rattle.std.proofs.Common.{rules, refl, sym, ap, Some, true, false, List, ◌∷◌, [], ◌∙◌}
+use Rattle.std.proofs.Common.{rules, refl, sym, ◌∷◌, [], ◌∙◌}
 use Rattle.cxx_grammar.specs.declared.sort.Sort.TheVariants.{OpenParen, CloseParen, Star, Less, Greater, Void, Semicolon, Typeid, DynamicCast}
-use Rattle.cxx_grammar.specs.Table.{Task, Only, PrintEnd, APointer, AnOperand}
+use Rattle.cxx_grammar.specs.Table.{Only, PrintEnd, APointer, AnOperand}
 use Rattle.cxx_grammar.proofs.Tails.{print_operand}
 use Rattle.cxx_grammar.proofs.Steps.{same_answer, takes}
 use Rattle.cxx_body_parser.proofs.statement.print_end.Goals as goal

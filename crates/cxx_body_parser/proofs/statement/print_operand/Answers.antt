@@ -1,5 +1,5 @@
-use Rattle.std.proofs.Common.{rules, refl, sym, ap, Some, true, false, List, ◌∷◌, [], ◌∙◌}
-use Rattle.cxx_body_parser.specs.Statements.{a_print, BeginsAt}
+use Rattle.std.proofs.Common.{refl}
+use Rattle.cxx_body_parser.specs.Statements.{a_print}
 use Rattle.cxx_body_parser.proofs.statement.print_operand.Goals as goal
 
 pub returns-clause-reads : goal.returns-clause-reads

@@ -1,4 +1,3 @@
-use Rattle.std.proofs.Common.{rules, refl, sym, ap, Some, true, false, List, ◌∷◌, [], ◌∙◌}
 use Rattle.cxx_body_parser.proofs.statement.print_statement.Goals as goal
 
 pub returns-clause-reads : goal.returns-clause-reads

@@ -1,7 +1,7 @@
-use Rattle.std.proofs.Common.{rules, refl, sym, ap, Some, true, false, List, ◌∷◌, [], ◌∙◌}
+use Rattle.std.proofs.Common.{rules, sym, ◌∷◌, [], ◌∙◌}
 use Rattle.cxx_body_parser.specs.Statements.{no_result, a_result}
 use Rattle.cxx_grammar.specs.declared.sort.Sort.TheVariants.{Semicolon}
-use Rattle.cxx_grammar.specs.Table.{Task, Only, ResultEnd, AnOperand}
+use Rattle.cxx_grammar.specs.Table.{Only, ResultEnd, AnOperand}
 use Rattle.cxx_grammar.proofs.Tails as tails
 use Rattle.cxx_grammar.proofs.Tails.{result_begins}
 use Rattle.cxx_grammar.proofs.Steps.{same_error}

@@ -1,8 +1,7 @@
-use Rattle.std.proofs.Common.{rules, refl, sym, ap, Some, true, false, List, ◌∷◌, [], ◌∙◌}
+use Rattle.std.proofs.Common.{rules, refl, ◌∷◌, [], ◌∙◌}
 use Rattle.cxx_body_parser.specs.Statements.{a_scalar}
-use Rattle.cxx_grammar.specs.Table.{Task, InitEnd, AName, scalar_rest}
-use Rattle.cxx_grammar.specs.Run.{run}
-use Rattle.std.proofs.Common.{◌≡◌, ◌++◌, append_assoc}
+use Rattle.cxx_grammar.specs.Table.{InitEnd, AName, scalar_rest}
+use Rattle.std.proofs.Common.{◌++◌, append_assoc}
 use Rattle.cxx_grammar.proofs.Steps.{same_error}
 use Rattle.cxx_body_parser.proofs.statement.scalar_declaration.Goals as goal
 

@@ -3,7 +3,7 @@ use Rattle.std.proofs.Common.{◌≡◌, refl, inr, subst, sym, ◌∙◌, ap}
 use Rattle.std.specs.Prelude.{ℕ, Some, None, slice_get}
 use Rattle.cxx_hierarchy.specs.Classes.{class_names}
 use Rattle.cxx_hierarchy.specs.NameTables.{number_in}
-use Rattle.cxx_decl_parser.specs.declared.simple.Simple.TheVariants.{New}
+use Rattle.cxx_resolve.specs.declared.simple.Simple.TheVariants.{New}
 use Rattle.cxx_resolve.specs.declared.program.Statement.TheVariants.{New as Makes}
 use Rattle.cxx_resolve.specs.Resolves.{new, LineResolves}
 use Rattle.cxx_resolve.proofs.Lines.{no_new, contained, is_free}

@@ -3,7 +3,7 @@ use Rattle.std.proofs.Common.{◌≡◌, refl, inr, subst, sym}
 use Rattle.std.specs.Prelude.{ℕ, None}
 use Rattle.std.proofs.lemmas.Result.{err_from_is_err_and}
 use Rattle.cxx_hierarchy.specs.NameTables.{number_in}
-use Rattle.cxx_decl_parser.specs.declared.simple.Simple.TheVariants.{Read}
+use Rattle.cxx_resolve.specs.declared.simple.Simple.TheVariants.{Read}
 use Rattle.cxx_resolve.specs.declared.program.Statement.TheVariants.{Read as Reads}
 use Rattle.cxx_resolve.specs.Resolves.{read, LineResolves}
 use Rattle.cxx_resolve.proofs.Lines.{refused_more, no_read, is_free, not_taken, is_small, not_small, same_field}
@@ -18,7 +18,7 @@ pub returns-then-not-promotes_to_int-clause-err : goal.returns-then-not-promotes
 returns-then-not-promotes_to_int-clause-err c = inr (
   refl,
   no_read _ _ _ _ _ _ (λ p place t f small free.
-      let same = same_field _ c.keeps.ensures _ _ _ _ c.in_ok-from.from p c.in_ok-from.place place c.in_ok-from.scalar t c.in_ok-from.ensures.ok f in
+      let same = same_field _ _ _ _ _ c.in_ok-from.from p c.in_ok-from.place place c.in_ok-from.scalar t c.in_ok-from.ensures.ok f in
       not_small c.promotes_to_int.result c.in_ok-from.scalar t c.promotes_to_int.ensures same.2 small c.if-not-promotes_to_int.true),
 )
 

@@ -1,7 +1,7 @@
 -- Each line goes on from those before it.
 use Rattle.std.proofs.Common.{arith, subst, sym, List, [], ◌+◌, refl}
 use Rattle.std.proofs.lemmas.Result.{err_from_is_err_and}
-use Rattle.cxx_decl_parser.specs.declared.simple.SimpleLine.{SimpleLine}
+use Rattle.cxx_resolve.specs.declared.simple.SimpleLine.{SimpleLine}
 use Rattle.cxx_resolve.specs.declared.program.TypedLine.{TypedLine}
 use Rattle.cxx_resolve.specs.Typed.{Types}
 use Rattle.cxx_resolve.specs.Resolves.{Resolves, LinesResolve}

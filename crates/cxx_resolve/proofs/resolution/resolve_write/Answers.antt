@@ -3,7 +3,7 @@ use Rattle.std.proofs.Common.{ℤ, sym, subst}
 use Rattle.std.proofs.lemmas.Result.{err_from_is_err_and}
 use Rattle.std.proofs.Math.Facts.{to_z-of_z}
 use Rattle.cxx_hierarchy.specs.NameTables.{number_in}
-use Rattle.cxx_decl_parser.specs.declared.simple.Simple.TheVariants.{Write}
+use Rattle.cxx_resolve.specs.declared.simple.Simple.TheVariants.{Write}
 use Rattle.cxx_resolve.specs.declared.program.Statement.TheVariants.{Write as Writes}
 use Rattle.cxx_resolve.specs.Resolves.{write, LineResolves}
 use Rattle.cxx_resolve.proofs.Lines.{refused_more, no_write}

@@ -1,0 +1,258 @@
+//! The parts of a class.
+
+ghost use Rattle.std.specs.Prelude.{◌≡◌, ℕ, ◌≤◌, ◌∷◌, ◌++◌, [], List, Bool, true, false, Some, length, IfOk, IfErr};
+ghost use Rattle.cxx_hierarchy.specs.declared.stop.Stop.{Stop};
+ghost use Rattle.cxx_hierarchy.specs.declared.records.FieldType.{FieldType};
+ghost use Rattle.cxx_hierarchy.specs.declared.records.ValueType.{ValueType};
+ghost use Rattle.cxx_grammar.specs.declared.sort.Lexeme.{Lexeme};
+ghost use Rattle.cxx_grammar.specs.declared.sort.Sort.{Sort};
+ghost use Rattle.cxx_grammar.specs.Sorts.{is_name};
+ghost use Rattle.cxx_grammar.specs.Front.{IsName};
+ghost use Rattle.cxx_grammar.specs.Fault.{State};
+ghost use Rattle.cxx_grammar.specs.Run.{Follows};
+ghost use Rattle.cxx_grammar.specs.Table.{Only, AName, ABlock, FieldEnd, ParamsEnd, AfterDeclared, AfterType, AfterOwnName, PartsEnd, is_scalar_word, scalar_rest};
+ghost use Rattle.cxx_body_parser.specs.Statements.{IsFirst, ValueReads};
+ghost use Rattle.cxx_decl_parser.specs.declared.part.Part.{Part};
+ghost use Rattle.cxx_decl_parser.specs.Parts.{access_of, FieldTypeReads, PartReads, PartsRead};
+ghost use Rattle.cxx_decl_parser.specs.Readers.{outside, IsDraft};
+
+use crate::base::access_of;
+use crate::draft::{Draft, public_after};
+use crate::function::{constructor, destructor, plain_function, virtual_part};
+use crate::part::Part;
+use crate::value::count;
+use cxx_body_parser::scalar::scalar;
+use cxx_grammar::{Lexeme, Sort, is_same, name_of, next, refusal, take, take_name};
+use cxx_hierarchy::{FieldType, Member, Name, ReturnType, Stop, ValueType};
+use std::alloc::Global;
+
+// access ":" after its word
+fn label(
+    first: Lexeme,
+    access: bool,
+    rest: &[Lexeme],
+) -> Result<(Part, &[Lexeme]), Stop>
+    requires { access_of first.sort ≡ Some access }
+    ensures reads { IfOk result (λ x. (text : List ℕ) (is_public : Bool) → PartReads text is_public x.0 (first ∷ rest.now) x.1.now) }
+    ensures shorter { IfOk result (λ x. length x.1.now ≤ length rest.now) }
+    ensures follows { (s : State) → Follows (λ x. x.1.now) s (Only Sort.Colon ∷ []) rest.now s [] result }
+{
+    let (_colon, rest) = take(rest, Sort::Colon)?;
+    Ok((Part::Label(access), rest))
+}
+
+// ["[" number "]"] ";" after the type and the name of a field
+fn field_end<'a>(
+    alloc: Global,
+    text: &[u8],
+    is_public: bool,
+    first: Lexeme,
+    ty: FieldType<Name>,
+    word: Lexeme,
+    rest: &'a [Lexeme],
+) -> Result<(Part, &'a [Lexeme]), Stop>
+    ensures reads { IfOk result (λ x. (ts a : List Lexeme) → IsFirst first ts → FieldTypeReads text.now ty ts a → IsName word a rest.now → PartReads text.now is_public x.0 ts x.1.now) }
+    ensures shorter { IfOk result (λ x. length x.1.now ≤ length rest.now) }
+    ensures follows { (s : State) → Follows (λ x. x.1.now) s (FieldEnd ∷ []) rest.now s [] result }
+{
+    let (count, rest) = count(rest)?;
+    let (_end, rest) = take(rest, Sort::Semicolon)?;
+    let name = name_of(alloc, text, &word)?;
+    let member = Member {
+        name,
+        ty,
+        count,
+        is_public,
+        at: word.at,
+    };
+    Ok((Part::Field(member, first.at), rest))
+}
+
+// the rest of a field or of a function after its value and its name
+fn after_declared<'a>(
+    alloc: Global,
+    text: &[u8],
+    is_public: bool,
+    first: Lexeme,
+    ty: ValueType<Name>,
+    word: Lexeme,
+    rest: &'a [Lexeme],
+) -> Result<(Part, &'a [Lexeme]), Stop>
+    ensures reads { IfOk result (λ x. (ts a : List Lexeme) → IsFirst first ts → ValueReads text.now ty ts a → IsName word a rest.now → PartReads text.now is_public x.0 ts x.1.now) }
+    ensures shorter { IfOk result (λ x. length x.1.now ≤ length rest.now) }
+    ensures follows { (m : Bool) → Follows (λ x. x.1.now) (outside m) (AfterDeclared ∷ []) rest.now (outside m) [] result }
+{
+    let (sign, after) = next(rest)?;
+    if is_same(sign.sort, Sort::OpenParen) {
+        let ret = ReturnType::Value(ty);
+        let (part, after) = plain_function(alloc, text, first, ret, word, after)?;
+        return Ok((part, after));
+    }
+    let ty = FieldType::Value(ty);
+    let (part, after) = field_end(alloc, text, is_public, first, ty, word, rest)?;
+    Ok((part, after))
+}
+
+// name and the rest of a field or of a function after its value
+fn value_part<'a>(
+    alloc: Global,
+    text: &[u8],
+    is_public: bool,
+    first: Lexeme,
+    ty: ValueType<Name>,
+    rest: &'a [Lexeme],
+) -> Result<(Part, &'a [Lexeme]), Stop>
+    ensures reads { IfOk result (λ x. (ts : List Lexeme) → IsFirst first ts → ValueReads text.now ty ts rest.now → PartReads text.now is_public x.0 ts x.1.now) }
+    ensures shorter { IfOk result (λ x. length x.1.now ≤ length rest.now) }
+    ensures follows { (m : Bool) → Follows (λ x. x.1.now) (outside m) (AName ∷ AfterDeclared ∷ []) rest.now (outside m) [] result }
+{
+    let (word, rest) = take_name(rest)?;
+    let (part, rest) = after_declared(alloc, text, is_public, first, ty, word, rest)?;
+    Ok((part, rest))
+}
+
+// a field or a function that begins with a scalar
+fn scalar_part<'a>(
+    alloc: Global,
+    text: &[u8],
+    is_public: bool,
+    first: Lexeme,
+    rest: &'a [Lexeme],
+) -> Result<(Part, &'a [Lexeme]), Stop>
+    requires { is_scalar_word first.sort ≡ true }
+    ensures reads { IfOk result (λ x. PartReads text.now is_public x.0 (first ∷ rest.now) x.1.now) }
+    ensures shorter { IfOk result (λ x. length x.1.now ≤ length rest.now) }
+    ensures follows { (m : Bool) → Follows (λ x. x.1.now) (outside m) (scalar_rest first.sort ++ (AfterDeclared ∷ [])) rest.now (outside m) [] result }
+{
+    let (number, rest) = scalar(first, rest)?;
+    let ty = ValueType::Number(number);
+    let (part, rest) = value_part(alloc, text, is_public, first, ty, rest)?;
+    Ok((part, rest))
+}
+
+// a field or a function that begins with a name
+fn name_part<'a>(
+    alloc: Global,
+    text: &[u8],
+    is_public: bool,
+    first: Lexeme,
+    rest: &'a [Lexeme],
+) -> Result<(Part, &'a [Lexeme]), Stop>
+    requires { is_name first.sort ≡ true }
+    ensures reads { IfOk result (λ x. PartReads text.now is_public x.0 (first ∷ rest.now) x.1.now) }
+    ensures shorter { IfOk result (λ x. length x.1.now ≤ length rest.now) }
+    ensures follows { (m : Bool) → Follows (λ x. x.1.now) (outside m) (AfterType ∷ []) rest.now (outside m) [] result }
+{
+    let (sign, after) = next(rest)?;
+    if is_same(sign.sort, Sort::Star) {
+        let class = name_of(alloc, text, &first)?;
+        let ty = ValueType::Pointer(class);
+        let (part, after) = value_part(alloc, text, is_public, first, ty, after)?;
+        return Ok((part, after));
+    }
+    let (word, after) = take_name(rest)?;
+    let class = name_of(alloc, text, &first)?;
+    let ty = FieldType::Object(class);
+    let (part, after) = field_end(alloc, text, is_public, first, ty, word, after)?;
+    Ok((part, after))
+}
+
+// a constructor, or a field or a function, that begins with the name of its class
+fn own_name_part<'a>(
+    alloc: Global,
+    text: &[u8],
+    is_public: bool,
+    first: Lexeme,
+    rest: &'a [Lexeme],
+) -> Result<(Part, &'a [Lexeme]), Stop>
+    requires { first.sort ≡ Sort.OwnName }
+    ensures reads { IfOk result (λ x. PartReads text.now is_public x.0 (first ∷ rest.now) x.1.now) }
+    ensures shorter { IfOk result (λ x. length x.1.now ≤ length rest.now) }
+    ensures follows { (m : Bool) → Follows (λ x. x.1.now) (outside m) (AfterOwnName ∷ []) rest.now (outside m) [] result }
+{
+    let (sign, after) = next(rest)?;
+    if is_same(sign.sort, Sort::OpenParen) {
+        let (part, after) = constructor(alloc, text, first, sign, after)?;
+        return Ok((part, after));
+    }
+    let (part, after) = name_part(alloc, text, is_public, first, rest)?;
+    Ok((part, after))
+}
+
+// a function without a result, after "void"
+fn void_part<'a>(
+    alloc: Global,
+    text: &[u8],
+    first: Lexeme,
+    rest: &'a [Lexeme],
+) -> Result<(Part, &'a [Lexeme]), Stop>
+    requires { first.sort ≡ Sort.Void }
+    ensures reads { IfOk result (λ x. (is_public : Bool) → PartReads text.now is_public x.0 (first ∷ rest.now) x.1.now) }
+    ensures shorter { IfOk result (λ x. length x.1.now ≤ length rest.now) }
+    ensures follows { (m : Bool) → Follows (λ x. x.1.now) (outside m) (AName ∷ Only Sort.OpenParen ∷ ParamsEnd ∷ ABlock ∷ []) rest.now (outside m) [] result }
+{
+    let (word, rest) = take_name(rest)?;
+    let (_open, rest) = take(rest, Sort::OpenParen)?;
+    let (part, rest) = plain_function(alloc, text, first, ReturnType::Void, word, rest)?;
+    Ok((part, rest))
+}
+
+// a part, the first token of which was read
+fn part<'a>(
+    alloc: Global,
+    text: &[u8],
+    is_public: bool,
+    first: Lexeme,
+    rest: &'a [Lexeme],
+) -> Result<(Part, &'a [Lexeme]), Stop>
+    requires { first.sort ≡ Sort.CloseBrace → ⊥ }
+    ensures reads { IfOk result (λ x. PartReads text.now is_public x.0 (first ∷ rest.now) x.1.now) }
+    ensures shorter { IfOk result (λ x. length x.1.now ≤ length rest.now) }
+    ensures follows { (m : Bool) → Follows (λ x. x.1.now) (outside m) (PartsEnd ∷ []) (first ∷ rest.now) (outside m) (PartsEnd ∷ []) result }
+{
+    match first.sort {
+        Sort::Public => label(first, true, rest),
+        Sort::Protected | Sort::Private => label(first, false, rest),
+        Sort::Name => name_part(alloc, text, is_public, first, rest),
+        Sort::OwnName => own_name_part(alloc, text, is_public, first, rest),
+        Sort::Virtual => virtual_part(alloc, text, first, rest),
+        Sort::Void => void_part(alloc, text, first, rest),
+        Sort::Tilde => destructor(alloc, text, false, first, rest),
+        Sort::Boolean
+        | Sort::Char
+        | Sort::Short
+        | Sort::Int
+        | Sort::Long
+        | Sort::Signed
+        | Sort::Unsigned => scalar_part(alloc, text, is_public, first, rest),
+        _ => Err(refusal(&first)),
+    }
+}
+
+// {part} "}", in a class of this name
+pub(crate) fn parts<'a>(
+    alloc: Global,
+    text: &[u8],
+    by_default: bool,
+    class: &Lexeme,
+    rest: &'a [Lexeme],
+) -> Result<(Draft, Lexeme, &'a [Lexeme]), Stop>
+    ensures reads { IfOk result (λ x. (ps : List Part) × PartsRead text.now by_default ps rest.now (x.1 ∷ x.2.now) × IsDraft text.now class.now ps x.0) }
+    ensures close { IfOk result (λ x. x.1.sort ≡ Sort.CloseBrace) }
+    ensures shorter { IfOk result (λ x. length x.2.now ≤ length rest.now) }
+    ensures follows { (m : Bool) → Follows (λ x. x.2.now) (outside m) (PartsEnd ∷ []) rest.now (outside m) [] result }
+{
+    let mut draft = Draft::new(alloc);
+    let mut is_public = by_default;
+    let mut left = rest;
+    loop {
+        let (first, after) = next(left)?;
+        if is_same(first.sort, Sort::CloseBrace) {
+            return Ok((draft, first, after));
+        }
+        let (read, more) = part(alloc, text, is_public, first, after)?;
+        is_public = public_after(is_public, &read);
+        draft.add(alloc, text, class, read)?;
+        left = more;
+    }
+}

@@ -1,0 +1,226 @@
+//! Functions, constructors and destructors.
+
+ghost use Rattle.std.specs.Prelude.{◌≡◌, ◌≤◌, ◌∷◌, [], List, Bool, true, false, length, IfOk, IfErr};
+ghost use Rattle.cxx_hierarchy.specs.declared.stop.Stop.{Stop};
+ghost use Rattle.cxx_hierarchy.specs.declared.records.Function.{Function};
+ghost use Rattle.cxx_grammar.specs.declared.sort.Lexeme.{Lexeme};
+ghost use Rattle.cxx_grammar.specs.declared.sort.Sort.{Sort};
+ghost use Rattle.cxx_grammar.specs.Front.{Is};
+ghost use Rattle.cxx_grammar.specs.Lexemes.{bytes_of};
+ghost use Rattle.cxx_grammar.specs.Fault.{State};
+ghost use Rattle.cxx_grammar.specs.Run.{Follows};
+ghost use Rattle.cxx_grammar.specs.Table.{Only, AName, ABlock, AnInit, InitsEnd, ConstructorEnd, ParamsEnd, VirtualEnd, AfterVirtual};
+ghost use Rattle.cxx_body_parser.specs.Statements.{IsFirst};
+ghost use Rattle.cxx_decl_parser.specs.Parts.{InitReads, InitsRead, VirtualReads, ReturnReads, PartReads};
+ghost use Rattle.cxx_decl_parser.specs.Readers.{HeadReads, outside};
+
+use crate::part::Part;
+use crate::source_text::{Init, InitList};
+use crate::value::{begins_value, params, value};
+use cxx_body_parser::{block, constant, spot};
+use cxx_grammar::{Lexeme, Sort, is_same, name_of, next, refusal, take, take_name};
+use cxx_hierarchy::{Function, Name, ParamList, ReturnType, Stop};
+use std::alloc::Global;
+
+// init
+fn init<'a>(
+    alloc: Global,
+    text: &[u8],
+    rest: &'a [Lexeme],
+) -> Result<(Init, &'a [Lexeme]), Stop>
+    ensures reads { IfOk result (λ x. InitReads text.now x.0 rest.now x.1.now) }
+    ensures shorter { IfOk result (λ x. length x.1.now ≤ length rest.now) }
+    ensures follows { (s : State) → Follows (λ x. x.1.now) s (AnInit ∷ []) rest.now s [] result }
+{
+    let (word, rest) = take_name(rest)?;
+    let (_open, rest) = take(rest, Sort::OpenParen)?;
+    let (value, rest) = constant(rest)?;
+    let (_close, rest) = take(rest, Sort::CloseParen)?;
+    let name = spot(alloc, text, &word)?;
+    Ok((Init { name, value }, rest))
+}
+
+// [":" init {"," init}] before a block
+fn inits<'a>(
+    alloc: Global,
+    text: &[u8],
+    rest: &'a [Lexeme],
+) -> Result<(InitList, &'a [Lexeme]), Stop>
+    ensures reads { IfOk result (λ x. InitsRead text.now x.0 rest.now x.1.now) }
+    ensures shorter { IfOk result (λ x. length x.1.now ≤ length rest.now) }
+    ensures follows { (s : State) → Follows (λ x. x.1.now) s (ConstructorEnd ∷ []) rest.now s (ABlock ∷ []) result }
+{
+    let mut items = InitList::new(alloc);
+    let (sign, after) = next(rest)?;
+    if !is_same(sign.sort, Sort::Colon) {
+        return Ok((items, rest));
+    }
+    let (item, after) = init(alloc, text, after)?;
+    items.push(item)?;
+    let mut left = after;
+    loop {
+        let (sign, after) = next(left)?;
+        if !is_same(sign.sort, Sort::Comma) {
+            return Ok((items, left));
+        }
+        let (item, after) = init(alloc, text, after)?;
+        items.push(item)?;
+        left = after;
+    }
+}
+
+// "(" ")" [":" init {"," init}] block after the name of a constructor
+pub(crate) fn constructor<'a>(
+    alloc: Global,
+    text: &[u8],
+    first: Lexeme,
+    open: Lexeme,
+    rest: &'a [Lexeme],
+) -> Result<(Part, &'a [Lexeme]), Stop>
+    requires first { first.sort ≡ Sort.OwnName }
+    requires open { open.sort ≡ Sort.OpenParen }
+    ensures reads { IfOk result (λ x. (is_public : Bool) → PartReads text.now is_public x.0 (first ∷ open ∷ rest.now) x.1.now) }
+    ensures shorter { IfOk result (λ x. length x.1.now ≤ length rest.now) }
+    ensures follows { (m : Bool) → Follows (λ x. x.1.now) (outside m) (Only Sort.CloseParen ∷ ConstructorEnd ∷ []) rest.now (outside m) [] result }
+{
+    let (_close, rest) = take(rest, Sort::CloseParen)?;
+    let (inits, rest) = inits(alloc, text, rest)?;
+    let (tree, rest) = block(alloc, text, rest, 0)?;
+    Ok((Part::Constructor(first.at, inits, tree), rest))
+}
+
+// name "(" ")" block after "~"
+pub(crate) fn destructor<'a>(
+    alloc: Global,
+    text: &[u8],
+    is_virtual: bool,
+    tilde: Lexeme,
+    rest: &'a [Lexeme],
+) -> Result<(Part, &'a [Lexeme]), Stop>
+    requires { tilde.sort ≡ Sort.Tilde }
+    ensures reads { IfOk result (λ x. (is_public : Bool) (ts : List Lexeme) → VirtualReads is_virtual ts (tilde ∷ rest.now) → PartReads text.now is_public x.0 ts x.1.now) }
+    ensures shorter { IfOk result (λ x. length x.1.now ≤ length rest.now) }
+    ensures follows { (m : Bool) → Follows (λ x. x.1.now) (outside m) (Only Sort.OwnName ∷ Only Sort.OpenParen ∷ Only Sort.CloseParen ∷ ABlock ∷ []) rest.now (outside m) [] result }
+{
+    let (word, rest) = take(rest, Sort::OwnName)?;
+    let (_open, rest) = take(rest, Sort::OpenParen)?;
+    let (_close, rest) = take(rest, Sort::CloseParen)?;
+    let (tree, rest) = block(alloc, text, rest, 0)?;
+    Ok((Part::Destructor(is_virtual, word.at, tree), rest))
+}
+
+// The function that a name token gives. The error is want of memory.
+fn function_of(
+    alloc: Global,
+    text: &[u8],
+    word: &Lexeme,
+    params: ParamList<Name>,
+    ret: ReturnType<Name>,
+    is_virtual: bool,
+    is_pure: bool,
+) -> Result<Function<Name>, Stop>
+    ensures ok { IfOk result (λ g. g ≡ record { name = bytes_of text.now word.now; params = params; ret = ret; is_virtual = is_virtual; is_pure = is_pure; at = word.now.at }) }
+    ensures err { IfErr result (λ e. e ≡ Stop.NoMemory) }
+{
+    let name = name_of(alloc, text, word)?;
+    Ok(Function {
+        name,
+        params,
+        ret,
+        is_virtual,
+        is_pure,
+        at: word.at,
+    })
+}
+
+// [param {"," param}] ")" block after the "(" of a function without "virtual"
+pub(crate) fn plain_function<'a>(
+    alloc: Global,
+    text: &[u8],
+    first: Lexeme,
+    ret: ReturnType<Name>,
+    word: Lexeme,
+    rest: &'a [Lexeme],
+) -> Result<(Part, &'a [Lexeme]), Stop>
+    ensures reads { IfOk result (λ x. (is_public : Bool) (ts : List Lexeme) → HeadReads text.now false first ret word ts rest.now → PartReads text.now is_public x.0 ts x.1.now) }
+    ensures shorter { IfOk result (λ x. length x.1.now ≤ length rest.now) }
+    ensures follows { (m : Bool) → Follows (λ x. x.1.now) (outside m) (ParamsEnd ∷ ABlock ∷ []) rest.now (outside m) [] result }
+{
+    let (params, _close, rest) = params(alloc, text, rest)?;
+    let (tree, rest) = block(alloc, text, rest, 0)?;
+    let function = function_of(alloc, text, &word, params, ret, false, false)?;
+    Ok((Part::Function(function, first.at, Some(tree)), rest))
+}
+
+// [param {"," param}] ")", and a block or "=" "0" ";", after the "(" of a virtual function
+fn virtual_function<'a>(
+    alloc: Global,
+    text: &[u8],
+    first: Lexeme,
+    ret: ReturnType<Name>,
+    word: Lexeme,
+    rest: &'a [Lexeme],
+) -> Result<(Part, &'a [Lexeme]), Stop>
+    ensures reads { IfOk result (λ x. (is_public : Bool) (ts : List Lexeme) → HeadReads text.now true first ret word ts rest.now → PartReads text.now is_public x.0 ts x.1.now) }
+    ensures shorter { IfOk result (λ x. length x.1.now ≤ length rest.now) }
+    ensures follows { (m : Bool) → Follows (λ x. x.1.now) (outside m) (ParamsEnd ∷ VirtualEnd ∷ []) rest.now (outside m) [] result }
+{
+    let (params, _close, rest) = params(alloc, text, rest)?;
+    let (sign, after) = next(rest)?;
+    if is_same(sign.sort, Sort::Assign) {
+        let (_zero, after) = take(after, Sort::Zero)?;
+        let (_end, after) = take(after, Sort::Semicolon)?;
+        let function = function_of(alloc, text, &word, params, ret, true, true)?;
+        return Ok((Part::Function(function, first.at, None), after));
+    }
+    let (tree, rest) = block(alloc, text, rest, 0)?;
+    let function = function_of(alloc, text, &word, params, ret, true, false)?;
+    Ok((Part::Function(function, first.at, Some(tree)), rest))
+}
+
+// name "(" and the rest of a virtual function after what it returns
+fn virtual_named<'a>(
+    alloc: Global,
+    text: &[u8],
+    first: Lexeme,
+    ret: ReturnType<Name>,
+    rest: &'a [Lexeme],
+) -> Result<(Part, &'a [Lexeme]), Stop>
+    ensures reads { IfOk result (λ x. (is_public : Bool) (ts a : List Lexeme) → VirtualReads true ts a → IsFirst first a → ReturnReads text.now ret a rest.now → PartReads text.now is_public x.0 ts x.1.now) }
+    ensures shorter { IfOk result (λ x. length x.1.now ≤ length rest.now) }
+    ensures follows { (m : Bool) → Follows (λ x. x.1.now) (outside m) (AName ∷ Only Sort.OpenParen ∷ ParamsEnd ∷ VirtualEnd ∷ []) rest.now (outside m) [] result }
+{
+    let (word, rest) = take_name(rest)?;
+    let (_open, rest) = take(rest, Sort::OpenParen)?;
+    let (part, rest) = virtual_function(alloc, text, first, ret, word, rest)?;
+    Ok((part, rest))
+}
+
+// (value | "void") name "(" and the rest of a function, or a destructor, after "virtual"
+pub(crate) fn virtual_part<'a>(
+    alloc: Global,
+    text: &[u8],
+    first: Lexeme,
+    rest: &'a [Lexeme],
+) -> Result<(Part, &'a [Lexeme]), Stop>
+    requires { first.sort ≡ Sort.Virtual }
+    ensures reads { IfOk result (λ x. (is_public : Bool) → PartReads text.now is_public x.0 (first ∷ rest.now) x.1.now) }
+    ensures shorter { IfOk result (λ x. length x.1.now ≤ length rest.now) }
+    ensures follows { (m : Bool) → Follows (λ x. x.1.now) (outside m) (AfterVirtual ∷ []) rest.now (outside m) [] result }
+{
+    let (word, after) = next(rest)?;
+    if is_same(word.sort, Sort::Tilde) {
+        let (part, after) = destructor(alloc, text, true, word, after)?;
+        return Ok((part, after));
+    }
+    if is_same(word.sort, Sort::Void) {
+        let (part, after) = virtual_named(alloc, text, word, ReturnType::Void, after)?;
+        return Ok((part, after));
+    }
+    if !begins_value(word.sort) {
+        return Err(refusal(&word));
+    }
+    let (ty, after) = value(alloc, text, word, after)?;
+    let (part, after) = virtual_named(alloc, text, word, ReturnType::Value(ty), after)?;
+    Ok((part, after))
+}

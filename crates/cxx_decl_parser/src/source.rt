@@ -1,0 +1,106 @@
+//! From a text to its declarations.
+
+ghost use Rattle.std.specs.Prelude.{◌≡◌, ◌++◌, ◌∷◌, ◌⊎◌, [], List, All, false, true, None, is_some, IfOk, IfErr, OnOk, OnErr};
+ghost use Rattle.cxx_hierarchy.specs.declared.stop.Stop.{Stop};
+ghost use Rattle.cxx_hierarchy.specs.ClassPass.{IsInOrder};
+ghost use Rattle.cxx_grammar.specs.declared.sort.Lexeme.{Lexeme};
+ghost use Rattle.cxx_grammar.specs.declared.sort.Sort.{Sort};
+ghost use Rattle.cxx_grammar.specs.Grammar.{In, source_form};
+ghost use Rattle.cxx_grammar.specs.Lexemes.{lexemes, source_start};
+ghost use Rattle.cxx_grammar.specs.Fault.{State, sorts, Fault, FrontIs};
+ghost use Rattle.cxx_decl_parser.specs.declared.part.Item.{Item};
+ghost use Rattle.cxx_decl_parser.specs.Sources.{AreItemsOf, SourceReads, is_no_main};
+ghost use Rattle.cxx_grammar.specs.Table.{ItemsEnd};
+ghost use Rattle.cxx_decl_parser.specs.Readers.{outside, main_after, FollowsTo};
+
+use crate::item::item;
+use crate::part::Item;
+use crate::source_text::{BodyList, SourceText};
+use cxx_grammar::{Lexeme, Sort, is_same, lexemes, next};
+use cxx_hierarchy::Stop;
+use cxx_text::TokenList;
+use foundation::Sequence;
+use std::alloc::Global;
+
+// Moves bodies behind others. The error is want of memory.
+fn append(bodies: &mut BodyList, more: BodyList) -> Result<(), Stop>
+    ensures ok { OnOk result (bodies.new ≡ bodies.old ++ more) }
+    ensures err { IfErr result (λ e. e ≡ Stop.NoMemory) }
+{
+    for body in more.into_vec() {
+        bodies.push(body)?;
+    }
+    Ok(())
+}
+
+// A source of no items.
+fn empty_source(alloc: Global) -> SourceText
+    ensures items { AreItemsOf result [] }
+    ensures main { result.main ≡ None }
+{
+    SourceText {
+        records: Sequence::new(alloc),
+        globals: Sequence::new(alloc),
+        bodies: Sequence::new(alloc),
+        main: None,
+        main_place: 0,
+    }
+}
+
+// Adds the next item of a source. The error is want of memory.
+fn add(source: &mut SourceText, item: Item) -> Result<(), Stop>
+    requires { is_some source.old.main ≡ true → is_no_main item ≡ true }
+    ensures items { OnOk result ((is : List Item) → AreItemsOf source.old is → AreItemsOf source.new (is ++ item ∷ [])) }
+    ensures main { OnOk result (is_some source.new.main ≡ main_after (is_some source.old.main) item) }
+    ensures err { IfErr result (λ e. e ≡ Stop.NoMemory) }
+{
+    match item {
+        Item::Class(definition, bodies) => {
+            source.records.push(definition)?;
+            append(&mut source.bodies, bodies)?;
+            if source.main.is_none() {
+                source.main_place = source.bodies.len();
+            }
+        }
+        Item::Forward => {}
+        Item::Global(variable) => source.globals.push(variable)?,
+        Item::Main(tree) => source.main = Some(tree),
+    }
+    Ok(())
+}
+
+// {class | forward | global | mainfn} and the end of the text
+fn items<'a>(
+    alloc: Global,
+    text: &[u8],
+    rest: &'a [Lexeme],
+) -> Result<(SourceText, &'a [Lexeme]), Stop>
+    ensures reads { IfOk result (λ x. SourceReads text.now x.0 rest.now x.1.now) }
+    ensures follows { FollowsTo (λ x. x.1.now) (outside false) (ItemsEnd ∷ []) rest.now (λ x. outside (is_some x.0.main)) [] result }
+{
+    let mut source = empty_source(alloc);
+    let mut left = rest;
+    loop {
+        let (first, after) = next(left)?;
+        if is_same(first.sort, Sort::End) {
+            return Ok((source, after));
+        }
+        let (read, more) = item(alloc, text, source.main.is_some(), first, after)?;
+        add(&mut source, read)?;
+        left = more;
+    }
+}
+
+/// The source of a text, from its tokens.
+///
+/// Errors: E1, E21 or E2 at the first token with which the tokens begin no source, L3 at the 65th open block, E7 at
+/// a second `main`, or want of memory.
+pub fn parse_source(alloc: Global, text: &[u8], list: &TokenList) -> Result<SourceText, Stop>
+    ensures reads { let all = lexemes text.now source_start list.now.tokens list.now.bad in IfOk result (λ s. (rest : List Lexeme) × SourceReads text.now s all rest × FrontIs source_form (record { blocks = 0; main = false }) all rest) }
+    ensures in_order { IfOk result (λ s. All IsInOrder s.records) }
+    ensures fault { let all = lexemes text.now source_start list.now.tokens list.now.bad in IfErr result (λ e. (e ≡ Stop.NoMemory) ⊎ Fault source_form (record { blocks = 0; main = false }) all e) }
+{
+    let all = lexemes(alloc, text, list.tokens.as_slice(), list.bad, Sort::End)?;
+    let (source, _rest) = items(alloc, text, &all)?;
+    Ok(source)
+}

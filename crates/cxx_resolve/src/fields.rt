@@ -1,0 +1,195 @@
+//! Fields and bases of the class that a pointer points to.
+
+ghost use Rattle.std.specs.Prelude.{◌≡◌, ◌<◌, ℕ, Some, IfOk, IfErr, MatchOption, length};
+ghost use Rattle.cxx_hierarchy.specs.Classes.{Classes, value_type_in};
+ghost use Rattle.cxx_hierarchy.specs.NameTables.{Text, number_in};
+ghost use Rattle.cxx_hierarchy.specs.declared.records.ClassId.{ClassId};
+ghost use Rattle.cxx_hierarchy.specs.declared.records.Scalar.{Scalar};
+ghost use Rattle.cxx_hierarchy.specs.declared.records.ValueType.TheVariants.{Number};
+ghost use Rattle.cxx_subobject.specs.declared.Subobject.{Subobject};
+ghost use Rattle.cxx_subobject.specs.Subobjects.{class_of};
+ghost use Rattle.cxx_resolve.specs.declared.program.MemberPlace.{MemberPlace};
+ghost use Rattle.cxx_resolve.specs.declared.program.Converted.{Converted};
+ghost use Rattle.cxx_resolve.specs.SimpleHierarchy.{IsSimpleHierarchy};
+ghost use Rattle.cxx_lookup.specs.Lookup.{IsFound, IsLookupFault};
+ghost use Rattle.cxx_lookup.specs.UniqueBase.{IsUniqueBase, IsBaseFault};
+ghost use Rattle.cxx_resolve.specs.Resolves.{IsField, IsMemberOf, IsPointerTo};
+ghost use Rattle.cxx_resolve.specs.Answers.{IsRefusal, IsNumberAt, IsLesser, IsPointerAt, HasCommon, HasPointerTo};
+
+use crate::look_up::{lookup, unique_base};
+use crate::program::{Converted, MemberPlace};
+use crate::variables::Variables;
+use cxx_lookup::{BaseFault, Found, LookupFault};
+use cxx_hierarchy::{ClassId, FieldType, Hierarchy, Member, Name, Rule, Scalar, Stop, ValueType};
+use cxx_subobject::Subobject;
+use std::alloc::Global;
+
+/// The class of a subobject: the last one of its path.
+fn class_of(s: &Subobject) -> Option<ClassId>
+    ensures { result ≡ class_of s.now }
+{
+    s.path.as_slice().last().copied()
+}
+
+/// The type of a member that is a number, and no array.
+fn number_type(member: &Member<ClassId>) -> Option<Scalar>
+    ensures { MatchOption result ((t : Scalar) → value_type_in member.now.ty member.now.count ≡ Some (Number t) → ⊥) (λ t. value_type_in member.now.ty member.now.count ≡ Some (Number t)) }
+{
+    match &member.ty {
+        FieldType::Value(ValueType::Number(scalar)) => match member.count {
+            None => Some(*scalar),
+            Some(_) => None,
+        },
+        FieldType::Value(ValueType::Pointer(_)) => None,
+        FieldType::Object(_) => None,
+    }
+}
+
+/// The class that declares the member of a place, and the member's type, where it is a number.
+fn number_at(h: &Hierarchy, place: &MemberPlace) -> Option<(ClassId, Scalar)>
+    ensures { MatchOption result ((d : ClassId) (t : Scalar) → IsNumberAt h.now place.now d t → ⊥) (λ r. IsNumberAt h.now place.now r.0 r.1) }
+{
+    let class = class_of(&place.base)?;
+    if class.0 >= h.len() {
+        return None;
+    }
+    let members = h.class(class).members.as_slice();
+    let member = members.get(place.member as usize)?;
+    let scalar = number_type(member)?;
+    Some((class, scalar))
+}
+
+/// What stands in place of a field.
+fn lookup_stop(fault: LookupFault) -> Stop
+    ensures { (h : Classes) (c : ClassId) (name : Text) → IsLookupFault h c name fault → IsRefusal ((place : MemberPlace) → IsMemberOf h c name place → ⊥) result }
+{
+    match fault {
+        LookupFault::NoMemory => Stop::NoMemory,
+        LookupFault::AmbiguousName => Stop::Refused(Rule::Syntax, 0),
+        LookupFault::NoSuchMember => Stop::Refused(Rule::Syntax, 0),
+    }
+}
+
+/// The place of what a name finds, where it is a member.
+fn member_place(found: Found) -> Result<MemberPlace, Stop>
+    ensures ok { (h : Classes) (c : ClassId) (name : Text) → IsFound h c name found → IfOk result (IsMemberOf h c name) }
+    ensures err { (h : Classes) (c : ClassId) (name : Text) → IsFound h c name found → IfErr result (IsRefusal ((place : MemberPlace) → IsMemberOf h c name place → ⊥)) }
+{
+    match found {
+        Found::Member(base, member) => Ok(MemberPlace { base, member }),
+        Found::Function(_, _) => Err(Stop::Refused(Rule::Syntax, 0)),
+    }
+}
+
+/// The place of the one declaration of a name that is left in a class, where it is a member's.
+fn member_of(
+    alloc: Global,
+    h: &Hierarchy,
+    class: ClassId,
+    name: &Name,
+) -> Result<MemberPlace, Stop>
+    requires simple { IsSimpleHierarchy h.now }
+    requires known { class.0 < length h.now }
+    ensures ok { IfOk result (IsMemberOf h.now class name.now) }
+    ensures err { IfErr result (IsRefusal ((place : MemberPlace) → IsMemberOf h.now class name.now place → ⊥)) }
+{
+    match lookup(alloc, h, class, name.as_slice()) {
+        Ok(found) => member_place(found),
+        Err(fault) => Err(lookup_stop(fault)),
+    }
+}
+
+/// The number of a pointer, and the place and type of the field that its name leads to.
+pub(crate) fn field_of(
+    alloc: Global,
+    h: &Hierarchy,
+    variables: &Variables,
+    pointer: &Name,
+    field: &Name,
+) -> Result<(u32, MemberPlace, Scalar), Stop>
+    requires simple { IsSimpleHierarchy h.now }
+    ensures ok { IfOk result (λ r. IsField h.now (number_in variables.now.table) variables.now.types pointer.now field.now r.0 r.1 r.2) }
+    ensures err { IfErr result (IsRefusal ((p : ℕ) (place : MemberPlace) (t : Scalar) → IsField h.now (number_in variables.now.table) variables.now.types pointer.now field.now p place t → ⊥)) }
+{
+    let Some((number, class)) = variables.pointer(pointer) else {
+        return Err(Stop::Refused(Rule::Syntax, 0));
+    };
+    if class.0 >= h.len() {
+        return Err(Stop::Refused(Rule::Syntax, 0));
+    }
+    let place = member_of(alloc, h, class, field)?;
+    let Some((_declares, scalar)) = number_at(h, &place) else {
+        return Err(Stop::Refused(Rule::Syntax, 0));
+    };
+    Ok((number, place, scalar))
+}
+
+/// What stands in place of a base.
+fn base_stop(fault: BaseFault) -> Stop
+    ensures { (h : Classes) (c d : ClassId) → IsBaseFault h c d fault → IsRefusal ((base : Subobject) → IsUniqueBase h c d base → ⊥) result }
+{
+    match fault {
+        BaseFault::NoMemory => Stop::NoMemory,
+        BaseFault::AmbiguousBase => Stop::Refused(Rule::Syntax, 0),
+        BaseFault::NotBase => Stop::Refused(Rule::Syntax, 0),
+    }
+}
+
+/// The one subobject of a class that is of another or of the same class.
+fn base_of(
+    alloc: Global,
+    h: &Hierarchy,
+    class: ClassId,
+    target: ClassId,
+) -> Result<Subobject, Stop>
+    requires simple { IsSimpleHierarchy h.now }
+    requires known { class.0 < length h.now }
+    ensures ok { IfOk result (IsUniqueBase h.now class target) }
+    ensures err { IfErr result (IsRefusal ((base : Subobject) → IsUniqueBase h.now class target base → ⊥)) }
+{
+    match unique_base(alloc, h, class, target) {
+        Ok(base) => Ok(base),
+        Err(fault) => Err(base_stop(fault)),
+    }
+}
+
+/// The pointer of a name and its class, converted to a class.
+pub(crate) fn pointer_to(
+    alloc: Global,
+    h: &Hierarchy,
+    variables: &Variables,
+    pointer: &Name,
+    target: ClassId,
+) -> Result<Converted, Stop>
+    requires simple { IsSimpleHierarchy h.now }
+    ensures ok { IfOk result (λ from. HasPointerTo h.now (number_in variables.now.table) variables.now.types pointer.now from target) }
+    ensures err { IfErr result (IsRefusal ((from : Converted) (c : ClassId) → IsPointerTo h.now (number_in variables.now.table) variables.now.types pointer.now from c target → ⊥)) }
+{
+    let Some((number, class)) = variables.pointer(pointer) else {
+        return Err(Stop::Refused(Rule::Syntax, 0));
+    };
+    if class.0 >= h.len() {
+        return Err(Stop::Refused(Rule::Syntax, 0));
+    }
+    let base = base_of(alloc, h, class, target)?;
+    Ok(Converted {
+        pointer: number,
+        base,
+    })
+}
+
+/// The one of two classes that stands first in the source, which alone can be a base of the other (ISO C++03 10).
+fn lesser(c: ClassId, d: ClassId) -> ClassId
+    ensures { IsLesser c d result }
+{
+    if c.0 < d.0 { c } else { d }
+}
+
+/// The class to which two pointers are converted where they are compared.
+pub(crate) fn common_class(variables: &Variables, left: &Name, right: &Name) -> Option<ClassId>
+    ensures { MatchOption result ((p q : ℕ) (c d : ClassId) → IsPointerAt (number_in variables.now.table) variables.now.types left.now p c → IsPointerAt (number_in variables.now.table) variables.now.types right.now q d → ⊥) (HasCommon (number_in variables.now.table) variables.now.types left.now right.now) }
+{
+    let (_left, first) = variables.pointer(left)?;
+    let (_right, second) = variables.pointer(right)?;
+    Some(lesser(first, second))
+}

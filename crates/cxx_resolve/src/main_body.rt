@@ -1,0 +1,39 @@
+//! The program of the body of a `main`.
+
+ghost use Rattle.std.specs.Prelude.{IfOk, IfErr};
+ghost use Rattle.cxx_resolve.specs.declared.program.SimpleProgram.{SimpleProgram};
+ghost use Rattle.cxx_resolve.specs.Main.{MainResolves};
+ghost use Rattle.cxx_resolve.specs.Answers.{IsRefusal};
+
+use crate::program::SimpleProgram;
+use crate::resolution::resolve_simple;
+use crate::simple::simple_main;
+use crate::simple_hierarchy::is_simple;
+use cxx_body_parser::BodyTree;
+use cxx_hierarchy::{Hierarchy, Rule, Stop};
+use std::alloc::Global;
+
+/// The largest number of declarations of a `main`.
+const DECLARATION_LIMIT: usize = 256;
+
+/// The program of the body of a `main`, over the classes of its source.
+///
+/// Errors: `Syntax` at 0 exactly where there is none, since the classes or the body are not of the form that `run`
+/// takes, or a name has no meaning; or want of memory.
+pub fn resolve_main(alloc: Global, h: &Hierarchy, tree: &BodyTree) -> Result<SimpleProgram, Stop>
+    ensures ok { IfOk result (MainResolves h.now tree.now) }
+    ensures err { IfErr result (IsRefusal ((program : SimpleProgram) → MainResolves h.now tree.now program → ⊥)) }
+{
+    h.keeps();
+    if !is_simple(alloc, h)? {
+        return Err(Stop::Refused(Rule::Syntax, 0));
+    }
+    let Some(lines) = simple_main(alloc, tree)? else {
+        return Err(Stop::Refused(Rule::Syntax, 0));
+    };
+    let program = resolve_simple(alloc, h, &lines)?;
+    if program.variables.len() > DECLARATION_LIMIT {
+        return Err(Stop::Refused(Rule::Syntax, 0));
+    }
+    Ok(program)
+}
