@@ -57,7 +57,30 @@ apply (Some c) ts = Some (c.0, c.1 ts)
 abbrev scalar_at : List Lexeme → Option (Scalar × List Lexeme)
 scalar_at ts = apply (shape (head ts) (head (tail ts)) (head (tail (tail ts)))) ts
 
-scalar_found : {k : Scalar} {ts r a : List Lexeme} {n : Lexeme} → IsName n r a → ScalarReads k ts r → scalar_at ts ≡ Some (k, r)
+-- what does not follow a scalar: a word that goes on with it
+abbrev pub goes_on : Sort → ℕ
+goes_on Char = 1
+goes_on Short = 1
+goes_on Int = 1
+goes_on Long = 1
+goes_on _ = 0
+
+unsigned_alone : (s y : Sort) → goes_on s ≡ 0 → unsigned s y ≡ one scalar.UInt
+unsigned_alone Char y h = absurd (cc)
+unsigned_alone Short y h = absurd (cc)
+unsigned_alone Int y h = absurd (cc)
+unsigned_alone Long y h = absurd (cc)
+unsigned_alone _ y h = refl
+
+long_alone : (s : Sort) → goes_on s ≡ 0 → long s ≡ one scalar.Long
+long_alone Long h = absurd (cc)
+long_alone _ h = refl
+
+unsigned_long_alone : (s : Sort) → goes_on s ≡ 0 → unsigned_long s ≡ two scalar.ULong
+unsigned_long_alone Long h = absurd (cc)
+unsigned_long_alone _ h = refl
+
+scalar_found : {k : Scalar} {ts r : List Lexeme} → goes_on (head r) ≡ 0 → ScalarReads k ts r → scalar_at ts ≡ Some (k, r)
 scalar_found n (a_bool i) = rw (i.front, i.sort) refl
 scalar_found n (a_char i) = rw (i.front, i.sort) refl
 scalar_found n (a_signed_char i j) = rw (i.front, j.front, i.sort) refl
@@ -67,12 +90,12 @@ scalar_found n (an_unsigned_short i j) = rw (i.front, j.front, i.sort, j.sort) r
 scalar_found n (an_int i) = rw (i.front, i.sort) refl
 scalar_found n (an_unsigned_int i j) = rw (i.front, j.front, i.sort, j.sort) refl
 scalar_found {r = r} n (an_unsigned {l = l} i) =
-    rw i.front (ap (λ s. apply (shape s (head r) (head (tail r))) (l ∷ r)) i.sort ∙ by_name (λ s. apply (unsigned s (head (tail r))) (l ∷ r)) (Some (scalar.UInt, r)) refl refl n)
+    rw i.front (ap (λ s. apply (shape s (head r) (head (tail r))) (l ∷ r)) i.sort ∙ ap (λ c. apply c (l ∷ r)) (unsigned_alone (head r) (head (tail r)) n))
 scalar_found {r = r} n (a_long {l = l} i) =
-    rw i.front (ap (λ s. apply (shape s (head r) (head (tail r))) (l ∷ r)) i.sort ∙ by_name (λ s. apply (long s) (l ∷ r)) (Some (scalar.Long, r)) refl refl n)
+    rw i.front (ap (λ s. apply (shape s (head r) (head (tail r))) (l ∷ r)) i.sort ∙ ap (λ c. apply c (l ∷ r)) (long_alone (head r) n))
 scalar_found {r = r} n (an_unsigned_long {l = l} {m = m} i j) =
     rw (i.front, j.front) (ap (λ s. apply (shape s m.sort (head r)) (l ∷ m ∷ r)) i.sort ∙ (ap (λ s. apply (unsigned s (head r)) (l ∷ m ∷ r)) j.sort ∙
-    by_name (λ s. apply (unsigned_long s) (l ∷ m ∷ r)) (Some (scalar.ULong, r)) refl refl n))
+    ap (λ c. apply c (l ∷ m ∷ r)) (unsigned_long_alone (head r) n)))
 scalar_found n (a_long_long i j) = rw (i.front, j.front, i.sort, j.sort) refl
 scalar_found n (an_unsigned_long_long i j k) = rw (i.front, j.front, k.front, i.sort, j.sort, k.sort) refl
 
@@ -86,7 +109,7 @@ some_same k j r s h = (ap (λ o. the_scalar o) h, ap (λ o. the_rest o) h) where
   the_rest None = r
   the_rest (Some p) = p.1
 
-pub scalar_same : {k j : Scalar} {ts us r s a b : List Lexeme} {n m : Lexeme} → ts ≡ us → IsName n r a → IsName m s b → ScalarReads k ts r → ScalarReads j us s → (k ≡ j) × (r ≡ s)
+pub scalar_same : {k j : Scalar} {ts us r s : List Lexeme} → ts ≡ us → goes_on (head r) ≡ 0 → goes_on (head s) ≡ 0 → ScalarReads k ts r → ScalarReads j us s → (k ≡ j) × (r ≡ s)
 scalar_same {k = k} {j = j} {r = r} {s = s} e n m h g = some_same k j r s (sym (scalar_found n h) ∙ (ap scalar_at e ∙ scalar_found m g))
 
 pub scalar_by : {A : Type 0} (f : Sort → A) (a : A) → f Boolean ≡ a → f Char ≡ a → f Signed ≡ a → f Unsigned ≡ a → f Short ≡ a → f Int ≡ a → f Long ≡ a →
@@ -105,6 +128,11 @@ scalar_by f a b c s u h i l (an_unsigned_long x y) = by_is f x ∙ u
 scalar_by f a b c s u h i l (a_long_long x y) = by_is f x ∙ l
 scalar_by f a b c s u h i l (an_unsigned_long_long x y z) = by_is f x ∙ u
 
+pub value_by : {A : Type 0} (f : Sort → A) (a : A) → f Name ≡ a → f OwnName ≡ a → f Boolean ≡ a → f Char ≡ a → f Signed ≡ a → f Unsigned ≡ a → f Short ≡ a → f Int ≡ a → f Long ≡ a →
+    {text : List ℕ} {v : ValueType (List ℕ)} {ts r : List Lexeme} → ValueReads text v ts r → f (head ts) ≡ a
+value_by f a n o b c s u h i l (a_scalar x) = scalar_by f a b c s u h i l x
+value_by f a n o b c s u h i l (a_class_pointer x y p) = by_name f a n o x
+
 -- a value
 value_mark : Sort → ℕ
 value_mark Name = 1
@@ -114,7 +142,7 @@ value_mark _ = 0
 pub value_same : {text : List ℕ} {v w : ValueType (List ℕ)} {ts us r s a b : List Lexeme} {n m : Lexeme} → ts ≡ us → IsName n r a → IsName m s b →
     ValueReads text v ts r → ValueReads text w us s → (v ≡ w) × (r ≡ s)
 unfolding value_mark
-value_same e n m (a_scalar h) (a_scalar g) = let x = scalar_same e n m h g in (ap value.Number x.0, x.1)
+value_same e n m (a_scalar h) (a_scalar g) = let x = scalar_same e (by_name goes_on 0 refl refl n) (by_name goes_on 0 refl refl m) h g in (ap value.Number x.0, x.1)
 value_same e n m (a_scalar h) (a_class_pointer i j p) =
     absurd (let f : 0 ≡ 1 = clash (λ us. value_mark (head us)) e (scalar_by value_mark 0 refl refl refl refl refl refl refl h) (by_name value_mark 1 refl refl i) in cc)
 value_same e n m (a_class_pointer i j p) (a_scalar h) =

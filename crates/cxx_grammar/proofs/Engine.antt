@@ -1,9 +1,8 @@
 -- What is left of symbols after a token, for any grammar.
-use Rattle.std.proofs.Common.{◌≡◌, ℕ, zero, suc, Bool, true, false, cond, ◌==◌, ◌⊎◌, inl, inr, List, [], ◌∷◌, ◌++◌, Option, Some, None, refl, sym, ap, subst, ◌∙◌, append_assoc, arith}
-use Rattle.std.proofs.lemmas.Grind.{common_steps}
+use Rattle.std.proofs.Common.{◌≡◌, ℕ, zero, suc, Bool, true, false, cond, ◌⊎◌, inl, inr, List, [], ◌∷◌, ◌++◌, Option, Some, None, refl, sym, ap, subst, ◌∙◌, append_assoc}
 use Rattle.cxx_grammar.specs.declared.sort.Sort.{Sort}
 use Rattle.cxx_grammar.specs.Sorts.{is_same}
-use Rattle.cxx_grammar.specs.Grammar.{NonTerminal, Symbol, tok, part, grammar, In, Derives, nothing, token, choose}
+use Rattle.cxx_grammar.specs.Grammar.{NonTerminal, Symbol, tok, part, grammar, In, Derives, token, choose}
 use Rattle.cxx_grammar.proofs.Sorts.{is_same_eq, is_same_refl}
 
 abbrev pub both : {A : Type 0} → Option (List A) → Option (List A) → Option (List A)
@@ -88,6 +87,17 @@ step_complete (suc n) t (part p ∷ ss) X k ts e d =
     let d' : Derives ((j.0 ++ ss) ++ k) (t ∷ ts) = rw append_assoc j.2 in
     let r = step_complete n t (j.0 ++ ss) g.0 k ts g.1 d' in
     (r.0, g.2 r.0 r.1, r.2)
+
+-- what a step is found for derives no empty list
+pub no_step : (n : ℕ) (t : Sort) (f : List Symbol) (X : List (List Symbol)) (k : List Symbol) → step n t f ≡ Some X → Derives (f ++ k) [] → ⊥
+no_step zero t f X k e d = absurd (cc)
+no_step (suc n) t [] X k e d = absurd (cc)
+no_step (suc n) t (tok s ∷ ss) X k e d = elim d [ ]
+no_step (suc n) t (part p ∷ ss) X k e d =
+    let j = of_part p (ss ++ k) [] d in
+    let g = gather_each (λ rhs. step n t (rhs ++ ss)) (grammar p) X j.0 e j.1 in
+    let d' : Derives ((j.0 ++ ss) ++ k) [] = rw append_assoc j.2 in
+    no_step n t (j.0 ++ ss) g.0 k g.1 d'
 
 -- and each step goes back
 pub step_sound : (n : ℕ) (t : Sort) (f : List Symbol) (X : List (List Symbol)) (x k : List Symbol) (ts : List Sort) → step n t f ≡ Some X

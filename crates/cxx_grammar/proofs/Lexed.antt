@@ -1,5 +1,5 @@
 -- The list of lexemes of a text.
-use Rattle.std.proofs.Common.{◌≡◌, ℕ, ◌+◌, List, [], ◌∷◌, Option, inl, inr, refl, length, arith, drop, ◌≤◌}
+use Rattle.std.proofs.Common.{◌≡◌, ℕ, ◌+◌, List, [], ◌∷◌, Option, inl, inr, refl, length, arith}
 use Rattle.cxx_text.specs.declared.token.Token.{Token}
 use Rattle.cxx_grammar.specs.declared.sort.Sort.TheVariants.{Bad}
 use Rattle.cxx_grammar.specs.Grammar.{In}

@@ -1,12 +1,11 @@
 -- The table says exactly what may follow.
-use Rattle.std.proofs.Common.{◌≡◌, ℕ, Bool, true, false, cond, ◌⊎◌, inl, inr, List, [], ◌∷◌, ◌++◌, map, Option, Some, None, refl, sym, ap, subst, ◌∙◌, append_assoc, arith}
-use Rattle.std.proofs.lemmas.Grind.{common_steps}
+use Rattle.std.proofs.Common.{◌≡◌, Bool, true, false, cond, inl, inr, List, [], ◌∷◌, ◌++◌, map, Option, Some, None, refl, sym, ap, subst, ◌∙◌, append_assoc}
 use Rattle.cxx_grammar.specs.declared.sort.Sort.{Sort}
-use Rattle.cxx_grammar.specs.declared.sort.Sort.TheVariants.{Struct, Class, Public, Protected, Private, Virtual, Boolean, Char, Short, Int, Long, Signed, Unsigned, Void, Return, New, Delete, If, Else, While, This, True, False, StaticCast, DynamicCast, Typeid, Main, Print, Dump, Name, OwnName, Number, Zero, LeftOut, OpenBrace, OpenBlock, CloseBrace, OpenParen, CloseParen, OpenBracket, CloseBracket, Semicolon, Colon, DoubleColon, Comma, Star, Ampersand, Assign, Equal, NotEqual, Bang, Arrow, Dot, Less, LessEqual, Greater, Plus, Minus, Tilde, End, Bad}
+use Rattle.cxx_grammar.specs.declared.sort.Sort.TheVariants.{Struct, Public, Virtual, Int, Unsigned, Print, Name, OwnName, Number, Zero, OpenBrace, CloseBrace, OpenParen, CloseParen, OpenBracket, CloseBracket, Semicolon, Assign, Arrow, Dot, End, Bad}
 use Rattle.cxx_grammar.specs.Sorts.{is_same}
-use Rattle.cxx_grammar.specs.Grammar.{NonTerminal, AnyName, AnyNumber, Source, Item, Forward, ClassDefinition, ClassKey, Bases, MoreBases, Base, MaybeVirtual, MaybeAccess, Access, Parts, ClassPart, Field, Length, Function, Returned, Params, MoreParams, Param, Constructor, Inits, MoreInits, Init, Destructor, Global, MainFunction, Value, Scalar, MaybeUnsigned, MaybeLong, Block, Statements, Statement, MaybeRight, ElsePart, MaybeOperand, Right, Operator, Operand, Constant, Pointer, Place, Index, Dots, Call, Arguments, MoreArguments, Cast, Symbol, tok, part, grammar, In, Derives, nothing, token, choose, Begins}
+use Rattle.cxx_grammar.specs.Grammar.{AnyName, AnyNumber, Source, Item, MoreBases, Base, MaybeAccess, Parts, ClassPart, Length, Params, MoreParams, Param, Inits, MoreInits, Init, MaybeLong, Block, Statements, Statement, MaybeRight, ElsePart, MaybeOperand, Right, Operand, Constant, Pointer, Place, Arguments, MoreArguments, Symbol, tok, part, In, Derives}
 use Rattle.cxx_grammar.specs.Table.{Use, Written, Read, Task, Only, AName, ANumber, AConstant, AnOperand, APointer, UnsignedName, LongName, AParam, RightEnd, ReadPlaceEnd, AfterOperand, AfterPointer, Member, Named, Tail, ArgumentsEnd, MoreArgumentsEnd, InitEnd, ResultEnd, AfterName, PrintEnd, ABlock, StatementsEnd, ElseEnd, BaseAfterVirtual, BaseAfterAccess, ABase, BasesEnd, ClassTail, FieldEnd, ParamsEnd, MoreParamsEnd, AfterDeclared, AfterType, AfterOwnName, AnInit, ConstructorEnd, InitsEnd, AfterVirtual, VirtualEnd, PartsEnd, AfterInt, ItemsEnd, after}
-use Rattle.cxx_grammar.proofs.Engine.{step, gather, gather_each, gather_some, step_complete, step_sound, In-left, In-right, In-split}
+use Rattle.cxx_grammar.proofs.Engine.{step, gather, gather_each, gather_some, step_complete, step_sound, no_step, In-left, In-right, In-split}
 
 -- what is left of forms after a token
 abbrev pub lefts : Sort → List (List Symbol) → List (List Symbol)
@@ -255,6 +254,13 @@ after_complete m ms t ts s =
     let d : Derives (r.0 ++ r.1) (t ∷ ts) = subst (λ f. Derives f (t ∷ ts)) r.4 s.2 in
     let q = step_complete 12 t r.0 g.0 r.1 ts g.1 d in
     left_of (after m t) ms q.0 r.1 ts (g.2 q.0 q.1) r.3 q.2
+
+-- They read a token at least.
+pub reads_some : (m : Task) (ms : List Task) → Spells (m ∷ ms) [] → ⊥
+reads_some m ms s =
+    let r = In-product (means m) (forms ms) s.0 s.1 in
+    let g = gather_each (step 12 Bad) (means m) (next_forms (after m Bad)) r.0 (table_ok m Bad) r.2 in
+    no_step 12 Bad r.0 g.0 r.1 g.1 (subst (λ f. Derives f []) r.4 s.2)
 
 -- And what the table leaves is read on.
 pub after_sound : (m : Task) (ms ns : List Task) (t : Sort) (ts : List Sort) → after m t ≡ Some ns → Spells (ns ++ ms) ts → Spells (m ∷ ms) (t ∷ ts)

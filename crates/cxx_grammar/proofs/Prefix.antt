@@ -1,20 +1,20 @@
 -- Which lists of tokens begin a form, by the table.
-use Rattle.std.proofs.Common.{◌≤◌, ◌-◌, nat_lt, Result, Ok, Err, IfOk, IfErr, ◌≡◌, ℕ, ◌+◌, Bool, true, false, cond, ◌⊎◌, inl, inr, List, [], ◌∷◌, ◌++◌, map, Option, Some, None, refl, sym, ap, subst, ◌∙◌, append_assoc, arith}
+use Rattle.std.proofs.Common.{Result, Ok, Err, IfOk, IfErr, ◌≡◌, Bool, true, false, cond, ◌⊎◌, inl, inr, List, [], ◌∷◌, ◌++◌, Option, Some, None, refl, sym, ap, subst, ◌∙◌, append_assoc, arith}
 use Rattle.std.proofs.lemmas.Grind.{common_steps}
 use Rattle.cxx_grammar.specs.declared.sort.Sort.{Sort}
-use Rattle.cxx_grammar.specs.declared.sort.Sort.TheVariants.{Struct, Class, Public, Protected, Private, Virtual, Boolean, Char, Short, Int, Long, Signed, Unsigned, Void, Return, New, Delete, If, Else, While, This, True, False, StaticCast, DynamicCast, Typeid, Main, Print, Dump, Name, OwnName, Number, Zero, LeftOut, OpenBrace, OpenBlock, CloseBrace, OpenParen, CloseParen, OpenBracket, CloseBracket, Semicolon, Colon, DoubleColon, Comma, Star, Ampersand, Assign, Equal, NotEqual, Bang, Arrow, Dot, Less, LessEqual, Greater, Plus, Minus, Tilde, End, Bad}
+use Rattle.cxx_grammar.specs.declared.sort.Sort.TheVariants.{Struct, Int, Main, Name, OwnName, Number, OpenBrace, OpenBlock, CloseBrace, OpenParen, CloseParen, Semicolon, Assign, Arrow, Tilde, End, Bad}
 use Rattle.cxx_grammar.specs.declared.sort.Lexeme.{Lexeme}
 use Rattle.cxx_hierarchy.specs.declared.stop.Stop.{Stop}
 use Rattle.cxx_hierarchy.specs.declared.stop.Stop.TheVariants as stop
 use Rattle.cxx_grammar.specs.Sorts.{is_same}
-use Rattle.cxx_grammar.specs.Grammar.{NonTerminal, AnyName, AnyNumber, Source, Item, Forward, ClassDefinition, ClassKey, Bases, MoreBases, Base, MaybeVirtual, MaybeAccess, Access, Parts, ClassPart, Field, Length, Function, Returned, Params, MoreParams, Param, Constructor, Inits, MoreInits, Init, Destructor, Global, MainFunction, Value, Scalar, MaybeUnsigned, MaybeLong, Block, Statements, Statement, MaybeRight, ElsePart, MaybeOperand, Right, Operator, Operand, Constant, Pointer, Place, Index, Dots, Call, Arguments, MoreArguments, Cast, Symbol, tok, part, grammar, In, Derives, nothing, token, choose, Begins, block_form, source_form}
-use Rattle.cxx_grammar.specs.Table.{Use, Written, Read, Task, Only, AName, ANumber, AConstant, AnOperand, APointer, UnsignedName, LongName, AParam, RightEnd, ReadPlaceEnd, AfterOperand, AfterPointer, Member, Named, Tail, ArgumentsEnd, MoreArgumentsEnd, InitEnd, ResultEnd, AfterName, PrintEnd, ABlock, StatementsEnd, ElseEnd, BaseAfterVirtual, BaseAfterAccess, ABase, BasesEnd, ClassTail, FieldEnd, ParamsEnd, MoreParamsEnd, AfterDeclared, AfterType, AfterOwnName, AnInit, ConstructorEnd, InitsEnd, AfterVirtual, VirtualEnd, PartsEnd, AfterInt, ItemsEnd, after, Line, lines, look_up}
+use Rattle.cxx_grammar.specs.Grammar.{NonTerminal, AnyName, Symbol, tok, part, grammar, In, Derives, nothing, token, choose, Begins, block_form, source_form}
+use Rattle.cxx_grammar.specs.Table.{Written, Read, Task, Only, AName, ANumber, AConstant, AnOperand, APointer, UnsignedName, LongName, AParam, RightEnd, ReadPlaceEnd, AfterOperand, AfterPointer, Member, Named, Tail, ArgumentsEnd, MoreArgumentsEnd, InitEnd, ResultEnd, AfterName, PrintEnd, ABlock, StatementsEnd, ElseEnd, BaseAfterVirtual, BaseAfterAccess, ABase, BasesEnd, ClassTail, FieldEnd, ParamsEnd, MoreParamsEnd, AfterDeclared, AfterType, AfterOwnName, AnInit, ConstructorEnd, InitsEnd, AfterVirtual, VirtualEnd, PartsEnd, AfterInt, ItemsEnd, after, Line, lines, look_up}
 use Rattle.cxx_grammar.specs.Fault.{State, admit, passes, and_then, refusal, excess, sorts, Fault, FrontIs}
 use Rattle.cxx_grammar.specs.Fault as faults
-use Rattle.cxx_grammar.specs.Run.{admits, go_on, run, Outcome, Done, Stopped, Stops, Leads, Follows}
+use Rattle.cxx_grammar.specs.Run.{admits, go_on, run, Done, Stopped, Stops, Leads, Follows}
 use Rattle.cxx_grammar.proofs.Sorts.{is_same_eq, is_same_refl}
-use Rattle.cxx_grammar.proofs.Engine.{In-left, In-right, In-split}
-use Rattle.cxx_grammar.proofs.Link.{Spells, after_complete, after_sound, forms, means}
+use Rattle.cxx_grammar.proofs.Engine.{In-left}
+use Rattle.cxx_grammar.proofs.Link.{Spells, reads_some, after_complete, after_sound, forms}
 
 abbrev pub go : Option (List Task) → List Task → (List Task → Option (List Task)) → Option (List Task)
 go None k next = None
@@ -159,6 +159,31 @@ spells_form m f ts e (g, i, d) = on (subst (In g) e i) where
 form_spells : (m : Task) (f : List Symbol) (ts : List Sort) → forms (m ∷ []) ≡ f ∷ [] → Derives f ts → Spells (m ∷ []) ts
 form_spells m f ts e d = let here : In f (f ∷ []) = inl refl in (f, subst (In f) (sym e) here, d)
 
+-- what a form derives, and what is read before it is one
+pub done_where : (m : Task) (f : List Symbol) (pre : List Sort) → forms (m ∷ []) ≡ f ∷ [] → Derives f pre → walk pre (m ∷ []) ≡ Some []
+done_where m f pre q d =
+    let e : pre ++ [] ≡ pre = grind (arith, common_steps) in
+    let r = walk_complete pre (m ∷ []) [] (subst (Spells (m ∷ [])) (sym e) (form_spells m f pre q d)) in
+    none_left r.0 r.1 r.2 where
+      none_left : (ns : List Task) → walk pre (m ∷ []) ≡ Some ns → Spells ns [] → walk pre (m ∷ []) ≡ Some []
+      none_left [] w s = w
+      none_left (n ∷ ns) w s = absurd (reads_some n ns s)
+
+not_done_where : (m n : Task) (f : List Symbol) (ns : List Task) (pre : List Sort) → forms (m ∷ []) ≡ f ∷ [] → walk pre (m ∷ []) ≡ Some (n ∷ ns) → Derives f pre → ⊥
+not_done_where m n f ns pre q w d = let p : Some [] ≡ Some (n ∷ ns) = sym (done_where m f pre q d) ∙ w in absurd (cc)
+
+-- what a form derives begins no longer list that it derives
+pub no_longer : (m : Task) (f : List Symbol) (pre : List Sort) (t : Sort) (ts : List Sort) → forms (m ∷ []) ≡ f ∷ [] → Derives f pre → Begins f (pre ++ t ∷ ts) → ⊥
+no_longer m f pre t ts q d b =
+    let s = subst (Spells (m ∷ [])) (append_assoc pre (t ∷ ts) b.0) (form_spells m f ((pre ++ t ∷ ts) ++ b.0) q b.1) in
+    let r = walk_complete pre (m ∷ []) (t ∷ (ts ++ b.0)) s in
+    let e : Some [] ≡ Some r.0 = sym (done_where m f pre q d) ∙ r.1 in
+    let n : r.0 ≡ [] = cc in
+    left (subst (λ ns. Spells ns (t ∷ (ts ++ b.0))) n r.2) where
+      left : Spells [] (t ∷ (ts ++ b.0)) → ⊥
+      left (g, inl e, h) = nothing_derives t (ts ++ b.0) (subst (λ u. Derives u (t ∷ (ts ++ b.0))) e h)
+      left (g, inr k, h) = elim k [ ]
+
 pub begins_where : (m : Task) (f : List Symbol) (pre : List Sort) (ns : List Task) → forms (m ∷ []) ≡ f ∷ [] → walk pre (m ∷ []) ≡ Some ns → Begins f pre
 begins_where m f pre ns q e =
     let r = spells_some ns in
@@ -215,7 +240,7 @@ no_bad ss ts (choose {p = p} {ss = ss'} rhs i d) c h = no_bad (rhs ++ ss') ts d 
 
 -- where reading stopped
 pub data Found (st : State) (ms : List Task) (ts : List Lexeme) (e : Stop) : Type 0 where
-  at_token : (pre post : List Lexeme) (l : Lexeme) (ns : List Task) (st' : State) → ts ≡ pre ++ l ∷ post → passes st (sorts pre) ≡ Some st' → walk (sorts pre) ms ≡ Some ns → walk (sorts (pre ++ l ∷ [])) ms ≡ None → e ≡ refusal l → Found st ms ts e
+  at_token : (pre post : List Lexeme) (l : Lexeme) (n : Task) (ns : List Task) (st' : State) → ts ≡ pre ++ l ∷ post → passes st (sorts pre) ≡ Some st' → walk (sorts pre) ms ≡ Some (n ∷ ns) → walk (sorts (pre ++ l ∷ [])) ms ≡ None → e ≡ refusal l → Found st ms ts e
   at_excess : (pre post : List Lexeme) (l : Lexeme) (ns : List Task) (st' : State) → ts ≡ pre ++ l ∷ post → passes st (sorts pre) ≡ Some st' → walk (sorts (pre ++ l ∷ [])) ms ≡ Some ns → admit l.sort st' ≡ None → e ≡ excess l → Found st ms ts e
   at_end : (ns : List Task) → walk (sorts ts) ms ≡ Some ns → Found st ms ts e
 
@@ -285,7 +310,7 @@ admits_same _ t st ns p a = refl
 
 -- one token before
 before : (m : Task) (ms ns : List Task) (l : Lexeme) (ts : List Lexeme) (e : Stop) (st st' : State) → after m l.sort ≡ Some ns → admit l.sort st ≡ Some st' → Found st' (ns ++ ms) ts e → Found st (m ∷ ms) (l ∷ ts) e
-before m ms ns l ts e st st' a b (at_token pre post x ks st2 s h w n q) = at_token (l ∷ pre) post x ks st2 (ap (λ u. l ∷ u) s) (ap (λ o. and_then o (λ v. passes v (sorts pre))) b ∙ h) (ap (λ o. go o ms (walk (sorts pre))) a ∙ w) (ap (λ o. go o ms (walk (sorts (pre ++ x ∷ [])))) a ∙ n) q
+before m ms ns l ts e st st' a b (at_token pre post x k ks st2 s h w n q) = at_token (l ∷ pre) post x k ks st2 (ap (λ u. l ∷ u) s) (ap (λ o. and_then o (λ v. passes v (sorts pre))) b ∙ h) (ap (λ o. go o ms (walk (sorts pre))) a ∙ w) (ap (λ o. go o ms (walk (sorts (pre ++ x ∷ [])))) a ∙ n) q
 before m ms ns l ts e st st' a b (at_excess pre post x ks st2 s h w o q) = at_excess (l ∷ pre) post x ks st2 (ap (λ u. l ∷ u) s) (ap (λ o. and_then o (λ v. passes v (sorts pre))) b ∙ h) (ap (λ o. go o ms (walk (sorts (pre ++ x ∷ [])))) a ∙ w) o q
 before m ms ns l ts e st st' a b (at_end ks w) = at_end ks (ap (λ o. go o ms (walk (sorts ts))) a ∙ w)
 
@@ -295,7 +320,7 @@ found [] st (m ∷ ms) e p h = at_end (m ∷ ms) refl
 found (l ∷ ts) st [] e p h = absurd (cc)
 found (l ∷ ts) st (m ∷ ms) e p h = on (λ st' ns p' k. found ts st' (ns ++ ms) e p' k) (after m l.sort) refl (admits m l.sort st) refl h where
   on : ((st' : State) (ns : List Task) → plain (ns ++ ms) ≡ true → run ts st' (ns ++ ms) ≡ Stopped e → Found st' (ns ++ ms) ts e) → (o : Option (List Task)) → after m l.sort ≡ o → (r : Option State) → admits m l.sort st ≡ r → go_on l o r ms (run ts) ≡ Stopped e → Found st (m ∷ ms) (l ∷ ts) e
-  on ih None a r b h = let q : e ≡ refusal l = cc in at_token [] ts l (m ∷ ms) st refl refl refl (ap (λ o. go o ms (walk [])) a) q
+  on ih None a r b h = let q : e ≡ refusal l = cc in at_token [] ts l m ms st refl refl refl (ap (λ o. go o ms (walk [])) a) q
   on ih (Some ns) a None b h =
       let hp = split_cond (plain_of m) (plain ms) p in
       let q : e ≡ excess l = cc in
@@ -306,7 +331,8 @@ found (l ∷ ts) st (m ∷ ms) e p h = on (λ st' ns p' k. found ts st' (ns ++ m
       before m ms ns l ts e st st' a (sym (admits_same m l.sort st ns hp.0 a) ∙ b) (ih st' ns (plain_join ns ms pn hp.1) h)
 
 of_found : (m : Task) (f : List Symbol) (ts : List Lexeme) (st : State) (e : Stop) → forms (m ∷ []) ≡ f ∷ [] → clean f ≡ true → In Bad (sorts ts) → Found st (m ∷ []) ts e → Fault f st ts e
-of_found m f ts st e i c z (at_token pre post l ns st' s h w n q) = faults.at_token pre post l st' s h (begins_where m f (sorts pre) ns i w) (not_begins_where m f (sorts (pre ++ l ∷ [])) i n) q
+of_found m f ts st e i c z (at_token pre post l k ns st' s h w n q) =
+    faults.at_token pre post l st' s h (begins_where m f (sorts pre) (k ∷ ns) i w) (not_done_where m k f ns (sorts pre) i w) (not_begins_where m f (sorts (pre ++ l ∷ [])) i n) q
 of_found m f ts st e i c z (at_excess pre post l ns st' s h w o q) = faults.at_excess pre post l st' s h (begins_where m f (sorts (pre ++ l ∷ [])) ns i w) o q
 of_found m f ts st e i c z (at_end ns w) = let b = begins_where m f (sorts ts) ns i w in absurd (no_bad f (sorts ts ++ b.0) b.1 c (In-left Bad (sorts ts) b.0 z))
 

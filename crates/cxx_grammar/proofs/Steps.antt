@@ -1,11 +1,11 @@
 -- Steps of readers that answer as another reader did.
-use Rattle.std.proofs.Common.{◌≡◌, List, [], ◌∷◌, ◌++◌, Option, Some, None, Result, Ok, Err, ◌∙◌, sym, subst, ap}
+use Rattle.std.proofs.Common.{◌≡◌, List, [], ◌∷◌, ◌++◌, Option, Some, Result, Ok, Err, ◌∙◌, sym, subst, ap}
 use Rattle.cxx_grammar.specs.declared.sort.Lexeme.{Lexeme}
 use Rattle.cxx_hierarchy.specs.declared.stop.Stop.{Stop}
 use Rattle.cxx_grammar.specs.declared.sort.Sort.{Sort}
 use Rattle.cxx_grammar.specs.Table.{Task, after}
 use Rattle.cxx_grammar.specs.Fault.{State}
-use Rattle.cxx_grammar.specs.Run.{run, go_on, admits, Outcome, Leads, Stops, Follows, FollowsBy}
+use Rattle.cxx_grammar.specs.Run.{run, go_on, admits, Outcome, Stops, Follows, FollowsBy}
 
 -- tasks that do what others do
 pub same_tasks : {X : Type 0} (rest_of : X → List Lexeme) (s s' : State) (ms others left : List Task) (ts : List Lexeme) (r : Result X Stop) →

@@ -1,12 +1,12 @@
 -- Tasks in their parts: what a task does at a token, by other tasks.
-use Rattle.std.proofs.Common.{◌≡◌, Bool, true, false, cond, List, [], ◌∷◌, ◌++◌, Option, Some, None, refl, sym, subst}
+use Rattle.std.proofs.Common.{◌≡◌, true, false, List, [], ◌∷◌, ◌++◌, Some, refl, sym, subst}
 use Rattle.cxx_grammar.specs.declared.sort.Sort.{Sort}
-use Rattle.cxx_grammar.specs.declared.sort.Sort.TheVariants.{Struct, Class, Public, Protected, Private, Virtual, Boolean, Char, Short, Int, Long, Signed, Unsigned, Void, Return, New, Delete, If, Else, While, This, True, False, StaticCast, DynamicCast, Typeid, Main, Print, Dump, Name, OwnName, Number, Zero, LeftOut, OpenBrace, OpenBlock, CloseBrace, OpenParen, CloseParen, OpenBracket, CloseBracket, Semicolon, Colon, DoubleColon, Comma, Star, Ampersand, Assign, Equal, NotEqual, Bang, Arrow, Dot, Less, LessEqual, Greater, Plus, Minus, Tilde, End, Bad}
+use Rattle.cxx_grammar.specs.declared.sort.Sort.TheVariants.{Struct, Boolean, Char, Short, Int, Long, Signed, Unsigned, This, True, False, DynamicCast, Typeid, Name, OwnName, Number, Zero, OpenParen, CloseParen, OpenBracket, Semicolon, DoubleColon, Comma, Star, Assign, Equal, NotEqual, Arrow, Dot, Less, LessEqual, Plus, Minus}
 use Rattle.cxx_grammar.specs.declared.sort.Lexeme.{Lexeme}
 use Rattle.cxx_grammar.specs.Sorts.{is_same, is_name, is_number}
-use Rattle.cxx_grammar.specs.Table.{Use, Written, Read, Task, Only, AName, ANumber, AConstant, AnOperand, APointer, UnsignedName, LongName, AParam, RightEnd, ReadPlaceEnd, AfterOperand, AfterPointer, Member, Named, Tail, ArgumentsEnd, MoreArgumentsEnd, InitEnd, ResultEnd, AfterName, PrintEnd, ABlock, StatementsEnd, ElseEnd, BaseAfterVirtual, BaseAfterAccess, ABase, BasesEnd, ClassTail, FieldEnd, ParamsEnd, MoreParamsEnd, AfterDeclared, AfterType, AfterOwnName, AnInit, ConstructorEnd, InitsEnd, AfterVirtual, VirtualEnd, PartsEnd, AfterInt, ItemsEnd, after, look_up, end_tasks, scalar_rest, is_scalar_word, is_operator, is_pointer, is_constant}
+use Rattle.cxx_grammar.specs.Table.{Use, Written, Read, Task, Only, AName, AConstant, AnOperand, APointer, UnsignedName, LongName, RightEnd, ReadPlaceEnd, AfterOperand, AfterPointer, Member, Named, Tail, ArgumentsEnd, MoreArgumentsEnd, InitEnd, ResultEnd, AfterName, PrintEnd, StatementsEnd, after, end_tasks, scalar_rest, is_scalar_word, is_operator, is_pointer, is_constant}
 use Rattle.cxx_grammar.specs.Fault.{State, admit, refusal}
-use Rattle.cxx_grammar.specs.Run.{admits, go_on, run, Outcome}
+use Rattle.cxx_grammar.specs.Run.{go_on, run, Outcome}
 
 -- At a token other than "." what follows a place is left.
 place_ends_at : (u : Use) (l : Lexeme) (ts : List Lexeme) (s : State) (k : List Task) → is_same Dot l.sort ≡ false → run (l ∷ ts) s (Tail u ∷ k) ≡ run (l ∷ ts) s (end_tasks u ++ k)

@@ -1,7 +1,7 @@
 -- The first token at which reading stops, and why.
-use Rattle.std.specs.Prelude.{◌≡◌, ◌⊎◌, ℕ, ◌+◌, ◌-◌, Bool, true, false, nat_lt, if◌then◌else◌, List, [], ◌∷◌, ◌++◌, Option, Some, None}
+use Rattle.std.specs.Prelude.{◌≡◌, ℕ, ◌+◌, ◌-◌, Bool, true, nat_lt, if◌then◌else◌, List, [], ◌∷◌, ◌++◌, Option, Some, None}
 use Rattle.cxx_grammar.specs.declared.sort.Sort.{Sort}
-use Rattle.cxx_grammar.specs.declared.sort.Sort.TheVariants.{Struct, Class, Public, Protected, Private, Virtual, Boolean, Char, Short, Int, Long, Signed, Unsigned, Void, Return, New, Delete, If, Else, While, This, True, False, StaticCast, DynamicCast, Typeid, Main, Print, Dump, Name, OwnName, Number, Zero, LeftOut, OpenBrace, OpenBlock, CloseBrace, OpenParen, CloseParen, OpenBracket, CloseBracket, Semicolon, Colon, DoubleColon, Comma, Star, Ampersand, Assign, Equal, NotEqual, Bang, Arrow, Dot, Less, LessEqual, Greater, Plus, Minus, Tilde, End, Bad}
+use Rattle.cxx_grammar.specs.declared.sort.Sort.TheVariants.{Main, LeftOut, OpenBlock, CloseBrace, Bad}
 use Rattle.cxx_grammar.specs.declared.sort.Lexeme.{Lexeme}
 use Rattle.cxx_hierarchy.specs.declared.stop.Stop.{Stop}
 use Rattle.cxx_hierarchy.specs.declared.stop.Stop.TheVariants as stop
@@ -52,9 +52,9 @@ excess l = of_sort l.sort where
 
 -- the first event, where a list is to begin with what a form derives
 pub data Fault (form : List Symbol) (s : State) (ts : List Lexeme) (e : Stop) : Type 0 where
-  -- the tokens before this one begin a list that the form derives, and with it they begin none
+  -- the tokens before this one begin a list that the form derives and are not yet one, and with it they begin none
   at_token : (pre post : List Lexeme) (l : Lexeme) (s' : State) → ts ≡ pre ++ l ∷ post → passes s (sorts pre) ≡ Some s' →
-      Begins form (sorts pre) → (Begins form (sorts (pre ++ l ∷ [])) → ⊥) → e ≡ refusal l → Fault form s ts e
+      Begins form (sorts pre) → (Derives form (sorts pre) → ⊥) → (Begins form (sorts (pre ++ l ∷ [])) → ⊥) → e ≡ refusal l → Fault form s ts e
   -- the tokens with this one begin such a list, and it is the first that is not admitted
   at_excess : (pre post : List Lexeme) (l : Lexeme) (s' : State) → ts ≡ pre ++ l ∷ post → passes s (sorts pre) ≡ Some s' →
       Begins form (sorts (pre ++ l ∷ [])) → admit l.sort s' ≡ None → e ≡ excess l → Fault form s ts e

@@ -1,5 +1,5 @@
 -- The token at the front of a list.
-use Rattle.std.specs.Prelude.{◌≡◌, Bool, true, List, ◌∷◌}
+use Rattle.std.specs.Prelude.{◌≡◌, true, List, ◌∷◌}
 use Rattle.cxx_grammar.specs.declared.sort.Sort.{Sort}
 use Rattle.cxx_grammar.specs.declared.sort.Lexeme.{Lexeme}
 use Rattle.cxx_grammar.specs.Sorts.{is_name, is_number}

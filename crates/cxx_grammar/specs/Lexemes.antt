@@ -1,7 +1,7 @@
 -- What each token of a text is to the grammar.
-use Rattle.std.specs.Prelude.{◌≡◌, ℕ, ◌-◌, ◌==◌, ◌&&◌, Bool, true, false, if◌then◌else◌, List, [], ◌∷◌, ◌++◌, Option, Some, None, take, drop, unwrap_or}
+use Rattle.std.specs.Prelude.{ℕ, ◌-◌, ◌==◌, ◌&&◌, Bool, true, false, if◌then◌else◌, List, [], ◌∷◌, Option, take, drop, unwrap_or}
 use Rattle.cxx_grammar.specs.declared.sort.Sort.{Sort}
-use Rattle.cxx_grammar.specs.declared.sort.Sort.TheVariants.{Struct, Class, Public, Protected, Private, Virtual, Boolean, Char, Short, Int, Long, Signed, Unsigned, Void, Return, New, Delete, If, Else, While, This, True, False, StaticCast, DynamicCast, Typeid, Main, Print, Dump, Name, OwnName, Number, Zero, LeftOut, OpenBrace, OpenBlock, CloseBrace, OpenParen, CloseParen, OpenBracket, CloseBracket, Semicolon, Colon, DoubleColon, Comma, Star, Ampersand, Assign, Equal, NotEqual, Bang, Arrow, Dot, Less, LessEqual, Greater, Plus, Minus, Tilde, End, Bad}
+use Rattle.cxx_grammar.specs.declared.sort.Sort.TheVariants.{Struct, Class, Else, Name, OwnName, Number, Zero, OpenBrace, OpenBlock, CloseParen, End, Bad}
 use Rattle.cxx_text.specs.declared.token.Kind.{Kind}
 use Rattle.cxx_text.specs.declared.token.Kind.TheVariants as kind
 use Rattle.cxx_text.specs.declared.token.Token.{Token}

@@ -10,6 +10,7 @@
 #![tactic(auto)]
 
 pub mod cursor;
+pub mod laws;
 pub mod lexing;
 pub mod sort;
 #[cfg(test)]
@@ -17,5 +18,6 @@ mod tests;
 pub mod words;
 
 pub use crate::cursor::{name_of, next, refusal, take, take_name, take_number};
+pub use crate::laws::one_fault;
 pub use crate::lexing::lexemes;
 pub use crate::sort::{Lexeme, Sort, is_name, is_number, is_same};
