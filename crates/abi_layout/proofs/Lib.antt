@@ -6,3 +6,5 @@ pub mod PathLemmas
 pub mod SoundLemmas
 pub mod Unique
 pub mod Each
+pub mod Tree
+pub mod TreeSound
