@@ -8,3 +8,4 @@ pub mod Unique
 pub mod Each
 pub mod Tree
 pub mod TreeSound
+pub mod Shallow
