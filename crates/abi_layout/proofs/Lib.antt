@@ -1,8 +1,2 @@
-pub mod Placing
-pub mod RowLemmas
-pub mod Complete
-pub mod BaseLemmas
-pub mod PathLemmas
-pub mod SoundLemmas
-pub mod Unique
+pub mod Lists
 pub mod Each
