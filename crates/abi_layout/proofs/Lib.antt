@@ -1,10 +1,4 @@
-pub mod Placing
-pub mod RowLemmas
-pub mod Complete
-pub mod BaseLemmas
-pub mod PathLemmas
-pub mod SoundLemmas
-pub mod Unique
+pub mod Lists
 pub mod Each
 pub mod Tree
 pub mod TreeSound

@@ -10,11 +10,9 @@
 
 pub mod class_layout;
 pub mod component;
-pub mod hierarchy_layout;
+mod member;
 pub mod places;
 pub mod plain;
-mod rows;
 
 pub use crate::class_layout::{AbiLayout, ClassLayout, PlaceList, Primary};
-pub use crate::hierarchy_layout::{lay_out, one_layout, some_layout};
 pub use crate::plain::is_plain;
