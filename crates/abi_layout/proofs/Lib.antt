@@ -3,3 +3,4 @@ pub mod Each
 pub mod Tree
 pub mod TreeSound
 pub mod Shallow
+pub mod Stages
