@@ -4,3 +4,5 @@ pub mod Tree
 pub mod TreeSound
 pub mod Shallow
 pub mod Stages
+pub mod RowTree
+pub mod KindLemmas

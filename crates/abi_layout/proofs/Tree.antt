@@ -5,7 +5,7 @@ use Rattle.abi_layout.specs.Sound.{Divides}
 
 -- a complete object of a class; a class as a base, without its virtual bases; a scalar of so many bytes
 pub data Node : Type 0 where
-  Object : ClassId → Node
+  Complete : ClassId → Node
   AsBase : ClassId → Node
   Bytes : ℕ → Node
 
