@@ -6,3 +6,4 @@ pub mod Shallow
 pub mod Stages
 pub mod RowTree
 pub mod KindLemmas
+pub mod FineRows

@@ -151,6 +151,22 @@ placed component place st (x ∷ xs) (p ∷ ps) (suc i) k l e =
     let r = placed component place (after st (component x) p) xs ps i k l.1 e in
     record { item = r.item; at = r.at; has = inr r.has; is = r.is; put = put_earlier st (after st (component x) p) (after_all (after st (component x) p) (map component xs) ps) (component r.item) r.at (grows_once st (component x) p l.0) r.put }
 
+-- where an item of a list was put
+pub record HasPut {X : Type 0} (component : X → Component) (first last : Stage) (x : X) : Type 0 where
+  pub at : ℕ
+  pub put : IsPut first last (component x) at
+
+pub put_of : {X : Type 0} (component : X → Component) (st : Stage) (xs : List X) (ps : List ℕ) (x : X) → ArePlaced st (map component xs) ps → Has xs x → HasPut component st (after_all st (map component xs) ps) x
+put_of component st [] ps x l h = absurd h
+put_of component st (y ∷ xs) [] x l h = absurd l
+put_of component st (y ∷ xs) (p ∷ ps) x l h =
+    let last = after_all (after st (component y) p) (map component xs) ps in
+    ⊎_elim
+      (λ e. record { at = p; put = subst (λ z. IsPut st last (component z) p) e (put_here st (component y) p (map component xs) ps l.0 l.1) })
+      (λ r. let k = put_of component (after st (component y) p) xs ps x l.1 r in
+        record { at = k.at; put = put_earlier st (after st (component y) p) last (component x) k.at (grows_once st (component y) p l.0) k.put })
+      h
+
 -- of two placements, the later lies behind the data of the earlier, and brings none of its parts
 pub record AreTwo {X : Type 0} (component : X → Component) (place : X → ℕ → Placement) (xs : List X) (k l : Placement) : Type 0 where
   pub one : X
