@@ -7,3 +7,5 @@ pub mod Stages
 pub mod RowTree
 pub mod KindLemmas
 pub mod FineRows
+pub mod Listed
+pub mod Arranged
