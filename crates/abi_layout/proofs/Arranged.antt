@@ -80,7 +80,7 @@ record IsSized (h : Classes) (rows : List ClassLayout) (item : Item) : Type 0 wh
 times_divides : (a b e : ℕ) → Divides a b → Divides a (e * b)
 times_divides a b e d = through_divides a b (e * b) d (record { times = e; is = refl })
 
-most : (n : ℕ) → 1 ≤ n → max 1 n ≡ n
+pub most : (n : ℕ) → 1 ≤ n → max 1 n ≡ n
 most n le = max-eq_right le
 
 base_sized : (h : Classes) (rows : List ClassLayout) → IsKnown h rows → (base : Base ClassId) → base.class.0 < length h → IsSized h rows (a_base base)
@@ -288,7 +288,7 @@ complete_arranged h rows c fits same = record {
         subst (IsInPlace (measures_of h rows) (Complete c)) is here
     each (suc i) k there = cc
 
-within_or_past : (i n : ℕ) → (i < n) ⊎ (n ≤ i)
+pub within_or_past : (i n : ℕ) → (i < n) ⊎ (n ≤ i)
 within_or_past i n = ⊎_elim (λ e. inr (omega arith)) (λ o. ⊎_elim (λ l. inl l) (λ g. inr (omega arith)) o) (cases_order i n)
 
 pub arranged : (h : Classes) (rows : List ClassLayout) → IsKnown h rows → AreArranged (contents_of h rows) (measures_of h rows)

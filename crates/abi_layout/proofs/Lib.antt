@@ -9,3 +9,6 @@ pub mod KindLemmas
 pub mod FineRows
 pub mod Listed
 pub mod Arranged
+pub mod Locate
+pub mod Decode
+pub mod Soundness

@@ -104,7 +104,7 @@ item_below h rows static c class e within m le _ at (is_member member has) = by_
     by_type (Value type) is = tt
     by_type (Object d) is = let b = (static.each c class e).objects member d (contains_of class.members member has) is in (omega arith, omega arith)
 
-placed_length : (st : Stage) (cs : List Component) (ps : List ℕ) → ArePlaced st cs ps → length ps ≡ length cs
+pub placed_length : (st : Stage) (cs : List Component) (ps : List ℕ) → ArePlaced st cs ps → length ps ≡ length cs
 placed_length st [] [] l = refl
 placed_length st [] (p ∷ ps) l = absurd l
 placed_length st (c ∷ cs) [] l = absurd l
