@@ -17,7 +17,7 @@ use Rattle.cxx_subobject.specs.declared.Subobject.{Subobject}
 use Rattle.cxx_subobject.specs.Subobjects.{IsDirectBase, Leads, HasVirtualBase, direct, further, subobject, whole_of, IsSubobject, whole, shared, last_of, class_of, tail_of}
 use Rattle.abi_layout.specs.declared.class_layout.ClassLayout.{ClassLayout}
 use Rattle.abi_layout.specs.Places.{size_of_value, number_in, size_in, bases_in, members_in, is_plain_base, place_at, base_place, place_along, places_of}
-use Rattle.abi_layout.specs.Locations.{Hop, Inherit, Element, count_in, IsElement, IsAt, at_base, at_value, at_inner}
+use Rattle.abi_layout.specs.Locations.{Hop, Inherit, Element, IsElement, IsAt, at_base, at_value, at_inner}
 use Rattle.abi_layout.specs.Kinds.{is_empty, IsStatic, IsStaticClass}
 use Rattle.abi_layout.specs.Laid.{nvsize_in, count_of, size_of_type, base_component, base_components, member_component, member_components, parts_of, first_stage, bases_stage, IsLaid}
 use Rattle.abi_layout.proofs.Lists.{number, get_within, get_left, has_at}
@@ -169,10 +169,6 @@ record IsElementStep (h : Classes) (rows : List ClassLayout) (d : ClassId) (m i 
   node : to.node ≡ node_of_type type
   start : start_of to i ≡ (places_of h rows).member d m + i * size_of_type rows type
 
-counts_agree : (n : Option ℕ) → count_in n ≡ count_of n
-counts_agree None = refl
-counts_agree (Some n) = refl
-
 member_length : (h : Classes) (rows : List ClassLayout) (c : ClassId) (r : HasRow h rows c) → length r.row.member_places ≡ length r.class.members
 member_length h rows c r = placed_length (bases_stage (first_stage c) (base_components (is_empty h) rows (parts_of h rows) r.class) r.row) (member_components rows (parts_of h rows) r.class) r.row.member_places r.laid.members_placed ∙ length_map (member_component rows (parts_of h rows)) r.class.members
 
@@ -196,7 +192,7 @@ element_step h rows known d m i type lt e =
       to = place_item rows (a_member e.member) p.0;
       steps = record {
         there = ap (λ (xs : List Placement). slice_get xs (length (plain_bases h d) + m)) (contents_are h rows d r) ∙ placement_at (place_item rows) (items r.class) (r.row.base_places ++ r.row.member_places) (length (plain_bases h d) + m) (a_member e.member) p.0 item place;
-        within = subst (λ n. i < n) (counts_agree e.member.count) e.within;
+        within = e.within;
       };
       node = ap node_of_type e.type_is;
       start = ap (λ n. p.0 + i * n) size ∙ ap (λ n. n + i * size_of_type rows type) (sym at);

@@ -14,7 +14,7 @@ use Rattle.cxx_subobject.specs.declared.Root.TheVariants.{Whole, Shared}
 use Rattle.cxx_subobject.specs.declared.Subobject.{Subobject}
 use Rattle.cxx_subobject.specs.Subobjects.{IsSubobject, whole, shared, last_of, class_of, same_path, same_root, same_subobject}
 use Rattle.abi_layout.specs.Places.{Places, size_of_value}
-use Rattle.abi_layout.specs.Locations.{Hop, Inherit, Element, count_in, IsElement, IsAt, at_base, at_value}
+use Rattle.abi_layout.specs.Locations.{Hop, Inherit, Element, count_of, IsElement, IsAt, at_base, at_value}
 use Rattle.abi_layout.specs.Sound.{Divides, IsLeaf, leaf_place, LieApart, IsSoundInDepth}
 
 -- a subobject has a class
@@ -27,7 +27,7 @@ pub leaf_element : (h : Classes) (d : ClassId) (m : ℕ) (type : ValueType Class
 leaf_element h d m type e = of_member (slice_get (members_of h d) m) refl e
   where
     of_count : (member : Member ClassId) → slice_get (members_of h d) m ≡ Some member → (t : FieldType ClassId) → (n : Option ℕ) → member.ty ≡ t → member.count ≡ n → value_type_in t n ≡ Some type → IsElement h d m 0 (Value type)
-    of_count member is (Value t) None f g x = record { member = member; there = is; type_is = f ∙ ap Value (let y : t ≡ type = cc in y); within = subst (λ (n : Option ℕ). 0 < count_in n) (sym g) (omega arith) }
+    of_count member is (Value t) None f g x = record { member = member; there = is; type_is = f ∙ ap Value (let y : t ≡ type = cc in y); within = subst (λ (n : Option ℕ). 0 < count_of n) (sym g) (omega arith) }
     of_count member is (Value t) (Some n) f g x = cc
     of_count member is (Object c) n f g x = cc
 

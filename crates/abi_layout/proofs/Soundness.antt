@@ -10,7 +10,7 @@ use Rattle.cxx_subobject.specs.declared.Root.TheVariants.{Whole}
 use Rattle.cxx_subobject.specs.declared.Subobject.{Subobject}
 use Rattle.cxx_subobject.specs.Subobjects.{IsSubobject, whole, shared, class_of, last_of, join}
 use Rattle.abi_layout.specs.declared.class_layout.ClassLayout.{ClassLayout}
-use Rattle.abi_layout.specs.Places.{size_of_value, size_in, align_in, base_align_in, base_place, place_along, places_of}
+use Rattle.abi_layout.specs.Places.{size_of_value, size_in, align_in, base_place, place_along, places_of}
 use Rattle.abi_layout.specs.Locations.{Hop, IsAt}
 use Rattle.abi_layout.specs.Sound.{Divides, IsSoundInDepth, IsSound}
 use Rattle.abi_layout.specs.Kinds.{IsStatic}
@@ -23,10 +23,6 @@ use Rattle.abi_layout.proofs.Arranged.{IsKnown, fine_of, most, within_or_past, a
 use Rattle.abi_layout.proofs.Locate.{no_virtual_base, steps_of, reach}
 use Rattle.abi_layout.proofs.Decode.{same_hops}
 use Rattle.abi_layout.proofs.Shallow.{below, distinct, inside, aligned, apart}
-
-base_aligns_agree : (o : Option ClassLayout) → base_align_in o ≡ nvalign_in o
-base_aligns_agree None = refl
-base_aligns_agree (Some row) = refl
 
 -- without virtual bases a class is aligned as a base as it is as an object
 one_align : (h : Classes) (rows : List ClassLayout) → IsKnown h rows → (d : ClassId) → nvalign_in (slice_get rows d.0) ≡ align_in (slice_get rows d.0)
@@ -44,8 +40,7 @@ deep_sound h rows k =
         let m = le-max_left 1 (nvsize_in (slice_get rows d.0)) in
         let s = most (size_in (slice_get rows c.0)) (fine_of h rows k c lt).positive in
         omega (arith, i, m, s);
-      base_multiple = λ c d hops q lt x.
-        subst (λ a. Divides a q) (sym (base_aligns_agree (slice_get rows d.0))) (tree.aligned (Complete c) (AsBase d) (steps_of h c hops) q (reach h rows k c hops (Object d) q lt x));
+      base_multiple = λ c d hops q lt x. tree.aligned (Complete c) (AsBase d) (steps_of h c hops) q (reach h rows k c hops (Object d) q lt x);
       object_multiple = λ c d front hops q lt x ends.
         subst (λ a. Divides a q) (one_align h rows k d) (tree.aligned (Complete c) (AsBase d) (steps_of h c hops) q (reach h rows k c hops (Object d) q lt x));
       one_place = λ c d hops others q lt x y.

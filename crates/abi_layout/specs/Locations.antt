@@ -16,16 +16,16 @@ pub data Hop : Type 0 where
   Element : ℕ → ℕ → Hop
 
 -- how many elements a member has: one where it is no array
-abbrev pub count_in : Option ℕ → ℕ
-count_in None = 1
-count_in (Some count) = count
+abbrev pub count_of : Option ℕ → ℕ
+count_of None = 1
+count_of (Some count) = count
 
 -- the member m of class d has an i-th element, of this type
 pub record IsElement (h : Classes) (d : ClassId) (m i : ℕ) (type : FieldType ClassId) : Type 0 where
   pub member : Member ClassId
   pub there : slice_get (members_of h d) m ≡ Some member
   pub type_is : member.ty ≡ type
-  pub within : i < count_in member.count
+  pub within : i < count_of member.count
 
 -- the hops lead, in a complete object of class c, to something of this type, so many bytes behind the start: a hop
 -- into a base adds the base's place, one into an element the member's place and the elements before. They end in

@@ -36,9 +36,9 @@ abbrev pub align_in : Option ClassLayout → ℕ
 align_in None = 1
 align_in (Some row) = row.align
 
-abbrev pub base_align_in : Option ClassLayout → ℕ
-base_align_in None = 1
-base_align_in (Some row) = row.nvalign
+abbrev pub nvalign_in : Option ClassLayout → ℕ
+nvalign_in None = 1
+nvalign_in (Some row) = row.nvalign
 
 abbrev pub bases_in : Option ClassLayout → List ℕ
 bases_in None = []
@@ -69,7 +69,7 @@ abbrev pub places_of : Classes → List ClassLayout → Places
 places_of h rows = record {
   size = λ c. size_in (slice_get rows c.0);
   align = λ c. align_in (slice_get rows c.0);
-  base_align = λ c. base_align_in (slice_get rows c.0);
+  base_align = λ c. nvalign_in (slice_get rows c.0);
   place = λ c s. place_along h rows c (tail_of s.path);
   member = λ d m. number_in (slice_get (members_in (slice_get rows d.0)) m);
 }
