@@ -1,5 +1,5 @@
 -- A layout by the rules is an arranged tree.
-use Rattle.std.proofs.Common.{◌≡◌, ℕ, zero, suc, ◌+◌, ◌*◌, ◌<◌, ◌≤◌, ◌⊎◌, inl, inr, ⊎_elim, Bool, true, false, Option, Some, None, List, [], ◌∷◌, ◌++◌, map, length, refl, ap, subst, sym, ◌∙◌, arith}
+use Rattle.std.proofs.Common.{◌≡◌, ℕ, zero, suc, ◌+◌, ◌*◌, ◌<◌, ◌≤◌, ◌⊎◌, inl, inr, ⊎_elim, Bool, true, false, Option, Some, None, List, [], ◌++◌, length, refl, ap, subst, sym, ◌∙◌, arith}
 use Rattle.std.specs.Prelude.{if◌then◌else◌, max}
 use Rattle.std.specs.List.{slice_get}
 use Rattle.std.proofs.lemmas.Bool.{cases_order}
@@ -11,24 +11,20 @@ use Rattle.cxx_hierarchy.specs.declared.records.Member.{Member}
 use Rattle.cxx_hierarchy.specs.declared.records.FieldType.{FieldType}
 use Rattle.cxx_hierarchy.specs.declared.records.FieldType.TheVariants.{Value, Object}
 use Rattle.cxx_hierarchy.specs.Classes.{Class, Classes, class_at}
-use Rattle.abi_emptybase.specs.declared.Part.{Part}
 use Rattle.abi_emptybase.specs.Table.{moved}
-use Rattle.abi_layout.specs.declared.component.Component.{Component}
-use Rattle.abi_layout.specs.declared.component.Stage.{Stage}
 use Rattle.abi_layout.specs.declared.class_layout.ClassLayout.{ClassLayout}
 use Rattle.abi_layout.specs.Places.{size_of_value, size_in, align_in}
 use Rattle.abi_layout.specs.Sound.{Divides}
-use Rattle.abi_layout.specs.Kinds.{is_empty, IsStatic, IsStaticClass}
+use Rattle.abi_layout.specs.Kinds.{is_empty, IsStatic}
 use Rattle.abi_layout.specs.Laid.{nvsize_in, nvalign_in, count_of, size_of_type, align_of_type, part_at, parts_of, first_stage, IsLaid}
 use Rattle.abi_layout.specs.Alignments.{IsAlignment, byte, two_bytes, four_bytes, eight_bytes}
-use Rattle.abi_layout.proofs.Lists.{get_within}
-use Rattle.abi_layout.proofs.Tree.{Node, Complete, AsBase, Bytes, Placement, Step, start_of, StepsTo, Reaches, IsInPlace, AreInTurn, IsArranged, AreArranged, IsSoundTree}
-use Rattle.abi_layout.proofs.TreeSound.{sum_divides, through_divides, itself_divides, zero_divides, copy_ends, tree_is_sound}
-use Rattle.abi_layout.proofs.Stages.{Has, split, IsPut, placements, IsPlaced, placed, AreTwo, two_placed}
+use Rattle.abi_layout.proofs.Tree.{Node, Complete, AsBase, Bytes, Placement, Step, start_of, Reaches, IsInPlace, AreInTurn, IsArranged, AreArranged}
+use Rattle.abi_layout.proofs.TreeSound.{sum_divides, through_divides, itself_divides, zero_divides, copy_ends}
+use Rattle.abi_layout.proofs.Stages.{Has, split, IsPut, placements, placed, AreTwo, two_placed}
 use Rattle.abi_layout.proofs.RowTree.{Item, a_base, a_member, items, items_in, node_of_type, place_item, component_in_row, dsize_in, places_in, data_of, contents_of, rank_of, span_of, data_end_of, align_of, measures_of, HasRow, row_of, last_of_items, items_placed}
 use Rattle.abi_layout.proofs.KindLemmas.{contains_of, is_empty_item, empty_has_empty}
-use Rattle.abi_layout.proofs.FineRows.{value_align, align_positive, IsRowFine, row_fine, IsItem, is_base, is_member, item_view, IsFine, item_align, item_takes, fine}
-use Rattle.abi_layout.proofs.Listed.{no_copies, item_brings, IsBelow, item_below, parts_of_node, listed}
+use Rattle.abi_layout.proofs.FineRows.{value_align, align_positive, row_fine, IsItem, is_base, is_member, item_view, IsFine, item_align, fine}
+use Rattle.abi_layout.proofs.Listed.{no_copies, item_brings, IsBelow, item_below, listed}
 
 -- of two alignments the smaller divides the greater
 align_divides : (x y : ℕ) → IsAlignment x → IsAlignment y → x ≤ y → Divides x y

@@ -1,5 +1,5 @@
 -- The hops of a location can be read from its steps, so that two locations of the same steps are one.
-use Rattle.std.proofs.Common.{◌≡◌, ℕ, zero, suc, ◌+◌, ◌-◌, ◌*◌, ◌<◌, ◌≤◌, Bool, true, false, Option, Some, None, List, [], ◌∷◌, ◌++◌, length, refl, ap, subst, sym, ◌∙◌, arith, ltb}
+use Rattle.std.proofs.Common.{◌≡◌, ℕ, ◌+◌, ◌-◌, ◌<◌, Option, Some, None, List, [], ◌∷◌, ◌++◌, length, ap, subst, sym, ◌∙◌, arith, ltb}
 use Rattle.std.specs.Prelude.{if◌then◌else◌}
 use Rattle.std.specs.List.{slice_get, position_or_len}
 use Rattle.std.proofs.lemmas.Bool.{eqb-true, lt-ltb, le-ltb}
@@ -13,7 +13,6 @@ use Rattle.cxx_hierarchy.specs.declared.records.FieldType.{FieldType}
 use Rattle.cxx_hierarchy.specs.declared.records.FieldType.TheVariants.{Value, Object}
 use Rattle.cxx_hierarchy.specs.declared.records.ValueType.TheVariants.{Pointer}
 use Rattle.cxx_hierarchy.specs.Classes.{Classes, members_of}
-use Rattle.cxx_subobject.specs.declared.Root.{Root}
 use Rattle.cxx_subobject.specs.declared.Root.TheVariants.{Whole}
 use Rattle.cxx_subobject.specs.declared.Subobject.{Subobject}
 use Rattle.cxx_subobject.specs.Subobjects.{Leads, subobject, whole_of, last_of, class_of, tail_of, IsSubobject}
@@ -22,7 +21,7 @@ use Rattle.abi_layout.specs.Locations.{Hop, Inherit, Element, IsElement, IsAt, a
 use Rattle.abi_layout.specs.Kinds.{IsStatic}
 use Rattle.abi_layout.proofs.Lists.{number}
 use Rattle.abi_layout.proofs.Tree.{Step}
-use Rattle.abi_layout.proofs.Locate.{same_class, HasFirst, plain_bases, is_of, step, steps_along, class_of_member, steps_of, base_found, IsPath, path_of, element_class}
+use Rattle.abi_layout.proofs.Locate.{same_class, plain_bases, is_of, step, steps_along, class_of_member, steps_of, base_found, path_of, element_class}
 
 -- where a walk along steps is: in a subobject of a class, or in an element of a type
 data Mode : Type 0 where

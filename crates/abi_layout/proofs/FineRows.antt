@@ -1,9 +1,8 @@
 -- What the rules give of each row alone: its sizes are in order, its alignment is one, and what is not empty takes a byte.
-use Rattle.std.proofs.Common.{◌≡◌, ℕ, zero, suc, ◌+◌, ◌*◌, ◌<◌, ◌≤◌, ◌⊎◌, inl, inr, ⊎_elim, Bool, true, false, Option, Some, None, List, [], ◌∷◌, ◌++◌, map, length, refl, ap, subst, sym, ◌∙◌, arith}
+use Rattle.std.proofs.Common.{◌≡◌, ℕ, zero, suc, ◌+◌, ◌*◌, ◌<◌, ◌≤◌, inl, inr, ⊎_elim, Bool, true, false, Option, Some, None, List, [], ◌∷◌, ◌++◌, map, length, refl, subst, sym, ◌∙◌, arith}
 use Rattle.std.specs.Prelude.{if◌then◌else◌, max, filter}
-use Rattle.std.specs.List.{slice_get, Contains}
+use Rattle.std.specs.List.{slice_get}
 use Rattle.std.proofs.lemmas.Bool.{cases_order}
-use Rattle.std.proofs.lemmas.Option.{slice_get_within}
 use Rattle.std.proofs.Math.Nat.{le-max_left, le-max_right, max-eq_left, max-eq_right, mul-le-mul_right}
 use Rattle.cxx_hierarchy.specs.declared.records.ClassId.{ClassId}
 use Rattle.cxx_hierarchy.specs.declared.records.Base.{Base}
@@ -21,10 +20,10 @@ use Rattle.abi_layout.specs.declared.component.Stage.{Stage}
 use Rattle.abi_layout.specs.declared.class_layout.ClassLayout.{ClassLayout}
 use Rattle.abi_layout.specs.Places.{size_of_value, size_in, align_in, is_plain_base}
 use Rattle.abi_layout.specs.Sound.{Divides}
-use Rattle.abi_layout.specs.Kinds.{is_empty, is_pod, IsStatic, IsStaticClass}
-use Rattle.abi_layout.specs.Laid.{nvsize_in, nvalign_in, count_of, size_of_type, align_of_type, base_components, member_components, parts_of, first_stage, last_stage, IsNext, after, after_all, ArePlaced, IsRow, IsLaid}
+use Rattle.abi_layout.specs.Kinds.{is_empty, is_pod, IsStatic}
+use Rattle.abi_layout.specs.Laid.{nvsize_in, nvalign_in, count_of, size_of_type, align_of_type, base_components, member_components, parts_of, first_stage, last_stage, after, after_all, IsRow, IsLaid}
 use Rattle.abi_layout.specs.Alignments.{IsAlignment, byte, two_bytes, four_bytes, eight_bytes}
-use Rattle.abi_layout.proofs.Stages.{Has, split, has_cases, has_map, IsPut, placements, IsPlaced, placed, put_of}
+use Rattle.abi_layout.proofs.Stages.{Has, split, has_cases, put_of}
 use Rattle.abi_layout.proofs.RowTree.{Item, a_base, a_member, items, component_in_row, dsize_in, HasRow, row_of, last_of_items, items_placed, last_is}
 use Rattle.abi_layout.proofs.KindLemmas.{contains_of, from_filter, from_map, is_empty_item, other_has_some}
 

@@ -11,4 +11,4 @@ pub mod Listed
 pub mod Arranged
 pub mod Locate
 pub mod Decode
-pub mod Soundness
+pub mod SoundLemmas

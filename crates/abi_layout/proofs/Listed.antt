@@ -1,12 +1,9 @@
 -- The parts of a class list each base that its tree reaches, with its place.
-use Rattle.std.proofs.Common.{◌≡◌, ℕ, zero, suc, ◌+◌, ◌*◌, ◌<◌, ◌≤◌, ◌⊎◌, inl, inr, ⊎_elim, Bool, true, false, Option, Some, None, List, [], ◌∷◌, ◌++◌, map, length, refl, ap, subst, sym, ◌∙◌, arith}
+use Rattle.std.proofs.Common.{◌≡◌, ℕ, zero, suc, ◌+◌, ◌*◌, ◌<◌, ◌≤◌, inl, inr, ⊎_elim, Option, Some, List, [], ◌∷◌, ◌++◌, map, length, refl, ap, subst, sym, ◌∙◌, arith}
 use Rattle.std.specs.Prelude.{filter}
 use Rattle.std.specs.List.{slice_get}
 use Rattle.std.proofs.lemmas.Bool.{cases_order}
-use Rattle.std.proofs.lemmas.Option.{slice_get_within}
 use Rattle.cxx_hierarchy.specs.declared.records.ClassId.{ClassId}
-use Rattle.cxx_hierarchy.specs.declared.records.Base.{Base}
-use Rattle.cxx_hierarchy.specs.declared.records.Member.{Member}
 use Rattle.cxx_hierarchy.specs.declared.records.FieldType.{FieldType}
 use Rattle.cxx_hierarchy.specs.declared.records.FieldType.TheVariants.{Value, Object}
 use Rattle.cxx_hierarchy.specs.Classes.{Class, Classes, class_at}
@@ -16,12 +13,12 @@ use Rattle.abi_layout.specs.declared.component.Component.{Component}
 use Rattle.abi_layout.specs.declared.component.Stage.{Stage}
 use Rattle.abi_layout.specs.declared.class_layout.ClassLayout.{ClassLayout}
 use Rattle.abi_layout.specs.Places.{size_of_value, bases_in, members_in, is_plain_base}
-use Rattle.abi_layout.specs.Kinds.{is_empty, IsStatic, IsStaticClass}
-use Rattle.abi_layout.specs.Laid.{nvsize_in, count_of, size_of_type, copies, base_component, base_components, member_components, part_at, after, parts_of_type, parts_at, parts_in_class, parts_below, parts_of, first_stage, ArePlaced, IsRow, IsLaid}
-use Rattle.abi_layout.proofs.Lists.{number, get_within}
+use Rattle.abi_layout.specs.Kinds.{is_empty, IsStatic}
+use Rattle.abi_layout.specs.Laid.{nvsize_in, count_of, size_of_type, copies, base_component, base_components, member_components, part_at, after, parts_of_type, parts_at, parts_in_class, parts_below, parts_of, first_stage, ArePlaced, IsLaid}
+use Rattle.abi_layout.proofs.Lists.{get_within}
 use Rattle.abi_layout.proofs.Tree.{Node, Complete, AsBase, Bytes, Placement, Step, start_of, StepsTo, Reaches, here, down}
-use Rattle.abi_layout.proofs.Stages.{Has, split, has_left, has_right, has_map, placements}
-use Rattle.abi_layout.proofs.RowTree.{Item, a_base, a_member, items, items_in, node_of_type, place_item, component_of, places_in, data_of, contents_of, HasRow, row_of, components_are}
+use Rattle.abi_layout.proofs.Stages.{Has, has_left, has_right, has_map, placements}
+use Rattle.abi_layout.proofs.RowTree.{Item, a_base, a_member, items, items_in, node_of_type, place_item, component_of, places_in, data_of, contents_of, row_of, components_are}
 use Rattle.abi_layout.proofs.KindLemmas.{contains_of}
 use Rattle.abi_layout.proofs.FineRows.{IsItem, is_base, is_member, item_view}
 

@@ -1,8 +1,7 @@
 -- The tree of a layout: what a class is made of, by its row.
-use Rattle.std.proofs.Common.{◌≡◌, ℕ, zero, suc, ◌+◌, ◌*◌, ◌<◌, ◌≤◌, ◌⊎◌, inl, inr, ⊎_elim, Bool, true, false, Option, Some, None, List, [], ◌∷◌, ◌++◌, map, length, refl, ap, subst, sym, ◌∙◌, arith}
-use Rattle.std.specs.Prelude.{if◌then◌else◌, max, filter, not, ◌&&◌, cond}
-use Rattle.std.specs.List.{slice_get, Contains, list_all}
-use Rattle.std.proofs.lemmas.Option.{slice_get_within}
+use Rattle.std.proofs.Common.{◌≡◌, ℕ, ◌+◌, ◌*◌, ◌<◌, Bool, Option, Some, None, List, [], ◌∷◌, ◌++◌, map, length, refl, ap, subst, sym, ◌∙◌, arith}
+use Rattle.std.specs.Prelude.{if◌then◌else◌, max, filter}
+use Rattle.std.specs.List.{slice_get}
 use Rattle.cxx_hierarchy.specs.declared.records.ClassId.{ClassId}
 use Rattle.cxx_hierarchy.specs.declared.records.Base.{Base}
 use Rattle.cxx_hierarchy.specs.declared.records.Member.{Member}
@@ -14,11 +13,11 @@ use Rattle.abi_layout.specs.declared.component.Component.{Component}
 use Rattle.abi_layout.specs.declared.component.Stage.{Stage}
 use Rattle.abi_layout.specs.declared.class_layout.ClassLayout.{ClassLayout}
 use Rattle.abi_layout.specs.Places.{size_of_value, size_in, align_in, bases_in, members_in, is_plain_base}
-use Rattle.abi_layout.specs.Kinds.{is_empty, is_pod, IsStatic, IsStaticClass}
-use Rattle.abi_layout.specs.Laid.{nvsize_in, nvalign_in, count_of, size_of_type, align_of_type, base_component, member_component, base_components, member_components, parts_of, first_stage, bases_stage, last_stage, after_all, ArePlaced, IsLayoutOf, IsRow, IsLaid}
-use Rattle.abi_layout.proofs.Lists.{number, get_within}
+use Rattle.abi_layout.specs.Kinds.{is_empty}
+use Rattle.abi_layout.specs.Laid.{nvsize_in, nvalign_in, count_of, size_of_type, base_component, member_component, base_components, member_components, parts_of, first_stage, last_stage, after_all, ArePlaced, IsRow, IsLaid}
+use Rattle.abi_layout.proofs.Lists.{get_within}
 use Rattle.abi_layout.proofs.Tree.{Node, Complete, AsBase, Bytes, Placement, Contents, Measures}
-use Rattle.abi_layout.proofs.Stages.{Has, placements, placed_both, after_both}
+use Rattle.abi_layout.proofs.Stages.{placements, placed_both, after_both}
 
 -- what a class has placed in it
 pub data Item : Type 0 where

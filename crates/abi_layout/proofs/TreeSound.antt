@@ -5,7 +5,7 @@ use Rattle.std.proofs.lemmas.Bool.{cases_order}
 use Rattle.std.proofs.Math.Nat.{mul-le-mul_right}
 use Rattle.cxx_hierarchy.specs.declared.records.ClassId.{ClassId}
 use Rattle.abi_layout.specs.Sound.{Divides}
-use Rattle.abi_layout.proofs.Tree.{Node, Complete, AsBase, Bytes, Placement, Step, Contents, start_of, StepsTo, Reaches, here, down, Measures, IsInPlace, AreInTurn, IsArranged, AreArranged, IsSoundTree}
+use Rattle.abi_layout.proofs.Tree.{Node, AsBase, Bytes, Placement, Step, Contents, start_of, StepsTo, Reaches, here, down, Measures, IsInPlace, AreArranged, IsSoundTree}
 
 pub sum_divides : (a b c : ℕ) → Divides a b → Divides a c → Divides a (b + c)
 sum_divides a b c x y = let e = x.is in let f = y.is in record { times = x.times + y.times; is = rw add-mul (let g : b + c ≡ x.times * a + y.times * a = omega arith in g) }

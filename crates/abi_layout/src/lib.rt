@@ -13,6 +13,8 @@ pub mod component;
 mod member;
 pub mod places;
 pub mod plain;
+pub mod soundness;
 
 pub use crate::class_layout::{AbiLayout, ClassLayout, PlaceList, Primary};
 pub use crate::plain::is_plain;
+pub use crate::soundness::laid_is_sound;

@@ -1,5 +1,5 @@
 -- A layout by the rules is sound.
-use Rattle.std.proofs.Common.{◌≡◌, ℕ, ◌+◌, ◌*◌, ◌<◌, ◌≤◌, ◌⊎◌, inl, inr, ⊎_elim, Option, Some, None, List, [], ◌∷◌, ◌++◌, length, refl, ap, subst, sym, ◌∙◌, arith}
+use Rattle.std.proofs.Common.{◌≡◌, ◌+◌, ⊎_elim, Option, Some, None, List, [], ◌∷◌, ◌++◌, length, refl, ap, subst, sym, ◌∙◌, arith}
 use Rattle.std.specs.List.{slice_get}
 use Rattle.std.proofs.lemmas.Option.{slice_get_past}
 use Rattle.std.proofs.Math.Nat.{le-max_left, le-max_right}
@@ -10,8 +10,7 @@ use Rattle.cxx_subobject.specs.declared.Root.TheVariants.{Whole}
 use Rattle.cxx_subobject.specs.declared.Subobject.{Subobject}
 use Rattle.cxx_subobject.specs.Subobjects.{IsSubobject, whole, shared, class_of, last_of, join}
 use Rattle.abi_layout.specs.declared.class_layout.ClassLayout.{ClassLayout}
-use Rattle.abi_layout.specs.Places.{size_of_value, size_in, align_in, base_place, place_along, places_of}
-use Rattle.abi_layout.specs.Locations.{Hop, IsAt}
+use Rattle.abi_layout.specs.Places.{size_of_value, size_in, align_in, place_along, places_of}
 use Rattle.abi_layout.specs.Sound.{Divides, IsSoundInDepth, IsSound}
 use Rattle.abi_layout.specs.Kinds.{IsStatic}
 use Rattle.abi_layout.specs.Laid.{nvsize_in, nvalign_in, IsLaid, AreSmall}
@@ -69,8 +68,8 @@ joined h rows static c d _ _ (whole p l) e (whole q m) f =
     let same : last_of c p ≡ d = cc in
     place_join h rows c p q ∙ ap (λ (x : ClassId). place_along h rows c p + place_along h rows x q) same
 
-pub laid_is_sound : (h : Classes) (rows : List ClassLayout) → IsStatic h → IsLaid h rows → AreSmall rows → IsSound h (places_of h rows)
-laid_is_sound h rows static laid small =
+pub rules_are_sound : (h : Classes) (rows : List ClassLayout) → IsStatic h → IsLaid h rows → AreSmall rows → IsSound h (places_of h rows)
+rules_are_sound h rows static laid small =
     let k : IsKnown h rows = record { static = static; laid = laid } in
     let l = places_of h rows in
     let deep = deep_sound h rows k in
