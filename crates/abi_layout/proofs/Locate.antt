@@ -13,7 +13,8 @@ use Rattle.cxx_hierarchy.specs.declared.records.FieldType.TheVariants.{Value, Ob
 use Rattle.cxx_hierarchy.specs.Classes.{Class, Classes, class_at, bases_of, members_of, bases_in as class_bases_in, members_in as class_members_in}
 use Rattle.cxx_subobject.specs.declared.Root.TheVariants.{Whole}
 use Rattle.cxx_subobject.specs.declared.Subobject.{Subobject}
-use Rattle.cxx_subobject.specs.Subobjects.{IsDirectBase, Leads, HasVirtualBase, direct, further, subobject, IsSubobject, whole, shared, last_of, class_of, tail_of}
+use Rattle.cxx_hierarchy.specs.VirtualBases.{IsDirectBase, HasVirtualBase, direct, further}
+use Rattle.cxx_subobject.specs.Subobjects.{Leads, subobject, IsSubobject, whole, shared, last_of, class_of, tail_of}
 use Rattle.abi_layout.specs.declared.class_layout.ClassLayout.{ClassLayout}
 use Rattle.abi_layout.specs.Places.{size_of_value, number_in, bases_in, members_in, is_plain_base, place_at, base_place, place_along, places_of}
 use Rattle.abi_layout.specs.Locations.{Hop, Inherit, Element, IsElement, IsAt, at_base, at_value, at_inner}
