@@ -3,3 +3,15 @@ pub mod Each
 pub mod Parts
 pub mod PlacingLemmas
 pub mod RowLemmas
+pub mod Tree
+pub mod TreeSound
+pub mod Shallow
+pub mod Stages
+pub mod RowTree
+pub mod KindLemmas
+pub mod FineRows
+pub mod Listed
+pub mod Arranged
+pub mod Locate
+pub mod Decode
+pub mod SoundLemmas

@@ -26,9 +26,9 @@ use Rattle.abi_layout.specs.declared.known.LaidClass.{LaidClass}
 use Rattle.abi_layout.specs.declared.class_layout.ClassLayout.{ClassLayout}
 use Rattle.abi_layout.specs.Places.{size_of_value, is_plain_base}
 use Rattle.abi_layout.specs.Kinds.{empty_kind, pod_kind}
-use Rattle.abi_layout.specs.Laid.{IsNext, ArePlaced, after, after_all, copies, count_of, size_of_type, align_of_type, parts_of_type, base_component, member_component, bases_stage, last_stage, IsLayoutOf}
+use Rattle.abi_layout.specs.Laid.{IsNext, ArePlaced, after, after_all, copies, count_of, size_of_type, align_of_type, parts_of_type, base_component, member_component, first_stage, bases_stage, last_stage, IsLayoutOf}
 use Rattle.abi_layout.specs.Alignments.{IsAlignment, byte, two_bytes, four_bytes, eight_bytes, AreWithin, IsFit, AreFit, AreLittle, IsPastLimit}
-use Rattle.abi_layout.specs.Known.{is_empty_in, parts_known, empties_in, pods_in, parts_in, IsWithin, AreAllWithin, IsEarlierType, bases_by, members_by, start_by, IsRowOf, HasLarge, IsRowBy, IsLaidClass, IsTooLarge}
+use Rattle.abi_layout.specs.Known.{is_empty_in, parts_known, empties_in, pods_in, parts_in, IsWithin, AreAllWithin, IsEarlierType, bases_by, members_by, IsRowOf, HasLarge, IsRowBy, IsLaidClass, IsTooLarge}
 use Rattle.abi_layout.proofs.Lists.{get_within, has_here, has_later}
 use Rattle.abi_layout.proofs.Parts.{within_further, within_moved, within_both}
 use Rattle.abi_layout.proofs.PlacingLemmas.{size_grows, places_are_one, next_within}
@@ -169,17 +169,17 @@ row_past first bases members pod row l past = let b = l.size.behind in omega ari
 pub members_too_large : (rows : List ClassLayout) (known : List Known) (c : ClassId) (class : Class) → HasLarge (members_by rows known class) → IsTooLarge rows known c class
 members_too_large rows known c class has = record {
   large = λ row l.
-      let first = start_by c (empty_kind (empties_in known) class) in
+      let first = first_stage c in
       let bases = bases_by rows known class in
       let members = members_by rows known class in
       row_past first bases members (pod_kind (pods_in known) class) row l
       (large_passes (bases_stage first bases row) members row.member_places has.number has.component 500000 l.members_placed has.there has.large);
 }
 
-pub bases_past : (rows : List ClassLayout) (known : List Known) (c : ClassId) (class : Class) → IsPastLimit (start_by c (empty_kind (empties_in known) class)) (bases_by rows known class) → IsTooLarge rows known c class
+pub bases_past : (rows : List ClassLayout) (known : List Known) (c : ClassId) (class : Class) → IsPastLimit (first_stage c) (bases_by rows known class) → IsTooLarge rows known c class
 bases_past rows known c class past = record {
   large = λ row l.
-      let first = start_by c (empty_kind (empties_in known) class) in
+      let first = first_stage c in
       let bases = bases_by rows known class in
       let members = members_by rows known class in
       let p = past.past row.base_places l.bases_placed in
@@ -187,11 +187,11 @@ bases_past rows known c class past = record {
       row_past first bases members (pod_kind (pods_in known) class) row l (omega arith);
 }
 
-pub members_past : (rows : List ClassLayout) (known : List Known) (c : ClassId) (class : Class) (places : List ℕ) → ArePlaced (start_by c (empty_kind (empties_in known) class)) (bases_by rows known class) places
-    → IsPastLimit (after_all (start_by c (empty_kind (empties_in known) class)) (bases_by rows known class) places) (members_by rows known class) → IsTooLarge rows known c class
+pub members_past : (rows : List ClassLayout) (known : List Known) (c : ClassId) (class : Class) (places : List ℕ) → ArePlaced (first_stage c) (bases_by rows known class) places
+    → IsPastLimit (after_all (first_stage c) (bases_by rows known class) places) (members_by rows known class) → IsTooLarge rows known c class
 members_past rows known c class places placed past = record {
   large = λ row l.
-      let first = start_by c (empty_kind (empties_in known) class) in
+      let first = first_stage c in
       let bases = bases_by rows known class in
       let members = members_by rows known class in
       let same : row.base_places ≡ places = places_are_one first bases row.base_places places l.bases_placed placed in
@@ -246,11 +246,11 @@ laid_class row is_empty is_pod parts = record { row = row; known = record { is_e
 -- what is kept of a class whose components were placed
 pub class_is_laid : (rows : List ClassLayout) (known : List Known) (c : ClassId) (class : Class) (empty pod : Bool) (bases members : List Component) (first mid last : Stage) (ps qs : List ℕ) (row : ClassLayout)
     → empty ≡ empty_kind (empties_in known) class → pod ≡ pod_kind (pods_in known) class → bases ≡ bases_by rows known class → members ≡ members_by rows known class
-    → first ≡ start_by c empty → ArePlaced first bases ps → mid ≡ after_all first bases ps → ArePlaced mid members qs → last ≡ after_all mid members qs
+    → first ≡ first_stage c → ArePlaced first bases ps → mid ≡ after_all first bases ps → ArePlaced mid members qs → last ≡ after_all mid members qs
     → IsAlignment last.align → last.size ≤ 500000 → AreWithin last.size last.parts → IsRowOf last pod ps qs row → IsLaidClass rows known c class (laid_class row empty pod last.parts)
 class_is_laid rows known c class empty pod bases members first mid last ps qs row e p b m f bp mid_is mp last_eq known_align small parts r =
-    let start = start_by c (empty_kind (empties_in known) class) in
-    let first_is : first ≡ start = f ∙ ap (start_by c) e in
+    let start = first_stage c in
+    let first_is : first ≡ start = f in
     let placed : ArePlaced start (bases_by rows known class) ps = subst (λ (s : Stage). ArePlaced s (bases_by rows known class) ps) first_is (subst (λ (cs : List Component). ArePlaced first cs ps) b bp) in
     let mid_eq : mid ≡ after_all start (bases_by rows known class) ps = mid_is ∙ (ap (λ (cs : List Component). after_all first cs ps) b ∙ ap (λ (s : Stage). after_all s (bases_by rows known class) ps) first_is) in
     let members_placed : ArePlaced (after_all start (bases_by rows known class) ps) (members_by rows known class) qs = subst (λ (s : Stage). ArePlaced s (members_by rows known class) qs) mid_eq (subst (λ (cs : List Component). ArePlaced mid cs qs) m mp) in

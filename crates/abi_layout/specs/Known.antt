@@ -14,7 +14,7 @@ use Rattle.abi_layout.specs.declared.known.Known.{Known}
 use Rattle.abi_layout.specs.declared.known.LaidClass.{LaidClass}
 use Rattle.abi_layout.specs.declared.class_layout.ClassLayout.{ClassLayout}
 use Rattle.abi_layout.specs.Kinds.{empty_kind, pod_kind}
-use Rattle.abi_layout.specs.Laid.{base_components, member_components, part_at, last_stage, IsNext, IsLayoutOf}
+use Rattle.abi_layout.specs.Laid.{base_components, member_components, last_stage, IsNext, first_stage, IsLayoutOf}
 use Rattle.abi_layout.specs.Alignments.{IsAlignment, AreWithin}
 
 abbrev pub is_empty_in : Option Known → Bool
@@ -67,13 +67,9 @@ bases_by rows known class = base_components (empties_in known) rows (parts_in kn
 abbrev pub members_by : List ClassLayout → List Known → Class → List Component
 members_by rows known class = member_components rows (parts_in known) class
 
--- the number of a class
-abbrev pub number : ℕ → ClassId
-number n = record { 0 = n }
-
--- before the first component: of the class itself only an empty one is kept in mind
-abbrev pub start_by : ClassId → Bool → Stage
-start_by c is_empty = record { dsize = 0; size = 0; align = 1; parts = if is_empty then part_at c 0 ∷ [] else [] }
+-- where nothing is placed
+abbrev pub empty_stage : Stage
+empty_stage = record { dsize = 0; size = 0; align = 1; parts = [] }
 
 -- the row of a class whose last stage this is
 pub record IsRowOf (last : Stage) (is_pod : Bool) (base_places member_places : List ℕ) (row : ClassLayout) : Type 0 where
@@ -97,13 +93,13 @@ pub record HasLarge (components : List Component) : Type 0 where
 -- the class is laid out by what is known of the earlier ones
 abbrev pub IsRowBy : List ClassLayout → List Known → ClassId → Class → ClassLayout → Type 0
 IsRowBy rows known c class row =
-    IsLayoutOf (start_by c (empty_kind (empties_in known) class)) (bases_by rows known class) (members_by rows known class) (pod_kind (pods_in known) class) row
+    IsLayoutOf (first_stage c) (bases_by rows known class) (members_by rows known class) (pod_kind (pods_in known) class) row
 
 pub record IsLaidClass (rows : List ClassLayout) (known : List Known) (c : ClassId) (class : Class) (laid : LaidClass) : Type 0 where
   pub row : IsRowBy rows known c class laid.row
   pub is_empty : laid.known.is_empty ≡ empty_kind (empties_in known) class
   pub is_pod : laid.known.is_pod ≡ pod_kind (pods_in known) class
-  pub parts : laid.known.parts ≡ (last_stage (start_by c (empty_kind (empties_in known) class)) (bases_by rows known class) (members_by rows known class) laid.row).parts
+  pub parts : laid.known.parts ≡ (last_stage (first_stage c) (bases_by rows known class) (members_by rows known class) laid.row).parts
   pub within : IsWithin laid.row laid.known.parts
 
 -- by what is known of the earlier ones the class is too large

@@ -15,6 +15,8 @@ use Rattle.abi_layout.specs.declared.class_layout.ClassLayout.{ClassLayout}
 use Rattle.abi_layout.specs.Kinds.{is_empty, is_pod}
 use Rattle.abi_layout.specs.Places.{size_of_value, size_in, align_in, bases_in, members_in, is_plain_base}
 use Rattle.abi_layout.specs.Sound.{Divides}
+pub use Rattle.abi_layout.specs.Places.{nvalign_in}
+pub use Rattle.abi_layout.specs.Locations.{count_of}
 
 -- place is the least multiple of align at or behind start
 pub record IsNext (start align place : ℕ) : Type 0 where
@@ -67,15 +69,6 @@ copies (suc n) stride parts = copies n stride parts ++ map (moved (n * stride)) 
 abbrev pub nvsize_in : Option ClassLayout → ℕ
 nvsize_in None = 0
 nvsize_in (Some row) = row.nvsize
-
-abbrev pub nvalign_in : Option ClassLayout → ℕ
-nvalign_in None = 1
-nvalign_in (Some row) = row.nvalign
-
--- how many objects a member is: as many as an array has elements, or one
-abbrev pub count_of : Option ℕ → ℕ
-count_of None = 1
-count_of (Some n) = n
 
 -- the size and the alignment of a member, or of an array's element
 abbrev pub size_of_type : List ClassLayout → FieldType ClassId → ℕ

@@ -1,4 +1,5 @@
 pub mod Places
+pub mod Locations
 pub mod Sound
 pub mod Plain
 pub mod Kinds

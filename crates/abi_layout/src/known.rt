@@ -14,7 +14,7 @@ use crate::component::PartList;
 use cxx_hierarchy::{ClassId, ClassRec, Destructor, FieldType, Function};
 
 /// What the layout of a class takes from an earlier class besides its row: whether it is empty and whether it is POD,
-/// and the empty class subobjects in it, by their places.
+/// and the class subobjects in it, by their places.
 #[derive(Drop)]
 pub struct Known {
     pub is_empty: bool,

@@ -16,6 +16,8 @@ pub mod places;
 pub mod placing;
 pub mod plain;
 mod rows;
+pub mod soundness;
 
 pub use crate::class_layout::{AbiLayout, ClassLayout, PlaceList, Primary};
 pub use crate::plain::is_plain;
+pub use crate::soundness::laid_is_sound;

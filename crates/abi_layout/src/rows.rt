@@ -1,6 +1,6 @@
 //! The layout of a class by the layouts of the classes before it (Itanium C++ ABI 2.4).
 
-ghost use Rattle.std.specs.Prelude.{◌≡◌, ◌+◌, ◌*◌, ◌++◌, ◌<◌, ◌≤◌, ◌-◌, ◌∷◌, [], ◌⊎◌, ℕ, false, IfOk, IfErr, OnOk, Contains, Some, List, length, map, filter, max, if◌then◌else◌};
+ghost use Rattle.std.specs.Prelude.{◌≡◌, ◌+◌, ◌*◌, ◌++◌, ◌<◌, ◌≤◌, ◌-◌, ◌∷◌, [], ◌⊎◌, IfOk, IfErr, OnOk, Contains, Some, List, length, map, filter, max, if◌then◌else◌};
 ghost use Rattle.cxx_hierarchy.specs.Classes.{Class};
 ghost use Rattle.cxx_hierarchy.specs.declared.records.ClassId.{ClassId};
 ghost use Rattle.cxx_hierarchy.specs.declared.records.Base.{Base};
@@ -9,9 +9,9 @@ ghost use Rattle.cxx_hierarchy.specs.declared.records.FieldType.{FieldType};
 ghost use Rattle.cxx_hierarchy.specs.declared.stop.LimitNo.{LimitNo};
 ghost use Rattle.abi_emptybase.specs.Table.{moved};
 ghost use Rattle.abi_layout.specs.Places.{is_plain_base};
-ghost use Rattle.abi_layout.specs.Laid.{base_component, member_component, copies, count_of, size_of_type, align_of_type, parts_of_type, IsLayoutOf};
+ghost use Rattle.abi_layout.specs.Laid.{base_component, member_component, copies, count_of, size_of_type, align_of_type, parts_of_type, first_stage};
 ghost use Rattle.abi_layout.specs.Alignments.{IsAlignment, AreWithin, AreLittle, IsPlacing};
-ghost use Rattle.abi_layout.specs.Known.{empties_in, pods_in, parts_in, AreAllWithin, bases_by, members_by, start_by, number, AreEarlier, IsEarlierType, IsRowOf, HasLarge, IsLaidClass, IsTooLarge};
+ghost use Rattle.abi_layout.specs.Known.{empties_in, pods_in, parts_in, AreAllWithin, bases_by, members_by, empty_stage, AreEarlier, IsEarlierType, IsRowOf, HasLarge, IsLaidClass, IsTooLarge};
 
 use crate::class_layout::{ClassLayout, PlaceList, Primary};
 use crate::component::{Component, PartList, Stage, push_moved};
@@ -212,7 +212,7 @@ fn member_components(
 }
 
 fn empty_placing(alloc: Global) -> Placing
-    ensures stage { result.stage ≡ start_by (number 0) false }
+    ensures stage { result.stage ≡ empty_stage }
     ensures placing { IsPlacing result }
 {
     Placing {
@@ -226,15 +226,12 @@ fn empty_placing(alloc: Global) -> Placing
     }
 }
 
-/// Before the first component is placed. Only an empty class can meet itself.
-fn first_placing(alloc: Global, c: ClassId, is_empty: bool) -> Result<Placing, NoMemory>
-    ensures stage { IfOk result (λ placing. placing.stage ≡ start_by c is_empty) }
+/// Before the first component is placed: the class itself is at 0.
+fn first_placing(alloc: Global, c: ClassId) -> Result<Placing, NoMemory>
+    ensures stage { IfOk result (λ placing. placing.stage ≡ first_stage c) }
     ensures placing { IfOk result IsPlacing }
 {
     let mut placing = empty_placing(alloc);
-    if !is_empty {
-        return Ok(placing);
-    }
     let whole = [Part {
         class: c.0,
         place: 0,
@@ -289,7 +286,7 @@ pub(crate) fn class_layout(
     let is_pod = is_pod_class(known, class);
     let bases = base_components(alloc, rows, known, class.bases.as_slice())?;
     let members = member_components(alloc, rows, known, class.members.as_slice())?;
-    let mut placing = first_placing(alloc, c, is_empty)?;
+    let mut placing = first_placing(alloc, c)?;
     let base_places = place_all(alloc, &mut placing, &bases)?;
     let member_places = place_all(alloc, &mut placing, &members)?;
     let row = row_of(alloc, &placing.stage, is_pod, base_places, member_places);

@@ -4,7 +4,8 @@ use Rattle.cxx_hierarchy.specs.declared.records.ClassId.{ClassId}
 use Rattle.cxx_hierarchy.specs.Classes.{Classes}
 use Rattle.cxx_subobject.specs.declared.Root.TheVariants.{Whole, Shared}
 use Rattle.cxx_subobject.specs.declared.Subobject.{Subobject}
-use Rattle.cxx_subobject.specs.Subobjects.{Leads, HasVirtualBase, direct, further, subobject, whole_of, IsSubobject, whole, shared, last_of, class_of, join}
+use Rattle.cxx_hierarchy.specs.VirtualBases.{HasVirtualBase, direct, further}
+use Rattle.cxx_subobject.specs.Subobjects.{Leads, subobject, whole_of, IsSubobject, whole, shared, last_of, class_of, join}
 use Rattle.abi_layout.specs.Places.{Places}
 use Rattle.abi_layout.specs.Sound.{IsSound}
 

@@ -13,28 +13,9 @@ use Rattle.cxx_hierarchy.specs.NameTables.{Text, place_in, is_in, Numbers}
 use Rattle.cxx_hierarchy.specs.ClassPass.{Record, names_of, faults_of, IsInOrder}
 use Rattle.cxx_hierarchy.specs.Resolved.{ByName, class_of_name, class_in, resolved, resolved_class, NumbersAreSmall}
 use Rattle.cxx_hierarchy.specs.Hierarchies.{IsHierarchy}
-use Rattle.cxx_hierarchy.proofs.Places.{split, same_bytes}
-use Rattle.cxx_hierarchy.proofs.Listed.{placed, is_in_at}
-use Rattle.cxx_hierarchy.proofs.Kept.{IsAccepted, few_records, is_hierarchy}
-
--- a name stands at its place, counted from i
-record StandsAt (names : List Text) (name : Text) (i n : ℕ) : Type 0 where
-  place : ℕ
-  number : n ≡ i + place
-  listed : slice_get names place ≡ Some name
-
-stands : (names : List Text) (name : Text) (i n : ℕ) → position_from (bytes_eq name) i names ≡ Some n → StandsAt names name i n
-stands [] name i n = λ h. absurd (cc)
-stands (x ∷ xs) name i n =
-    split (bytes_eq name x) (λ b. cond b (Some i) (position_from (bytes_eq name) (i + 1) xs) ≡ Some n → StandsAt (x ∷ xs) name i n)
-    (λ e h. let same : i ≡ n = cc in record { place = zero; number = omega arith; listed = ap Some (sym (same_bytes name x e)) })
-    (λ e h. let r = stands xs name (i + 1) n h in record { place = suc r.place; number = let k : n ≡ i + 1 + r.place = r.number in omega arith; listed = r.listed })
-
-pub place_listed : (names : List Text) (name : Text) (n : ℕ) → place_in names name ≡ Some n → slice_get names n ≡ Some name
-place_listed names name n h =
-    let r = stands names name 0 n h in
-    let e : n ≡ r.place = let k : n ≡ 0 + r.place = r.number in omega arith in
-    ap (slice_get names) e ∙ r.listed
+use Rattle.cxx_hierarchy.proofs.Listed.{placed, is_in_at, place_listed}
+use Rattle.cxx_hierarchy.proofs.Accepted.{IsAccepted, few_records}
+use Rattle.cxx_hierarchy.proofs.Kept.{is_hierarchy}
 
 pub place_missing : (names : List Text) (name : Text) → place_in names name ≡ None → Contains names name → ⊥
 place_missing names name h there =

@@ -2,6 +2,8 @@ pub mod Faults
 pub mod Places
 pub mod Parts
 pub mod Listed
+pub mod Accepted
 pub mod Kept
+pub mod VirtualRows
 pub mod Builds
 pub mod Orders

@@ -9,7 +9,7 @@ use Rattle.std.proofs.lemmas.List.Sums.{length-filter}
 use Rattle.std.proofs.lemmas.Map.Keys.{any_passes_from_place}
 use Rattle.std.proofs.lemmas.Bool.Decides.{nat_tests}
 use Rattle.cxx_hierarchy.specs.NameTables.{Text, place_in, is_in}
-use Rattle.cxx_hierarchy.proofs.Places.{split, place_among, place_nowhere}
+use Rattle.cxx_hierarchy.proofs.Places.{split, place_among, place_nowhere, same_bytes}
 
 -- an item of a list whose items were mapped
 pub record IsMapped {X Y : Type 0} (f : X → Y) (xs : List X) (k : ℕ) (y : Y) : Type 0 where
@@ -64,6 +64,25 @@ place_below names name k h = at (place_in names name) refl
     at (Some n) e =
         let l : nat_lt n (0 + k) ≡ true = place_among (bytes_eq name) 0 names n k e ∙ h in
         grind (arith, nat_tests)
+
+-- a name stands at its place, counted from i
+record StandsAt (names : List Text) (name : Text) (i n : ℕ) : Type 0 where
+  place : ℕ
+  number : n ≡ i + place
+  listed : slice_get names place ≡ Some name
+
+stands : (names : List Text) (name : Text) (i n : ℕ) → position_from (bytes_eq name) i names ≡ Some n → StandsAt names name i n
+stands [] name i n = λ h. absurd (cc)
+stands (x ∷ xs) name i n =
+    split (bytes_eq name x) (λ b. cond b (Some i) (position_from (bytes_eq name) (i + 1) xs) ≡ Some n → StandsAt (x ∷ xs) name i n)
+    (λ e h. let same : i ≡ n = cc in record { place = zero; number = omega arith; listed = ap Some (sym (same_bytes name x e)) })
+    (λ e h. let r = stands xs name (i + 1) n h in record { place = suc r.place; number = let k : n ≡ i + 1 + r.place = r.number in omega arith; listed = r.listed })
+
+pub place_listed : (names : List Text) (name : Text) (n : ℕ) → place_in names name ≡ Some n → slice_get names n ≡ Some name
+place_listed names name n h =
+    let r = stands names name 0 n h in
+    let e : n ≡ r.place = let k : n ≡ 0 + r.place = r.number in omega arith in
+    ap (slice_get names) e ∙ r.listed
 
 -- one item at least that passes has a place
 pub record Passes {X : Type 0} (p : X → Bool) (xs : List X) : Type 0 where

@@ -4,6 +4,7 @@ use Rattle.cxx_hierarchy.specs.declared.records.ClassId.{ClassId}
 use Rattle.cxx_hierarchy.specs.declared.records.ClassRec.{ClassRec}
 use Rattle.cxx_hierarchy.specs.declared.records.Base.{Base}
 use Rattle.cxx_hierarchy.specs.declared.records.Member.{Member}
+use Rattle.cxx_hierarchy.specs.declared.records.Function.{Function}
 use Rattle.cxx_hierarchy.specs.declared.records.ValueType.{ValueType}
 use Rattle.cxx_hierarchy.specs.declared.records.FieldType.{FieldType}
 use Rattle.cxx_hierarchy.specs.declared.records.FieldType.TheVariants.{Value, Object}
@@ -28,6 +29,10 @@ abbrev pub members_in : Option Class → List (Member ClassId)
 members_in None = []
 members_in (Some class) = class.members
 
+abbrev pub functions_in : Option Class → List (Function ClassId)
+functions_in None = []
+functions_in (Some class) = class.functions
+
 -- the direct bases of a class
 abbrev pub bases_of : Classes → ClassId → List (Base ClassId)
 bases_of h c = bases_in (class_at h c)
@@ -35,6 +40,10 @@ bases_of h c = bases_in (class_at h c)
 -- the data members that a class declares
 abbrev pub members_of : Classes → ClassId → List (Member ClassId)
 members_of h c = members_in (class_at h c)
+
+-- the member functions that a class declares
+abbrev pub functions_of : Classes → ClassId → List (Function ClassId)
+functions_of h c = functions_in (class_at h c)
 
 abbrev pub value_type_in : FieldType ClassId → Option ℕ → Option (ValueType ClassId)
 value_type_in (Value ty) None = Some ty

@@ -3,9 +3,12 @@ use Rattle.std.specs.Prelude.{◌≡◌, ℕ, ◌<◌, ◌≤◌, Some, Contains
 use Rattle.cxx_hierarchy.specs.declared.records.ClassId.{ClassId}
 use Rattle.cxx_hierarchy.specs.declared.records.Base.{Base}
 use Rattle.cxx_hierarchy.specs.declared.records.Member.{Member}
+use Rattle.cxx_hierarchy.specs.declared.records.Function.{Function}
+use Rattle.cxx_hierarchy.specs.declared.records.Param.{Param}
 use Rattle.cxx_hierarchy.specs.declared.records.ValueType.TheVariants.{Pointer}
 use Rattle.cxx_hierarchy.specs.declared.records.FieldType.TheVariants.{Value, Object}
-use Rattle.cxx_hierarchy.specs.Classes.{Class, Classes, class_at, bases_of, members_of}
+use Rattle.cxx_hierarchy.specs.declared.records.ReturnType.TheVariants.{Value as ValueReturn}
+use Rattle.cxx_hierarchy.specs.Classes.{Class, Classes, class_at, bases_of, members_of, functions_of}
 
 -- what every hierarchy keeps (ISO C++03 9, 9.2, 10)
 pub record IsHierarchy (h : Classes) : Type 0 where
@@ -16,8 +19,17 @@ pub record IsHierarchy (h : Classes) : Type 0 where
   pub bases : (c : ClassId) (b : Base ClassId) → Contains (bases_of h c) b → b.class.0 < c.0
   pub objects : (c d : ClassId) (m : Member ClassId) → Contains (members_of h c) m → m.ty ≡ Object d → d.0 < c.0
   pub pointers : (c d : ClassId) (m : Member ClassId) → Contains (members_of h c) m → m.ty ≡ Value (Pointer d) → d.0 < length h
-  -- a class has at most 64 direct bases and 1024 members
+  pub returns : (c d : ClassId) (f : Function ClassId) → Contains (functions_of h c) f → f.ret ≡ ValueReturn (Pointer d) → d.0 < length h
+  pub params : (c d : ClassId) (f : Function ClassId) (p : Param ClassId) → Contains (functions_of h c) f → Contains f.params p → p.ty ≡ Pointer d → d.0 < length h
+  -- a class has at most 64 direct bases, each class once, and at most 1024 members and 1024 functions
   pub few_bases : (c : ClassId) → length (bases_of h c) ≤ 64
+  pub once : (c : ClassId) (i j : ℕ) (x y : Base ClassId) → slice_get (bases_of h c) i ≡ Some x → slice_get (bases_of h c) j ≡ Some y → x.class ≡ y.class → i ≡ j
   pub few_members : (c : ClassId) → length (members_of h c) ≤ 1024
-  -- no two members of a class have one name
+  pub few_functions : (c : ClassId) → length (functions_of h c) ≤ 1024
+  -- no two members or functions of a class have one name
   pub members : (c : ClassId) (i j : ℕ) (x y : Member ClassId) → slice_get (members_of h c) i ≡ Some x → slice_get (members_of h c) j ≡ Some y → x.name ≡ y.name → i ≡ j
+  pub functions : (c : ClassId) (i j : ℕ) (x y : Function ClassId) → slice_get (functions_of h c) i ≡ Some x → slice_get (functions_of h c) j ≡ Some y → x.name ≡ y.name → i ≡ j
+  pub member_and_function : (c : ClassId) (m : Member ClassId) (f : Function ClassId) → Contains (members_of h c) m → Contains (functions_of h c) f → m.name ≡ f.name → ⊥
+  -- an array has 1 to 4096 elements, and a function at most 16 parameters
+  pub counts : (c : ClassId) (m : Member ClassId) (n : ℕ) → Contains (members_of h c) m → m.count ≡ Some n → (1 ≤ n) × (n ≤ 4096)
+  pub few_params : (c : ClassId) (f : Function ClassId) → Contains (functions_of h c) f → length f.params ≤ 16

@@ -30,6 +30,7 @@ pub enum Rule {
     Index,
     LeftOut,
     UnknownName,
+    SharedPlace,
 }
 
 impl Rule {
@@ -63,6 +64,7 @@ impl Rule {
             Rule::Index => 20,
             Rule::LeftOut => 21,
             Rule::UnknownName => 22,
+            Rule::SharedPlace => 24,
         }
     }
 }

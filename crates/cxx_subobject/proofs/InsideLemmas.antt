@@ -8,7 +8,8 @@ use Rattle.cxx_hierarchy.specs.declared.records.ClassId.{ClassId}
 use Rattle.cxx_hierarchy.specs.Classes.{Classes}
 use Rattle.cxx_subobject.specs.declared.Root.TheVariants.{Whole, Shared}
 use Rattle.cxx_subobject.specs.declared.Subobject.{Subobject}
-use Rattle.cxx_subobject.specs.Subobjects.{IsDirectBase, Leads, HasVirtualBase, direct, further, IsSubobject, whole, shared, subobject, whole_of, last_of, class_of_path, class_of, tail_of, join_at, join}
+use Rattle.cxx_hierarchy.specs.VirtualBases.{IsDirectBase, HasVirtualBase, direct, further}
+use Rattle.cxx_subobject.specs.Subobjects.{Leads, IsSubobject, whole, shared, subobject, whole_of, last_of, class_of_path, class_of, tail_of, join_at, join}
 use Rattle.cxx_subobject.specs.Ordered.{HasOrderedBases, HasNoVirtualBase}
 use Rattle.cxx_subobject.specs.Inside.{IsInside, begins}
 use Rattle.cxx_subobject.proofs.TreeLemmas.{no_virtual}

@@ -13,7 +13,8 @@ use Rattle.cxx_hierarchy.specs.Classes.{Classes, bases_of}
 use Rattle.cxx_subobject.specs.declared.Root.{Root}
 use Rattle.cxx_subobject.specs.declared.Root.TheVariants.{Whole, Shared}
 use Rattle.cxx_subobject.specs.declared.Subobject.{Subobject}
-use Rattle.cxx_subobject.specs.Subobjects.{Leads, HasVirtualBase, direct, further, IsSubobject, whole, shared, subobject, whole_of, same_path, same_root, same_subobject}
+use Rattle.cxx_hierarchy.specs.VirtualBases.{HasVirtualBase, direct, further}
+use Rattle.cxx_subobject.specs.Subobjects.{Leads, IsSubobject, whole, shared, subobject, whole_of, same_path, same_root, same_subobject}
 use Rattle.cxx_subobject.specs.Ordered.{HasOrderedBases, HasNoVirtualBase}
 use Rattle.cxx_subobject.specs.Preorder.{base_subobject, tree, firsts, preorder, ListsSubobjects}
 use Rattle.cxx_subobject.proofs.ListLemmas.{Has, EachOnce, AreApart, EachApart, has_mapped, has_from_mapped, once_mapped, mapped_same, has_at, contains_from_has, has_from_contains, once_by_place, filter_all, split}

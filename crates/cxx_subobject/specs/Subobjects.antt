@@ -1,28 +1,16 @@
 -- The inheritance subobjects of a class, as paths (ISO C++03 10.1; Rossie and Friedman).
-use Rattle.std.specs.Prelude.{◌≡◌, Bool, true, false, nat_eq, ◌&&◌, Option, Some, None, List, [], ◌∷◌, ◌++◌, Contains}
+use Rattle.std.specs.Prelude.{◌≡◌, Bool, true, false, nat_eq, ◌&&◌, Option, Some, None, List, [], ◌∷◌, ◌++◌}
 use Rattle.cxx_hierarchy.specs.declared.records.ClassId.{ClassId}
-use Rattle.cxx_hierarchy.specs.declared.records.Base.{Base}
-use Rattle.cxx_hierarchy.specs.Classes.{Classes, bases_of}
+use Rattle.cxx_hierarchy.specs.Classes.{Classes}
+use Rattle.cxx_hierarchy.specs.VirtualBases.{IsDirectBase, HasVirtualBase}
 use Rattle.cxx_subobject.specs.declared.Root.{Root}
 use Rattle.cxx_subobject.specs.declared.Root.TheVariants.{Whole, Shared}
 use Rattle.cxx_subobject.specs.declared.Subobject.{Subobject}
-
--- b stands in the class head of c, virtual or not
-pub record IsDirectBase (h : Classes) (c : ClassId) (is_virtual : Bool) (b : ClassId) : Type 0 where
-  pub base : Base ClassId
-  pub listed : Contains (bases_of h c) base
-  pub class : base.class ≡ b
-  pub way : base.is_virtual ≡ is_virtual
 
 -- the classes of the path are, each of the one before it and the first of c, direct non-virtual bases
 abbrev pub Leads : Classes → ClassId → List ClassId → Type 0
 Leads h c [] = Unit {0}
 Leads h c (b ∷ path) = IsDirectBase h c false b × Leads h b path
-
--- v is a virtual base of c: c names it, or a base of c has it
-pub data HasVirtualBase (h : Classes) : ClassId → ClassId → Type 0 where
-  direct : (c v : ClassId) → IsDirectBase h c true v → HasVirtualBase h c v
-  further : (c b v : ClassId) (way : Bool) → IsDirectBase h c way b → HasVirtualBase h b v → HasVirtualBase h c v
 
 abbrev pub subobject : Root → List ClassId → Subobject
 subobject root path = record { root = root; path = path }

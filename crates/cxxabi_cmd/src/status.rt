@@ -80,6 +80,7 @@ fn rule_name(rule: Rule) -> &'static str
         Rule::Index => "Index",
         Rule::LeftOut => "LeftOut",
         Rule::UnknownName => "UnknownName",
+        Rule::SharedPlace => "SharedPlace",
     }
 }
 

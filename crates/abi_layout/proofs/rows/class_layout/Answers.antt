@@ -9,7 +9,7 @@ use Rattle.abi_layout.specs.declared.component.Stage.{Stage}
 use Rattle.abi_layout.specs.Places.{is_plain_base}
 use Rattle.abi_layout.specs.Laid.{base_component, member_component, ArePlaced, after_all}
 use Rattle.abi_layout.specs.Alignments.{AreFit, AreLittle, IsPastLimit}
-use Rattle.abi_layout.specs.Known.{empties_in, parts_in, bases_by, members_by, start_by, HasLarge}
+use Rattle.abi_layout.specs.Known.{empties_in, parts_in, bases_by, members_by, HasLarge}
 use Rattle.abi_layout.proofs.RowLemmas.{bases_fit, members_fit, members_too_large, bases_past, members_past, class_is_laid}
 use Rattle.abi_layout.proofs.rows.class_layout.Goals as goal
 
@@ -42,7 +42,7 @@ returns-in_err-base_places-clause-limit c =
     let rows = c.args.rows.now in
     let known = c.args.known.now in
     let are = c.deref.ensures.value ∙ (c.in_ok-bases.ensures ∙ ap (λ (xs : List (Base ClassId)). map (base_component (empties_in known) rows (parts_in known)) (filter is_plain_base xs)) c.as_slice.ensures) in
-    let first = c.in_ok-placing.ensures.stage ∙ ap (start_by c.args.c) c.is_empty_class-is_empty.ensures in
+    let first = c.in_ok-placing.ensures.stage in
     rw (p.1, p.2) (⊎_elim (λ e. inl e)
     (λ past. inr (past.0, bases_past rows known c.args.c c.args.class.now
         (subst (λ (s : Stage). IsPastLimit s (bases_by rows known c.args.class.now)) first (subst (λ (cs : List Component). IsPastLimit c.in_ok-placing.placing.stage cs) are past.1))))
@@ -63,7 +63,7 @@ returns-in_err-member_places-clause-limit c =
     let class = c.args.class.now in
     let bases_are = c.deref.ensures.value ∙ (c.in_ok-bases.ensures ∙ ap (λ (xs : List (Base ClassId)). map (base_component (empties_in known) rows (parts_in known)) (filter is_plain_base xs)) c.as_slice.ensures) in
     let members_are = c.deref-2.ensures.value ∙ (c.in_ok-members.ensures.components ∙ ap (map (member_component rows (parts_in known))) c.as_slice-2.ensures) in
-    let first = c.in_ok-placing.ensures.stage ∙ ap (start_by c.args.c) c.is_empty_class-is_empty.ensures in
+    let first = c.in_ok-placing.ensures.stage in
     let places = c.in_ok-base_places.base_places in
     let placed = subst (λ (s : Stage). ArePlaced s (bases_by rows known class) places) first (subst (λ (cs : List Component). ArePlaced c.in_ok-placing.placing.stage cs places) bases_are c.in_ok-base_places.ensures.placed) in
     let mid = c.in_ok-base_places.ensures.after ∙ (ap (λ (cs : List Component). after_all c.in_ok-placing.placing.stage cs places) bases_are ∙ ap (λ (s : Stage). after_all s (bases_by rows known class) places) first) in

@@ -4,7 +4,8 @@ use Rattle.std.specs.Prelude.{Some, slice_get, Contains}
 use Rattle.std.proofs.lemmas.Option.{slice_get_within}
 use Rattle.std.proofs.lemmas.List.{length-map}
 use Rattle.cxx_hierarchy.specs.Classes.{Class, Classes, class_names}
-use Rattle.cxx_hierarchy.proofs.Builds.{place_listed, place_missing}
+use Rattle.cxx_hierarchy.proofs.Builds.{place_missing}
+use Rattle.cxx_hierarchy.proofs.Listed.{place_listed}
 use Rattle.cxx_hierarchy.proofs.hierarchy.Hierarchy.find.Goals as goal
 
 located : (c : goal.In-Some) → slice_get (class_names c.args.self.now) c.in-Some.number ≡ Some c.args.name.now
