@@ -1,5 +1,8 @@
 pub mod Lists
 pub mod Each
+pub mod Parts
+pub mod PlacingLemmas
+pub mod RowLemmas
 pub mod Tree
 pub mod TreeSound
 pub mod Shallow

@@ -1,9 +1,12 @@
--- The alignments on LP64, and what is known of components and of rows that the rules gave.
-use Rattle.std.specs.Prelude.{◌≡◌, ℕ, ◌<◌, ◌≤◌, Some, List, slice_get}
+-- The alignments on LP64, and what is known of components, stages and rows within the limit of sizes.
+use Rattle.std.specs.Prelude.{◌≡◌, ℕ, ◌<◌, ◌≤◌, false, Some, List, [], ◌∷◌, ◌++◌, slice_get}
+use Rattle.abi_emptybase.specs.declared.Part.{Part}
+use Rattle.abi_emptybase.specs.Table.{holds, has_conflict}
 use Rattle.abi_layout.specs.declared.component.Component.{Component}
 use Rattle.abi_layout.specs.declared.component.Stage.{Stage}
+use Rattle.abi_layout.specs.declared.placing.Placing.{Placing}
 use Rattle.abi_layout.specs.declared.class_layout.ClassLayout.{ClassLayout}
-use Rattle.abi_layout.specs.Laid.{ArePlaced, after_all}
+use Rattle.abi_layout.specs.Laid.{IsPlace, ArePlaced, after_all}
 
 -- an alignment in bytes
 pub data IsAlignment : ℕ → Type 0 where
@@ -11,3 +14,46 @@ pub data IsAlignment : ℕ → Type 0 where
   two_bytes : IsAlignment 2
   four_bytes : IsAlignment 4
   eight_bytes : IsAlignment 8
+
+-- no part lies behind a place
+abbrev pub AreWithin : ℕ → List Part → Type 0
+AreWithin end [] = Unit {0}
+AreWithin end (part ∷ parts) = (part.place ≤ end) × AreWithin end parts
+
+-- a component with an alignment, not above the limit of sizes
+pub record IsFit (component : Component) : Type 0 where
+  pub align : IsAlignment component.align
+  pub takes : component.takes ≤ 500000
+  pub parts : AreWithin component.takes component.parts
+
+abbrev pub AreFit : List Component → Type 0
+AreFit [] = Unit {0}
+AreFit (component ∷ components) = IsFit component × AreFit components
+
+-- none takes more than the limit of sizes
+abbrev pub AreLittle : List Component → Type 0
+AreLittle [] = Unit {0}
+AreLittle (component ∷ components) = (component.takes ≤ 500000) × AreLittle components
+
+-- the table has what the stage's list of parts has
+pub record HasTable (placing : Placing) : Type 0 where
+  pub same : (q : Part) → holds placing.table q ≡ holds placing.stage.parts q
+
+abbrev pub with_parts : Stage → List Part → Stage
+with_parts stage parts = record { dsize = stage.dsize; size = stage.size; align = stage.align; parts = stage.parts ++ parts }
+
+-- a stage with an alignment, within the limit of sizes, and the table of its parts
+pub record IsPlacing (placing : Placing) : Type 0 where
+  pub table : HasTable placing
+  pub align : IsAlignment placing.stage.align
+  pub dsize : placing.stage.dsize ≤ placing.stage.size
+  pub size : placing.stage.size ≤ 500000
+  pub parts : AreWithin placing.stage.size placing.stage.parts
+
+-- wherever the rules place the component, it lies behind the limit
+pub record HasNoPlace (stage : Stage) (component : Component) : Type 0 where
+  pub past : (place : ℕ) → IsPlace stage component place → 500000 < place
+
+-- wherever the rules place the components, the size passes the limit
+pub record IsPastLimit (stage : Stage) (components : List Component) : Type 0 where
+  pub past : (places : List ℕ) → ArePlaced stage components places → 500000 < (after_all stage components places).size

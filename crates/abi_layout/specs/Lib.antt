@@ -5,3 +5,4 @@ pub mod Plain
 pub mod Kinds
 pub mod Laid
 pub mod Alignments
+pub mod Known

@@ -1,16 +1,10 @@
-//! The components of a class, placed one after the other.
+//! What a class is made of: its components, and how far its layout has come.
 
-ghost use Rattle.std.specs.Prelude.{◌≡◌, ◌≤◌, ◌⊎◌, IfOk, IfErr};
-ghost use Rattle.abi_layout.specs.Laid.{IsNext};
-ghost use Rattle.abi_layout.specs.Alignments.{IsAlignment};
+ghost use Rattle.std.specs.Prelude.{◌≡◌, ◌+◌, ◌^◌, ◌<◌, ◌++◌, All, OnOk, map};
+ghost use Rattle.abi_emptybase.specs.Table.{moved};
 
-use abi_emptybase::{Part, PlaceTable};
-use cxx_hierarchy::{LimitNo, Stop};
+use abi_emptybase::Part;
 use foundation::{NoMemory, Sequence};
-use std::alloc::Global;
-
-/// The largest size of a class, in bytes.
-const SIZE_LIMIT: u32 = 500_000;
 
 /// Class subobjects, by their places in an object, in bytes.
 pub type PartList = Sequence<Part>;
@@ -35,11 +29,16 @@ pub struct Stage {
     pub parts: PartList,
 }
 
-/// The least multiple of an alignment at or behind a place.
-pub fn round_up(place: u32, align: u32) -> u32
-    requires alignment { IsAlignment align }
-    requires bounded { place ≤ 500000 }
-    ensures { IsNext place align result }
+/// Puts parts, this many bytes further, behind the others.
+pub(crate) fn push_moved(list: &mut PartList, parts: &[Part], at: u32) -> Result<(), NoMemory>
+    requires { All (λ part. part.place + at < 2 ^ 32) parts.now }
+    ensures { OnOk result (list.new ≡ list.old ++ map (moved at) parts.now) }
 {
-    (place + (align - 1)) / align * align
+    for part in parts {
+        list.push(Part {
+            class: part.class,
+            place: part.place + at,
+        })?;
+    }
+    Ok(())
 }

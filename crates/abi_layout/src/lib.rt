@@ -10,9 +10,12 @@
 
 pub mod class_layout;
 pub mod component;
+pub mod known;
 mod member;
 pub mod places;
+pub mod placing;
 pub mod plain;
+mod rows;
 pub mod soundness;
 
 pub use crate::class_layout::{AbiLayout, ClassLayout, PlaceList, Primary};
