@@ -1,5 +1,5 @@
 -- When a class is dynamic or empty, by its bases.
-use Rattle.std.proofs.Common.{◌≡◌, ℕ, ◌<◌, ◌≤◌, ◌∷◌, arith, length, Bool, true, false, Option, Some, None, List, [], refl, ap, subst, sym, ◌∙◌}
+use Rattle.std.proofs.Common.{◌≡◌, ℕ, ◌<◌, ◌≤◌, ◌∷◌, arith, length, Bool, true, false, Some, List, [], refl, ap, subst, sym, ◌∙◌}
 use Rattle.std.specs.List.{Contains}
 use Rattle.cxx_hierarchy.specs.declared.records.ClassId.{ClassId}
 use Rattle.cxx_hierarchy.specs.declared.records.Base.{Base}

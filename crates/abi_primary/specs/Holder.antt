@@ -1,5 +1,5 @@
 -- Which subobject holds a virtual base that is a primary base.
-use Rattle.std.specs.Prelude.{◌≡◌, Bool, true, false, nat_eq, Option, Some, None, List}
+use Rattle.std.specs.Prelude.{Bool, false, nat_eq, Option, Some, None, List}
 use Rattle.std.specs.Prelude.{get_or}
 use Rattle.std.specs.List.{find}
 use Rattle.cxx_hierarchy.specs.declared.records.ClassId.{ClassId}

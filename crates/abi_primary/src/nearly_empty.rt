@@ -22,7 +22,11 @@ fn is_nearly(nearly: &[bool], c: ClassId) -> bool
 fn has_one_pointer(nearly: &[bool], bases: &[Base<ClassId>]) -> bool
     ensures { IsTrue result ↔ (count_by (is_pointer_base nearly.now) bases.now ≤ 1) }
 {
-    bases.iter().filter(|base| !base.is_virtual && is_nearly(nearly, base.class)).count() <= 1
+    bases
+        .iter()
+        .filter(|base| !base.is_virtual && is_nearly(nearly, base.class))
+        .count()
+        <= 1
 }
 
 /// Whether each base is virtual, empty or nearly empty.

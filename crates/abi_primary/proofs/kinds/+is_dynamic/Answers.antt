@@ -30,4 +30,4 @@ pub returns : goal.returns
 returns t c =
     let class = c.class-class.result.now in
     never (never_dynamic c.args.h.now c.args.c class c.class-class.ensures (sym c.has_virtual_function.ensures ∙ c.if-has_virtual_function.false)
-      (all_nth (IsStill c.args.h.now) c.as_slice-base-items.result.now class.bases c.loop-base.base-index c.as_slice-base-items.ensures c.loop-base-test.false c.loop-base.invariant))
+    (all_nth (IsStill c.args.h.now) c.as_slice-base-items.result.now class.bases c.loop-base.base-index c.as_slice-base-items.ensures c.loop-base-test.false c.loop-base.invariant))

@@ -18,7 +18,7 @@ returns-then-base t c =
     let class = c.class-class.result.now in
     let has = nth_in xs class.bases i c.as_slice-base-items.ensures c.loop-base-test.true in
     never (λ k. let parts = empty_parts c.args.h.now c.args.c class c.class-class.ensures k in
-        elim c.then-base.branch [ then-base-via-then-base w ↦ not_both w.if-base.true (parts.ways (nth xs i) has) | then-base-via-else-base+then-not-is_empty w ↦ not_both (w.is_empty.ensures.1 (parts.bases (nth xs i) has)) w.if-not-is_empty.true ])
+    elim c.then-base.branch [ then-base-via-then-base w ↦ not_both w.if-base.true (parts.ways (nth xs i) has) | then-base-via-else-base+then-not-is_empty w ↦ not_both (w.is_empty.ensures.1 (parts.bases (nth xs i) has)) w.if-not-is_empty.true ])
 
 pub returns : goal.returns
 returns t c =
@@ -26,4 +26,4 @@ returns t c =
     let len = c.len.ensures in
     let few = c.if-len-gt0.false in
     always (empty_by c.args.h.now c.args.c class c.class-class.ensures (none_of class.members (omega arith)) (sym c.has_virtual_function.ensures ∙ c.if-has_virtual_function.false)
-      (all_nth (IsEmptyBase c.args.h.now) c.as_slice-base-items.result.now class.bases c.loop-base.base-index c.as_slice-base-items.ensures c.loop-base-test.false c.loop-base.invariant))
+    (all_nth (IsEmptyBase c.args.h.now) c.as_slice-base-items.result.now class.bases c.loop-base.base-index c.as_slice-base-items.ensures c.loop-base-test.false c.loop-base.invariant))
