@@ -1,280 +1,265 @@
--- Lemmas on the layout of one class, and on the rows of the classes so far.
-use Rattle.std.proofs.Common.{◌≡◌, ℕ, zero, suc, ◌+◌, ◌<◌, ◌≤◌, ◌⊎◌, inl, inr, ⊎_elim, Bool, true, false, Option, Some, None, List, [], ◌∷◌, ◌++◌, map, length, refl, ap, subst, sym, ◌∙◌, arith}
-use Rattle.std.specs.Prelude.{if◌then◌else◌, max}
+-- Lemmas on the components of a class, and on its row.
+use Rattle.std.proofs.Common.{◌≡◌, ℕ, zero, suc, ◌+◌, ◌*◌, ◌<◌, ◌≤◌, ◌⊎◌, inl, inr, ⊎_elim, Bool, true, false, Option, Some, None, List, [], ◌∷◌, ◌++◌, map, take, length, get_or, refl, ap, subst, sym, ◌∙◌, arith}
+use Rattle.std.specs.Prelude.{if◌then◌else◌, max, filter}
+use Rattle.std.specs.Option.{option_map}
+use Rattle.std.proofs.lemmas.List.{take_more, map-append}
+use Rattle.std.proofs.lemmas.Option.{slice_get-map, slice_get_read}
 use Rattle.std.specs.List.{slice_get, Contains}
-use Rattle.std.proofs.lemmas.Bool.{cases_order}
-use Rattle.std.proofs.lemmas.Option.{slice_get_within}
-use Rattle.std.proofs.Math.Nat.{max-eq_left, max-eq_right}
+use Rattle.std.proofs.Math.Nat.{mul-le-mul_right}
 use Rattle.cxx_hierarchy.specs.declared.records.ClassId.{ClassId}
 use Rattle.cxx_hierarchy.specs.declared.records.Base.{Base}
+use Rattle.cxx_hierarchy.specs.declared.records.Member.{Member}
+use Rattle.cxx_hierarchy.specs.declared.records.FieldType.{FieldType}
+use Rattle.cxx_hierarchy.specs.declared.records.FieldType.TheVariants.{Value, Object}
 use Rattle.cxx_hierarchy.specs.declared.records.Scalar.{Scalar}
 use Rattle.cxx_hierarchy.specs.declared.records.Scalar.TheVariants.{Bool as TheBool, Char, SChar, UChar, Short, UShort, Int, UInt, Long, ULong, LongLong, ULongLong}
 use Rattle.cxx_hierarchy.specs.declared.records.ValueType.{ValueType}
 use Rattle.cxx_hierarchy.specs.declared.records.ValueType.TheVariants.{Number, Pointer}
-use Rattle.cxx_hierarchy.specs.Classes.{Class, Classes, class_at, leaf_type_in}
+use Rattle.cxx_hierarchy.specs.Scalars.{size_of}
+use Rattle.cxx_hierarchy.specs.Classes.{Class}
+use Rattle.abi_emptybase.specs.declared.Part.{Part}
+use Rattle.abi_emptybase.specs.Table.{moved}
 use Rattle.abi_layout.specs.declared.component.Component.{Component}
+use Rattle.abi_layout.specs.declared.component.Stage.{Stage}
+use Rattle.abi_layout.specs.declared.known.Known.{Known}
+use Rattle.abi_layout.specs.declared.known.LaidClass.{LaidClass}
 use Rattle.abi_layout.specs.declared.class_layout.ClassLayout.{ClassLayout}
-use Rattle.abi_layout.specs.Sound.{Divides}
-use Rattle.abi_layout.specs.Plain.{IsPlain}
-use Rattle.abi_layout.specs.Laid.{IsNext, ArePlaced, end_of, component_in, value_component, base_component, member_component, base_components, member_components, greatest_align, bases_end, data_end, IsLayoutOf, is_pod, IsRow, IsLaid, AreSmall}
-use Rattle.abi_layout.specs.Alignments.{IsAlignment, byte, two_bytes, four_bytes, eight_bytes, IsComponent, AreComponents, IsWithin, AreWithin, IsPastLimit, IsTooLarge}
-use Rattle.abi_layout.proofs.Placing.{placed_is_one, end_above}
+use Rattle.abi_layout.specs.Places.{size_of_value, is_plain_base}
+use Rattle.abi_layout.specs.Kinds.{empty_kind, pod_kind}
+use Rattle.abi_layout.specs.Laid.{IsNext, ArePlaced, after, after_all, copies, count_of, size_of_type, align_of_type, parts_of_type, base_component, member_component, first_stage, bases_stage, last_stage, IsLayoutOf}
+use Rattle.abi_layout.specs.Alignments.{IsAlignment, byte, two_bytes, four_bytes, eight_bytes, AreWithin, IsFit, AreFit, AreLittle, IsPastLimit}
+use Rattle.abi_layout.specs.Known.{is_empty_in, parts_known, empties_in, pods_in, parts_in, IsWithin, AreAllWithin, IsEarlierType, bases_by, members_by, IsRowOf, HasLarge, IsRowBy, IsLaidClass, IsTooLarge}
+use Rattle.abi_layout.proofs.Lists.{get_within, has_here, has_later}
+use Rattle.abi_layout.proofs.Parts.{within_further, within_moved, within_both}
+use Rattle.abi_layout.proofs.PlacingLemmas.{size_grows, places_are_one, next_within}
 
--- the limit of sizes is a multiple of each alignment
-pub limit_multiple : (a : ℕ) → IsAlignment a → Divides a 500000
-limit_multiple _ byte = record { times = 500000; is = refl }
-limit_multiple _ two_bytes = record { times = 250000; is = refl }
-limit_multiple _ four_bytes = record { times = 125000; is = refl }
-limit_multiple _ eight_bytes = record { times = 62500; is = refl }
+pub copies_more : (n stride : ℕ) → suc n * stride ≡ n * stride + stride
+copies_more n stride = grind arith
 
-pub next_within : (start align place : ℕ) → IsAlignment align → start ≤ 500000 → IsNext start align place → place ≤ 500000
-next_within start align place known le next = next.least 500000 le (limit_multiple align known)
+-- copies of parts that lie within the stride
+pub copies_within : (n stride : ℕ) (parts : List Part) → AreWithin stride parts → AreWithin (n * stride) (copies n stride parts)
+copies_within zero stride parts w = tt
+copies_within (suc n) stride parts w =
+    let e = copies_more n stride in
+    within_both (suc n * stride) (copies n stride parts) (map (moved (n * stride)) parts)
+    (within_further (n * stride) (suc n * stride) (copies n stride parts) (omega arith) (copies_within n stride parts w))
+    (within_further (n * stride + stride) (suc n * stride) (map (moved (n * stride)) parts) (omega arith) (within_moved stride (n * stride) parts w))
 
-pub greater_alignment : (x y : ℕ) → IsAlignment x → IsAlignment y → IsAlignment (max x y)
-greater_alignment x y a b = ⊎_elim (λ e. subst IsAlignment (sym (max-eq_left (omega arith))) a) (λ o. ⊎_elim (λ l. subst IsAlignment (sym (max-eq_right (omega arith))) b) (λ g. subst IsAlignment (sym (max-eq_left (omega arith))) a) o) (cases_order x y)
+-- of a copy before the last
+pub copy_fits : (e n stride limit : ℕ) → e < n → n * stride ≤ limit → e * stride + stride ≤ limit
+copy_fits e n stride limit lt le =
+    let more : suc e * stride ≤ n * stride = mul-le-mul_right stride (let l : suc e ≤ n = omega arith in l) in
+    let is = copies_more e stride in omega arith
 
-pub greatest_alignment : (parts : List Component) → AreComponents parts → IsAlignment (greatest_align parts)
-greatest_alignment [] known = byte
-greatest_alignment (part ∷ parts) known = greater_alignment part.align (greatest_align parts) (known.each zero part refl).align (greatest_alignment parts (record { each = λ i q e. known.each (suc i) q e }))
+scalar_alignment : (t : Scalar) → IsAlignment (size_of t)
+scalar_alignment TheBool = byte
+scalar_alignment Char = byte
+scalar_alignment SChar = byte
+scalar_alignment UChar = byte
+scalar_alignment Short = two_bytes
+scalar_alignment UShort = two_bytes
+scalar_alignment Int = four_bytes
+scalar_alignment UInt = four_bytes
+scalar_alignment Long = eight_bytes
+scalar_alignment ULong = eight_bytes
+scalar_alignment LongLong = eight_bytes
+scalar_alignment ULongLong = eight_bytes
 
-pub greatest_positive : (parts : List Component) → 1 ≤ greatest_align parts
-greatest_positive [] = omega arith
-greatest_positive (part ∷ parts) = let r = greatest_positive parts in omega arith
+pub value_alignment : (type : ValueType ClassId) → IsAlignment (size_of_value type)
+value_alignment (Number t) = scalar_alignment t
+value_alignment (Pointer c) = eight_bytes
 
--- the alignment of a component is not above the greatest
-pub greatest_above : (parts : List Component) (i : ℕ) (part : Component) → slice_get parts i ≡ Some part → part.align ≤ greatest_align parts
-greatest_above [] i part e = cc
-greatest_above (x ∷ parts) zero part e = let same : x.align ≡ part.align = ap (λ (z : Component). z.align) (let s : x ≡ part = cc in s) in omega arith
-greatest_above (x ∷ parts) (suc i) part e = let r = greatest_above parts i part e in omega arith
+-- the row and what is known of a class that is laid out
+pub record HasEarlier (rows : List ClassLayout) (known : List Known) (c : ClassId) : Type 0 where
+  pub row : ClassLayout
+  pub k : Known
+  pub row_is : slice_get rows c.0 ≡ Some row
+  pub known_is : slice_get known c.0 ≡ Some k
+  pub within : IsWithin row k.parts
 
-scalar_component : (t : Scalar) → IsComponent (value_component (Some (Number t)))
-scalar_component TheBool = record { align = byte; takes = omega arith }
-scalar_component Char = record { align = byte; takes = omega arith }
-scalar_component SChar = record { align = byte; takes = omega arith }
-scalar_component UChar = record { align = byte; takes = omega arith }
-scalar_component Short = record { align = two_bytes; takes = omega arith }
-scalar_component UShort = record { align = two_bytes; takes = omega arith }
-scalar_component Int = record { align = four_bytes; takes = omega arith }
-scalar_component UInt = record { align = four_bytes; takes = omega arith }
-scalar_component Long = record { align = eight_bytes; takes = omega arith }
-scalar_component ULong = record { align = eight_bytes; takes = omega arith }
-scalar_component LongLong = record { align = eight_bytes; takes = omega arith }
-scalar_component ULongLong = record { align = eight_bytes; takes = omega arith }
+pub earlier_of : (rows : List ClassLayout) (known : List Known) (c : ClassId) → AreAllWithin rows known → c.0 < length rows → c.0 < length known → HasEarlier rows known c
+earlier_of rows known c all lt_rows lt_known =
+    let r = get_within rows c.0 lt_rows in
+    let k = get_within known c.0 lt_known in
+    record { row = r.0; k = k.0; row_is = r.1; known_is = k.1; within = all.each c.0 r.0 k.0 r.1 k.1 }
 
-pub value_known : (o : Option (ValueType ClassId)) → IsComponent (value_component o)
-value_known None = record { align = byte; takes = omega arith }
-value_known (Some (Number t)) = scalar_component t
-value_known (Some (Pointer c)) = record { align = eight_bytes; takes = omega arith }
-
-pub row_known : (rows : List ClassLayout) (i : ℕ) → AreWithin rows → IsComponent (component_in (slice_get rows i))
-row_known rows i within = by_cases (slice_get rows i) refl
+pub base_fit : (rows : List ClassLayout) (known : List Known) (base : Base ClassId) → AreAllWithin rows known → base.class.0 < length rows → base.class.0 < length known → IsFit (base_component (empties_in known) rows (parts_in known) base)
+base_fit rows known base all lt_rows lt_known =
+    let e = earlier_of rows known base.class all lt_rows lt_known in
+    at e.row e.k e.row_is e.known_is e.within
   where
-    by_cases : (o : Option ClassLayout) → slice_get rows i ≡ o → IsComponent (component_in o)
-    by_cases None e = record { align = byte; takes = omega arith }
-    by_cases (Some row) e = let w = within.each i row e in record { align = w.align; takes = let a = w.nvsize in let b = w.size in omega arith }
+    takes_of : Bool → ClassLayout → ℕ
+    takes_of b row = if b then row.size else row.nvsize
 
--- what holds of each image
-map_known : {X : Type 0} (f : X → Component) (xs : List X) → ((x : X) → IsComponent (f x)) → AreComponents (map f xs)
-map_known {X} f xs each = record { each = at xs }
-  where
-    at : (ys : List X) (i : ℕ) (part : Component) → slice_get (map f ys) i ≡ Some part → IsComponent part
-    at [] i part e = cc
-    at (y ∷ ys) zero part e = let same : f y ≡ part = cc in subst IsComponent same (each y)
-    at (y ∷ ys) (suc i) part e = at ys i part e
-
-pub bases_known : (rows : List ClassLayout) (class : Class) → AreWithin rows → AreComponents (base_components rows class)
-bases_known rows class within = map_known (base_component rows) class.bases (λ base. row_known rows base.class.0 within)
-
-pub members_known : (class : Class) → AreComponents (member_components class)
-members_known class = map_known member_component class.members (λ member. value_known (leaf_type_in (Some member)))
-
--- components are placed, where they, their start and their places are equal
-pub placed_same : (start begin : ℕ) (parts others : List Component) (places numbers : List ℕ) → start ≡ begin → parts ≡ others → places ≡ numbers → ArePlaced start parts places → ArePlaced begin others numbers
-placed_same start begin parts others places numbers s p n placed =
-    subst (λ x. ArePlaced x others numbers) s (subst (λ (x : List Component). ArePlaced start x numbers) p (subst (λ x. ArePlaced start parts x) n placed))
-
-pub end_same : (start begin : ℕ) (parts others : List Component) (places numbers : List ℕ) → start ≡ begin → parts ≡ others → places ≡ numbers → end_of start parts places ≡ end_of begin others numbers
-end_same start begin parts others places numbers s p n =
-    ap (λ x. end_of x parts places) s ∙ (ap (λ (x : List Component). end_of begin x places) p ∙ ap (end_of begin others) n)
-
--- the row that was made is the layout
-pub row_is_laid : (bases members : List Component) (pod : Bool) (row : ClassLayout) (base_end end : ℕ)
-    → ArePlaced 0 bases row.base_places → base_end ≡ end_of 0 bases row.base_places
-    → ArePlaced base_end members row.member_places → end ≡ end_of base_end members row.member_places
-    → row.align ≡ max (greatest_align bases) (greatest_align members) → IsNext (max end 1) row.align row.size
-    → row.dsize ≡ (if pod then row.size else end) → row.nvsize ≡ row.dsize → row.nvalign ≡ row.align
-    → row.primary ≡ Rattle.abi_layout.specs.declared.class_layout.Primary.TheVariants.None → row.virtual_places ≡ [] → IsLayoutOf bases members pod row
-row_is_laid bases members pod row base_end end placed base_is members_placed end_is align size dsize nvsize nvalign primary virtual =
-    let data_is : end ≡ data_end bases members row = end_is ∙ ap (λ s. end_of s members row.member_places) base_is in
-    record {
-      bases_placed = placed;
-      members_placed = subst (λ s. ArePlaced s members row.member_places) base_is members_placed;
-      align = align;
-      size = subst (λ s. IsNext s row.align row.size) (let e : max end 1 ≡ max 1 (data_end bases members row) = omega arith in e) size;
-      dsize = dsize ∙ ap (λ s. if pod then row.size else s) data_is;
-      nvsize = nvsize;
-      nvalign = nvalign;
-      primary = primary;
-      virtual = virtual;
-    }
-
--- the size is behind the data, and the alignment is one
-pub size_above : (bases members : List Component) (pod : Bool) (row : ClassLayout) → IsLayoutOf bases members pod row → data_end bases members row ≤ row.size
-size_above bases members pod row l = let b = l.size.behind in omega arith
-
-pub nvsize_below : (bases members : List Component) (pod : Bool) (row : ClassLayout) → IsLayoutOf bases members pod row → row.nvsize ≤ row.size
-nvsize_below bases members pod row l =
-    let a = size_above bases members pod row l in
-    let d : row.nvsize ≡ (if pod then row.size else data_end bases members row) = l.nvsize ∙ l.dsize in
-    let le : (if pod then row.size else data_end bases members row) ≤ row.size = by_cases pod a in omega arith
-  where
-    by_cases : (b : Bool) → data_end bases members row ≤ row.size → (if b then row.size else data_end bases members row) ≤ row.size
-    by_cases true a = omega arith
-    by_cases false a = a
-
-pub data_below : (bases members : List Component) (pod : Bool) (row : ClassLayout) → IsLayoutOf bases members pod row → data_end bases members row ≤ row.nvsize
-data_below bases members pod row l =
-    let a = size_above bases members pod row l in
-    let d : row.nvsize ≡ (if pod then row.size else data_end bases members row) = l.nvsize ∙ l.dsize in
-    let le : data_end bases members row ≤ (if pod then row.size else data_end bases members row) = by_cases pod a in omega arith
-  where
-    by_cases : (b : Bool) → data_end bases members row ≤ row.size → data_end bases members row ≤ (if b then row.size else data_end bases members row)
-    by_cases true a = a
-    by_cases false a = omega arith
-
-pub align_known : (bases members : List Component) (pod : Bool) (row : ClassLayout) → AreComponents bases → AreComponents members → IsLayoutOf bases members pod row → IsAlignment row.align
-align_known bases members pod row b m l = subst IsAlignment (sym l.align) (greater_alignment (greatest_align bases) (greatest_align members) (greatest_alignment bases b) (greatest_alignment members m))
-
-pub row_within : (bases members : List Component) (pod : Bool) (row : ClassLayout) → AreComponents bases → AreComponents members → IsLayoutOf bases members pod row → data_end bases members row ≤ 500000 → IsWithin row
-row_within bases members pod row b m l le =
-    let known = align_known bases members pod row b m l in
-    record {
-      align = subst IsAlignment (sym l.nvalign) known;
-      nvsize = nvsize_below bases members pod row l;
-      size = next_within (max 1 (data_end bases members row)) row.align row.size known (omega arith) l.size;
-    }
-
--- the bases of a class pass the limit
-pub bases_too_large : (rows : List ClassLayout) (class : Class) → IsPastLimit 0 (base_components rows class) → IsTooLarge rows class
-bases_too_large rows class past = record {
-  large = λ row l.
-      let bases = base_components rows class in
-      let members = member_components class in
-      let p = past.past row.base_places l.bases_placed in
-      let e = end_above (bases_end bases row) members row.member_places l.members_placed in
-      let s = size_above bases members (is_pod class) row l in
-      omega arith;
-}
-
--- the members behind the bases pass it
-pub members_too_large : (rows : List ClassLayout) (class : Class) (places : List ℕ) (end : ℕ) → ArePlaced 0 (base_components rows class) places → end ≡ end_of 0 (base_components rows class) places → IsPastLimit end (member_components class) → IsTooLarge rows class
-members_too_large rows class places end placed is past = record {
-  large = λ row l.
-      let bases = base_components rows class in
-      let members = member_components class in
-      let same : places ≡ row.base_places = placed_is_one 0 bases places row.base_places placed l.bases_placed in
-      let ends : end ≡ bases_end bases row = is ∙ ap (end_of 0 bases) same in
-      let p = past.past row.member_places (subst (λ s. ArePlaced s members row.member_places) (sym ends) l.members_placed) in
-      let q : 500000 < data_end bases members row = subst (λ s. 500000 < end_of s members row.member_places) ends p in
-      let s = size_above bases members (is_pod class) row l in
-      omega arith;
-}
-
--- the number of a class
-abbrev pub number : ℕ → ClassId
-number n = record { 0 = n }
-
--- the first n classes have the layout of these rows
-pub record AreLaid (h : Classes) (n : ℕ) (rows : List ClassLayout) : Type 0 where
-  pub count : length rows ≡ n
-  pub row : (c : ClassId) (class : Class) (row : ClassLayout) → class_at h c ≡ Some class → slice_get rows c.0 ≡ Some row → IsRow rows class row
-
--- each row of the first list is one of the second
-pub record Extends (rows all : List ClassLayout) : Type 0 where
-  pub each : (i : ℕ) (row : ClassLayout) → slice_get rows i ≡ Some row → slice_get all i ≡ Some row
-
-pub get_within : {X : Type 0} (xs : List X) (i : ℕ) → i < length xs → (x : X) × (slice_get xs i ≡ Some x)
-get_within [] i lt = absurd (omega arith)
-get_within (x ∷ xs) zero lt = (x, refl)
-get_within (x ∷ xs) (suc i) lt = get_within xs i (omega arith)
-
-pub has_here : {X : Type 0} (x : X) (xs : List X) → Contains (x ∷ xs) x
-has_here x xs = (zero, omega arith, refl)
-
-pub has_later : {X : Type 0} (y : X) (xs : List X) (x : X) → Contains xs x → Contains (y ∷ xs) x
-has_later y xs x h = let lt = h.1 in (suc h.0, omega arith, h.2)
-
-pub has_at : {X : Type 0} (xs : List X) (i : ℕ) (x : X) → slice_get xs i ≡ Some x → Contains xs x
-has_at [] i x e = cc
-has_at (y ∷ xs) zero x e = let same : y ≡ x = cc in subst (λ z. Contains (y ∷ xs) z) same (has_here y xs)
-has_at (y ∷ xs) (suc i) x e = has_later y xs x (has_at xs i x e)
-
-pub get_left : {X : Type 0} (xs ys : List X) (i : ℕ) (x : X) → slice_get xs i ≡ Some x → slice_get (xs ++ ys) i ≡ Some x
-get_left [] ys i x e = cc
-get_left (y ∷ xs) ys zero x e = e
-get_left (y ∷ xs) ys (suc i) x e = get_left xs ys i x e
-
--- a class by a longer list of rows
-same_parts : (rows all : List ClassLayout) (bases : List (Base ClassId)) → Extends rows all → ((base : Base ClassId) → Contains bases base → base.class.0 < length rows) → map (base_component rows) bases ≡ map (base_component all) bases
-same_parts rows all [] extends below = refl
-same_parts rows all (base ∷ bases) extends below =
-    let there = get_within rows base.class.0 (below base (has_here base bases)) in
-    let first : base_component rows base ≡ base_component all base = ap component_in (there.1 ∙ sym (extends.each base.class.0 there.0 there.1)) in
-    let rest = same_parts rows all bases extends (λ b k. below b (has_later base bases b k)) in
-    cc
-
-pub row_extends : (rows all : List ClassLayout) (class : Class) (row : ClassLayout) → Extends rows all → ((base : Base ClassId) → Contains class.bases base → base.class.0 < length rows) → IsRow rows class row → IsRow all class row
-row_extends rows all class row extends below l = subst (λ (bases : List Component). IsLayoutOf bases (member_components class) (is_pod class) row) (same_parts rows all class.bases extends below) l
-
-pub row_shrinks : (rows all : List ClassLayout) (class : Class) (row : ClassLayout) → Extends rows all → ((base : Base ClassId) → Contains class.bases base → base.class.0 < length rows) → IsRow all class row → IsRow rows class row
-row_shrinks rows all class row extends below l = subst (λ (bases : List Component). IsLayoutOf bases (member_components class) (is_pod class) row) (sym (same_parts rows all class.bases extends below)) l
-
--- the bases of a class stand before it
-pub bases_before : (h : Classes) (n k : ℕ) (class : Class) → IsPlain h → class_at h (number n) ≡ Some class → n ≤ k → (base : Base ClassId) → Contains class.bases base → base.class.0 < k
-bases_before h n k class plain at le base has = let p = ((plain.each (number n) class at).bases base has).before in omega arith
-
--- one more row
-pub laid_more : (h : Classes) (n : ℕ) (rows : List ClassLayout) (class : Class) (row : ClassLayout) → IsPlain h → AreLaid h n rows → class_at h (number n) ≡ Some class → IsRow rows class row → AreLaid h (n + 1) (rows ++ row ∷ [])
-laid_more h n rows class row plain laid at is = record { count = grown; row = each }
-  where
-    more : Extends rows (rows ++ row ∷ [])
-    more = record { each = get_left rows (row ∷ []) }
-
-    grown : length (rows ++ row ∷ []) ≡ n + 1
-    grown = let e = laid.count in let f = length_one rows in omega arith
+    at : (row : ClassLayout) (k : Known) → slice_get rows base.class.0 ≡ Some row → slice_get known base.class.0 ≡ Some k → IsWithin row k.parts → IsFit (base_component (empties_in known) rows (parts_in known) base)
+    at row k r q w = rw (r, q) (made k.is_empty)
       where
-        length_one : (xs : List ClassLayout) → length (xs ++ row ∷ []) ≡ length xs + 1
-        length_one [] = refl
-        length_one (x ∷ xs) = let r = length_one xs in omega arith
+        made : (b : Bool) → IsFit (record { is_empty = b; align = row.nvalign; takes = if b then row.size else row.nvsize; parts = k.parts })
+        made true = record { align = w.nvalign; takes = w.size; parts = within_further row.nvsize row.size k.parts w.nvsize w.parts }
+        made false = record { align = w.nvalign; takes = let a = w.nvsize in let b = w.size in omega arith; parts = w.parts }
 
-    last : (xs : List ClassLayout) (i : ℕ) (r : ClassLayout) → slice_get (xs ++ row ∷ []) i ≡ Some r → (slice_get xs i ≡ Some r) ⊎ ((i ≡ length xs) × (row ≡ r))
-    last [] zero r e = inr (refl, cc)
-    last [] (suc i) r e = cc
-    last (x ∷ xs) zero r e = inl e
-    last (x ∷ xs) (suc i) r e = ⊎_elim (λ l. inl l) (λ p. let q = p.0 in inr (omega arith, p.1)) (last xs i r e)
+-- the parts of a member or element lie within its size
+pub type_within : (rows : List ClassLayout) (known : List Known) (type : FieldType ClassId) → AreAllWithin rows known → IsEarlierType (length rows) type → length known ≡ length rows → AreWithin (size_of_type rows type) (parts_of_type (parts_in known) type)
+type_within rows known (Value type) all earlier same = tt
+type_within rows known (Object d) all earlier same =
+    let lt : d.0 < length rows = earlier in
+    let e = earlier_of rows known d all lt (omega arith) in
+    rw (e.row_is, e.known_is) (within_further e.row.nvsize e.row.size e.k.parts e.within.nvsize e.within.parts)
 
-    each : (c : ClassId) (k : Class) (r : ClassLayout) → class_at h c ≡ Some k → slice_get (rows ++ row ∷ []) c.0 ≡ Some r → IsRow (rows ++ row ∷ []) k r
-    each c k r there e = ⊎_elim
-        (λ old. let lt = slice_get_within rows c.0 r old in row_extends rows (rows ++ row ∷ []) k r more (bases_before h c.0 (length rows) k plain there (omega arith)) (laid.row c k r there old))
-        (λ new.
-        let count = laid.count in
-        let position : c.0 ≡ n = new.0 ∙ count in
-        let same : class ≡ k = let f : slice_get h n ≡ Some k = subst (λ i. slice_get h i ≡ Some k) position there in cc in
-        subst (λ (z : Class). IsRow (rows ++ row ∷ []) z r) same (subst (λ (z : ClassLayout). IsRow (rows ++ row ∷ []) class z) new.1
-        (row_extends rows (rows ++ row ∷ []) class row more (bases_before h n (length rows) class plain at (omega arith)) is)))
-        (last rows c.0 r e)
+pub type_alignment : (rows : List ClassLayout) (known : List Known) (type : FieldType ClassId) → AreAllWithin rows known → IsEarlierType (length rows) type → length known ≡ length rows → IsAlignment (align_of_type rows type)
+type_alignment rows known (Value type) all earlier same = value_alignment type
+type_alignment rows known (Object d) all earlier same =
+    let lt : d.0 < length rows = earlier in
+    let e = earlier_of rows known d all lt (omega arith) in
+    rw e.row_is e.within.align
 
-pub within_more : (rows : List ClassLayout) (row : ClassLayout) → AreWithin rows → IsWithin row → AreWithin (rows ++ row ∷ [])
-within_more rows row within here = record { each = at rows within.each }
+pub member_fit : (rows : List ClassLayout) (known : List Known) (member : Member ClassId) → AreAllWithin rows known → IsEarlierType (length rows) member.ty → length known ≡ length rows → count_of member.count * size_of_type rows member.ty ≤ 500000 → IsFit (member_component rows (parts_in known) member)
+member_fit rows known member all earlier same le = record {
+  align = type_alignment rows known member.ty all earlier same;
+  takes = le;
+  parts = copies_within (count_of member.count) (size_of_type rows member.ty) (parts_of_type (parts_in known) member.ty) (type_within rows known member.ty all earlier same);
+}
+
+pub little_more : (cs : List Component) (c : Component) → AreLittle cs → c.takes ≤ 500000 → AreLittle (cs ++ c ∷ [])
+little_more [] c little one = (one, tt)
+little_more (x ∷ cs) c little one = (little.0, little_more cs c little.1 one)
+
+-- the direct bases, and the members
+pub bases_fit : (rows : List ClassLayout) (known : List Known) (bases : List (Base ClassId)) → AreAllWithin rows known → length known ≡ length rows → ((base : Base ClassId) → Contains bases base → base.class.0 < length rows)
+    → AreFit (map (base_component (empties_in known) rows (parts_in known)) (filter is_plain_base bases))
+bases_fit rows known [] all same earlier = tt
+bases_fit rows known (base ∷ bases) all same earlier =
+    let lt = earlier base (has_here base bases) in
+    let here = base_fit rows known base all lt (omega arith) in
+    let rest = bases_fit rows known bases all same (λ b h. earlier b (has_later base bases b h)) in
+    at (is_plain_base base) here rest
   where
-    at : (xs : List ClassLayout) → ((i : ℕ) (r : ClassLayout) → slice_get xs i ≡ Some r → IsWithin r) → (i : ℕ) (r : ClassLayout) → slice_get (xs ++ row ∷ []) i ≡ Some r → IsWithin r
-    at [] each zero r e = let same : row ≡ r = cc in subst IsWithin same here
-    at [] each (suc i) r e = cc
-    at (x ∷ xs) each zero r e = each zero r e
-    at (x ∷ xs) each (suc i) r e = at xs (λ j q f. each (suc j) q f) i r e
+    at : (b : Bool) → IsFit (base_component (empties_in known) rows (parts_in known) base) → AreFit (map (base_component (empties_in known) rows (parts_in known)) (filter is_plain_base bases))
+        → AreFit (map (base_component (empties_in known) rows (parts_in known)) (if b then base ∷ filter is_plain_base bases else filter is_plain_base bases))
+    at true here rest = (here, rest)
+    at false here rest = rest
 
-pub within_small : (rows : List ClassLayout) → AreWithin rows → AreSmall rows
-within_small rows within = record { each = λ i row e. (within.each i row e).size }
+pub members_fit : (rows : List ClassLayout) (known : List Known) (members : List (Member ClassId)) → AreAllWithin rows known → length known ≡ length rows → ((member : Member ClassId) → Contains members member → IsEarlierType (length rows) member.ty)
+    → AreLittle (map (member_component rows (parts_in known)) members) → AreFit (map (member_component rows (parts_in known)) members)
+members_fit rows known [] all same earlier little = tt
+members_fit rows known (member ∷ members) all same earlier little = (
+  member_fit rows known member all (earlier member (has_here member members)) same little.0,
+  members_fit rows known members all same (λ m h. earlier m (has_later member members m h)) little.1,
+)
 
-pub laid_all : (h : Classes) (n : ℕ) (rows : List ClassLayout) → AreLaid h n rows → n ≡ length h → IsLaid h rows
-laid_all h n rows laid e = record { one_each = laid.count ∙ e; row = laid.row }
+-- one more of a list's images
+pub map_more : {X Y : Type 0} (f : X → Y) (xs : List X) (i : ℕ) (item : X) → i < length xs → item ≡ get_or xs i item → map f (take (i + 1) xs) ≡ map f (take i xs) ++ f item ∷ []
+map_more f xs i item lt is = ap (map f) (take_more xs i item lt) ∙ (map-append f (take i xs) (get_or xs i item ∷ []) ∙ ap (λ y. map f (take i xs) ++ f y ∷ []) (sym is))
+
+pub get_map : {X Y : Type 0} (f : X → Y) (xs : List X) (i : ℕ) (item : X) → i < length xs → item ≡ get_or xs i item → slice_get (map f xs) i ≡ Some (f item)
+get_map f xs i item lt is = slice_get-map f xs i ∙ ap (option_map f) (slice_get_read xs (length xs) i item refl lt is)
+
+-- a component that takes more than the limit makes the size pass it
+pub large_passes : (stage : Stage) (cs : List Component) (ps : List ℕ) (i : ℕ) (c : Component) (limit : ℕ) → ArePlaced stage cs ps → slice_get cs i ≡ Some c → limit < c.takes → limit < (after_all stage cs ps).size
+large_passes stage [] ps i c limit a e lt = cc
+large_passes stage (x ∷ cs) [] i c limit a e lt = absurd a
+large_passes stage (x ∷ cs) (p ∷ ps) zero c limit a e lt =
+    let same : x.takes ≡ c.takes = ap (λ (z : Component). z.takes) (let s : x ≡ c = cc in s) in
+    let g = size_grows (after stage x p) cs ps in omega arith
+large_passes stage (x ∷ cs) (p ∷ ps) (suc i) c limit a e lt = large_passes (after stage x p) cs ps i c limit a.1 e lt
+
+row_past : (first : Stage) (bases members : List Component) (pod : Bool) (row : ClassLayout) → IsLayoutOf first bases members pod row → 500000 < (last_stage first bases members row).size → 500000 < row.size
+row_past first bases members pod row l past = let b = l.size.behind in omega arith
+
+pub members_too_large : (rows : List ClassLayout) (known : List Known) (c : ClassId) (class : Class) → HasLarge (members_by rows known class) → IsTooLarge rows known c class
+members_too_large rows known c class has = record {
+  large = λ row l.
+      let first = first_stage c in
+      let bases = bases_by rows known class in
+      let members = members_by rows known class in
+      row_past first bases members (pod_kind (pods_in known) class) row l
+      (large_passes (bases_stage first bases row) members row.member_places has.number has.component 500000 l.members_placed has.there has.large);
+}
+
+pub bases_past : (rows : List ClassLayout) (known : List Known) (c : ClassId) (class : Class) → IsPastLimit (first_stage c) (bases_by rows known class) → IsTooLarge rows known c class
+bases_past rows known c class past = record {
+  large = λ row l.
+      let first = first_stage c in
+      let bases = bases_by rows known class in
+      let members = members_by rows known class in
+      let p = past.past row.base_places l.bases_placed in
+      let g = size_grows (bases_stage first bases row) members row.member_places in
+      row_past first bases members (pod_kind (pods_in known) class) row l (omega arith);
+}
+
+pub members_past : (rows : List ClassLayout) (known : List Known) (c : ClassId) (class : Class) (places : List ℕ) → ArePlaced (first_stage c) (bases_by rows known class) places
+    → IsPastLimit (after_all (first_stage c) (bases_by rows known class) places) (members_by rows known class) → IsTooLarge rows known c class
+members_past rows known c class places placed past = record {
+  large = λ row l.
+      let first = first_stage c in
+      let bases = bases_by rows known class in
+      let members = members_by rows known class in
+      let same : row.base_places ≡ places = places_are_one first bases row.base_places places l.bases_placed placed in
+      let p = past.past row.member_places (subst (λ ps. ArePlaced (after_all first bases ps) members row.member_places) same l.members_placed) in
+      row_past first bases members (pod_kind (pods_in known) class) row l
+      (subst (λ ps. 500000 < (after_all (after_all first bases ps) members row.member_places).size) (sym same) p);
+}
+
+-- the row that was made of placed components is the layout
+pub row_is_laid : (first last : Stage) (bases members : List Component) (pod : Bool) (ps qs : List ℕ) (row : ClassLayout)
+    → ArePlaced first bases ps → ArePlaced (after_all first bases ps) members qs → last ≡ after_all (after_all first bases ps) members qs
+    → IsRowOf last pod ps qs row → IsLayoutOf first bases members pod row
+row_is_laid first last bases members pod ps qs row b m l r =
+    let is : last ≡ last_stage first bases members row =
+    l ∙ (ap (λ xs. after_all (after_all first bases xs) members qs) (sym r.bases_are) ∙ ap (λ xs. after_all (after_all first bases row.base_places) members xs) (sym r.members_are)) in
+    record {
+      bases_placed = subst (λ xs. ArePlaced first bases xs) (sym r.bases_are) b;
+      members_placed = subst (λ xs. ArePlaced (after_all first bases xs) members row.member_places) (sym r.bases_are) (subst (λ xs. ArePlaced (after_all first bases ps) members xs) (sym r.members_are) m);
+      align = r.align ∙ ap (λ (s : Stage). s.align) is;
+      size = subst (λ (s : Stage). IsNext (max 1 s.size) row.align row.size) is r.size;
+      dsize = r.dsize ∙ ap (λ (s : Stage). if pod then row.size else s.dsize) is;
+      nvsize = r.nvsize ∙ ap (λ (s : Stage). if pod then row.size else s.size) is;
+      nvalign = r.nvalign;
+      primary = r.primary;
+      virtual = r.virtual;
+    }
+
+pub row_within : (last : Stage) (pod : Bool) (ps qs : List ℕ) (row : ClassLayout) → IsAlignment last.align → last.size ≤ 500000 → AreWithin last.size last.parts → IsRowOf last pod ps qs row → IsWithin row last.parts
+row_within last pod ps qs row known small parts r =
+    let behind = r.size.behind in
+    let align = subst IsAlignment (sym r.align) known in
+    let nvsize : (row.nvsize ≤ row.size) × (last.size ≤ row.nvsize) = subst (λ n. (n ≤ row.size) × (last.size ≤ n)) (sym r.nvsize) (by_cases pod behind) in
+    record {
+      align = align;
+      nvalign = subst IsAlignment (sym r.nvalign) align;
+      nvsize = nvsize.0;
+      size = next_within (max 1 last.size) row.align row.size align (omega arith) r.size;
+      parts = within_further last.size row.nvsize last.parts nvsize.1 parts;
+    }
+  where
+    by_cases : (b : Bool) → max 1 last.size ≤ row.size → ((if b then row.size else last.size) ≤ row.size) × (last.size ≤ (if b then row.size else last.size))
+    by_cases true le = (omega arith, omega arith)
+    by_cases false le = (omega arith, omega arith)
+
+last_is : (first last : Stage) (bases members : List Component) (pod : Bool) (ps qs : List ℕ) (row : ClassLayout) → last ≡ after_all (after_all first bases ps) members qs → IsRowOf last pod ps qs row → last ≡ last_stage first bases members row
+last_is first last bases members pod ps qs row l r =
+    l ∙ (ap (λ xs. after_all (after_all first bases xs) members qs) (sym r.bases_are) ∙ ap (λ xs. after_all (after_all first bases row.base_places) members xs) (sym r.members_are))
+
+abbrev pub laid_class : ClassLayout → Bool → Bool → List Part → LaidClass
+laid_class row is_empty is_pod parts = record { row = row; known = record { is_empty = is_empty; is_pod = is_pod; parts = parts } }
+
+-- what is kept of a class whose components were placed
+pub class_is_laid : (rows : List ClassLayout) (known : List Known) (c : ClassId) (class : Class) (empty pod : Bool) (bases members : List Component) (first mid last : Stage) (ps qs : List ℕ) (row : ClassLayout)
+    → empty ≡ empty_kind (empties_in known) class → pod ≡ pod_kind (pods_in known) class → bases ≡ bases_by rows known class → members ≡ members_by rows known class
+    → first ≡ first_stage c → ArePlaced first bases ps → mid ≡ after_all first bases ps → ArePlaced mid members qs → last ≡ after_all mid members qs
+    → IsAlignment last.align → last.size ≤ 500000 → AreWithin last.size last.parts → IsRowOf last pod ps qs row → IsLaidClass rows known c class (laid_class row empty pod last.parts)
+class_is_laid rows known c class empty pod bases members first mid last ps qs row e p b m f bp mid_is mp last_eq known_align small parts r =
+    let start = first_stage c in
+    let first_is : first ≡ start = f in
+    let placed : ArePlaced start (bases_by rows known class) ps = subst (λ (s : Stage). ArePlaced s (bases_by rows known class) ps) first_is (subst (λ (cs : List Component). ArePlaced first cs ps) b bp) in
+    let mid_eq : mid ≡ after_all start (bases_by rows known class) ps = mid_is ∙ (ap (λ (cs : List Component). after_all first cs ps) b ∙ ap (λ (s : Stage). after_all s (bases_by rows known class) ps) first_is) in
+    let members_placed : ArePlaced (after_all start (bases_by rows known class) ps) (members_by rows known class) qs = subst (λ (s : Stage). ArePlaced s (members_by rows known class) qs) mid_eq (subst (λ (cs : List Component). ArePlaced mid cs qs) m mp) in
+    let last_all : last ≡ after_all (after_all start (bases_by rows known class) ps) (members_by rows known class) qs = last_eq ∙ (ap (λ (cs : List Component). after_all mid cs qs) m ∙ ap (λ (s : Stage). after_all s (members_by rows known class) qs) mid_eq) in
+    let row_is : IsRowOf last (pod_kind (pods_in known) class) ps qs row = subst (λ x. IsRowOf last x ps qs row) p r in
+    record {
+      row = row_is_laid start last (bases_by rows known class) (members_by rows known class) (pod_kind (pods_in known) class) ps qs row placed members_placed last_all row_is;
+      is_empty = e;
+      is_pod = p;
+      parts = ap (λ (s : Stage). s.parts) (last_is start last (bases_by rows known class) (members_by rows known class) (pod_kind (pods_in known) class) ps qs row last_all row_is);
+      within = row_within last pod ps qs row known_align small parts r;
+    }

@@ -1,9 +1,12 @@
--- The alignments on LP64, and what is known of components and of rows that the rules gave.
-use Rattle.std.specs.Prelude.{◌≡◌, ℕ, ◌<◌, ◌≤◌, Some, List, slice_get}
-use Rattle.cxx_hierarchy.specs.Classes.{Class}
+-- The alignments on LP64, and what is known of components, stages and rows within the limit of sizes.
+use Rattle.std.specs.Prelude.{◌≡◌, ℕ, ◌<◌, ◌≤◌, false, Some, List, [], ◌∷◌, ◌++◌, slice_get}
+use Rattle.abi_emptybase.specs.declared.Part.{Part}
+use Rattle.abi_emptybase.specs.Table.{holds, has_conflict}
 use Rattle.abi_layout.specs.declared.component.Component.{Component}
+use Rattle.abi_layout.specs.declared.component.Stage.{Stage}
+use Rattle.abi_layout.specs.declared.placing.Placing.{Placing}
 use Rattle.abi_layout.specs.declared.class_layout.ClassLayout.{ClassLayout}
-use Rattle.abi_layout.specs.Laid.{ArePlaced, end_of, IsRow}
+use Rattle.abi_layout.specs.Laid.{IsPlace, ArePlaced, after_all}
 
 -- an alignment in bytes
 pub data IsAlignment : ℕ → Type 0 where
@@ -12,27 +15,45 @@ pub data IsAlignment : ℕ → Type 0 where
   four_bytes : IsAlignment 4
   eight_bytes : IsAlignment 8
 
+-- no part lies behind a place
+abbrev pub AreWithin : ℕ → List Part → Type 0
+AreWithin end [] = Unit {0}
+AreWithin end (part ∷ parts) = (part.place ≤ end) × AreWithin end parts
+
 -- a component with an alignment, not above the limit of sizes
-pub record IsComponent (part : Component) : Type 0 where
-  pub align : IsAlignment part.align
-  pub takes : part.takes ≤ 500000
+pub record IsFit (component : Component) : Type 0 where
+  pub align : IsAlignment component.align
+  pub takes : component.takes ≤ 500000
+  pub parts : AreWithin component.takes component.parts
 
-pub record AreComponents (parts : List Component) : Type 0 where
-  pub each : (i : ℕ) (part : Component) → slice_get parts i ≡ Some part → IsComponent part
+abbrev pub AreFit : List Component → Type 0
+AreFit [] = Unit {0}
+AreFit (component ∷ components) = IsFit component × AreFit components
 
--- a row with an alignment, not above the limit of sizes
-pub record IsWithin (row : ClassLayout) : Type 0 where
-  pub align : IsAlignment row.nvalign
-  pub nvsize : row.nvsize ≤ row.size
-  pub size : row.size ≤ 500000
+-- none takes more than the limit of sizes
+abbrev pub AreLittle : List Component → Type 0
+AreLittle [] = Unit {0}
+AreLittle (component ∷ components) = (component.takes ≤ 500000) × AreLittle components
 
-pub record AreWithin (rows : List ClassLayout) : Type 0 where
-  pub each : (number : ℕ) (row : ClassLayout) → slice_get rows number ≡ Some row → IsWithin row
+-- the table has what the stage's list of parts has
+pub record HasTable (placing : Placing) : Type 0 where
+  pub same : (q : Part) → holds placing.table q ≡ holds placing.stage.parts q
 
--- wherever the rules place the components, the last one ends behind the limit
-pub record IsPastLimit (start : ℕ) (parts : List Component) : Type 0 where
-  pub past : (places : List ℕ) → ArePlaced start parts places → 500000 < end_of start parts places
+abbrev pub with_parts : Stage → List Part → Stage
+with_parts stage parts = record { dsize = stage.dsize; size = stage.size; align = stage.align; parts = stage.parts ++ parts }
 
--- the rules give the class a size above the limit
-pub record IsTooLarge (rows : List ClassLayout) (class : Class) : Type 0 where
-  pub large : (row : ClassLayout) → IsRow rows class row → 500000 < row.size
+-- a stage with an alignment, within the limit of sizes, and the table of its parts
+pub record IsPlacing (placing : Placing) : Type 0 where
+  pub table : HasTable placing
+  pub align : IsAlignment placing.stage.align
+  pub dsize : placing.stage.dsize ≤ placing.stage.size
+  pub size : placing.stage.size ≤ 500000
+  pub parts : AreWithin placing.stage.size placing.stage.parts
+
+-- wherever the rules place the component, it lies behind the limit
+pub record HasNoPlace (stage : Stage) (component : Component) : Type 0 where
+  pub past : (place : ℕ) → IsPlace stage component place → 500000 < place
+
+-- wherever the rules place the components, the size passes the limit
+pub record IsPastLimit (stage : Stage) (components : List Component) : Type 0 where
+  pub past : (places : List ℕ) → ArePlaced stage components places → 500000 < (after_all stage components places).size

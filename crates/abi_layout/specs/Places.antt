@@ -10,11 +10,12 @@ use Rattle.cxx_subobject.specs.declared.Subobject.{Subobject}
 use Rattle.cxx_subobject.specs.Subobjects.{tail_of}
 use Rattle.abi_layout.specs.declared.class_layout.ClassLayout.{ClassLayout}
 
--- the size of a class, its alignment, the place of a subobject in an object of the class, and the place of a
--- member in an object of the class that declares it
+-- the size of a class, its alignment, its alignment as a base, the place of a subobject in an object of the class,
+-- and the place of a member in an object of the class that declares it
 pub record Places : Type 0 where
   pub size : ClassId → ℕ
   pub align : ClassId → ℕ
+  pub base_align : ClassId → ℕ
   pub place : ClassId → Subobject → ℕ
   pub member : ClassId → ℕ → ℕ
 
@@ -34,6 +35,10 @@ size_in (Some row) = row.size
 abbrev pub align_in : Option ClassLayout → ℕ
 align_in None = 1
 align_in (Some row) = row.align
+
+abbrev pub nvalign_in : Option ClassLayout → ℕ
+nvalign_in None = 1
+nvalign_in (Some row) = row.nvalign
 
 abbrev pub bases_in : Option ClassLayout → List ℕ
 bases_in None = []
@@ -64,6 +69,7 @@ abbrev pub places_of : Classes → List ClassLayout → Places
 places_of h rows = record {
   size = λ c. size_in (slice_get rows c.0);
   align = λ c. align_in (slice_get rows c.0);
+  base_align = λ c. nvalign_in (slice_get rows c.0);
   place = λ c s. place_along h rows c (tail_of s.path);
   member = λ d m. number_in (slice_get (members_in (slice_get rows d.0)) m);
 }

@@ -1,67 +1,44 @@
-//! The components of a class, and their places one behind the other.
+//! What a class is made of: its components, and how far its layout has come.
 
-ghost use Rattle.std.specs.Prelude.{◌≡◌, ◌≤◌, ◌⊎◌, IfOk, IfErr};
-ghost use Rattle.abi_layout.specs.Laid.{IsNext, ArePlaced, end_of, greatest_align};
-ghost use Rattle.abi_layout.specs.Alignments.{AreComponents, IsAlignment, IsPastLimit};
+ghost use Rattle.std.specs.Prelude.{◌≡◌, ◌+◌, ◌^◌, ◌<◌, ◌++◌, All, OnOk, map};
+ghost use Rattle.abi_emptybase.specs.Table.{moved};
 
-use cxx_hierarchy::{LimitNo, Stop};
-use std::alloc::Global;
+use abi_emptybase::Part;
+use foundation::{NoMemory, Sequence};
 
-/// The largest size of a class, in bytes.
-const SIZE_LIMIT: u32 = 500_000;
+/// Class subobjects, by their places in an object, in bytes.
+pub type PartList = Sequence<Part>;
 
-/// A base or a member that is placed in a class: what it takes, and its alignment, in bytes.
-#[derive(Clone, Copy, Debug)]
-pub struct Component {
-    pub takes: u32,
-    pub align: u32,
-}
-
-/// The places of components, and where the last one ends, in bytes.
+/// A base or a member that is to be placed in a class: whether it is an empty base, its alignment and how many bytes
+/// it takes, and the class subobjects in it, by their places in it.
 #[derive(Debug, Drop)]
-pub struct Placed {
-    pub places: Vec<u32>,
-    pub end: u32,
+pub struct Component {
+    pub is_empty: bool,
+    pub align: u32,
+    pub takes: u32,
+    pub parts: PartList,
 }
 
-/// The least multiple of an alignment at or behind a place.
-pub fn round_up(place: u32, align: u32) -> u32
-    requires alignment { IsAlignment align }
-    requires bounded { place ≤ 500000 }
-    ensures { IsNext place align result }
-{
-    (place + (align - 1)) / align * align
+/// How far the layout of a class has come: where its data end, its size and alignment in bytes, and the class
+/// subobjects that were placed.
+#[derive(Debug, Drop)]
+pub struct Stage {
+    pub dsize: u32,
+    pub size: u32,
+    pub align: u32,
+    pub parts: PartList,
 }
 
-/// Places the components one behind the other from a start on.
-pub fn place_all(alloc: Global, start: u32, parts: &[Component]) -> Result<Placed, Stop>
-    requires known { AreComponents parts.now }
-    requires bounded { start ≤ 500000 }
-    ensures placed { IfOk result (λ p. ArePlaced start parts.now p.places.items) }
-    ensures end { IfOk result (λ p. p.end ≡ end_of start parts.now p.places.items) }
-    ensures within { IfOk result (λ p. p.end ≤ 500000) }
-    ensures limit { IfErr result (λ e. (e ≡ Stop.NoMemory) ⊎ ((e ≡ Stop.Limit LimitNo.L6) × IsPastLimit start parts.now)) }
+/// Puts parts, this many bytes further, behind the others.
+pub(crate) fn push_moved(list: &mut PartList, parts: &[Part], at: u32) -> Result<(), NoMemory>
+    requires { All (λ part. part.place + at < 2 ^ 32) parts.now }
+    ensures { OnOk result (list.new ≡ list.old ++ map (moved at) parts.now) }
 {
-    let mut places = Vec::new(alloc);
-    let mut end = start;
     for part in parts {
-        let place = round_up(end, part.align);
-        end = place + part.takes;
-        if end > SIZE_LIMIT {
-            return Err(Stop::Limit(LimitNo::L6));
-        }
-        places.push(place)?;
+        list.push(Part {
+            class: part.class,
+            place: part.place + at,
+        })?;
     }
-    Ok(Placed { places, end })
-}
-
-/// The greatest of the alignments and 1.
-pub fn greatest_align(parts: &[Component]) -> u32
-    ensures { result ≡ greatest_align parts.now }
-{
-    let mut greatest = 1;
-    for part in parts {
-        greatest = part.align.max(greatest);
-    }
-    greatest
+    Ok(())
 }

@@ -10,11 +10,14 @@
 
 pub mod class_layout;
 pub mod component;
-pub mod hierarchy_layout;
+pub mod known;
+mod member;
 pub mod places;
+pub mod placing;
 pub mod plain;
 mod rows;
+pub mod soundness;
 
 pub use crate::class_layout::{AbiLayout, ClassLayout, PlaceList, Primary};
-pub use crate::hierarchy_layout::{lay_out, one_layout, some_layout};
 pub use crate::plain::is_plain;
+pub use crate::soundness::laid_is_sound;

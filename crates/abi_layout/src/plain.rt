@@ -7,7 +7,7 @@ ghost use Rattle.cxx_hierarchy.specs.declared.records.Member.{Member};
 ghost use Rattle.cxx_hierarchy.specs.declared.records.Function.{Function};
 ghost use Rattle.abi_layout.specs.Plain.{IsPlain, IsPlainBase, IsPlainClass, IsPlainMember};
 
-use crate::rows::leaf_type;
+use crate::member::leaf_type;
 use cxx_hierarchy::{Base, ClassId, ClassRec, Destructor, Function, Hierarchy, Member};
 
 fn is_plain_member(member: &Member<ClassId>) -> bool

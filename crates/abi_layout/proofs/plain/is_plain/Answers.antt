@@ -6,7 +6,7 @@ use Rattle.cxx_hierarchy.specs.declared.records.ClassId.{ClassId}
 use Rattle.cxx_hierarchy.specs.Classes.{Class, Classes, class_at}
 use Rattle.abi_layout.specs.Plain.{IsPlain, IsPlainClass}
 use Rattle.abi_layout.proofs.Each.{never, always, not_both}
-use Rattle.abi_layout.proofs.RowLemmas.{number}
+use Rattle.abi_layout.proofs.Lists.{number}
 use Rattle.abi_layout.proofs.plain.is_plain.Goals as goal
 
 -- one class more

@@ -1,0 +1,14 @@
+use Rattle.std.proofs.Common.{◌∙◌, List, ap, subst, sym, arith}
+use Rattle.abi_emptybase.specs.declared.Part.{Part}
+use Rattle.abi_emptybase.specs.Table.{holds}
+use Rattle.abi_layout.specs.Alignments.{byte, AreWithin}
+use Rattle.abi_layout.proofs.rows.empty_placing.Goals as goal
+
+pub returns-clause-placing : goal.returns-clause-placing
+returns-clause-placing c = record {
+  table = record { same = λ q. ap (λ (t : List Part). holds t q) c.new-2.ensures ∙ ap (λ (t : List Part). holds t q) (sym c.new.ensures) };
+  align = byte;
+  dsize = omega arith;
+  size = omega arith;
+  parts = subst (λ (ps : List Part). AreWithin 0 ps) (sym c.new.ensures) tt;
+}

@@ -1,0 +1,128 @@
+//! Components of a class, placed one after the other (Itanium C++ ABI 2.4).
+
+ghost use Rattle.std.specs.Prelude.{◌≡◌, ◌+◌, ◌^◌, ◌<◌, ◌≤◌, ◌⊎◌, All, map, if◌then◌else◌, IfOk, IfErr, IfSome, IfNone, OnOk};
+ghost use Rattle.abi_emptybase.specs.Table.{has_conflict, moved};
+ghost use Rattle.cxx_hierarchy.specs.declared.stop.LimitNo.{LimitNo};
+ghost use Rattle.abi_layout.specs.Laid.{IsNext, IsPlace, ArePlaced, after, after_all};
+ghost use Rattle.abi_layout.specs.Alignments.{IsAlignment, IsFit, AreFit, HasTable, with_parts, IsPlacing, HasNoPlace, IsPastLimit};
+
+use crate::class_layout::PlaceList;
+use crate::component::{Component, Stage, push_moved};
+use abi_emptybase::{Part, PlaceTable};
+use cxx_hierarchy::{LimitNo, Stop};
+use foundation::{NoMemory, Sequence};
+use std::alloc::Global;
+
+/// The largest size of a class, in bytes.
+pub(crate) const SIZE_LIMIT: u32 = 500_000;
+
+/// The layout of a class so far, and the table of the class subobjects that were placed.
+#[derive(Drop)]
+pub struct Placing {
+    pub stage: Stage,
+    pub table: PlaceTable,
+}
+
+/// The least multiple of an alignment at or behind a place.
+pub(crate) fn round_up(place: u32, align: u32) -> u32
+    requires alignment { IsAlignment align }
+    requires bounded { place ≤ 500000 }
+    ensures { IsNext place align result }
+{
+    (place + (align - 1)) / align * align
+}
+
+/// Whether the component, at this place, would bring a subobject of a class to where one of that class is already.
+fn is_taken(placing: &Placing, component: &Component, at: u32) -> bool
+    requires placing { IsPlacing placing.now }
+    requires component { IsFit component.now }
+    requires bounded { at ≤ 500000 }
+    ensures { result ≡ has_conflict placing.now.stage.parts component.now.parts at }
+{
+    placing.table.conflicts(component.parts.as_slice(), at)
+}
+
+/// The place of the next component, and None where it lies behind the largest size.
+fn find_place(placing: &Placing, component: &Component) -> Option<u32>
+    requires placing { IsPlacing placing.now }
+    requires component { IsFit component.now }
+    ensures place { IfSome result (λ at. IsPlace placing.now.stage component.now at) }
+    ensures within { IfSome result (λ at. at ≤ 500000) }
+    ensures past { IfNone result (HasNoPlace placing.now.stage component.now) }
+{
+    if component.is_empty && !is_taken(placing, component, 0) {
+        return Some(0);
+    }
+    let mut at = round_up(placing.stage.dsize, component.align);
+    while at <= SIZE_LIMIT {
+        if !is_taken(placing, component, at) {
+            return Some(at);
+        }
+        at += component.align;
+    }
+    None
+}
+
+/// Puts the class subobjects of a component, which lies at a place, behind the others.
+pub(crate) fn add_parts(placing: &mut Placing, parts: &[Part], at: u32) -> Result<(), NoMemory>
+    requires table { HasTable placing.old }
+    requires bounded { All (λ part. part.place + at < 2 ^ 32) parts.now }
+    ensures table { OnOk result (HasTable placing.new) }
+    ensures stage { OnOk result (placing.new.stage ≡ with_parts placing.old.stage (map (moved at) parts.now)) }
+{
+    placing.table.add(parts, at)?;
+    push_moved(&mut placing.stage.parts, parts, at)?;
+    Ok(())
+}
+
+/// Where the data of a stage end once a component is placed that ends there: an empty base takes no data.
+fn data_end(stage: &Stage, component: &Component, end: u32) -> u32
+    ensures { result ≡ (if component.now.is_empty then stage.now.dsize else end) }
+{
+    if component.is_empty { stage.dsize } else { end }
+}
+
+/// Puts a component at its place.
+fn put(placing: &mut Placing, component: &Component, at: u32) -> Result<(), NoMemory>
+    requires placing { IsPlacing placing.old }
+    requires component { IsFit component.now }
+    requires bounded { at + component.now.takes ≤ 500000 }
+    ensures after { IfOk result (λ _. placing.new.stage ≡ after placing.old.stage component.now at) }
+    ensures placing { IfOk result (λ _. IsPlacing placing.new) }
+{
+    add_parts(placing, component.parts.as_slice(), at)?;
+    let end = at + component.takes;
+    placing.stage.dsize = data_end(&placing.stage, component, end);
+    placing.stage.size = placing.stage.size.max(end);
+    placing.stage.align = placing.stage.align.max(component.align);
+    Ok(())
+}
+
+/// Places the components one after the other, and gives their places.
+pub(crate) fn place_all(
+    alloc: Global,
+    placing: &mut Placing,
+    components: &[Component],
+) -> Result<PlaceList, Stop>
+    requires placing { IsPlacing placing.old }
+    requires components { AreFit components.now }
+    ensures placed { IfOk result (λ places. ArePlaced placing.old.stage components.now places) }
+    ensures after { IfOk result (λ places. placing.new.stage ≡ after_all placing.old.stage components.now places) }
+    ensures placing { IfOk result (λ _. IsPlacing placing.new) }
+    ensures limit { IfErr result (λ e. (e ≡ Stop.NoMemory) ⊎ ((e ≡ Stop.Limit LimitNo.L6) × IsPastLimit placing.old.stage components.now)) }
+{
+    let mut places = Sequence::new(alloc);
+    for component in components {
+        match find_place(placing, component) {
+            None => return Err(Stop::Limit(LimitNo::L6)),
+            Some(at) => {
+                if at + component.takes > SIZE_LIMIT {
+                    return Err(Stop::Limit(LimitNo::L6));
+                }
+                put(placing, component, at)?;
+                places.push(at)?;
+            }
+        }
+    }
+    Ok(places)
+}

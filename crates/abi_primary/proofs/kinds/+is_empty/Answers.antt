@@ -1,0 +1,29 @@
+use Rattle.std.proofs.Common.{sym, ◌∙◌, arith}
+use Rattle.abi_primary.proofs.Nth.{nth, nth_in, all_nth, never, always, not_both}
+use Rattle.abi_primary.proofs.KindLemmas.{IsEmptyBase, empty_parts, empty_by, listed_base, none_of}
+use Rattle.abi_primary.proofs.kinds.+is_empty.Goals.{then-base-via-then-base, then-base-via-else-base+then-not-is_empty}
+use Rattle.abi_primary.proofs.kinds.+is_empty.Goals as goal
+
+pub is_empty-requires : goal.is_empty-requires
+is_empty-requires t c =
+    let xs = c.as_slice-base-items.result.now in
+    let i = c.loop-base.base-index in
+    let before = c.keeps.ensures.bases c.args.c (nth xs i) (listed_base c.args.h.now c.args.c c.class-class.result.now xs i c.class-class.ensures c.as_slice-base-items.ensures c.loop-base-test.true) in
+    (omega arith, omega arith)
+
+pub returns-then-base : goal.returns-then-base
+returns-then-base t c =
+    let xs = c.as_slice-base-items.result.now in
+    let i = c.loop-base.base-index in
+    let class = c.class-class.result.now in
+    let has = nth_in xs class.bases i c.as_slice-base-items.ensures c.loop-base-test.true in
+    never (λ k. let parts = empty_parts c.args.h.now c.args.c class c.class-class.ensures k in
+    elim c.then-base.branch [ then-base-via-then-base w ↦ not_both w.if-base.true (parts.ways (nth xs i) has) | then-base-via-else-base+then-not-is_empty w ↦ not_both (w.is_empty.ensures.1 (parts.bases (nth xs i) has)) w.if-not-is_empty.true ])
+
+pub returns : goal.returns
+returns t c =
+    let class = c.class-class.result.now in
+    let len = c.len.ensures in
+    let few = c.if-len-gt0.false in
+    always (empty_by c.args.h.now c.args.c class c.class-class.ensures (none_of class.members (omega arith)) (sym c.has_virtual_function.ensures ∙ c.if-has_virtual_function.false)
+    (all_nth (IsEmptyBase c.args.h.now) c.as_slice-base-items.result.now class.bases c.loop-base.base-index c.as_slice-base-items.ensures c.loop-base-test.false c.loop-base.invariant))

@@ -1,0 +1,4 @@
+pub mod Kinds
+pub mod NearlyEmpty
+pub mod PrimaryBase
+pub mod Holder
