@@ -4,3 +4,7 @@ pub mod Repeats
 pub mod Forms
 pub mod Loops
 pub mod Exits
+pub mod SameBases
+pub mod SameParts
+pub mod SameRecords
+pub mod SameSources

@@ -124,15 +124,15 @@ type_mark _ = 0
 
 -- a value is no name alone, which another name follows
 no_object : {text : List ℕ} {v : ValueType Spelled} {ts us r a b : List Lexeme} {n m : Lexeme} → ts ≡ us → ValueReads text v ts r → IsName n us a → IsName m a b → ⊥
-no_object e (a_scalar h) n m = let f : 0 ≡ 2 = clash (λ us. type_mark (head us)) e (scalar_by type_mark 0 refl refl refl refl refl refl refl h) (by_name type_mark 2 refl refl n) in absurd (cc)
-no_object e (a_class_pointer i j p) n m = let f : 1 ≡ 0 = clash (λ us. is_star (head us)) (rests e i.front n.front) (by_is is_star j) (by_name is_star 0 refl refl m) in absurd (cc)
+no_object e (a_scalar h) n m = let f : ◌≡◌ {A = ℕ} 0 2 = clash (λ us. type_mark (head us)) e (scalar_by type_mark 0 refl refl refl refl refl refl refl h) (by_name type_mark 2 refl refl n) in absurd (cc)
+no_object e (a_class_pointer i j p) n m = let f : ◌≡◌ {A = ℕ} 1 0 = clash (λ us. is_star (head us)) (rests e i.front n.front) (by_is is_star j) (by_name is_star 0 refl refl m) in absurd (cc)
 
 abbrev is_void : Sort → ℕ
 is_void Void = 1
 is_void _ = 0
 
 value_no_void : {text : List ℕ} {v : ValueType Spelled} {ts us r s : List Lexeme} {k : Lexeme} → ts ≡ us → ValueReads text v ts r → Is Void k us s → ⊥
-value_no_void e h k = let f : 0 ≡ 1 = clash (λ us. is_void (head us)) e (value_by is_void 0 refl refl refl refl refl refl refl refl refl h) (by_is is_void k) in absurd (cc)
+value_no_void e h k = let f : ◌≡◌ {A = ℕ} 0 1 = clash (λ us. is_void (head us)) e (value_by is_void 0 refl refl refl refl refl refl refl refl refl h) (by_is is_void k) in absurd (cc)
 
 pub field_type_same : {text : List ℕ} {x y : FieldType Spelled} {ts us r s a b : List Lexeme} {n m : Lexeme} → ts ≡ us → IsName n r a → IsName m s b →
     FieldTypeReads text x ts r → FieldTypeReads text y us s → (x ≡ y) × (r ≡ s)

@@ -7,8 +7,8 @@ use Rattle.cxx_decl_parser.specs.declared.source_text.SourceText.{SourceText}
 
 pub data SameBodies : List Body → List Body → Type 0 where
   no_bodies : SameBodies [] []
-  more_bodies : {a b : Body} {as bs : List Body} → a.class ≡ b.class → a.owner ≡ b.owner → a.inits ≡ b.inits → SameBody a.tree b.tree →
-      SameBodies as bs → SameBodies (a ∷ as) (b ∷ bs)
+  more_bodies : {a b : Body} {ls rs : List Body} → a.class ≡ b.class → a.owner ≡ b.owner → a.inits ≡ b.inits → SameBody a.tree b.tree →
+      SameBodies ls rs → SameBodies (a ∷ ls) (b ∷ rs)
 
 -- both have no main, or mains that say the same
 abbrev pub SameMain : Option BodyTree → Option BodyTree → Type 0

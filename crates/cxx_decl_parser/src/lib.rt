@@ -16,6 +16,7 @@ pub mod cursor;
 mod draft;
 mod function;
 mod item;
+pub mod laws;
 pub mod parser;
 pub mod part;
 pub mod simple;
@@ -29,6 +30,7 @@ mod tests;
 mod value;
 pub mod words;
 
+pub use crate::laws::one_source_text;
 pub use crate::parser::{one_source, parse_simple};
 pub use crate::simple::{Simple, SimpleLine, SimpleLines, SimpleSource};
 pub use crate::source::parse_source;
