@@ -168,22 +168,22 @@ item_in_place h rows k c r lt item at has put =
       falls = item_falls h rows k.static c r.class r.there item at view;
       spans = λ e within. let x = s.spans at e within in omega (arith, x, p, reach, size, nv, m);
       ends = λ some.
-        let other = s.some at some in
-        let here : is_empty h c ≡ false = split (is_empty h c) (λ b. b ≡ false) (λ t. absurd (clash (is_empty_item h item) (empty_has_empty h k.static c r.class r.there t item has) other)) (λ e. refl) in
-        let d = data_is h rows c here in
-        let t = s.all at other in
-        let g = put.ends (s.empty ∙ other) in
-        let w = f.dsize in
-        omega (arith, p, d, t, g, w, ds);
+          let other = s.some at some in
+          let here : is_empty h c ≡ false = split (is_empty h c) (λ b. b ≡ false) (λ t. absurd (clash (is_empty_item h item) (empty_has_empty h k.static c r.class r.there t item has) other)) (λ e. refl) in
+          let d = data_is h rows c here in
+          let t = s.all at other in
+          let g = put.ends (s.empty ∙ other) in
+          let w = f.dsize in
+          omega (arith, p, d, t, g, w, ds);
       data_fits = s.data_fits at;
       copies = λ e f x y. s.copies at e f x y;
       aligned = λ e within. subst (λ a. Divides a (start_of (place_item rows item at) e)) (sym al) (subst (λ q. Divides (component_in_row h rows item).align (q + e * (place_item rows item at).stride)) (sym p) (sum_divides (component_in_row h rows item).align at (e * (place_item rows item at).stride) put.multiple (s.aligned at e within)));
       coarser =
-        let a = put.align in
-        let b = f.align in
-        let e = f.nvalign in
-        let n : nvalign_in (slice_get rows c.0) ≡ r.row.nvalign = ap nvalign_in r.row_there in
-        subst (λ a. Divides a (nvalign_in (slice_get rows c.0))) (sym al) (align_divides (component_in_row h rows item).align (nvalign_in (slice_get rows c.0)) (item_align h rows k.static c r.class r.there low item view) own.align (omega arith));
+          let a = put.align in
+          let b = f.align in
+          let e = f.nvalign in
+          let n : nvalign_in (slice_get rows c.0) ≡ r.row.nvalign = ap nvalign_in r.row_there in
+          subst (λ a. Divides a (nvalign_in (slice_get rows c.0))) (sym al) (align_divides (component_in_row h rows item).align (nvalign_in (slice_get rows c.0)) (item_align h rows k.static c r.class r.there low item view) own.align (omega arith));
     }
   where
     clash : (b : Bool) → b ≡ true → b ≡ false → ⊥
@@ -194,9 +194,9 @@ item_lists : (h : Classes) (rows : List ClassLayout) → IsKnown h rows → (c :
 item_lists h rows k c r lt item at e has within d p q x =
     let node = (place_item rows item at).node in
     item_brings h rows (parts_of h rows) item at e (part_at d q) within
-      (λ b is. listed h rows k.static k.laid d (b.0 + 1) (AsBase b) (AsBase d) p q (below b is) (subst (λ (n : Node). Reaches (contents_of h rows) n p q (AsBase d)) is x) refl)
-      (λ b is. listed h rows k.static k.laid d (b.0 + 1) (Complete b) (AsBase d) p q (below_complete b is) (subst (λ (n : Node). Reaches (contents_of h rows) n p q (AsBase d)) is x) refl)
-      (λ w is. listed h rows k.static k.laid d 0 (Bytes w) (AsBase d) p q tt (subst (λ (n : Node). Reaches (contents_of h rows) n p q (AsBase d)) is x) refl)
+    (λ b is. listed h rows k.static k.laid d (b.0 + 1) (AsBase b) (AsBase d) p q (below b is) (subst (λ (n : Node). Reaches (contents_of h rows) n p q (AsBase d)) is x) refl)
+    (λ b is. listed h rows k.static k.laid d (b.0 + 1) (Complete b) (AsBase d) p q (below_complete b is) (subst (λ (n : Node). Reaches (contents_of h rows) n p q (AsBase d)) is x) refl)
+    (λ w is. listed h rows k.static k.laid d 0 (Bytes w) (AsBase d) p q tt (subst (λ (n : Node). Reaches (contents_of h rows) n p q (AsBase d)) is x) refl)
   where
     low : IsBelow h c.0 (place_item rows item at).node
     low = item_below h rows k.static c r.class r.there lt c.0 (omega arith) item at (item_view r.class item has)
@@ -218,16 +218,16 @@ items_in_turn h rows known c r lt k l two =
     let q = t.place two.other_at in
     let turn : AreInTurn (contents_of h rows) (measures_of h rows) one other = record {
       behind = λ x y.
-        let u = s.some two.one_at x in
-        let v = t.some two.other_at y in
-        let w = two.behind (s.empty ∙ u) (t.empty ∙ v) in
-        let a = s.all two.one_at u in
-        omega (arith, w, a, p, q);
+          let u = s.some two.one_at x in
+          let v = t.some two.other_at y in
+          let w = two.behind (s.empty ∙ u) (t.empty ∙ v) in
+          let a = s.all two.one_at u in
+          omega (arith, w, a, p, q);
       clear = λ e f le lf d path others a b x y same.
-        let u = item_lists h rows known c r lt two.one two.one_at e two.has_one le d path a x in
-        let v = item_lists h rows known c r lt two.other two.other_at f two.has_other lf d others b y in
-        let place : (a + e * one.stride) + two.one_at ≡ (b + f * other.stride) + two.other_at = omega (arith, same, p, q) in
-        two.clear (moved (e * one.stride) (part_at d a)) (moved (f * other.stride) (part_at d b)) u v (ap (λ z. part_at d z) place);
+          let u = item_lists h rows known c r lt two.one two.one_at e two.has_one le d path a x in
+          let v = item_lists h rows known c r lt two.other two.other_at f two.has_other lf d others b y in
+          let place : (a + e * one.stride) + two.one_at ≡ (b + f * other.stride) + two.other_at = omega (arith, same, p, q) in
+          two.clear (moved (e * one.stride) (part_at d a)) (moved (f * other.stride) (part_at d b)) u v (ap (λ z. part_at d z) place);
     } in
     subst (λ (x : Placement). AreInTurn (contents_of h rows) (measures_of h rows) x l) (sym two.one_is) (subst (λ (x : Placement). AreInTurn (contents_of h rows) (measures_of h rows) one x) (sym two.other_is) turn)
 
@@ -242,14 +242,14 @@ base_arranged h rows known c lt =
     let r = row_of h rows c known.laid lt in
     let places = r.row.base_places ++ r.row.member_places in
     let all : contents_of h rows (AsBase c) ≡ placements (place_item rows) (items r.class) places =
-        ap (λ (o : Option Class). placements (place_item rows) (items_in o) (places_in (slice_get rows c.0))) r.there ∙ ap (λ (o : Option ClassLayout). placements (place_item rows) (items r.class) (places_in o)) r.row_there in
+    ap (λ (o : Option Class). placements (place_item rows) (items_in o) (places_in (slice_get rows c.0))) r.there ∙ ap (λ (o : Option ClassLayout). placements (place_item rows) (items r.class) (places_in o)) r.row_there in
     let put = items_placed h rows c r.class r.row r.laid in
     record {
       each = λ i k there.
-        let x = placed (component_in_row h rows) (place_item rows) (first_stage c) (items r.class) places i k put (subst (λ (xs : List Placement). slice_get xs i ≡ Some k) all there) in
-        subst (λ (z : Placement). IsInPlace (measures_of h rows) (AsBase c) z) (sym x.is) (item_in_place h rows known c r lt x.item x.at x.has x.put);
+          let x = placed (component_in_row h rows) (place_item rows) (first_stage c) (items r.class) places i k put (subst (λ (xs : List Placement). slice_get xs i ≡ Some k) all there) in
+          subst (λ (z : Placement). IsInPlace (measures_of h rows) (AsBase c) z) (sym x.is) (item_in_place h rows known c r lt x.item x.at x.has x.put);
       two = λ i j k l less there other.
-        items_in_turn h rows known c r lt k l (two_placed (component_in_row h rows) (place_item rows) (first_stage c) (items r.class) places i j k l put less (subst (λ (xs : List Placement). slice_get xs i ≡ Some k) all there) (subst (λ (xs : List Placement). slice_get xs j ≡ Some l) all other));
+          items_in_turn h rows known c r lt k l (two_placed (component_in_row h rows) (place_item rows) (first_stage c) (items r.class) places i j k l put less (subst (λ (xs : List Placement). slice_get xs i ≡ Some k) all there) (subst (λ (xs : List Placement). slice_get xs j ≡ Some l) all other));
     }
 
 -- a complete object has its class at its start

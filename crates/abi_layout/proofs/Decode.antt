@@ -57,9 +57,9 @@ hops_along h c (b ∷ path) s rest l =
     let class : f.item.class ≡ b = same_class f.item.class b (eqb-true f.item.class.0 b.0 f.passes) in
     let there : slice_get (plain_bases h c) n ≡ Some f.item = ap (slice_get (plain_bases h c)) f.is ∙ f.there in
     let first : hops_of h (step n 0 ∷ steps) (in_base c s) ≡ hops_of h steps (base_mode s (slice_get (plain_bases h c) n)) =
-        ap (λ t. if t then hops_of h steps (base_mode s (slice_get (plain_bases h c) n)) else Inherit s ∷ Element (n - length (plain_bases h c)) 0 ∷ hops_of h steps (element_mode (slice_get (members_of h c) (n - length (plain_bases h c))))) test in
+    ap (λ t. if t then hops_of h steps (base_mode s (slice_get (plain_bases h c) n)) else Inherit s ∷ Element (n - length (plain_bases h c)) 0 ∷ hops_of h steps (element_mode (slice_get (members_of h c) (n - length (plain_bases h c))))) test in
     let second : hops_of h steps (base_mode s (slice_get (plain_bases h c) n)) ≡ hops_of h steps (in_base b (subobject s.root (s.path ++ b ∷ []))) =
-        ap (λ (o : Option (Base ClassId)). hops_of h steps (base_mode s o)) there ∙ ap (λ (x : ClassId). hops_of h steps (in_base x (subobject s.root (s.path ++ x ∷ [])))) class in
+    ap (λ (o : Option (Base ClassId)). hops_of h steps (base_mode s o)) there ∙ ap (λ (x : ClassId). hops_of h steps (in_base x (subobject s.root (s.path ++ x ∷ [])))) class in
     let rest_is = hops_along h b path (subobject s.root (s.path ++ b ∷ [])) rest l.1 in
     let joined : (s.path ++ b ∷ []) ++ path ≡ s.path ++ (b ∷ path) = append_assoc s.path (b ∷ []) path in
     first ∙ (second ∙ (rest_is ∙ ap (λ p. hops_of h rest (in_base (last_of b path) (subobject s.root p))) joined))
@@ -70,9 +70,9 @@ hops_element h d s m i type rest e =
     let test = le-ltb n (length (plain_bases h d)) (omega arith) in
     let less : n - length (plain_bases h d) ≡ m = omega arith in
     let first : hops_of h (step n i ∷ rest) (in_base d s) ≡ Inherit s ∷ Element (n - length (plain_bases h d)) i ∷ hops_of h rest (element_mode (slice_get (members_of h d) (n - length (plain_bases h d)))) =
-        ap (λ t. if t then hops_of h rest (base_mode s (slice_get (plain_bases h d) n)) else Inherit s ∷ Element (n - length (plain_bases h d)) i ∷ hops_of h rest (element_mode (slice_get (members_of h d) (n - length (plain_bases h d))))) test in
+    ap (λ t. if t then hops_of h rest (base_mode s (slice_get (plain_bases h d) n)) else Inherit s ∷ Element (n - length (plain_bases h d)) i ∷ hops_of h rest (element_mode (slice_get (members_of h d) (n - length (plain_bases h d))))) test in
     let second : (Inherit s ∷ Element (n - length (plain_bases h d)) i ∷ hops_of h rest (element_mode (slice_get (members_of h d) (n - length (plain_bases h d))))) ≡ (Inherit s ∷ Element m i ∷ hops_of h rest (element_mode (slice_get (members_of h d) m))) =
-        ap (λ x. Inherit s ∷ Element x i ∷ hops_of h rest (element_mode (slice_get (members_of h d) x))) less in
+    ap (λ x. Inherit s ∷ Element x i ∷ hops_of h rest (element_mode (slice_get (members_of h d) x))) less in
     first ∙ (second ∙ (ap (λ (o : Option (Member ClassId)). Inherit s ∷ Element m i ∷ hops_of h rest (element_mode o)) e.there ∙ ap (λ (t : FieldType ClassId). Inherit s ∷ Element m i ∷ hops_of h rest (in_element t)) e.type_is))
 
 -- a hop into a subobject, and further
@@ -80,7 +80,7 @@ hops_into : (h : Classes) → IsStatic h → (c d : ClassId) (s : Subobject) (mo
 hops_into h static c d s more is class =
     let p = path_of h static c d s is class in
     let x : hops_of h (steps_along h c p.path ++ steps_of h (last_of c p.path) more) (in_base c (whole_of c)) ≡ hops_of h (steps_of h (last_of c p.path) more) (in_base (last_of c p.path) (subobject Whole (c ∷ p.path))) =
-        hops_along h c p.path (whole_of c) (steps_of h (last_of c p.path) more) p.leads in
+    hops_along h c p.path (whole_of c) (steps_of h (last_of c p.path) more) p.leads in
     let y = x ∙ ap (λ (e : ClassId). hops_of h (steps_of h e more) (in_base e (subobject Whole (c ∷ p.path)))) p.last in
     subst (λ (t : Subobject). hops_of h (steps_along h c (tail_of t.path) ++ steps_of h (last_of c (tail_of t.path)) more) (in_base c (whole_of c)) ≡ hops_of h (steps_of h d more) (in_base d t)) p.is y
 
@@ -92,7 +92,7 @@ hops_are h l static _ _ _ _ (at_inner c d e s m i hops type q is class element r
     let x = hops_into h static c d s (Element m i ∷ hops) is class in
     let y = hops_element h d s m i (Object e) (steps_of h (class_of_member (slice_get (members_of h d) m)) hops) element in
     let z : (Inherit s ∷ Element m i ∷ hops_of h (steps_of h (class_of_member (slice_get (members_of h d) m)) hops) (in_element (Object e))) ≡ (Inherit s ∷ Element m i ∷ hops_of h (steps_of h e hops) (in_element (Object e))) =
-        ap (λ (k : ClassId). Inherit s ∷ Element m i ∷ hops_of h (steps_of h k hops) (in_element (Object e))) (element_class h d e m i element) in
+    ap (λ (k : ClassId). Inherit s ∷ Element m i ∷ hops_of h (steps_of h k hops) (in_element (Object e))) (element_class h d e m i element) in
     x ∙ (y ∙ (z ∙ ap (λ r. Inherit s ∷ Element m i ∷ r) (hops_are h l static e hops type q rest)))
 
 -- two locations of the same steps are one

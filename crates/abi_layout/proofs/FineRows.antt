@@ -158,7 +158,7 @@ item_takes h rows static c class e low _ (is_base base has) other =
 item_takes h rows static c class e low _ (is_member member has) other =
     let s = static.each c class e in
     product_positive (count_of member.count) (size_of_type rows member.ty) (count_positive member.count (λ n f. s.counts member n (contains_of class.members member has) f))
-      (type_some h rows c low member.ty (λ d f. s.objects member d (contains_of class.members member has) f))
+    (type_some h rows c low member.ty (λ d f. s.objects member d (contains_of class.members member has) f))
 
 record IsFineRow (h : Classes) (c : ClassId) (row : ClassLayout) : Type 0 where
   align : IsAlignment row.nvalign
@@ -185,14 +185,14 @@ fine_row h rows static c k low =
     let f = row_fine h rows c k.class k.row k.laid in
     let is_item = item_view k.class in
     let at_end : IsAlignment (last_of_items h rows c k.class k.row).align = last_align (first_stage c) (map (component_in_row h rows) (items k.class)) (k.row.base_places ++ k.row.member_places) byte
-        (λ x has. let r = from_map (component_in_row h rows) (items k.class) x has in subst (λ (y : Component). IsAlignment y.align) r.2 (item_align h rows static c k.class k.there low r.0 (is_item r.0 r.1))) in
+    (λ x has. let r = from_map (component_in_row h rows) (items k.class) x has in subst (λ (y : Component). IsAlignment y.align) r.2 (item_align h rows static c k.class k.there low r.0 (is_item r.0 r.1))) in
     let some : is_empty h c ≡ false → 1 ≤ k.row.nvsize = λ other.
-        let s = other_has_some h static c k.class k.there other in
-        let p = put_of (component_in_row h rows) (first_stage c) (items k.class) (k.row.base_places ++ k.row.member_places) s.item (items_placed h rows c k.class k.row k.laid) s.has in
-        let t = item_takes h rows static c k.class k.there low s.item (is_item s.item s.has) s.some in
-        let u = f.size in
-        let v = p.put.reach in
-        omega arith in
+    let s = other_has_some h static c k.class k.there other in
+    let p = put_of (component_in_row h rows) (first_stage c) (items k.class) (k.row.base_places ++ k.row.member_places) s.item (items_placed h rows c k.class k.row k.laid) s.has in
+    let t = item_takes h rows static c k.class k.there low s.item (is_item s.item s.has) s.some in
+    let u = f.size in
+    let v = p.put.reach in
+    omega arith in
     let known : IsFineRow h c k.row = record {
       align = subst IsAlignment (sym (f.nvalign ∙ f.align)) at_end;
       same_align = f.nvalign;

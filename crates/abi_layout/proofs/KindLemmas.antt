@@ -62,7 +62,7 @@ empty_by_steps h static (suc n) (suc m) c lt gt = by_cases (class_at h c) refl (
     by_cases None e low = refl
     by_cases (Some class) e low =
         let each = same_all (λ (base : Base ClassId). not base.is_virtual && is_kind_in empty_kind h n base.class) (λ (base : Base ClassId). not base.is_virtual && is_kind_in empty_kind h m base.class) class.bases
-            (λ base has. ap (λ b. not base.is_virtual && b) (low base.class ((static.each c class e).bases base (contains_of class.bases base has)))) in
+        (λ base has. ap (λ b. not base.is_virtual && b) (low base.class ((static.each c class e).bases base (contains_of class.bases base has)))) in
         ap (λ b. (length class.members == 0) && (not (has_virtual_function class) && b)) each
 
 -- whether an item is an empty base
@@ -84,13 +84,13 @@ empty_has_empty h static c class e empty item has =
     let k = both_true (length class.members == 0) (not (has_virtual_function class) && list_all (λ (base : Base ClassId). not base.is_virtual && is_kind_in empty_kind h c.0 base.class) class.bases) (sym (is_empty_here h c class e) ∙ empty) in
     let l = both_true (not (has_virtual_function class)) (list_all (λ (base : Base ClassId). not base.is_virtual && is_kind_in empty_kind h c.0 base.class) class.bases) k.1 in
     ⊎_elim
-      (λ x. let r = from_map a_base (filter is_plain_base class.bases) item x in
-        let b = from_filter is_plain_base class.bases r.0 r.1 in
-        let t = all_each (λ (base : Base ClassId). not base.is_virtual && is_kind_in empty_kind h c.0 base.class) class.bases l.1 r.0 b in
-        let u = both_true (not r.0.is_virtual) (is_kind_in empty_kind h c.0 r.0.class) t in
-        subst (λ (i : Item). is_empty_item h i ≡ true) r.2 (sym (empty_base h static c class e r.0 b) ∙ u.1))
-      (λ x. let r = from_map a_member class.members item x in absurd (no_member class.members r.0 k.0 r.1))
-      (has_cases (map a_base (filter is_plain_base class.bases)) (map a_member class.members) item has)
+    (λ x. let r = from_map a_base (filter is_plain_base class.bases) item x in
+    let b = from_filter is_plain_base class.bases r.0 r.1 in
+    let t = all_each (λ (base : Base ClassId). not base.is_virtual && is_kind_in empty_kind h c.0 base.class) class.bases l.1 r.0 b in
+    let u = both_true (not r.0.is_virtual) (is_kind_in empty_kind h c.0 r.0.class) t in
+    subst (λ (i : Item). is_empty_item h i ≡ true) r.2 (sym (empty_base h static c class e r.0 b) ∙ u.1))
+    (λ x. let r = from_map a_member class.members item x in absurd (no_member class.members r.0 k.0 r.1))
+    (has_cases (map a_base (filter is_plain_base class.bases)) (map a_member class.members) item has)
   where
     no_member : (xs : List (Member ClassId)) (m : Member ClassId) → (length xs == 0) ≡ true → Has xs m → ⊥
     no_member [] m t h = h

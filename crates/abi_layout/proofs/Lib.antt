@@ -3,6 +3,11 @@ pub mod Each
 pub mod Parts
 pub mod PlacingLemmas
 pub mod RowLemmas
+pub mod PartLemmas
+pub mod Existence
+pub mod Unique
+pub mod Fronts
+pub mod StaticLemmas
 pub mod Tree
 pub mod TreeSound
 pub mod Shallow

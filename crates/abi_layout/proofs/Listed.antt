@@ -137,15 +137,15 @@ step_lists h rows static laid d q (suc m) (AsBase c) s k to low rest =
     let found : Has (parts_of_node h rows m here.node) (part_at d q) = subst (λ (x : Placement). IsBelow h m x.node → Has (parts_of_node h rows m x.node) (part_at d q)) b.is (rest m) below in
     let within : s.copy < here.count = subst (λ (x : Placement). s.copy < x.count) b.is to.within in
     let own = item_brings h rows (parts_below h rows m) b.item b.at s.copy (part_at d q) within
-        (λ x e. subst (λ (n : Node). Has (parts_of_node h rows m n) (part_at d q)) e found) (λ x e. subst (λ (n : Node). Has (parts_of_node h rows m n) (part_at d q)) e found) (λ w e. subst (λ (n : Node). Has (parts_of_node h rows m n) (part_at d q)) e found) in
+    (λ x e. subst (λ (n : Node). Has (parts_of_node h rows m n) (part_at d q)) e found) (λ x e. subst (λ (n : Node). Has (parts_of_node h rows m n) (part_at d q)) e found) (λ w e. subst (λ (n : Node). Has (parts_of_node h rows m n) (part_at d q)) e found) in
     let moves = b.parts (moved (s.copy * here.stride) (part_at d q)) own in
     let p = place_is rows b.item b.at in
     let start : (q + s.copy * here.stride) + b.at ≡ start_of here s.copy + q = omega arith in
     let here_found : Has (parts_at (map component (items class)) places) (part_at d (start_of here s.copy + q)) = subst (λ x. Has (parts_at (map component (items class)) places) (part_at d x)) start moves in
     let count : length (bases_in (slice_get rows c.0)) ≡ length (base_components (is_empty h) rows (parts_below h rows m) class) =
-        ap (λ (o : Option ClassLayout). length (bases_in o)) r.row_there ∙ (placed_length (first_stage c) (base_components (is_empty h) rows (parts_of h rows) class) r.row.base_places r.laid.bases_placed ∙ (length_map (base_component (is_empty h) rows (parts_of h rows)) (filter is_plain_base class.bases) ∙ sym (length_map (base_component (is_empty h) rows (parts_below h rows m)) (filter is_plain_base class.bases)))) in
+    ap (λ (o : Option ClassLayout). length (bases_in o)) r.row_there ∙ (placed_length (first_stage c) (base_components (is_empty h) rows (parts_of h rows) class) r.row.base_places r.laid.bases_placed ∙ (length_map (base_component (is_empty h) rows (parts_of h rows)) (filter is_plain_base class.bases) ∙ sym (length_map (base_component (is_empty h) rows (parts_below h rows m)) (filter is_plain_base class.bases)))) in
     let split_parts : parts_at (map component (items class)) places ≡ parts_at (base_components (is_empty h) rows (parts_below h rows m) class) (bases_in (slice_get rows c.0)) ++ parts_at (member_components rows (parts_below h rows m) class) (members_in (slice_get rows c.0)) =
-        ap (λ (cs : List Component). parts_at cs places) (components_are (is_empty h) rows (parts_below h rows m) class) ∙ parts_both (base_components (is_empty h) rows (parts_below h rows m) class) (member_components rows (parts_below h rows m) class) (bases_in (slice_get rows c.0)) (members_in (slice_get rows c.0)) count in
+    ap (λ (cs : List Component). parts_at cs places) (components_are (is_empty h) rows (parts_below h rows m) class) ∙ parts_both (base_components (is_empty h) rows (parts_below h rows m) class) (member_components rows (parts_below h rows m) class) (bases_in (slice_get rows c.0)) (members_in (slice_get rows c.0)) count in
     let listed : Has (parts_in_class h rows (parts_below h rows m) c (Some class)) (part_at d (start_of here s.copy + q)) = inr (subst (λ (xs : List Part). Has xs (part_at d (start_of here s.copy + q))) split_parts here_found) in
     subst (λ (x : Placement). Has (parts_of_node h rows (suc m) (AsBase c)) (part_at d (start_of x s.copy + q))) (sym b.is) (subst (λ (o : Option Class). Has (parts_in_class h rows (parts_below h rows m) c o) (part_at d (start_of here s.copy + q))) (sym r.there) listed)
   where

@@ -150,10 +150,10 @@ base_step h rows known c b lt d =
     let p = get_within r.row.base_places f.index (omega arith) in
     let bases : plain_bases h c ≡ filter is_plain_base r.class.bases = ap (λ (o : Option Class). filter is_plain_base (class_bases_in o)) r.there in
     let item : slice_get (items r.class) f.index ≡ Some (a_base f.item) =
-        get_left (map a_base (filter is_plain_base r.class.bases)) (map a_member r.class.members) f.index (a_base f.item) (slice_get-map a_base (filter is_plain_base r.class.bases) f.index ∙ ap (option_map a_base) (ap (λ (xs : List (Base ClassId)). slice_get xs f.index) (sym bases) ∙ f.there)) in
+    get_left (map a_base (filter is_plain_base r.class.bases)) (map a_member r.class.members) f.index (a_base f.item) (slice_get-map a_base (filter is_plain_base r.class.bases) f.index ∙ ap (option_map a_base) (ap (λ (xs : List (Base ClassId)). slice_get xs f.index) (sym bases) ∙ f.there)) in
     let place = get_left r.row.base_places r.row.member_places f.index p.0 p.1 in
     let there : slice_get (contents_of h rows (AsBase c)) f.index ≡ Some (place_item rows (a_base f.item) p.0) =
-        ap (λ (xs : List Placement). slice_get xs f.index) (contents_are h rows c r) ∙ placement_at (place_item rows) (items r.class) (r.row.base_places ++ r.row.member_places) f.index (a_base f.item) p.0 item place in
+    ap (λ (xs : List Placement). slice_get xs f.index) (contents_are h rows c r) ∙ placement_at (place_item rows) (items r.class) (r.row.base_places ++ r.row.member_places) f.index (a_base f.item) p.0 item place in
     let at : base_place h rows c b ≡ p.0 = ap (place_at (bases_in (slice_get rows c.0))) (position_is (is_of b) (plain_bases h c) f) ∙ (ap (λ (o : Option ClassLayout). number_in (slice_get (bases_in o) f.index)) r.row_there ∙ ap number_in p.1) in
     record {
       to = place_item rows (a_base f.item) p.0;
@@ -183,7 +183,7 @@ element_step h rows known d m i type lt e =
     let bases : length (map a_base (filter is_plain_base r.class.bases)) ≡ length (plain_bases h d) = length_map a_base (filter is_plain_base r.class.bases) ∙ ap (λ (o : Option Class). length (filter is_plain_base (class_bases_in o))) (sym r.there) in
     let number : length (plain_bases h d) + m ≡ length (map a_base (filter is_plain_base r.class.bases)) + m = omega arith in
     let item : slice_get (items r.class) (length (plain_bases h d) + m) ≡ Some (a_member e.member) =
-        ap (slice_get (items r.class)) number ∙ (get_right (map a_base (filter is_plain_base r.class.bases)) (map a_member r.class.members) m ∙ (slice_get-map a_member r.class.members m ∙ ap (option_map a_member) there)) in
+    ap (slice_get (items r.class)) number ∙ (get_right (map a_base (filter is_plain_base r.class.bases)) (map a_member r.class.members) m ∙ (slice_get-map a_member r.class.members m ∙ ap (option_map a_member) there)) in
     let places : length (plain_bases h d) + m ≡ length r.row.base_places + m = let c = base_count h rows d r in omega arith in
     let place : slice_get (r.row.base_places ++ r.row.member_places) (length (plain_bases h d) + m) ≡ Some p.0 = ap (slice_get (r.row.base_places ++ r.row.member_places)) places ∙ (get_right r.row.base_places r.row.member_places m ∙ p.1) in
     let at : (places_of h rows).member d m ≡ p.0 = ap (λ (o : Option ClassLayout). number_in (slice_get (members_in o) m)) r.row_there ∙ ap number_in p.1 in

@@ -122,11 +122,11 @@ items_placed h rows c class row is =
     let bases = base_components (is_empty h) rows (parts_of h rows) class in
     let members = member_components rows (parts_of h rows) class in
     subst (λ (cs : List Component). ArePlaced (first_stage c) cs (row.base_places ++ row.member_places)) (sym (components_are (is_empty h) rows (parts_of h rows) class))
-      (placed_both (first_stage c) bases members row.base_places row.member_places is.bases_placed is.members_placed)
+    (placed_both (first_stage c) bases members row.base_places row.member_places is.bases_placed is.members_placed)
 
 pub last_is : (h : Classes) (rows : List ClassLayout) (c : ClassId) (class : Class) (row : ClassLayout) → IsRow h rows c class row → last_of_items h rows c class row ≡ last_stage (first_stage c) (base_components (is_empty h) rows (parts_of h rows) class) (member_components rows (parts_of h rows) class) row
 last_is h rows c class row is =
     let bases = base_components (is_empty h) rows (parts_of h rows) class in
     let members = member_components rows (parts_of h rows) class in
     ap (λ (cs : List Component). after_all (first_stage c) cs (row.base_places ++ row.member_places)) (components_are (is_empty h) rows (parts_of h rows) class)
-      ∙ after_both (first_stage c) bases members row.base_places row.member_places is.bases_placed
+    ∙ after_both (first_stage c) bases members row.base_places row.member_places is.bases_placed

@@ -162,10 +162,10 @@ put_of component st (y ∷ xs) [] x l h = absurd l
 put_of component st (y ∷ xs) (p ∷ ps) x l h =
     let last = after_all (after st (component y) p) (map component xs) ps in
     ⊎_elim
-      (λ e. record { at = p; put = subst (λ z. IsPut st last (component z) p) e (put_here st (component y) p (map component xs) ps l.0 l.1) })
-      (λ r. let k = put_of component (after st (component y) p) xs ps x l.1 r in
-        record { at = k.at; put = put_earlier st (after st (component y) p) last (component x) k.at (grows_once st (component y) p l.0) k.put })
-      h
+    (λ e. record { at = p; put = subst (λ z. IsPut st last (component z) p) e (put_here st (component y) p (map component xs) ps l.0 l.1) })
+    (λ r. let k = put_of component (after st (component y) p) xs ps x l.1 r in
+    record { at = k.at; put = put_earlier st (after st (component y) p) last (component x) k.at (grows_once st (component y) p l.0) k.put })
+    h
 
 -- of two placements, the later lies behind the data of the earlier, and brings none of its parts
 pub record AreTwo {X : Type 0} (component : X → Component) (place : X → ℕ → Placement) (xs : List X) (k l : Placement) : Type 0 where
@@ -187,8 +187,14 @@ two_placed component place st (x ∷ xs) (p ∷ ps) i zero k l a lt e f = absurd
 two_placed component place st (x ∷ xs) (p ∷ ps) zero (suc j) k l a lt e f =
     let r = placed component place (after st (component x) p) xs ps j l a.1 f in
     record {
-      one = x; other = r.item; one_at = p; other_at = r.at; has_one = inl refl; has_other = inr r.has;
-      one_is = (let g : place x p ≡ k = cc in sym g); other_is = r.is;
+      one = x;
+      other = r.item;
+      one_at = p;
+      other_at = r.at;
+      has_one = inl refl;
+      has_other = inr r.has;
+      one_is = (let g : place x p ≡ k = cc in sym g);
+      other_is = r.is;
       behind = λ u v. let h = r.put.behind v in let q : (after st (component x) p).dsize ≡ p + (component x).takes = rw u refl in omega (arith, q, h);
       clear = λ u v hu hv same. r.put.clear v hv (has_right st.parts (map (moved p) (component x).parts) (moved r.at v) (subst (λ z. Has (map (moved p) (component x).parts) z) same (has_map (moved p) (component x).parts u hu)));
     }

@@ -101,10 +101,10 @@ steps_clear contents m all n s t k l h i differ d p o a b x y equal = by_order (
     by_order (same e) = differ e
     by_order (copies e lt) = let one = one_placement contents n s t k l e h i in
         copies_clear contents m all n k (in_place contents m all n s k h) s.copy t.copy lt (subst (λ (z : Placement). t.copy < z.count) one i.within) d p o a b x
-          (subst (λ (z : Placement). Reaches contents z.node o b (AsBase d)) one y) (subst (λ (z : Placement). start_of k s.copy + a ≡ start_of z t.copy + b) one equal)
+        (subst (λ (z : Placement). Reaches contents z.node o b (AsBase d)) one y) (subst (λ (z : Placement). start_of k s.copy + a ≡ start_of z t.copy + b) one equal)
     by_order (copies_back e lt) = let one = one_placement contents n s t k l e h i in
         copies_clear contents m all n k (in_place contents m all n s k h) t.copy s.copy lt h.within d o p b a
-          (subst (λ (z : Placement). Reaches contents z.node o b (AsBase d)) one y) x (sym (subst (λ (z : Placement). start_of k s.copy + a ≡ start_of z t.copy + b) one equal))
+        (subst (λ (z : Placement). Reaches contents z.node o b (AsBase d)) one y) x (sym (subst (λ (z : Placement). start_of k s.copy + a ≡ start_of z t.copy + b) one equal))
     by_order (ahead lt) = ((all.node n).two s.number t.number k l lt h.there i.there).clear s.copy t.copy h.within i.within d p o a b x y equal
     by_order (back lt) = ((all.node n).two t.number s.number l k lt i.there h.there).clear t.copy s.copy i.within h.within d o p b a y x (sym equal)
 
@@ -156,12 +156,12 @@ distinct contents m all _ _ _ _ _ _ _ d (here n) (down _ k s p q c h r) e f g = 
 distinct contents m all _ _ _ _ _ _ _ d (down n k s p q c h r) (here _) e f g = let x = ap m.rank (e ∙ sym f) in let a = falls contents m all c.node k p q r in let b = (in_place contents m all n s c h).falls in absurd (omega arith)
 distinct contents m all _ _ _ _ _ _ _ d (down n k s p q c h r) (down _ j t o b i h' r') e f g =
     ⊎_elim
-      (λ one. let sc = one_placement contents n s t c i (ap (λ (z : Step). z.number) one) h h' in
-        let ss = same_start s t c i one sc in
-        let rest = distinct contents m all c.node p o q b k j d r (subst (λ (x : Placement). Reaches contents x.node o b j) sc r') e f (omega arith) in
-        ap (λ x. x ∷ p) one ∙ ap (λ y. t ∷ y) rest)
-      (λ other. absurd (steps_clear contents m all n s t c i h h' other d p o q b (subst (λ x. Reaches contents c.node p q x) e r) (subst (λ x. Reaches contents i.node o b x) f r') g))
-      (is_same s t)
+    (λ one. let sc = one_placement contents n s t c i (ap (λ (z : Step). z.number) one) h h' in
+    let ss = same_start s t c i one sc in
+    let rest = distinct contents m all c.node p o q b k j d r (subst (λ (x : Placement). Reaches contents x.node o b j) sc r') e f (omega arith) in
+    ap (λ x. x ∷ p) one ∙ ap (λ y. t ∷ y) rest)
+    (λ other. absurd (steps_clear contents m all n s t c i h h' other d p o q b (subst (λ x. Reaches contents c.node p q x) e r) (subst (λ x. Reaches contents i.node o b x) f r') g))
+    (is_same s t)
 
 apart : (contents : Contents) (m : Measures) → AreArranged contents m → (n : Node) (p o : List Step) (q r : ℕ) (k j : Node) → Reaches contents n p q k → Reaches contents n o r j → contents k ≡ [] → contents j ≡ [] → (p ≡ o → ⊥) → 0 < m.data_end k → 0 < m.data_end j → LieApart q (m.data_end k) r (m.data_end j)
 apart contents m all _ _ _ _ _ _ _ (here n) (here _) e f ne a b = absurd (ne refl)
@@ -169,15 +169,15 @@ apart contents m all _ _ _ _ _ _ _ (here n) (down _ k s p q c h r) e f ne a b = 
 apart contents m all _ _ _ _ _ _ _ (down n k s p q c h r) (here _) e f ne a b = let x : slice_get [] s.number ≡ Some c = subst (λ (y : List Placement). slice_get y s.number ≡ Some c) f h.there in cc
 apart contents m all _ _ _ _ _ _ _ (down n k s p q c h r) (down _ j t o b i h' r') e f ne pk pj =
     ⊎_elim
-      (λ one. let sc = one_placement contents n s t c i (ap (λ (z : Step). z.number) one) h h' in
-        let ss = same_start s t c i one sc in
-        let below = apart contents m all c.node p o q b k j r (subst (λ (x : Placement). Reaches contents x.node o b j) sc r') e f (λ x. ne (ap (λ y. y ∷ p) one ∙ ap (λ y. t ∷ y) x)) pk pj in
-        ⊎_elim (λ x. inl (omega arith)) (λ y. inr (omega arith)) below)
-      (λ other.
-        let u = ends contents m all c.node k p q r pk in
-        let v = ends contents m all i.node j o b r' pj in
-        ⊎_elim (λ x. inl (omega arith)) (λ y. inr (omega arith)) (steps_apart contents m all n s t c i h h' other (omega arith) (omega arith)))
-      (is_same s t)
+    (λ one. let sc = one_placement contents n s t c i (ap (λ (z : Step). z.number) one) h h' in
+    let ss = same_start s t c i one sc in
+    let below = apart contents m all c.node p o q b k j r (subst (λ (x : Placement). Reaches contents x.node o b j) sc r') e f (λ x. ne (ap (λ y. y ∷ p) one ∙ ap (λ y. t ∷ y) x)) pk pj in
+    ⊎_elim (λ x. inl (omega arith)) (λ y. inr (omega arith)) below)
+    (λ other.
+    let u = ends contents m all c.node k p q r pk in
+    let v = ends contents m all i.node j o b r' pj in
+    ⊎_elim (λ x. inl (omega arith)) (λ y. inr (omega arith)) (steps_apart contents m all n s t c i h h' other (omega arith) (omega arith)))
+    (is_same s t)
 
 pub tree_is_sound : (contents : Contents) (m : Measures) → AreArranged contents m → IsSoundTree contents m
 tree_is_sound contents m all = record {

@@ -10,6 +10,7 @@
 
 pub mod class_layout;
 pub mod component;
+pub mod hierarchy_layout;
 pub mod known;
 mod member;
 pub mod places;
@@ -17,7 +18,10 @@ pub mod placing;
 pub mod plain;
 mod rows;
 pub mod soundness;
+pub mod statics;
 
 pub use crate::class_layout::{AbiLayout, ClassLayout, PlaceList, Primary};
+pub use crate::hierarchy_layout::{lay_out, lay_out_front, one_layout, some_layout};
 pub use crate::plain::is_plain;
 pub use crate::soundness::laid_is_sound;
+pub use crate::statics::{is_static, plain_is_static};

@@ -25,8 +25,11 @@ returns-in_err-members-clause-limit c =
     let rows = c.args.rows.now in
     let known = c.args.known.now in
     rw (p.1, p.2) (⊎_elim (λ e. inl e)
-    (λ large. inr (large.0, members_too_large rows known c.args.c c.args.class.now
-        (subst (λ (xs : List (Member ClassId)). HasLarge (map (member_component rows (parts_in known)) xs)) c.as_slice-2.ensures large.1)))
+    (λ large. inr (
+      large.0,
+      members_too_large rows known c.args.c c.args.class.now
+          (subst (λ (xs : List (Member ClassId)). HasLarge (map (member_component rows (parts_in known)) xs)) c.as_slice-2.ensures large.1),
+    ))
     c.in_err-members.ensures.limit)
 
 pub place_all-requires-clause-components : goal.place_all-requires-clause-components
@@ -44,8 +47,11 @@ returns-in_err-base_places-clause-limit c =
     let are = c.deref.ensures.value ∙ (c.in_ok-bases.ensures ∙ ap (λ (xs : List (Base ClassId)). map (base_component (empties_in known) rows (parts_in known)) (filter is_plain_base xs)) c.as_slice.ensures) in
     let first = c.in_ok-placing.ensures.stage in
     rw (p.1, p.2) (⊎_elim (λ e. inl e)
-    (λ past. inr (past.0, bases_past rows known c.args.c c.args.class.now
-        (subst (λ (s : Stage). IsPastLimit s (bases_by rows known c.args.class.now)) first (subst (λ (cs : List Component). IsPastLimit c.in_ok-placing.placing.stage cs) are past.1))))
+    (λ past. inr (
+      past.0,
+      bases_past rows known c.args.c c.args.class.now
+          (subst (λ (s : Stage). IsPastLimit s (bases_by rows known c.args.class.now)) first (subst (λ (cs : List Component). IsPastLimit c.in_ok-placing.placing.stage cs) are past.1)),
+    ))
     c.in_err-base_places.ensures.limit)
 
 pub place_all-requires-2-clause-components : goal.place_all-requires-2-clause-components
@@ -68,8 +74,11 @@ returns-in_err-member_places-clause-limit c =
     let placed = subst (λ (s : Stage). ArePlaced s (bases_by rows known class) places) first (subst (λ (cs : List Component). ArePlaced c.in_ok-placing.placing.stage cs places) bases_are c.in_ok-base_places.ensures.placed) in
     let mid = c.in_ok-base_places.ensures.after ∙ (ap (λ (cs : List Component). after_all c.in_ok-placing.placing.stage cs places) bases_are ∙ ap (λ (s : Stage). after_all s (bases_by rows known class) places) first) in
     rw (p.1, p.2) (⊎_elim (λ e. inl e)
-    (λ past. inr (past.0, members_past rows known c.args.c class places placed
-        (subst (λ (s : Stage). IsPastLimit s (members_by rows known class)) mid (subst (λ (cs : List Component). IsPastLimit c.place_all.new.placing.stage cs) members_are past.1))))
+    (λ past. inr (
+      past.0,
+      members_past rows known c.args.c class places placed
+          (subst (λ (s : Stage). IsPastLimit s (members_by rows known class)) mid (subst (λ (cs : List Component). IsPastLimit c.place_all.new.placing.stage cs) members_are past.1)),
+    ))
     c.in_err-member_places.ensures.limit)
 
 pub returns-clause-laid : goal.returns-clause-laid
