@@ -4,3 +4,9 @@ pub mod Repeats
 pub mod Forms
 pub mod Loops
 pub mod Exits
+pub mod Turns
+pub mod Series
+pub mod Drafts
+pub mod Gathers
+pub mod Numbers
+pub mod Others

@@ -1,5 +1,5 @@
 -- Which tokens a source stands for: each case is a form of a production.
-use Rattle.std.specs.Prelude.{◌≡◌, ℕ, Bool, true, false, List, [], ◌∷◌, Option, Some, None, length, filter_map, flat_map, take_while}
+use Rattle.std.specs.Prelude.{◌≡◌, ℕ, Bool, true, false, List, [], ◌∷◌, Option, Some, None, length, filter_map, flat_map, ◌++◌}
 use Rattle.cxx_grammar.specs.declared.sort.Sort.{Sort}
 use Rattle.cxx_grammar.specs.declared.sort.Sort.TheVariants.{Struct, Class, Int, Main, Semicolon, OpenBrace, CloseBrace, OpenParen, CloseParen, End}
 use Rattle.cxx_grammar.specs.declared.sort.Lexeme.{Lexeme}
@@ -75,6 +75,14 @@ abbrev pub is_no_main : Item → Bool
 is_no_main (item.Main t) = false
 is_no_main _ = true
 
+-- the bodies that stand before main, or all where there is none
+abbrev pub bodies_before_main : List Item → List Body
+bodies_before_main [] = []
+bodies_before_main (item.Class c bs ∷ is) = bs ++ bodies_before_main is
+bodies_before_main (item.Forward ∷ is) = bodies_before_main is
+bodies_before_main (item.Global g ∷ is) = bodies_before_main is
+bodies_before_main (item.Main t ∷ is) = []
+
 -- one tree, or none
 abbrev pub trees_in : Option BodyTree → List BodyTree
 trees_in None = []
@@ -86,7 +94,7 @@ pub record AreItemsOf (s : SourceText) (is : List Item) : Type 0 where
   pub globals : s.globals ≡ filter_map global_in is
   pub bodies : s.bodies ≡ flat_map bodies_in is
   pub main : trees_in s.main ≡ filter_map main_in is
-  pub main_place : s.main_place ≡ length (flat_map bodies_in (take_while is_no_main is))
+  pub main_place : s.main_place ≡ length (bodies_before_main is)
 
 -- source = { class | forward | global | mainfn }, up to the end of the text
 pub data SourceReads (text : List ℕ) (s : SourceText) : List Lexeme → List Lexeme → Type 0 where
