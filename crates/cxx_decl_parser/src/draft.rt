@@ -165,20 +165,26 @@ impl Draft {
     {
         match part {
             Part::Label(_) => Ok(()),
-            Part::Field(member, ty_at) => self.add_field(member, ty_at),
+            Part::Field(member, ty_at) => {
+                self.add_field(member, ty_at)?;
+                Ok(())
+            }
             Part::Function(function, ty_at, body) => {
-                self.add_function(alloc, text, class, function, ty_at, body)
+                self.add_function(alloc, text, class, function, ty_at, body)?;
+                Ok(())
             }
             Part::Constructor(at, inits, tree) => {
                 self.push_entry(PartKind::Constructor, 0, None, at)?;
                 self.has_constructor = true;
-                self.push_body(alloc, text, class, BodyOwner::Constructor, inits, tree)
+                self.push_body(alloc, text, class, BodyOwner::Constructor, inits, tree)?;
+                Ok(())
             }
             Part::Destructor(is_virtual, at, tree) => {
                 self.push_entry(PartKind::Destructor, 0, None, at)?;
                 self.destructor = declared_destructor(is_virtual);
                 let owner = BodyOwner::Destructor;
-                self.push_body(alloc, text, class, owner, Sequence::new(alloc), tree)
+                self.push_body(alloc, text, class, owner, Sequence::new(alloc), tree)?;
+                Ok(())
             }
         }
     }

@@ -74,12 +74,12 @@ pub(crate) fn constructor<'a>(
     alloc: Global,
     text: &[u8],
     first: Lexeme,
-    open: Lexeme,
+    sign: Lexeme,
     rest: &'a [Lexeme],
 ) -> Result<(Part, &'a [Lexeme]), Stop>
     requires first { first.sort ≡ Sort.OwnName }
-    requires open { open.sort ≡ Sort.OpenParen }
-    ensures reads { IfOk result (λ x. (is_public : Bool) → PartReads text.now is_public x.0 (first ∷ open ∷ rest.now) x.1.now) }
+    requires sign { sign.sort ≡ Sort.OpenParen }
+    ensures reads { IfOk result (λ x. (is_public : Bool) → PartReads text.now is_public x.0 (first ∷ sign ∷ rest.now) x.1.now) }
     ensures shorter { IfOk result (λ x. length x.1.now ≤ length rest.now) }
     ensures follows { (m : Bool) → Follows (λ x. x.1.now) (outside m) (Only Sort.CloseParen ∷ ConstructorEnd ∷ []) rest.now (outside m) [] result }
 {

@@ -17,7 +17,7 @@ use crate::item::item;
 use crate::part::Item;
 use crate::source_text::{BodyList, SourceText};
 use cxx_grammar::{Lexeme, Sort, is_same, lexemes, next};
-use cxx_hierarchy::Stop;
+use cxx_hierarchy::{ClassRec, Name, Stop};
 use cxx_text::TokenList;
 use foundation::Sequence;
 use std::alloc::Global;
@@ -47,7 +47,26 @@ fn empty_source(alloc: Global) -> SourceText
     }
 }
 
-// Adds the next item of a source. The error is want of memory.
+// Adds a class, and the bodies in it. The error is want of memory.
+fn add_class(
+    source: &mut SourceText,
+    definition: ClassRec<Name>,
+    bodies: BodyList,
+) -> Result<(), Stop>
+    ensures items { OnOk result ((is : List Item) → AreItemsOf source.old is → AreItemsOf source.new (is ++ Item.Class definition bodies ∷ [])) }
+    ensures main { OnOk result (source.new.main ≡ source.old.main) }
+    ensures err { IfErr result (λ e. e ≡ Stop.NoMemory) }
+{
+    source.records.push(definition)?;
+    append(&mut source.bodies, bodies)?;
+    if source.main.is_none() {
+        source.main_place = source.bodies.len();
+        return Ok(());
+    }
+    Ok(())
+}
+
+// Adds the next item of a source, which is no second main. The error is want of memory.
 fn add(source: &mut SourceText, item: Item) -> Result<(), Stop>
     requires { is_some source.old.main ≡ true → is_no_main item ≡ true }
     ensures items { OnOk result ((is : List Item) → AreItemsOf source.old is → AreItemsOf source.new (is ++ item ∷ [])) }
@@ -56,17 +75,19 @@ fn add(source: &mut SourceText, item: Item) -> Result<(), Stop>
 {
     match item {
         Item::Class(definition, bodies) => {
-            source.records.push(definition)?;
-            append(&mut source.bodies, bodies)?;
-            if source.main.is_none() {
-                source.main_place = source.bodies.len();
-            }
+            add_class(source, definition, bodies)?;
+            Ok(())
         }
-        Item::Forward => {}
-        Item::Global(variable) => source.globals.push(variable)?,
-        Item::Main(tree) => source.main = Some(tree),
+        Item::Forward => Ok(()),
+        Item::Global(variable) => {
+            source.globals.push(variable)?;
+            Ok(())
+        }
+        Item::Main(tree) => {
+            source.main = Some(tree);
+            Ok(())
+        }
     }
-    Ok(())
 }
 
 // {class | forward | global | mainfn} and the end of the text
@@ -91,6 +112,17 @@ fn items<'a>(
     }
 }
 
+// The source at the front of a list of lexemes.
+fn whole_source(alloc: Global, text: &[u8], all: &[Lexeme]) -> Result<SourceText, Stop>
+    requires { In Sort.Bad (sorts all.now) }
+    ensures reads { IfOk result (λ s. (rest : List Lexeme) × SourceReads text.now s all.now rest × FrontIs source_form (outside false) all.now rest) }
+    ensures in_order { IfOk result (λ s. All IsInOrder s.records) }
+    ensures fault { IfErr result (λ e. (e ≡ Stop.NoMemory) ⊎ Fault source_form (outside false) all.now e) }
+{
+    let (source, _rest) = items(alloc, text, all)?;
+    Ok(source)
+}
+
 /// The source of a text, from its tokens.
 ///
 /// Errors: E1, E21 or E2 at the first token with which the tokens begin no source, L3 at the 65th open block, E7 at
@@ -101,6 +133,6 @@ pub fn parse_source(alloc: Global, text: &[u8], list: &TokenList) -> Result<Sour
     ensures fault { let all = lexemes text.now source_start list.now.tokens list.now.bad in IfErr result (λ e. (e ≡ Stop.NoMemory) ⊎ Fault source_form (record { blocks = 0; main = false }) all e) }
 {
     let all = lexemes(alloc, text, list.tokens.as_slice(), list.bad, Sort::End)?;
-    let (source, _rest) = items(alloc, text, &all)?;
+    let source = whole_source(alloc, text, &all)?;
     Ok(source)
 }

@@ -1,0 +1,22 @@
+use Rattle.std.proofs.Common.{rules, refl, arith, sym, ap, subst, length, ℕ, Bool, true, false, Some, None, Ok, Err, List, ◌≡◌, ◌∷◌, ◌++◌, [], ◌∙◌, append_assoc}
+use Rattle.cxx_grammar.specs.declared.sort.Sort.TheVariants.{Struct, Class, Public, Protected, Private, Virtual, Boolean, Char, Short, Int, Long, Signed, Unsigned, Void, Main, Name, OwnName, OpenBrace, CloseBrace, OpenParen, OpenBracket, CloseParen, CloseBracket, Semicolon, Colon, Comma, Star, Assign, Tilde, Zero, End}
+use Rattle.cxx_grammar.specs.Table.{Task, Only, AName, AConstant, AParam, ABlock, BaseAfterVirtual, BaseAfterAccess, ABase, BasesEnd, ClassTail, FieldEnd, ParamsEnd, MoreParamsEnd, AfterDeclared, AfterType, AfterOwnName, AnInit, ConstructorEnd, InitsEnd, AfterVirtual, VirtualEnd, PartsEnd, AfterInt, ItemsEnd, scalar_rest}
+use Rattle.cxx_grammar.specs.Run.{run}
+use Rattle.cxx_grammar.specs.Fault.{State}
+use Rattle.cxx_grammar.proofs.Steps.{same_error, same_answer, same_tasks, then_same, takes}
+use Rattle.cxx_body_parser.specs.Statements.{a_scalar, a_class_pointer, IsFirst}
+use Rattle.cxx_decl_parser.specs.Parts as parts
+use Rattle.cxx_decl_parser.specs.Sources as sources
+use Rattle.cxx_decl_parser.specs.Readers.{outside, value_rest, HeadReads}
+use Rattle.cxx_decl_parser.proofs.Turns as turns
+use Rattle.cxx_decl_parser.proofs.Series as series
+use Rattle.cxx_decl_parser.proofs.class_part.after_declared.Goals as goal
+
+pub returns-then-is_same-clause-reads : goal.returns-then-is_same-clause-reads
+returns-then-is_same-clause-reads c = λ ts a f v n. c.in_ok-part.ensures.reads _ ts (record { type = ts; behind = a; open_at = _; open_sign = _; is_virtual = parts.not_virtual; first = f; returns = parts.a_value_return v; name = n; sign = record { front = c.in_ok-sign.ensures.ok; sort = search rules } })
+
+pub returns-clause-reads : goal.returns-clause-reads
+returns-clause-reads c = λ ts a f v n. c.in_ok-part-2.ensures.reads ts a f (parts.a_value_field v) n
+
+pub returns-in_err-part-2-clause-follows : goal.returns-in_err-part-2-clause-follows
+returns-in_err-part-2-clause-follows c = λ m. same_error (λ x. x.1.now) (outside m) (outside m) (AfterDeclared ∷ []) (FieldEnd ∷ []) ([]) c.args.rest.now c.args.rest.now _ c.in_err-part-2.field-0.0 (search rules) (λ k. turns.field_ends _ _ _ (outside m) k c.in_ok-sign.ensures.ok (search rules)) (c.in_err-part-2.ensures.follows (outside m))

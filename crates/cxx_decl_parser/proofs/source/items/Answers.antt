@@ -1,0 +1,36 @@
+use Rattle.std.proofs.Common.{rules, refl, arith, sym, ap, subst, length, ℕ, Bool, true, false, Some, None, Ok, Err, List, ◌≡◌, ◌∷◌, ◌++◌, [], ◌∙◌, append_assoc}
+use Rattle.cxx_grammar.specs.declared.sort.Sort.TheVariants.{Struct, Class, Public, Protected, Private, Virtual, Boolean, Char, Short, Int, Long, Signed, Unsigned, Void, Main, Name, OwnName, OpenBrace, CloseBrace, OpenParen, OpenBracket, CloseParen, CloseBracket, Semicolon, Colon, Comma, Star, Assign, Tilde, Zero, End}
+use Rattle.cxx_grammar.specs.Table.{Task, Only, AName, AConstant, AParam, ABlock, BaseAfterVirtual, BaseAfterAccess, ABase, BasesEnd, ClassTail, FieldEnd, ParamsEnd, MoreParamsEnd, AfterDeclared, AfterType, AfterOwnName, AnInit, ConstructorEnd, InitsEnd, AfterVirtual, VirtualEnd, PartsEnd, AfterInt, ItemsEnd, scalar_rest}
+use Rattle.cxx_grammar.specs.Run.{run}
+use Rattle.cxx_grammar.specs.Fault.{State}
+use Rattle.cxx_grammar.proofs.Steps.{same_error, same_answer, same_tasks, then_same, takes}
+use Rattle.cxx_body_parser.specs.Statements.{a_scalar, a_class_pointer, IsFirst}
+use Rattle.cxx_decl_parser.specs.Parts as parts
+use Rattle.cxx_decl_parser.specs.Sources as sources
+use Rattle.cxx_decl_parser.specs.Readers.{outside, value_rest, HeadReads}
+use Rattle.cxx_decl_parser.proofs.Turns as turns
+use Rattle.cxx_decl_parser.proofs.Series as series
+use Rattle.std.proofs.Common.{is_some}
+use Rattle.cxx_decl_parser.proofs.Others.{same_error_to}
+use Rattle.cxx_decl_parser.proofs.source.items.Goals as goal
+
+pub loop-source-init : goal.loop-source-init
+loop-source-init c = record {
+  reads = ([], (λ is r h. h), c.empty_source-source.ensures.items);
+  follows = λ k. rw c.empty_source-source.ensures.main refl;
+}
+
+pub returns-then-is_same-clause-reads : goal.returns-then-is_same-clause-reads
+returns-then-is_same-clause-reads c = sources.a_source (series.all_items _ _ _ _ c.loop-source.invariant.reads.1) (record { front = c.in_ok-first.ensures.ok; sort = search rules }) c.loop-source.invariant.reads.2
+
+pub returns-then-is_same-clause-follows : goal.returns-then-is_same-clause-follows
+returns-then-is_same-clause-follows c = λ k. c.loop-source.invariant.follows k ∙ takes _ ItemsEnd End [] _ _ _ k c.in_ok-first.ensures.ok (search rules) refl refl
+
+pub returns-in_err-read-clause-follows : goal.returns-in_err-read-clause-follows
+returns-in_err-read-clause-follows c = same_error_to (λ x. x.1.now) (outside false) (outside (is_some c.loop-source.source.main)) (λ x. outside (is_some x.0.main)) (ItemsEnd ∷ []) (ItemsEnd ∷ []) [] c.args.rest.now _ _ c.in_err-read.field-0.0 (search rules) (λ k. c.loop-source.invariant.follows k ∙ rw c.in_ok-first.ensures.ok refl) c.in_err-read.ensures.follows
+
+pub loop-source-preserved : goal.loop-source-preserved
+loop-source-preserved c = record {
+  reads = (c.loop-source.invariant.reads.0 ++ c.in_ok-read.read ∷ [], series.next_item _ _ _ _ _ _ c.loop-source.invariant.reads.1 (rw c.in_ok-first.ensures.ok c.in_ok-read.ensures.reads), c.in_ok-add.ensures.items c.loop-source.invariant.reads.0 c.loop-source.invariant.reads.2);
+  follows = λ k. c.loop-source.invariant.follows k ∙ (rw (c.in_ok-first.ensures.ok, c.in_ok-add.ensures.main) (c.in_ok-read.ensures.follows k));
+}

@@ -1,0 +1,22 @@
+use Rattle.std.proofs.Common.{rules, refl, arith, sym, ap, subst, length, ℕ, Bool, true, false, Some, None, Ok, Err, List, ◌≡◌, ◌∷◌, ◌++◌, [], ◌∙◌, append_assoc}
+use Rattle.cxx_grammar.specs.declared.sort.Sort.TheVariants.{Struct, Class, Public, Protected, Private, Virtual, Boolean, Char, Short, Int, Long, Signed, Unsigned, Void, Main, Name, OwnName, OpenBrace, CloseBrace, OpenParen, OpenBracket, CloseParen, CloseBracket, Semicolon, Colon, Comma, Star, Assign, Tilde, Zero, End}
+use Rattle.cxx_grammar.specs.Table.{Task, Only, AName, AConstant, AParam, ABlock, BaseAfterVirtual, BaseAfterAccess, ABase, BasesEnd, ClassTail, FieldEnd, ParamsEnd, MoreParamsEnd, AfterDeclared, AfterType, AfterOwnName, AnInit, ConstructorEnd, InitsEnd, AfterVirtual, VirtualEnd, PartsEnd, AfterInt, ItemsEnd, scalar_rest}
+use Rattle.cxx_grammar.specs.Run.{run}
+use Rattle.cxx_grammar.specs.Fault.{State}
+use Rattle.cxx_grammar.proofs.Steps.{same_error, same_answer, same_tasks, then_same, takes}
+use Rattle.cxx_body_parser.specs.Statements.{a_scalar, a_class_pointer, IsFirst}
+use Rattle.cxx_decl_parser.specs.Parts as parts
+use Rattle.cxx_decl_parser.specs.Sources as sources
+use Rattle.cxx_decl_parser.specs.Readers.{outside, value_rest, HeadReads}
+use Rattle.cxx_decl_parser.proofs.Turns as turns
+use Rattle.cxx_decl_parser.proofs.Series as series
+use Rattle.cxx_decl_parser.proofs.value.value.Goals as goal
+
+pub returns-then-is_name-clause-reads : goal.returns-then-is_name-clause-reads
+returns-then-is_name-clause-reads c = a_class_pointer (record { front = refl; name = search rules }) c.in_ok-_star.ensures.reads c.in_ok-class.ensures.ok
+
+pub returns-in_err-number-clause-follows : goal.returns-in_err-number-clause-follows
+returns-in_err-number-clause-follows c = λ s. same_error (λ x. x.1.now) s s (value_rest c.args.first.sort) (scalar_rest c.args.first.sort) (AName ∷ []) c.args.rest.now c.args.rest.now _ c.in_err-number.field-0.0 (search rules) (λ k. ap (λ ms. run c.args.rest.now s (ms ++ k)) (turns.scalar_leaves c.args.first.sort (sym c.is_name.ensures ∙ c.if-is_name.false))) (c.in_err-number.ensures.follows s)
+
+pub returns-clause-reads : goal.returns-clause-reads
+returns-clause-reads c = a_scalar c.in_ok-number.ensures.reads
