@@ -9,10 +9,10 @@ use Rattle.cxx_hierarchy.specs.Resolved.{resolved}
 use Rattle.cxx_hierarchy.specs.Hierarchies.{IsHierarchy}
 use Rattle.cxx_hierarchy.proofs.Kept.{is_hierarchy}
 use Rattle.cxx_decl_parser.specs.declared.source_text.SourceText.{SourceText}
-use Rattle.cxx_decl_parser.proofs.Orders.{records_in_order}
+use Rattle.cxx_decl_parser.proofs.Numbers.{source_in_order}
 use Rattle.cxx_resolve.specs.declared.program.SimpleProgram.{SimpleProgram}
 use Rattle.abi_layout.specs.Kinds.{IsStatic}
-use Rattle.cxxabi_cmd.specs.Verdict.{Verdict, Judgement, Stops, Accepts, by_text, by_records, by_meanings, accepted, IsSource}
+use Rattle.cxxabi_cmd.specs.Verdict.{Verdict, Judgement, Stops, Accepts, by_text, by_records, by_classes, accepted, IsSource}
 use Rattle.cxxabi_cmd.specs.Output.{IsProgram}
 use Rattle.cxxabi_cmd.proofs.StaticLemmas.{simple_static}
 
@@ -24,7 +24,7 @@ each_of P (y ∷ ys) (suc i) x all at = each_of P ys i x all.1 at
 -- the classes of an accepted source are a hierarchy
 source_keeps : (text : List ℕ) (s : SourceText) → IsSource text s → faults_of s.records ≡ [] → IsHierarchy (resolved s.records)
 source_keeps text s is none =
-    is_hierarchy s.records (record { none = none; in_order = λ i r at. each_of IsInOrder s.records i r (recursion_from_All IsInOrder s.records (records_in_order text s is.all is.rest is.reads)) at })
+    is_hierarchy s.records (record { none = none; in_order = λ i r at. each_of IsInOrder s.records i r (recursion_from_All IsInOrder s.records (source_in_order text s is.all is.rest is.reads)) at })
 
 abbrev pub Kept : Judgement → Type 0
 Kept (Stops stop) = Unit {0}
@@ -33,7 +33,7 @@ Kept (Accepts source h) = IsHierarchy h
 kept : (text : List ℕ) (judgement : Judgement) → Verdict text judgement → Kept judgement
 kept text _ (by_text stop is) = tt
 kept text _ (by_records s stop is first) = tt
-kept text _ (by_meanings s stop is none first) = tt
+kept text _ (by_classes s stop is none first) = tt
 kept text _ (accepted s is none nothing) = source_keeps text s is none
 
 pub accepted_keeps : (text : List ℕ) (s : SourceText) (h : Classes) → Verdict text (Accepts s h) → IsHierarchy h

@@ -15,7 +15,7 @@ use Rattle.cxx_decl_parser.specs.declared.source_text.SourceText.{SourceText}
 use Rattle.cxx_decl_parser.specs.Sources.{SourceReads}
 use Rattle.cxx_decl_parser.specs.Same.{SameSource}
 use Rattle.cxx_decl_parser.proofs.SameSources.{source_same}
-use Rattle.cxxabi_cmd.specs.Verdict.{AreLexemes, IsSource, StopsText, at_start, IsFirstFault, HasNoFault, Judgement, Stops, Accepts, Verdict, by_text, by_records, by_meanings, accepted}
+use Rattle.cxxabi_cmd.specs.Verdict.{AreLexemes, IsSource, StopsText, at_start, IsFirstFault, HasNoFault, Judgement, Stops, Accepts, Verdict, by_text, by_records, by_classes, accepted}
 use Rattle.cxxabi_cmd.proofs.OneFault.{first_same, first_or_none}
 
 lexemes_same : (text : List ℕ) (a b : List Lexeme) → AreLexemes text a → AreLexemes text b → a ≡ b
@@ -27,7 +27,7 @@ lexemes_same text a b x y =
 pub spells_one : (text : List ℕ) (s t : SourceText) → IsSource text s → IsSource text t → SameSource s t
 spells_one text s t x y =
     let same = lexemes_same text x.all y.all x.sorts y.sorts in
-    source_same text s t x.all x.rest y.rest x.reads (subst (λ (all : List Lexeme). SourceReads text t all y.rest) (sym same) y.reads)
+    (source_same text s t x.all x.rest y.rest x.reads (subst (λ (all : List Lexeme). SourceReads text t all y.rest) (sym same) y.reads)).0
 
 -- and then no event stops its reading
 no_event : (text : List ℕ) (s : SourceText) (e : Stop) → IsSource text s → StopsText text e → ⊥
@@ -58,21 +58,21 @@ same_first a b d e same one other = let both : Some d ≡ Some e = sym one ∙ a
 pub one_verdict : (text : List ℕ) (a b : Judgement) → Verdict text a → Verdict text b → SameJudgement a b
 one_verdict text _ _ (by_text d x) (by_text e y) = event_same text d e x y
 one_verdict text _ _ (by_text d x) (by_records t e y first) = absurd (no_event text t d y x)
-one_verdict text _ _ (by_text d x) (by_meanings t e y none first) = absurd (no_event text t d y x)
+one_verdict text _ _ (by_text d x) (by_classes t e y none first) = absurd (no_event text t d y x)
 one_verdict text _ _ (by_text d x) (accepted t y none nothing) = absurd (no_event text t d y x)
 one_verdict text _ _ (by_records s d x first) (by_text e y) = absurd (no_event text s e x y)
 one_verdict text _ _ (by_records s d x first) (by_records t e y first') = same_first s.records t.records d e (spells_one text s t x y).records first first'
-one_verdict text _ _ (by_records s d x first) (by_meanings t e y none first') = absurd (refused_passes s.records t.records d (spells_one text s t x y).records first none)
+one_verdict text _ _ (by_records s d x first) (by_classes t e y none first') = absurd (refused_passes s.records t.records d (spells_one text s t x y).records first none)
 one_verdict text _ _ (by_records s d x first) (accepted t y none nothing) = absurd (refused_passes s.records t.records d (spells_one text s t x y).records first none)
-one_verdict text _ _ (by_meanings s d x none first) (by_text e y) = absurd (no_event text s e x y)
-one_verdict text _ _ (by_meanings s d x none first) (by_records t e y first') = absurd (refused_passes t.records s.records e (sym (spells_one text s t x y).records) first' none)
-one_verdict text _ _ (by_meanings s d x none first) (by_meanings t e y none' first') =
+one_verdict text _ _ (by_classes s d x none first) (by_text e y) = absurd (no_event text s e x y)
+one_verdict text _ _ (by_classes s d x none first) (by_records t e y first') = absurd (refused_passes t.records s.records e (sym (spells_one text s t x y).records) first' none)
+one_verdict text _ _ (by_classes s d x none first) (by_classes t e y none' first') =
     first_same (resolved s.records) d e first (subst (λ (r : List Record). IsFirstFault (resolved r) e) (sym (spells_one text s t x y).records) first')
-one_verdict text _ _ (by_meanings s d x none first) (accepted t y none' nothing) =
+one_verdict text _ _ (by_classes s d x none first) (accepted t y none' nothing) =
     absurd (first_or_none (resolved s.records) d first (subst (λ (r : List Record). HasNoFault (resolved r)) (sym (spells_one text s t x y).records) nothing))
 one_verdict text _ _ (accepted s x none nothing) (by_text e y) = absurd (no_event text s e x y)
 one_verdict text _ _ (accepted s x none nothing) (by_records t e y first) = absurd (refused_passes t.records s.records e (sym (spells_one text s t x y).records) first none)
-one_verdict text _ _ (accepted s x none nothing) (by_meanings t e y none' first) =
+one_verdict text _ _ (accepted s x none nothing) (by_classes t e y none' first) =
     absurd (first_or_none (resolved s.records) e (subst (λ (r : List Record). IsFirstFault (resolved r) e) (sym (spells_one text s t x y).records) first) nothing)
 one_verdict text _ _ (accepted s x none nothing) (accepted t y none' nothing') =
     let same = spells_one text s t x y in (same, ap (λ (r : List Record). resolved r) same.records)
