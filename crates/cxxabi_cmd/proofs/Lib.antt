@@ -1,6 +1,11 @@
 pub mod StreamLemmas
 pub mod CommandLemmas
 pub mod OutputLemmas
-pub mod FormLemmas
-pub mod ProgramLemmas
+pub mod AnswerLemmas
+pub mod StaticLemmas
+pub mod ClassFaults
+pub mod Accepting
+pub mod OneFault
+pub mod OneVerdict
+pub mod OneProgram
 pub mod OneOutput
