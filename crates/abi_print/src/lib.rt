@@ -8,8 +8,6 @@
 //! address is read by the heap objects that the machine has listed. Want of memory leaves the text as it was.
 #![tactic(auto)]
 
-pub mod layout_text;
 pub mod line;
-mod type_text;
 
 pub use crate::line::append_line;
