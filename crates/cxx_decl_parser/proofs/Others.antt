@@ -34,7 +34,7 @@ then_to rest_of s state ms others more ts ts' (Err x) e f = λ n k. e k ∙ f n 
 
 -- what holds of an answer
 pub of_ok : {X : Type 0} (r : Result X Stop) (x : X) (P : X → Type 0) → r ≡ Ok x → IfOk r P → P x
-of_ok r x P e h = let h' : IfOk (Ok x) P = subst (λ r. IfOk r P) e h in h'
+of_ok r x P e h = let h' : IfOk {E = Stop} (Ok x) P = subst (λ r. IfOk r P) e h in h'
 
 -- an item that is no main leaves the state
 pub no_main_after : (m : Bool) (i : Item) → is_no_main i ≡ true → main_after m i ≡ m
