@@ -7,6 +7,8 @@
 //! for a number that is the line of the number that the run tells. Want of memory leaves the text as it was.
 #![tactic(auto)]
 
+pub mod layout_lines;
 pub mod line;
 
+pub use crate::layout_lines::append_layout;
 pub use crate::line::append_line;
