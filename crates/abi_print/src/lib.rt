@@ -8,6 +8,8 @@
 //! address is read by the heap objects that the machine has listed. Want of memory leaves the text as it was.
 #![tactic(auto)]
 
+pub mod layout_lines;
 pub mod line;
 
+pub use crate::layout_lines::append_layout;
 pub use crate::line::append_line;

@@ -1,0 +1,8 @@
+use Rattle.std.proofs.Common.{◌≡◌, ◌++◌, take}
+use Rattle.std.specs.List.{flat_map}
+use Rattle.abi_print.specs.LayoutTexts.{base_text}
+use Rattle.abi_print.proofs.layout_lines.append_bases.Given as goal
+
+-- the lines so far stand behind the text
+abbrev pub invariant-loop-s : goal.invariant-loop-s
+invariant-loop-s l = l.text.items ≡ l.fn.text.items ++ flat_map (base_text l.h l.layout l.fn.c) (take l.s-index l.list)

@@ -1,0 +1,304 @@
+//! The text of a class's layout.
+
+ghost use Rattle.std.specs.Prelude.{◌≡◌, ◌++◌, ◌<◌, OnOk, Contains, length};
+ghost use Rattle.std.specs.List.{flat_map};
+ghost use Rattle.std.specs.Fmt.{decimal};
+ghost use Rattle.cxx_hierarchy.specs.declared.records.ClassId.{ClassId};
+ghost use Rattle.cxx_subobject.specs.declared.Subobject.{Subobject};
+ghost use Rattle.cxx_subobject.specs.Subobjects.{IsSubobject, tail_of};
+ghost use Rattle.cxx_hierarchy.specs.Classes.{members_of};
+ghost use Rattle.abi_layout.specs.Places.{places_of};
+ghost use Rattle.abi_layout.specs.Sound.{IsSound};
+ghost use Rattle.abi_print.specs.LayoutTexts.{name_of, slashed, joined, subobject_text, scalar_text, value_text, type_text, length_text, primary_text, class_text, base_text, field_text, fields_text, proper, listed_text};
+
+use abi_layout::{AbiLayout, ClassLayout, Primary};
+use cxx_hierarchy::{ClassId, FieldType, Hierarchy, Member, Scalar, ValueType};
+use cxx_subobject::{Root, Subobject};
+use foundation::NoMemory;
+use std::alloc::Global;
+
+fn append(text: &mut Vec<u8>, piece: &[u8]) -> Result<(), NoMemory>
+    ensures { OnOk result (text.new.items ≡ text.old.items ++ piece.now) }
+{
+    text.extend_from_slice(piece)?;
+    Ok(())
+}
+
+fn append_number(alloc: Global, text: &mut Vec<u8>, number: u32) -> Result<(), NoMemory>
+    ensures { OnOk result (text.new.items ≡ text.old.items ++ decimal number) }
+{
+    let digits = number.to_string(alloc)?;
+    append(text, digits.as_bytes())?;
+    Ok(())
+}
+
+/// Puts the name of a class at the end of a text.
+fn append_class(text: &mut Vec<u8>, h: &Hierarchy, c: ClassId) -> Result<(), NoMemory>
+    ensures { OnOk result (text.new.items ≡ text.old.items ++ name_of h.now c) }
+{
+    if c.0 >= h.len() {
+        return Ok(());
+    }
+    append(text, h.class(c).name.as_slice())?;
+    Ok(())
+}
+
+/// Puts the names of classes at the end, each behind a slash.
+fn append_slashed(text: &mut Vec<u8>, h: &Hierarchy, path: &[ClassId]) -> Result<(), NoMemory>
+    ensures { OnOk result (text.new.items ≡ text.old.items ++ slashed h.now path.now) }
+{
+    for c in path {
+        append(text, b"/")?;
+        append_class(text, h, *c)?;
+    }
+    Ok(())
+}
+
+/// Puts the names of classes at the end, with slashes between.
+fn append_path(text: &mut Vec<u8>, h: &Hierarchy, path: &[ClassId]) -> Result<(), NoMemory>
+    ensures { OnOk result (text.new.items ≡ text.old.items ++ joined h.now path.now) }
+{
+    match path {
+        [] => Ok(()),
+        [first, below @ ..] => {
+            append_class(text, h, *first)?;
+            append_slashed(text, h, below)?;
+            Ok(())
+        }
+    }
+}
+
+/// The classes of a path below its first.
+fn classes_below(path: &[ClassId]) -> &[ClassId]
+    ensures { result.now ≡ tail_of path.now }
+{
+    match path {
+        [_, below @ ..] => below,
+        [] => path,
+    }
+}
+
+fn append_subobject(text: &mut Vec<u8>, h: &Hierarchy, s: &Subobject) -> Result<(), NoMemory>
+    ensures { OnOk result (text.new.items ≡ text.old.items ++ subobject_text h.now s.now) }
+{
+    match s.root {
+        Root::Whole => append_path(text, h, classes_below(s.path.as_slice()))?,
+        Root::Shared(_) => {
+            append(text, b"*")?;
+            append_path(text, h, s.path.as_slice())?;
+        }
+    }
+    Ok(())
+}
+
+fn scalar_text(ty: Scalar) -> &'static [u8]
+    ensures { result.now ≡ scalar_text ty }
+{
+    match ty {
+        Scalar::Bool => b"bool",
+        Scalar::Char => b"char",
+        Scalar::SChar => b"signed char",
+        Scalar::UChar => b"unsigned char",
+        Scalar::Short => b"short",
+        Scalar::UShort => b"unsigned short",
+        Scalar::Int => b"int",
+        Scalar::UInt => b"unsigned int",
+        Scalar::Long => b"long",
+        Scalar::ULong => b"unsigned long",
+        Scalar::LongLong => b"long long",
+        Scalar::ULongLong => b"unsigned long long",
+    }
+}
+
+fn append_value(text: &mut Vec<u8>, h: &Hierarchy, ty: &ValueType<ClassId>) -> Result<(), NoMemory>
+    ensures { OnOk result (text.new.items ≡ text.old.items ++ value_text h.now ty.now) }
+{
+    match ty {
+        ValueType::Number(scalar) => append(text, scalar_text(*scalar))?,
+        ValueType::Pointer(class) => {
+            append_class(text, h, *class)?;
+            append(text, b"*")?;
+        }
+    }
+    Ok(())
+}
+
+fn append_type(text: &mut Vec<u8>, h: &Hierarchy, ty: &FieldType<ClassId>) -> Result<(), NoMemory>
+    ensures { OnOk result (text.new.items ≡ text.old.items ++ type_text h.now ty.now) }
+{
+    match ty {
+        FieldType::Value(ty) => append_value(text, h, ty)?,
+        FieldType::Object(class) => append_class(text, h, *class)?,
+    }
+    Ok(())
+}
+
+fn append_length(alloc: Global, text: &mut Vec<u8>, count: Option<u32>) -> Result<(), NoMemory>
+    ensures { OnOk result (text.new.items ≡ text.old.items ++ length_text count) }
+{
+    match count {
+        None => Ok(()),
+        Some(count) => {
+            append(text, b"[")?;
+            append_number(alloc, text, count)?;
+            append(text, b"]")?;
+            Ok(())
+        }
+    }
+}
+
+fn append_primary(text: &mut Vec<u8>, h: &Hierarchy, primary: Primary) -> Result<(), NoMemory>
+    ensures { OnOk result (text.new.items ≡ text.old.items ++ primary_text h.now primary) }
+{
+    match primary {
+        Primary::None => append(text, b"none")?,
+        Primary::Direct(base) => append_class(text, h, base)?,
+        Primary::Virtual(base) => {
+            append(text, b"virtual ")?;
+            append_class(text, h, base)?;
+        }
+    }
+    Ok(())
+}
+
+/// Puts the lines of a class's numbers and of its primary base at the end.
+fn append_row(
+    alloc: Global,
+    text: &mut Vec<u8>,
+    h: &Hierarchy,
+    c: ClassId,
+    row: &ClassLayout,
+) -> Result<(), NoMemory>
+    ensures { OnOk result (text.new.items ≡ text.old.items ++ class_text h.now c row.now) }
+{
+    append(text, b"class ")?;
+    append_class(text, h, c)?;
+    append(text, b" size ")?;
+    append_number(alloc, text, row.size)?;
+    append(text, b" align ")?;
+    append_number(alloc, text, row.align)?;
+    append(text, b" dsize ")?;
+    append_number(alloc, text, row.dsize)?;
+    append(text, b" nvsize ")?;
+    append_number(alloc, text, row.nvsize)?;
+    append(text, b" nvalign ")?;
+    append_number(alloc, text, row.nvalign)?;
+    append(text, b"\nprimary ")?;
+    append_primary(text, h, row.primary)?;
+    append(text, b"\n")?;
+    Ok(())
+}
+
+/// Puts the line of a base subobject at the end.
+fn append_base(
+    alloc: Global,
+    text: &mut Vec<u8>,
+    h: &Hierarchy,
+    layout: &AbiLayout,
+    c: ClassId,
+    s: &Subobject,
+) -> Result<(), NoMemory>
+    requires sound { IsSound h.now (places_of h.now layout.now) }
+    requires known { c.0 < length h.now }
+    requires subobject { IsSubobject h.now c s.now }
+    ensures { OnOk result (text.new.items ≡ text.old.items ++ base_text h.now layout.now c s.now) }
+{
+    append_number(alloc, text, layout.place(h, c, s))?;
+    append(text, b" base ")?;
+    append_subobject(text, h, s)?;
+    append(text, b"\n")?;
+    Ok(())
+}
+
+/// Puts the lines of base subobjects at the end.
+fn append_bases(
+    alloc: Global,
+    text: &mut Vec<u8>,
+    h: &Hierarchy,
+    layout: &AbiLayout,
+    c: ClassId,
+    list: &[Subobject],
+) -> Result<(), NoMemory>
+    requires sound { IsSound h.now (places_of h.now layout.now) }
+    requires known { c.0 < length h.now }
+    requires subobjects { (s : Subobject) → Contains list.now s → IsSubobject h.now c s }
+    ensures { OnOk result (text.new.items ≡ text.old.items ++ flat_map (base_text h.now layout.now c) list.now) }
+{
+    for s in list {
+        append_base(alloc, text, h, layout, c, s)?;
+    }
+    Ok(())
+}
+
+/// Puts the line of a member at the end.
+fn append_field(
+    alloc: Global,
+    text: &mut Vec<u8>,
+    h: &Hierarchy,
+    place: u32,
+    member: &Member<ClassId>,
+) -> Result<(), NoMemory>
+    ensures { OnOk result (text.new.items ≡ text.old.items ++ field_text h.now place member.now) }
+{
+    append_number(alloc, text, place)?;
+    append(text, b" field ")?;
+    append_type(text, h, &member.ty)?;
+    append_length(alloc, text, member.count)?;
+    append(text, b" ")?;
+    append(text, member.name.as_slice())?;
+    append(text, b"\n")?;
+    Ok(())
+}
+
+/// Puts the lines of the members that a class declares at the end.
+fn append_fields(
+    alloc: Global,
+    text: &mut Vec<u8>,
+    h: &Hierarchy,
+    layout: &AbiLayout,
+    c: ClassId,
+) -> Result<(), NoMemory>
+    requires { c.0 < length h.now }
+    ensures { OnOk result (text.new.items ≡ text.old.items ++ fields_text h.now layout.now c (length (members_of h.now c))) }
+{
+    h.keeps();
+    let members = h.class(c).members.as_slice();
+    for number in 0..members.len() {
+        let place = layout.member(h, c, number as u32);
+        append_field(alloc, text, h, place, &members[number])?;
+    }
+    Ok(())
+}
+
+fn proper_of(list: &[Subobject]) -> &[Subobject]
+    ensures { result.now ≡ proper list.now }
+{
+    match list {
+        [_, bases @ ..] => bases,
+        [] => list,
+    }
+}
+
+/// Puts the text of a class's layout at the end of a text: the class and its sizes, its primary base, its base
+/// subobjects in preorder, and its members in the order of declaration.
+///
+/// Errors: want of memory, after which the text has a front of the lines behind what it had.
+pub fn append_layout(
+    alloc: Global,
+    text: &mut Vec<u8>,
+    h: &Hierarchy,
+    layout: &AbiLayout,
+    c: ClassId,
+    list: &[Subobject],
+) -> Result<(), NoMemory>
+    requires sound { IsSound h.now (places_of h.now layout.now) }
+    requires known { c.0 < length h.now }
+    requires laid { c.0 < length layout.now }
+    requires subobjects { (s : Subobject) → Contains list.now s → IsSubobject h.now c s }
+    ensures { OnOk result (text.new.items ≡ text.old.items ++ listed_text h.now layout.now c list.now) }
+{
+    append_row(alloc, text, h, c, layout.layout(c))?;
+    append_bases(alloc, text, h, layout, c, proper_of(list))?;
+    append_fields(alloc, text, h, layout, c)?;
+    Ok(())
+}
