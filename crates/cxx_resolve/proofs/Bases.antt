@@ -11,11 +11,11 @@ use Rattle.cxx_subobject.specs.declared.Root.TheVariants.{Whole, Shared}
 use Rattle.cxx_subobject.specs.declared.Subobject.{Subobject}
 use Rattle.cxx_hierarchy.specs.VirtualBases.{IsDirectBase, HasVirtualBase, direct, further}
 use Rattle.cxx_subobject.specs.Subobjects.{Leads, IsSubobject, whole, shared, subobject, class_of, class_of_path, last_of}
+use Rattle.cxx_subobject.specs.Ordered.{HasOrderedBases, HasNoVirtualBase}
 use Rattle.cxx_resolve.specs.SimpleHierarchy.{HasSimpleClasses, IsSimpleHierarchy}
 
--- no base is virtual
-pub record HasNoVirtualBase (h : Classes) : Type 0 where
-  pub each : (c : ClassId) (base : Base ClassId) → Contains (bases_of h c) base → base.is_virtual ≡ false
+pub ordered_bases : (h : Classes) → IsHierarchy h → HasOrderedBases h
+ordered_bases h keeps = record { before = keeps.bases; once = keeps.once }
 
 not_virtual : (h : Classes) → HasSimpleClasses h → (c : ClassId) (base : Base ClassId) (o : Option Class) → class_at h c ≡ o → Contains (bases_in o) base → base.is_virtual ≡ false
 not_virtual h simple c base None at (k, lt, e) = absurd (omega arith)
@@ -27,7 +27,7 @@ plain_bases h simple = record { each = λ c base has. not_virtual h simple c bas
 direct_is_plain : (h : Classes) → HasNoVirtualBase h → (c v : ClassId) → IsDirectBase h c true v → ⊥
 direct_is_plain h plain c v d = let e = plain.each c d.base d.listed in let f = d.way in absurd (cc)
 
-no_virtual : (h : Classes) → HasNoVirtualBase h → (c v : ClassId) → HasVirtualBase h c v → ⊥
+pub no_virtual : (h : Classes) → HasNoVirtualBase h → (c v : ClassId) → HasVirtualBase h c v → ⊥
 no_virtual h plain _ _ (direct c v d) = direct_is_plain h plain c v d
 no_virtual h plain _ _ (further c b v way d more) = no_virtual h plain b v more
 

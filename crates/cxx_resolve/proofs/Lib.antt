@@ -4,8 +4,11 @@ pub mod Each
 pub mod FormCases
 pub mod FormLines
 pub mod Found
+pub mod Named
+pub mod OfClass
 pub mod Lines
 pub mod Programs
 pub mod Reached
+pub mod ShortPaths
 pub mod SoFar
 pub mod Whole

@@ -125,7 +125,7 @@ same_converted h n types pointer a b c d e f g =
     let base : a.base ≡ b.base = one_base h d e a.base b.base (subst (λ (z : ClassId). IsUniqueBase h z e a.base) same.1 f.only) g.only in
     ap (λ (p : ℕ). converted_of p a.base) same.0 ∙ ap (λ (s : Subobject). converted_of b.pointer s) base
 
-same_id : (c d : ClassId) → c.0 ≡ d.0 → c ≡ d
+pub same_id : (c d : ClassId) → c.0 ≡ d.0 → c ≡ d
 same_id c d e = ap (λ (n : ℕ). let k : ClassId = record { 0 = n } in k) e
 
 -- the class to which two pointers are converted is the lesser one

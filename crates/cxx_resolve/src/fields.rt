@@ -16,20 +16,12 @@ ghost use Rattle.cxx_lookup.specs.UniqueBase.{IsUniqueBase, IsBaseFault};
 ghost use Rattle.cxx_resolve.specs.Resolves.{IsField, IsMemberOf, IsPointerTo};
 ghost use Rattle.cxx_resolve.specs.Answers.{IsRefusal, IsNumberAt, IsLesser, IsPointerAt, HasCommon, HasPointerTo};
 
-use crate::look_up::{lookup, unique_base};
+use crate::look_up::{base_of, class_of, member_of};
 use crate::program::{Converted, MemberPlace};
 use crate::variables::Variables;
-use cxx_lookup::{BaseFault, Found, LookupFault};
 use cxx_hierarchy::{ClassId, FieldType, Hierarchy, Member, Name, Rule, Scalar, Stop, ValueType};
 use cxx_subobject::Subobject;
 use std::alloc::Global;
-
-/// The class of a subobject: the last one of its path.
-fn class_of(s: &Subobject) -> Option<ClassId>
-    ensures { result ≡ class_of s.now }
-{
-    s.path.as_slice().last().copied()
-}
 
 /// The type of a member that is a number, and no array.
 fn number_type(member: &Member<ClassId>) -> Option<Scalar>
@@ -59,46 +51,6 @@ fn number_at(h: &Hierarchy, place: &MemberPlace) -> Option<(ClassId, Scalar)>
     Some((class, scalar))
 }
 
-/// What stands in place of a field.
-fn lookup_stop(fault: LookupFault) -> Stop
-    ensures { (h : Classes) (c : ClassId) (name : Text) → IsLookupFault h c name fault → IsRefusal ((place : MemberPlace) → IsMemberOf h c name place → ⊥) result }
-{
-    match fault {
-        LookupFault::NoMemory => Stop::NoMemory,
-        LookupFault::AmbiguousName => Stop::Refused(Rule::Syntax, 0),
-        LookupFault::NoSuchMember => Stop::Refused(Rule::Syntax, 0),
-    }
-}
-
-/// The place of what a name finds, where it is a member.
-fn member_place(found: Found) -> Result<MemberPlace, Stop>
-    ensures ok { (h : Classes) (c : ClassId) (name : Text) → IsFound h c name found → IfOk result (IsMemberOf h c name) }
-    ensures err { (h : Classes) (c : ClassId) (name : Text) → IsFound h c name found → IfErr result (IsRefusal ((place : MemberPlace) → IsMemberOf h c name place → ⊥)) }
-{
-    match found {
-        Found::Member(base, member) => Ok(MemberPlace { base, member }),
-        Found::Function(_, _) => Err(Stop::Refused(Rule::Syntax, 0)),
-    }
-}
-
-/// The place of the one declaration of a name that is left in a class, where it is a member's.
-fn member_of(
-    alloc: Global,
-    h: &Hierarchy,
-    class: ClassId,
-    name: &Name,
-) -> Result<MemberPlace, Stop>
-    requires simple { IsSimpleHierarchy h.now }
-    requires known { class.0 < length h.now }
-    ensures ok { IfOk result (IsMemberOf h.now class name.now) }
-    ensures err { IfErr result (IsRefusal ((place : MemberPlace) → IsMemberOf h.now class name.now place → ⊥)) }
-{
-    match lookup(alloc, h, class, name.as_slice()) {
-        Ok(found) => member_place(found),
-        Err(fault) => Err(lookup_stop(fault)),
-    }
-}
-
 /// The number of a pointer, and the place and type of the field that its name leads to.
 pub(crate) fn field_of(
     alloc: Global,
@@ -117,40 +69,11 @@ pub(crate) fn field_of(
     if class.0 >= h.len() {
         return Err(Stop::Refused(Rule::Syntax, 0));
     }
-    let place = member_of(alloc, h, class, field)?;
+    let place = member_of(alloc, h, class, field.as_slice())?;
     let Some((_declares, scalar)) = number_at(h, &place) else {
         return Err(Stop::Refused(Rule::Syntax, 0));
     };
     Ok((number, place, scalar))
-}
-
-/// What stands in place of a base.
-fn base_stop(fault: BaseFault) -> Stop
-    ensures { (h : Classes) (c d : ClassId) → IsBaseFault h c d fault → IsRefusal ((base : Subobject) → IsUniqueBase h c d base → ⊥) result }
-{
-    match fault {
-        BaseFault::NoMemory => Stop::NoMemory,
-        BaseFault::AmbiguousBase => Stop::Refused(Rule::Syntax, 0),
-        BaseFault::NotBase => Stop::Refused(Rule::Syntax, 0),
-    }
-}
-
-/// The one subobject of a class that is of another or of the same class.
-fn base_of(
-    alloc: Global,
-    h: &Hierarchy,
-    class: ClassId,
-    target: ClassId,
-) -> Result<Subobject, Stop>
-    requires simple { IsSimpleHierarchy h.now }
-    requires known { class.0 < length h.now }
-    ensures ok { IfOk result (IsUniqueBase h.now class target) }
-    ensures err { IfErr result (IsRefusal ((base : Subobject) → IsUniqueBase h.now class target base → ⊥)) }
-{
-    match unique_base(alloc, h, class, target) {
-        Ok(base) => Ok(base),
-        Err(fault) => Err(base_stop(fault)),
-    }
 }
 
 /// The pointer of a name and its class, converted to a class.

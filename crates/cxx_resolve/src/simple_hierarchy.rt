@@ -12,9 +12,9 @@ ghost use Rattle.cxx_subobject.specs.Preorder.{preorder};
 ghost use Rattle.cxx_resolve.specs.SimpleHierarchy.{IsSimpleBase, IsSimpleMember, IsSimpleClass, IsSimpleHierarchy, HasSimpleClasses};
 
 use cxx_hierarchy::{
-    Base, ClassId, ClassRec, Destructor, FieldType, Hierarchy, Member, Scalar, ValueType,
+    Base, ClassId, ClassRec, Destructor, FieldType, Hierarchy, Member, Scalar, Stop, ValueType,
 };
-use crate::look_up::list_subobjects;
+use cxx_subobject::subobjects_of;
 use foundation::NoMemory;
 use std::alloc::Global;
 
@@ -116,11 +116,16 @@ fn has_simple_classes(h: &Hierarchy) -> bool
 
 /// Whether a class has at most 64 subobjects.
 fn has_few_subobjects(alloc: Global, h: &Hierarchy, c: ClassId) -> Result<bool, NoMemory>
-    requires { c.0 < length h.now }
+    requires classes { HasSimpleClasses h.now }
+    requires known { c.0 < length h.now }
     ensures { IfOk result (λ few. IsTrue few ↔ (length (preorder h.now c) ≤ 64)) }
 {
-    let list = list_subobjects(alloc, h, c)?;
-    Ok(list.len() <= SUBOBJECT_LIMIT)
+    h.keeps();
+    match subobjects_of(alloc, h, c) {
+        Ok(list) => Ok(list.len() <= SUBOBJECT_LIMIT),
+        Err(Stop::Limit(_)) => Ok(false),
+        Err(Stop::Refused(_, _) | Stop::NoMemory) => Err(NoMemory),
+    }
 }
 
 /// Whether a hierarchy is one that `run` takes: each class has at most 16 direct bases, all public and not virtual and

@@ -1,0 +1,152 @@
+-- The declaration with the shortest path.
+use Rattle.std.proofs.Common.{◌≡◌, ℕ, zero, suc, ◌+◌, ◌<◌, ◌≤◌, List, [], ◌∷◌, ◌++◌, length, drop, get_or, sym, ◌∙◌, ap, subst, refl, arith, inl, inr, ◌⊎◌, ⊎_elim, append-nil, length-append}
+use Rattle.std.specs.Prelude.{Option, Some, None, Contains}
+use Rattle.cxx_hierarchy.specs.declared.records.ClassId.{ClassId}
+use Rattle.cxx_hierarchy.specs.Classes.{Classes}
+use Rattle.cxx_hierarchy.specs.Hierarchies.{IsHierarchy}
+use Rattle.cxx_hierarchy.specs.NameTables.{Text}
+use Rattle.cxx_subobject.specs.declared.Subobject.{Subobject}
+use Rattle.cxx_subobject.specs.Subobjects.{IsSubobject, whole, shared, subobject, join}
+use Rattle.cxx_subobject.specs.Inside.{IsInside}
+use Rattle.cxx_subobject.specs.Preorder.{ListsSubobjects}
+use Rattle.cxx_lookup.specs.Lookup.{place_of, IsFound, IsDeclared, Remains, name_of}
+use Rattle.cxx_lookup.specs.declared.Found.{Found}
+use Rattle.cxx_lookup.specs.declared.Found.TheVariants.{Member, Function}
+use Rattle.cxx_resolve.specs.declared.program.MemberPlace.{MemberPlace}
+use Rattle.cxx_resolve.specs.SimpleHierarchy.{HasSimpleClasses, IsSimpleHierarchy}
+use Rattle.cxx_resolve.specs.Searches.{AreSubobjects, HasMember, IsCovered, IsShortest}
+use Rattle.cxx_resolve.specs.Resolves.{IsMemberOf}
+use Rattle.cxx_subobject.specs.Ordered.{HasNoVirtualBase}
+use Rattle.cxx_resolve.proofs.Bases.{plain_bases, no_virtual}
+use Rattle.cxx_resolve.proofs.Each.{no_items}
+use Rattle.cxx_resolve.proofs.Named.{same_number, no_function}
+
+-- an element of a list is its first or one behind
+pub first_or_behind : {X : Type 0} (x : X) (xs : List X) (y : X) → Contains (x ∷ xs) y → (y ≡ x) ⊎ Contains xs y
+first_or_behind x xs y (zero, within, e) = inl (sym e)
+first_or_behind x xs y (suc k, within, e) = inr (k, omega arith, e)
+
+pub behind : {X : Type 0} (x : X) (xs : List X) (y : X) → Contains xs y → Contains (x ∷ xs) y
+behind x xs y (k, within, e) = (suc k, omega arith, e)
+
+pub is_first : {X : Type 0} (x : X) (xs : List X) → Contains (x ∷ xs) x
+is_first x xs = (zero, omega arith, refl)
+
+pub nothing_in : {X : Type 0} (x : X) → Contains [] x → ⊥
+nothing_in x (k, within, e) = absurd (omega arith)
+
+-- each that has a member of the name is covered
+pub record AreCovered (h : Classes) (name : Text) (found : Option Subobject) (list : List Subobject) : Type 0 where
+  pub each : (s : Subobject) → Contains list s → HasMember h name s → IsCovered h found s
+
+pub skip_none : (h : Classes) (name : Text) (found : Option Subobject) (x : Subobject) (xs : List Subobject) → (HasMember h name x → IsCovered h found x) → AreCovered h name found xs → AreCovered h name found (x ∷ xs)
+skip_none h name found x xs skips none = record {
+  each = λ s has m. ⊎_elim
+      (λ same. subst (IsCovered h found) (sym same) (skips (subst (HasMember h name) same m)))
+      (λ later. none.each s later m)
+      (first_or_behind x xs s has);
+}
+
+pub skip_some : (h : Classes) (name : Text) (found : Option Subobject) (x : Subobject) (xs : List Subobject) (s : Subobject) → (HasMember h name x → IsCovered h found x) → IsShortest h name found xs s → IsShortest h name found (x ∷ xs) s
+skip_some h name found x xs s skips short = record {
+  listed = behind x xs s short.listed;
+  has = short.has;
+  outside = short.outside;
+  least = λ t has m out. ⊎_elim
+      (λ same. absurd (out (subst (IsCovered h found) (sym same) (skips (subst (HasMember h name) same m)))))
+      (λ later. short.least t later m out)
+      (first_or_behind x xs t has);
+}
+
+pub only_first : (h : Classes) (name : Text) (found : Option Subobject) (x : Subobject) (xs : List Subobject) → HasMember h name x → (IsCovered h found x → ⊥) → AreCovered h name found xs → IsShortest h name found (x ∷ xs) x
+only_first h name found x xs m out none = record {
+  listed = is_first x xs;
+  has = m;
+  outside = out;
+  least = λ t has n free. ⊎_elim
+      (λ same. subst (λ (z : Subobject). length x.path ≤ length z.path) (sym same) (omega arith))
+      (λ later. absurd (free (none.each t later n)))
+      (first_or_behind x xs t has);
+}
+
+pub shorter_later : (h : Classes) (name : Text) (found : Option Subobject) (x : Subobject) (xs : List Subobject) (s : Subobject) → length s.path ≤ length x.path → IsShortest h name found xs s → IsShortest h name found (x ∷ xs) s
+shorter_later h name found x xs s less short = record {
+  listed = behind x xs s short.listed;
+  has = short.has;
+  outside = short.outside;
+  least = λ t has m out. ⊎_elim
+      (λ same. subst (λ (z : Subobject). length s.path ≤ length z.path) (sym same) less)
+      (λ later. short.least t later m out)
+      (first_or_behind x xs t has);
+}
+
+pub shorter_first : (h : Classes) (name : Text) (found : Option Subobject) (x : Subobject) (xs : List Subobject) (s : Subobject) → HasMember h name x → (IsCovered h found x → ⊥) → length x.path ≤ length s.path → IsShortest h name found xs s → IsShortest h name found (x ∷ xs) x
+shorter_first h name found x xs s m out less short = record {
+  listed = is_first x xs;
+  has = m;
+  outside = out;
+  least = λ t has n free. ⊎_elim
+      (λ same. subst (λ (z : Subobject). length x.path ≤ length z.path) (sym same) (omega arith))
+      (λ later. let more = short.least t later n free in omega arith)
+      (first_or_behind x xs t has);
+}
+
+-- one that lies in another has a longer path, or is it
+same_of_part : (h : Classes) → HasNoVirtualBase h → (d : ClassId) (u b part : Subobject) → IsSubobject h d part → b ≡ join u part → length b.path ≤ length u.path → u ≡ b
+same_of_part h plain d u b _ (whole path leads) joined less =
+    let n : length b.path ≡ length u.path + length path = ap (λ (z : Subobject). length z.path) joined ∙ length-append u.path path in
+    let empty : path ≡ [] = no_items path (omega arith) in
+    let same : b ≡ subobject u.root u.path = joined ∙ ap (λ (q : List ClassId). subobject u.root (u.path ++ q)) empty ∙ ap (subobject u.root) (append-nil u.path) in
+    sym same
+same_of_part h plain d u b _ (shared v path has leads) joined less = absurd (no_virtual h plain d v has)
+
+pub same_inside : (h : Classes) → HasNoVirtualBase h → (u b : Subobject) → IsInside h u b → length b.path ≤ length u.path → u ≡ b
+same_inside h plain u b i less = same_of_part h plain i.class u b i.part i.valid i.joined less
+
+found_member : Subobject → ℕ → Found
+found_member s m = Member s m
+
+-- the one with the shortest path remains, where all that it lies in are covered
+pub shortest_remains : (h : Classes) → IsHierarchy h → IsSimpleHierarchy h → (c : ClassId) (name : Text) (list : List Subobject) (found : Option Subobject) (b : Subobject) (m : ℕ) →
+    ListsSubobjects h c list → IsShortest h name found list b → name_of h (Member b m) ≡ Some name → ((u : Subobject) → IsInside h u b → IsCovered h found u → ⊥) → Remains h c name (Member b m)
+unfolding found_member
+shortest_remains h keeps simple c name list found b m lists short named free = record {
+  declared = record { valid = lists.valid b short.listed; named = named };
+  unhidden = hidden;
+}
+  where
+    hidden : (other : Found) → IsDeclared h c name other → IsInside h (place_of other) b → other ≡ Member b m
+    hidden (Member u k) d i =
+        let less = short.least u (lists.listed u d.valid) (record { number = k; named = d.named }) (free u i) in
+        let same : u ≡ b = same_inside h (plain_bases h simple.classes) u b i less in
+        let number : k ≡ m = same_number h keeps b name k m (subst (λ (z : Subobject). name_of h (Member z k) ≡ Some name) same d.named) named in
+        ap (λ (z : Subobject). found_member z k) same ∙ ap (λ (n : ℕ). found_member b n) number
+    hidden (Function u k) d i = absurd (no_function h simple.classes u k name d.named)
+
+-- it is found, where it covers all others
+pub shortest_found : (h : Classes) → IsHierarchy h → IsSimpleHierarchy h → (c : ClassId) (name : Text) (list : List Subobject) (b : Subobject) (m : ℕ) →
+    ListsSubobjects h c list → IsShortest h name None list b → AreCovered h name (Some b) list → name_of h (Member b m) ≡ Some name → IsFound h c name (Member b m)
+shortest_found h keeps simple c name list b m lists short none named =
+    let first = shortest_remains h keeps simple c name list None b m lists short named (λ u i x. x) in
+    record { remains = first; only = only first }
+  where
+    only : Remains h c name (Member b m) → (other : Found) → Remains h c name other → other ≡ Member b m
+    only first (Member u k) r = sym (r.unhidden (Member b m) first.declared (none.each u (lists.listed u r.declared.valid) (record { number = k; named = r.declared.named })))
+    only first (Function u k) r = absurd (no_function h simple.classes u k name r.declared.named)
+
+-- nothing is found, where two remain
+pub two_shortest : (h : Classes) → IsHierarchy h → IsSimpleHierarchy h → ((s t u : Subobject) → IsInside h s t → IsInside h t u → IsInside h s u) → ((k : ClassId) (s : Subobject) → IsSubobject h k s → IsInside h s s) →
+    (c : ClassId) (name : Text) (list : List Subobject) (b r : Subobject) →
+    ListsSubobjects h c list → IsShortest h name None list b → IsShortest h name (Some b) list r → (place : MemberPlace) → IsMemberOf h c name place → ⊥
+two_shortest h keeps simple through itself c name list b r lists short second place f =
+    let first = shortest_remains h keeps simple c name list None b short.has.number lists short short.has.named (λ u i x. x) in
+    let other = shortest_remains h keeps simple c name list (Some b) r second.has.number lists second second.has.named (λ u i cov. second.outside (through b u r cov i)) in
+    let same : Member b short.has.number ≡ Member r second.has.number = f.only _ first ∙ sym (f.only _ other) in
+    let base : b ≡ r = cc in
+    second.outside (subst (IsInside h b) base (itself c b (lists.valid b short.listed)))
+
+pub none_declared : (h : Classes) (c : ClassId) (name : Text) (list : List Subobject) → ListsSubobjects h c list → AreCovered h name None list → (place : MemberPlace) → IsMemberOf h c name place → ⊥
+none_declared h c name list lists none place f = none.each place.base (lists.listed place.base f.remains.declared.valid) (record { number = place.member; named = f.remains.declared.named })
+
+pub not_in_none : (h : Classes) (name : Text) (s : Subobject) → HasMember h name s → ((m : ℕ) → name_of h (Member s m) ≡ Some name → ⊥) → ⊥
+not_in_none h name s has none = none has.number has.named
