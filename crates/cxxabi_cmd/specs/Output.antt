@@ -1,11 +1,13 @@
 -- Which text and which status belong to words and the bytes of a source.
-use Rattle.std.specs.Prelude.{◌≡◌, ℕ, ◌<◌, ◌≤◌, List, [], ◌∷◌, ◌++◌, length, map, codes, Option, Some, None, IfSome, string_bytes, String}
+use Rattle.std.specs.Prelude.{◌≡◌, ℕ, zero, suc, ◌<◌, ◌≤◌, Contains, slice_get, List, [], ◌∷◌, ◌++◌, length, map, codes, Option, Some, None, IfSome, string_bytes, String}
+use Rattle.std.specs.List.{flat_map}
 use Rattle.std.specs.Fmt.{decimal}
+use Rattle.cxx_hierarchy.specs.declared.records.ClassId.{ClassId}
 use Rattle.cxx_hierarchy.specs.declared.stop.Rule.TheVariants.{Syntax, UnknownName}
-use Rattle.cxx_hierarchy.specs.declared.stop.LimitNo.TheVariants.{L1}
+use Rattle.cxx_hierarchy.specs.declared.stop.LimitNo.TheVariants.{L1, L9}
 use Rattle.cxx_hierarchy.specs.declared.stop.Stop.{Stop}
 use Rattle.cxx_hierarchy.specs.declared.stop.Stop.TheVariants as stop
-use Rattle.cxx_hierarchy.specs.Classes.{Classes}
+use Rattle.cxx_hierarchy.specs.Classes.{Classes, class_names}
 use Rattle.cxx_body_parser.specs.declared.tree.BodyTree.{BodyTree}
 use Rattle.cxx_decl_parser.specs.declared.source_text.SourceText.{SourceText}
 use Rattle.cxx_resolve.specs.declared.program.SimpleProgram.{SimpleProgram}
@@ -14,10 +16,12 @@ use Rattle.path_model.specs.Runs.{Ran, Ending, Done as IsDone, UndefinedAt, OutO
 use Rattle.path_model.specs.Rules.{undefined_no}
 use Rattle.abi_layout.specs.declared.class_layout.ClassLayout.{ClassLayout}
 use Rattle.abi_layout.specs.Places.{places_of}
+use Rattle.abi_layout.specs.Kinds.{IsStatic}
 use Rattle.abi_layout.specs.Laid.{IsLaid}
 use Rattle.abi_print.specs.Texts.{text_of}
+use Rattle.abi_print.specs.LayoutTexts.{layout_text}
 use Rattle.cxxabi_cmd.specs.declared.command.Command.{Command}
-use Rattle.cxxabi_cmd.specs.declared.command.Command.TheVariants.{Check, Run}
+use Rattle.cxxabi_cmd.specs.declared.command.Command.TheVariants.{Check, Run, Layout, LayoutOf}
 use Rattle.cxxabi_cmd.specs.declared.status.Status.{Status}
 use Rattle.cxxabi_cmd.specs.declared.status.Status.TheVariants.{Done, Refused, Usage, Undefined, OutOfSteps, Limit, ReadFault, WriteFault, NoMemory}
 use Rattle.cxxabi_cmd.specs.Commands.{Says, IsCommand}
@@ -66,9 +70,30 @@ status_of_stop (stop.Refused rule at) = Refused rule at
 status_of_stop (stop.Limit limit) = Limit limit
 status_of_stop stop.NoMemory = NoMemory
 
+-- an answer that is a text alone
+abbrev pub text_answer : List ℕ → Answer
+text_answer text = record { text = text; status = Done }
+
 -- how many classes there are
 abbrev pub count_answer : Classes → Answer
-count_answer h = record { text = decimal (length h) ++ codes " classes\n"; status = Done }
+count_answer h = text_answer (decimal (length h) ++ codes " classes\n")
+
+abbrev pub numbered : ℕ → ClassId
+numbered n = record { 0 = n }
+
+-- the first classes of a source in their order, as many as are asked for
+abbrev pub first_classes : ℕ → List ClassId
+first_classes zero = []
+first_classes (suc n) = first_classes n ++ numbered n ∷ []
+
+-- the classes whose layout a command asks for
+pub data AsksFor (h : Classes) : Command → List ClassId → Type 0 where
+  all : AsksFor h Layout (first_classes (length h))
+  one : (name : List ℕ) (c : ClassId) → slice_get (class_names h) c.0 ≡ Some name → AsksFor h (LayoutOf name) (c ∷ [])
+
+-- the layouts of classes, one after the other
+abbrev pub layouts_text : Classes → List ClassLayout → List ClassId → List ℕ
+layouts_text h rows classes = flat_map (layout_text h rows) classes
 
 -- a source that has a main alone besides its classes, all of the form that is run, is this program
 pub record IsProgram (source : SourceText) (h : Classes) (program : SimpleProgram) : Type 0 where
@@ -86,6 +111,12 @@ pub data Yields (size : ℕ) (source : SourceText) (h : Classes) : Command → A
       Yields size source h Run (line_alone (Refused Syntax 0))
   ran : (program : SimpleProgram) (rows : List ClassLayout) → IsProgram source h program → IsLaid h rows →
       Yields size source h Run (run_answer h rows (run_by h rows program))
+  unknown_class : (name : List ℕ) → (Contains (class_names h) name → ⊥) → Yields size source h (LayoutOf name) (line_alone (Refused UnknownName size))
+  dynamic : (command : Command) (classes : List ClassId) → AsksFor h command classes → (IsStatic h → ⊥) → Yields size source h command (line_alone (Refused Syntax 0))
+  laid_out : (command : Command) (classes : List ClassId) (rows : List ClassLayout) → AsksFor h command classes → IsLaid h rows → length (layouts_text h rows classes) ≤ 16777216 →
+      Yields size source h command (text_answer (layouts_text h rows classes))
+  too_much : (command : Command) (classes : List ClassId) (rows : List ClassLayout) → AsksFor h command classes → IsLaid h rows → 16777216 < length (layouts_text h rows classes) →
+      Yields size source h command (line_alone (Limit L9))
 
 -- what is answered to words and the bytes of a source
 pub data Output (words : List (List ℕ)) (bytes : List ℕ) : Answer → Type 0 where

@@ -17,6 +17,7 @@ ghost use Rattle.cxxabi_cmd.specs.Handed.{IsMachineOf};
 ghost use Rattle.cxxabi_cmd.specs.Replies.{answer_of, machine_of, IsLayoutOf, HandsBy};
 
 use crate::command::Command;
+use crate::layout_answer::{lay_out_all, lay_out_one};
 use crate::reply::{BUDGET, Reply, class_count, line_alone};
 use crate::status::{Status, last_line_of};
 use crate::verdict::Accepted;
@@ -128,16 +129,18 @@ fn run_main(alloc: Global, size: u32, accepted: &Accepted) -> Result<Reply, NoMe
 // What a command answers to an accepted source of so many bytes.
 pub(crate) fn answer(
     alloc: Global,
-    command: Command,
+    command: &Command,
     size: u32,
     accepted: &Accepted,
 ) -> Result<Reply, NoMemory>
     requires { IsLayoutOf accepted.now.hierarchy accepted.now.layout }
-    ensures yields { IfOk result (λ reply. Yields size accepted.now.source accepted.now.hierarchy command (answer_of reply)) }
-    ensures machine { IfOk result (λ reply. HandsBy command accepted.now.source accepted.now.hierarchy (machine_of reply)) }
+    ensures yields { IfOk result (λ reply. Yields size accepted.now.source accepted.now.hierarchy command.now (answer_of reply)) }
+    ensures machine { IfOk result (λ reply. HandsBy command.now accepted.now.source accepted.now.hierarchy (machine_of reply)) }
 {
     match command {
         Command::Check => class_count(alloc, &accepted.hierarchy),
         Command::Run => run_main(alloc, size, accepted),
+        Command::Layout => lay_out_all(alloc, accepted),
+        Command::LayoutOf(name) => lay_out_one(alloc, size, name.as_slice(), accepted),
     }
 }

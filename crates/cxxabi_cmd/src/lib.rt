@@ -12,6 +12,7 @@
 
 mod answer;
 pub mod command;
+mod layout_answer;
 pub mod reading;
 mod reply;
 pub mod run;

@@ -37,10 +37,10 @@ fn stopped(alloc: Global, stop: Stop) -> Result<Reply, NoMemory>
 }
 
 // What a command answers to the bytes of a source.
-fn reply_to(alloc: Global, command: Command, bytes: &[u8]) -> Result<Reply, NoMemory>
+fn reply_to(alloc: Global, command: &Command, bytes: &[u8]) -> Result<Reply, NoMemory>
     requires { length bytes.now ≤ 262144 }
-    ensures output { IfOk result (λ reply. (words : List (List ℕ)) → Says words command → Output words bytes.now (answer_of reply)) }
-    ensures machine { IfOk result (λ reply. (words : List (List ℕ)) → Says words command → HandsOut words bytes.now (machine_of reply)) }
+    ensures output { IfOk result (λ reply. (words : List (List ℕ)) → Says words command.now → Output words bytes.now (answer_of reply)) }
+    ensures machine { IfOk result (λ reply. (words : List (List ℕ)) → Says words command.now → HandsOut words bytes.now (machine_of reply)) }
     ensures answered { IfOk result (λ reply. IsAnswered reply.status) }
 {
     match judge(alloc, bytes) {
@@ -50,10 +50,10 @@ fn reply_to(alloc: Global, command: Command, bytes: &[u8]) -> Result<Reply, NoMe
 }
 
 // What a command answers to the bytes that were read, up to one past the limit.
-fn reply_within(alloc: Global, command: Command, bytes: &[u8]) -> Result<Reply, NoMemory>
+fn reply_within(alloc: Global, command: &Command, bytes: &[u8]) -> Result<Reply, NoMemory>
     requires { length bytes.now ≤ 262145 }
-    ensures output { IfOk result (λ reply. (words : List (List ℕ)) (all : List ℕ) → Says words command → bytes.now ≡ take 262145 all → Output words all (answer_of reply)) }
-    ensures machine { IfOk result (λ reply. (words : List (List ℕ)) (all : List ℕ) → Says words command → bytes.now ≡ take 262145 all → HandsOut words all (machine_of reply)) }
+    ensures output { IfOk result (λ reply. (words : List (List ℕ)) (all : List ℕ) → Says words command.now → bytes.now ≡ take 262145 all → Output words all (answer_of reply)) }
+    ensures machine { IfOk result (λ reply. (words : List (List ℕ)) (all : List ℕ) → Says words command.now → bytes.now ≡ take 262145 all → HandsOut words all (machine_of reply)) }
     ensures answered { IfOk result (λ reply. IsAnswered reply.status) }
 {
     if bytes.len() > SOURCE_LIMIT {
@@ -73,11 +73,11 @@ fn respond<S: Source>(alloc: Global, words: &[String], source: &mut S) -> Result
     ensures kept { (IsCommand (texts_of words.now) → ⊥) → source.new ≡ source.old }
     ensures fault { IfErr result (λ stop. stop ≡ ReadStop.Fault → Rose (S.fault_count source.old) (S.fault_count source.new)) }
 {
-    let Some(command) = command_of(words) else {
+    let Some(command) = command_of(alloc, words)? else {
         return Ok(line_alone(alloc, Status::Usage)?);
     };
     let bytes = read_source(alloc, source)?;
-    Ok(reply_within(alloc, command, &bytes)?)
+    Ok(reply_within(alloc, &command, &bytes)?)
 }
 
 // Writes a text and says how the call ended.
