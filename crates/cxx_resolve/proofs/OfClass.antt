@@ -1,7 +1,7 @@
 -- The one subobject of a class in a list.
-use Rattle.std.proofs.Common.{◌≡◌, ℕ, suc, ◌+◌, ◌-◌, ◌<◌, ◌≤◌, List, [], ◌∷◌, length, drop, get_or, sym, ◌∙◌, ap, subst, refl, arith, Bool, true, false, inl, inr, ◌⊎◌, ⊎_elim}
-use Rattle.std.specs.Prelude.{Option, Some, None, slice_get, position, Contains}
-use Rattle.std.proofs.lemmas.List.{get_or-drop}
+use Rattle.std.proofs.Common.{◌≡◌, ℕ, suc, ◌+◌, ◌-◌, ◌<◌, ◌≤◌, List, [], ◌∷◌, length, take, drop, get_or, sym, ◌∙◌, ap, subst, refl, arith, Bool, true, false, inl, inr, ◌⊎◌, ⊎_elim}
+use Rattle.std.specs.Prelude.{Option, Some, None, slice_get, position, Contains, is_some}
+use Rattle.std.proofs.lemmas.List.{get_or-drop, take_all}
 use Rattle.std.proofs.lemmas.List.Quantifiers.{position-Some}
 use Rattle.std.proofs.lemmas.Option.{slice_get-get_or, slice_get_within, slice_get_past, get_or_from_slice_get}
 use Rattle.std.proofs.lemmas.Bool.{cases_lt, cases_order}
@@ -92,3 +92,29 @@ last_is (c ∷ []) = refl
 last_is (c ∷ b ∷ path) =
     let e : length (c ∷ b ∷ path) - 1 ≡ suc (length (b ∷ path) - 1) = omega arith in
     ap (slice_get (c ∷ b ∷ path)) e ∙ last_is (b ∷ path)
+
+-- what the second search tells
+record IsItem {X : Type 0} (o : Option X) : Type 0 where
+  item : X
+  is : o ≡ Some item
+
+is_there : {X : Type 0} (o : Option X) (test : Bool) → test ≡ is_some o → test ≡ true → IsItem o
+is_there None test e t = absurd (cc)
+is_there (Some x) test e t = record { item = x; is = refl }
+
+is_not_there : {X : Type 0} (o : Option X) (test : Bool) → test ≡ is_some o → test ≡ false → o ≡ None
+is_not_there None test e t = refl
+is_not_there (Some x) test e t = absurd (cc)
+
+whole_rest : {X : Type 0} (xs : List X) (n : ℕ) → take (length xs - n) (drop n xs) ≡ drop n xs
+whole_rest xs n = take_all (length xs - n) (drop n xs) (omega (arith, length-drop n xs))
+
+pub two_by_test : (h : Classes) (c d : ClassId) (list : List Subobject) (n : ℕ) (r : Option ℕ) (test : Bool) → ListsSubobjects h c list → position (is_of_class d) list ≡ Some n →
+    r ≡ position (is_of_class d) (take (length list - (n + 1)) (drop (n + 1) list)) → test ≡ is_some r → test ≡ true → (s : Subobject) → IsUniqueBase h c d s → ⊥
+two_by_test h c d list n r test lists found rest e t =
+    let there = is_there r test e t in
+    two_of_class h c d list n there.item lists found (sym (rest ∙ ap (position (is_of_class d)) (whole_rest list (n + 1))) ∙ there.is)
+
+pub one_by_test : (h : Classes) (c d : ClassId) (list : List Subobject) (n : ℕ) (s : Subobject) (r : Option ℕ) (test : Bool) → ListsSubobjects h c list → position (is_of_class d) list ≡ Some n → s ≡ get_or list n s →
+    r ≡ position (is_of_class d) (take (length list - (n + 1)) (drop (n + 1) list)) → test ≡ is_some r → test ≡ false → IsUniqueBase h c d s
+one_by_test h c d list n s r test lists found at rest e t = unique_of_class h c d list n s lists found at (sym (rest ∙ ap (position (is_of_class d)) (whole_rest list (n + 1))) ∙ is_not_there r test e t)

@@ -1,6 +1,8 @@
 -- The declaration with the shortest path.
-use Rattle.std.proofs.Common.{◌≡◌, ℕ, zero, suc, ◌+◌, ◌<◌, ◌≤◌, List, [], ◌∷◌, ◌++◌, length, drop, get_or, sym, ◌∙◌, ap, subst, refl, arith, inl, inr, ◌⊎◌, ⊎_elim, append-nil, length-append}
-use Rattle.std.specs.Prelude.{Option, Some, None, Contains}
+use Rattle.std.proofs.Common.{◌≡◌, ℕ, zero, suc, ◌+◌, ◌<◌, ◌≤◌, List, [], ◌∷◌, ◌++◌, length, take, drop, get_or, ◌-◌, sym, ◌∙◌, ap, subst, refl, arith, inl, inr, ◌⊎◌, ⊎_elim, append-nil, length-append, Bool, true, false, Bor}
+use Rattle.std.specs.Prelude.{Option, Some, None, Contains, MatchOption, is_some, option_copied}
+use Rattle.std.proofs.lemmas.Bool.Decides.{nat_tests}
+use Rattle.std.proofs.lemmas.List.{take_all}
 use Rattle.cxx_hierarchy.specs.declared.records.ClassId.{ClassId}
 use Rattle.cxx_hierarchy.specs.Classes.{Classes}
 use Rattle.cxx_hierarchy.specs.Hierarchies.{IsHierarchy}
@@ -14,7 +16,7 @@ use Rattle.cxx_lookup.specs.declared.Found.{Found}
 use Rattle.cxx_lookup.specs.declared.Found.TheVariants.{Member, Function}
 use Rattle.cxx_resolve.specs.declared.program.MemberPlace.{MemberPlace}
 use Rattle.cxx_resolve.specs.SimpleHierarchy.{HasSimpleClasses, IsSimpleHierarchy}
-use Rattle.cxx_resolve.specs.Searches.{AreSubobjects, HasMember, IsCovered, IsShortest}
+use Rattle.cxx_resolve.specs.Searches.{AreSubobjects, HasMember, IsCovered, IsShortest, goes_first}
 use Rattle.cxx_resolve.specs.Resolves.{IsMemberOf}
 use Rattle.cxx_subobject.specs.Ordered.{HasNoVirtualBase}
 use Rattle.cxx_resolve.proofs.Bases.{plain_bases, no_virtual}
@@ -150,3 +152,48 @@ none_declared h c name list lists none place f = none.each place.base (lists.lis
 
 pub not_in_none : (h : Classes) (name : Text) (s : Subobject) → HasMember h name s → ((m : ℕ) → name_of h (Member s m) ≡ Some name → ⊥) → ⊥
 not_in_none h name s has none = none has.number has.named
+
+-- the list of a pattern
+pub cons_of : {X : Type 0} (xs : List X) (x : X) → 1 ≤ length xs → x ≡ get_or xs 0 x → xs ≡ x ∷ take (length xs - 1) (drop 1 xs)
+cons_of [] x some at = absurd (omega arith)
+cons_of (y ∷ xs) x some at =
+    let all : take (length (y ∷ xs) - 1) xs ≡ xs = take_all (length (y ∷ xs) - 1) xs (omega arith) in
+    ap (λ z. z ∷ xs) (sym at) ∙ ap (λ zs. x ∷ zs) (sym all)
+
+-- what the search in the rest of the list and the tests of its first one tell
+abbrev pub Searched : Classes → Text → Option Subobject → List Subobject → Option (Bor Subobject) → Type 0
+Searched h name found list o = MatchOption o ((s : Subobject) → Contains list s → HasMember h name s → IsCovered h found s) (λ s. IsShortest h name found list s.now)
+
+covered : (h : Classes) (name : Text) (found : Option Subobject) (list : List Subobject) → ((s : Subobject) → Contains list s → HasMember h name s → IsCovered h found s) → AreCovered h name found list
+covered h name found list f = record { each = f }
+
+pub skipped : (h : Classes) (name : Text) (found : Option Subobject) (list rest : List Subobject) (x : Subobject) (o : Option (Bor Subobject)) → list ≡ x ∷ rest → (HasMember h name x → IsCovered h found x) →
+    Searched h name found rest o → Searched h name found list o
+skipped h name found list rest x None form skips m = subst (λ (xs : List Subobject). Searched h name found xs None) (sym form) (skip_none h name found x rest skips (covered h name found rest m)).each
+skipped h name found list rest x (Some s) form skips m = subst (λ (xs : List Subobject). IsShortest h name found xs s.now) (sym form) (skip_some h name found x rest s.now skips m)
+
+pub taken : (h : Classes) (name : Text) (found : Option Subobject) (list rest : List Subobject) (x : Subobject) (o : Option (Bor Subobject)) → list ≡ x ∷ rest → HasMember h name x → (IsCovered h found x → ⊥) →
+    goes_first x (option_copied o) ≡ true → Searched h name found rest o → IsShortest h name found list x
+taken h name found list rest x None form has out first m = subst (λ (xs : List Subobject). IsShortest h name found xs x) (sym form) (only_first h name found x rest has out (covered h name found rest m))
+taken h name found list rest x (Some s) form has out first m =
+    let less : length x.path ≤ length s.now.path = grind (arith, nat_tests) in
+    subst (λ (xs : List Subobject). IsShortest h name found xs x) (sym form) (shorter_first h name found x rest s.now has out less m)
+
+pub kept : (h : Classes) (name : Text) (found : Option Subobject) (list rest : List Subobject) (x : Subobject) (o : Option (Bor Subobject)) → list ≡ x ∷ rest →
+    goes_first x (option_copied o) ≡ false → Searched h name found rest o → Searched h name found list o
+kept h name found list rest x None form first m = absurd (cc)
+kept h name found list rest x (Some s) form first m =
+    let less : length s.now.path ≤ length x.path = grind (arith, nat_tests) in
+    subst (λ (xs : List Subobject). IsShortest h name found xs s.now) (sym form) (shorter_later h name found x rest s.now less m)
+
+-- what the second search tells
+pub found_twice : (h : Classes) → IsHierarchy h → IsSimpleHierarchy h → ((s t u : Subobject) → IsInside h s t → IsInside h t u → IsInside h s u) → ((k : ClassId) (s : Subobject) → IsSubobject h k s → IsInside h s s) →
+    (c : ClassId) (name : Text) (list : List Subobject) (b : Subobject) (o : Option (Bor Subobject)) (test : Bool) →
+    ListsSubobjects h c list → IsShortest h name None list b → Searched h name (Some b) list o → test ≡ is_some o → test ≡ true → (place : MemberPlace) → IsMemberOf h c name place → ⊥
+found_twice h keeps simple through itself c name list b None test lists short m e t = absurd (cc)
+found_twice h keeps simple through itself c name list b (Some s) test lists short m e t = two_shortest h keeps simple through itself c name list b s.now lists short m
+
+pub found_once : (h : Classes) → IsHierarchy h → IsSimpleHierarchy h → (c : ClassId) (name : Text) (list : List Subobject) (b : Subobject) (m : ℕ) (o : Option (Bor Subobject)) (test : Bool) →
+    ListsSubobjects h c list → IsShortest h name None list b → Searched h name (Some b) list o → test ≡ is_some o → test ≡ false → name_of h (Member b m) ≡ Some name → IsFound h c name (Member b m)
+found_once h keeps simple c name list b m None test lists short searched e t named = shortest_found h keeps simple c name list b m lists short (covered h name (Some b) list searched) named
+found_once h keeps simple c name list b m (Some s) test lists short searched e t named = absurd (cc)

@@ -1,5 +1,5 @@
 -- What the searches in the subobjects of a class answer.
-use Rattle.std.specs.Prelude.{◌≡◌, ◌≤◌, ℕ, Bool, false, nat_eq, Option, Some, None, List, Contains, length}
+use Rattle.std.specs.Prelude.{◌≡◌, ◌≤◌, ℕ, Bool, true, false, nat_eq, nat_le, Option, Some, None, List, Contains, length}
 use Rattle.cxx_hierarchy.specs.declared.records.ClassId.{ClassId}
 use Rattle.cxx_hierarchy.specs.Classes.{Classes}
 use Rattle.cxx_hierarchy.specs.NameTables.{Text}
@@ -33,6 +33,11 @@ pub record IsShortest (h : Classes) (name : Text) (found : Option Subobject) (li
   pub has : HasMember h name s
   pub outside : IsCovered h found s → ⊥
   pub least : (t : Subobject) → Contains list t → HasMember h name t → (IsCovered h found t → ⊥) → length s.path ≤ length t.path
+
+-- the test that x has no longer path than one that is found
+abbrev pub goes_first : Subobject → Option Subobject → Bool
+goes_first x None = true
+goes_first x (Some s) = nat_le (length x.path) (length s.path)
 
 abbrev pub is_class : ClassId → Option ClassId → Bool
 is_class d None = false

@@ -11,7 +11,7 @@ ghost use Rattle.cxx_subobject.specs.Subobjects.{IsSubobject, class_of};
 ghost use Rattle.cxx_subobject.specs.Preorder.{ListsSubobjects};
 ghost use Rattle.cxx_lookup.specs.UniqueBase.{IsUniqueBase};
 ghost use Rattle.cxx_resolve.specs.SimpleHierarchy.{IsSimpleHierarchy};
-ghost use Rattle.cxx_resolve.specs.Searches.{AreSubobjects, member_name, HasMember, IsCovered, IsShortest, is_of_class};
+ghost use Rattle.cxx_resolve.specs.Searches.{AreSubobjects, member_name, HasMember, IsCovered, IsShortest, goes_first, is_of_class};
 ghost use Rattle.cxx_resolve.specs.Resolves.{IsMemberOf};
 ghost use Rattle.cxx_resolve.specs.Answers.{IsRefusal};
 ghost use Rattle.cxx_resolve.specs.declared.program.MemberPlace.{MemberPlace};
@@ -93,6 +93,16 @@ fn is_covered(h: &Hierarchy, c: ClassId, found: Option<&Subobject>, s: &Subobjec
     }
 }
 
+/// Whether a subobject has no longer path than one that is found.
+fn goes_first(first: &Subobject, later: Option<&Subobject>) -> bool
+    ensures { result ≡ goes_first first.now (option_copied later.entry) }
+{
+    match later {
+        None => true,
+        Some(s) => first.path.len() <= s.path.len(),
+    }
+}
+
 /// Of the subobjects in a list whose classes declare a member of a name, and which do not lie in one that is found,
 /// one with the shortest path.
 fn shortest<'a>(
@@ -117,16 +127,10 @@ fn shortest<'a>(
             if !has_member(h, first, name) {
                 return later;
             }
-            match later {
-                None => Some(first),
-                Some(s) => {
-                    if s.path.len() < first.path.len() {
-                        Some(s)
-                    } else {
-                        Some(first)
-                    }
-                }
+            if goes_first(first, later) {
+                return Some(first);
             }
+            later
         }
     }
 }

@@ -1,15 +1,17 @@
-//! A `main` that resolves, and some that do not.
+//! Bodies that resolve over bases, and some that do not.
 
-ghost use Rattle.std.specs.Prelude.{◌≡◌, [], All, IfOk};
+ghost use Rattle.std.specs.Prelude.{◌≡◌, ◌≤◌, [], All, IfOk, length};
 ghost use Rattle.cxx_hierarchy.specs.ClassPass.{IsInOrder};
 
+use crate::main_body::resolve_main;
 use crate::program::{SimpleProgram, Statement};
-use crate::resolution::resolve_simple;
-use crate::simple::{Simple, SimpleLine, SimpleLines};
+use cxx_body_parser::parse_body;
 use cxx_hierarchy::{
-    ClassId, ClassRec, Destructor, FieldType, Hierarchy, Member, Name, PartAt, PartKind, Rule,
-    Scalar, Stop, ValueType, build,
+    Base, ClassRec, Destructor, FieldType, Hierarchy, Member, Name, PartAt, PartKind, RecordList,
+    Rule, Scalar, Stop, ValueType, build,
 };
+use cxx_subobject::Subobject;
+use cxx_text::tokens;
 use foundation::{NoMemory, Sequence};
 use std::alloc::Global;
 use std::test::Fail;
@@ -18,13 +20,13 @@ fn name(alloc: Global, text: &str) -> Result<Name, NoMemory> {
     Ok(Sequence::from_vec(Vec::from_slice(alloc, text.as_bytes())?))
 }
 
-/// `struct P {};`
-fn class(alloc: Global) -> Result<ClassRec<Name>, NoMemory>
+/// `struct NAME {};`
+fn class(alloc: Global, text: &str) -> Result<ClassRec<Name>, NoMemory>
     ensures { IfOk result IsInOrder }
 {
     Ok(ClassRec {
-        name: name(alloc, "P")?,
-        at: 7,
+        name: name(alloc, text)?,
+        at: 0,
         bases: Sequence::new(alloc),
         members: Sequence::new(alloc),
         functions: Sequence::new(alloc),
@@ -34,8 +36,28 @@ fn class(alloc: Global) -> Result<ClassRec<Name>, NoMemory>
     })
 }
 
-/// The class with the field `int x;`.
-fn with_x(alloc: Global, class: ClassRec<Name>) -> Result<ClassRec<Name>, NoMemory>
+/// The class with one more base.
+fn with_base(alloc: Global, class: ClassRec<Name>, base: &str) -> Result<ClassRec<Name>, NoMemory>
+    requires { IsInOrder class }
+    ensures { IfOk result IsInOrder }
+{
+    let mut class = class;
+    class.bases.push(Base {
+        class: name(alloc, base)?,
+        is_virtual: false,
+        is_public: true,
+        at: 0,
+    })?;
+    Ok(class)
+}
+
+/// The class with one more field.
+fn with_field(
+    alloc: Global,
+    class: ClassRec<Name>,
+    scalar: Scalar,
+    text: &str,
+) -> Result<ClassRec<Name>, NoMemory>
     requires { IsInOrder class }
     ensures { IfOk result IsInOrder }
 {
@@ -45,139 +67,185 @@ fn with_x(alloc: Global, class: ClassRec<Name>) -> Result<ClassRec<Name>, NoMemo
         return Err(NoMemory);
     }
     class.members.push(Member {
-        name: name(alloc, "x")?,
-        ty: FieldType::Value(ValueType::Number(Scalar::Int)),
+        name: name(alloc, text)?,
+        ty: FieldType::Value(ValueType::Number(scalar)),
         count: None,
         is_public: true,
-        at: 15,
+        at: 0,
     })?;
     class.order.push(PartAt {
         kind: PartKind::Member,
         number: number as u32,
-        ty_at: Some(11),
-        at: 15,
+        ty_at: Some(0),
+        at: 0,
     })?;
     Ok(class)
 }
 
-/// The hierarchy of `struct P { int x; };`.
+fn with_class(records: RecordList, class: ClassRec<Name>) -> Result<RecordList, NoMemory>
+    requires records { All IsInOrder records }
+    requires class { IsInOrder class }
+    ensures { IfOk result (All IsInOrder) }
+{
+    let mut records = records;
+    records.push(class)?;
+    Ok(records)
+}
+
+/// `struct X { int a; }; struct L : X { char b; }; struct R : X {}; struct T : L, R { char t; int b; };
+/// struct U : L {};`
 fn hierarchy(alloc: Global) -> Result<Hierarchy, Stop> {
-    let mut records = Sequence::new(alloc);
-    records.push(with_x(alloc, class(alloc)?)?)?;
+    let x = with_field(alloc, class(alloc, "X")?, Scalar::Int, "a")?;
+    let l = with_base(alloc, class(alloc, "L")?, "X")?;
+    let l = with_field(alloc, l, Scalar::Char, "b")?;
+    let r = with_base(alloc, class(alloc, "R")?, "X")?;
+    let t = with_base(alloc, with_base(alloc, class(alloc, "T")?, "L")?, "R")?;
+    let t = with_field(alloc, t, Scalar::Char, "t")?;
+    let t = with_field(alloc, t, Scalar::Int, "b")?;
+    let u = with_base(alloc, class(alloc, "U")?, "L")?;
+    let records = with_class(Sequence::new(alloc), x)?;
+    let records = with_class(with_class(records, l)?, r)?;
+    let records = with_class(with_class(records, t)?, u)?;
     build(alloc, &records)
 }
 
-fn with_line(lines: SimpleLines, what: Simple, line: u32) -> Result<SimpleLines, NoMemory> {
-    let mut lines = lines;
-    lines.push(SimpleLine { what, line })?;
-    Ok(lines)
+/// What a body resolves to.
+fn program(alloc: Global, text: &[u8]) -> Result<SimpleProgram, Stop>
+    requires { length text.now ≤ 262144 }
+{
+    let list = tokens(alloc, text)?;
+    if list.tokens.len() == 0 {
+        return Err(Stop::NoMemory);
+    }
+    let (tree, _) = parse_body(alloc, text, &list, 0, 0)?;
+    resolve_main(alloc, &hierarchy(alloc)?, &tree)
 }
 
-/// `P* p = new P;`
-fn new_p(alloc: Global) -> Result<Simple, NoMemory> {
-    Ok(Simple::New(name(alloc, "P")?, name(alloc, "p")?))
+/// Whether the path of a subobject has these classes.
+fn has_path(s: &Subobject, classes: &[u32]) -> bool {
+    let path = s.path.as_slice();
+    path.len() == classes.len() && path.iter().zip(classes).all(|(c, number)| c.0 == *number)
 }
 
-/// `p->x = 3;`
-fn write_x(alloc: Global) -> Result<Simple, NoMemory> {
-    Ok(Simple::Write(name(alloc, "p")?, name(alloc, "x")?, 3))
-}
-
-/// `int y = p->x;`
-fn read_y(alloc: Global) -> Result<Simple, NoMemory> {
-    Ok(Simple::Read(name(alloc, "y")?, name(alloc, "p")?, name(alloc, "x")?))
-}
-
-fn print(alloc: Global, variable: &str) -> Result<Simple, NoMemory> {
-    Ok(Simple::Print(name(alloc, variable)?))
-}
-
-fn first_program(alloc: Global) -> Result<SimpleProgram, Stop> {
-    let lines = with_line(Sequence::new(alloc), new_p(alloc)?, 2)?;
-    let lines = with_line(lines, write_x(alloc)?, 3)?;
-    let lines = with_line(lines, read_y(alloc)?, 4)?;
-    let lines = with_line(lines, print(alloc, "y")?, 5)?;
-    resolve_simple(alloc, &hierarchy(alloc)?, &lines)
+/// Whether a statement does what the words say: the numbers of its variables, and the classes of its paths.
+fn does(statement: &Statement, numbers: &[u32], first: &[u32], second: &[u32]) -> bool {
+    match statement {
+        Statement::New { variable, class } => *numbers == [*variable] && *first == [class.0],
+        Statement::Write {
+            pointer, place, ..
+        } => *numbers == [*pointer, place.member] && has_path(&place.base, first),
+        Statement::Read {
+            variable,
+            pointer,
+            place,
+        } => *numbers == [*variable, *pointer, place.member] && has_path(&place.base, first),
+        Statement::Convert { variable, from } => {
+            *numbers == [*variable, from.pointer] && has_path(&from.base, first)
+        }
+        Statement::Equal {
+            variable,
+            left,
+            right,
+        } => {
+            *numbers == [*variable, left.pointer, right.pointer]
+                && has_path(&left.base, first)
+                && has_path(&right.base, second)
+        }
+        Statement::Print { variable } => *numbers == [*variable],
+    }
 }
 
 #[test]
-fn resolves(rt: HostRuntime) -> Result<(), Fail> {
-    let program = first_program(rt.alloc())?;
-    assert_eq!(rt; program.variables.len(), 2);
-    assert_eq!(rt; program.lines.len(), 4);
-    let mut next = 2;
-    for line in program.lines.as_slice() {
-        assert_eq!(rt; line.line, next);
+fn resolves_over_two_paths(rt: HostRuntime) -> Result<(), Fail> {
+    let text = b"{ T* t = new T;\n L* l = t;\n R* r = t;\n X* x = l;\n X* y = r;\n bool s = x == y;\n print(s);\n print(y); }";
+    let found = program(rt.alloc(), text)?;
+    assert_eq!(rt; found.variables.len(), 6);
+    let rows: [(&[u32], &[u32], &[u32]); 8] = [
+        (&[0], &[3], &[]),
+        (&[1, 0], &[3, 1], &[]),
+        (&[2, 0], &[3, 2], &[]),
+        (&[3, 1], &[1, 0], &[]),
+        (&[4, 2], &[2, 0], &[]),
+        (&[5, 3, 4], &[0], &[0]),
+        (&[5], &[], &[]),
+        (&[4], &[], &[]),
+    ];
+    assert_eq!(rt; found.lines.len(), rows.len());
+    let mut next = 0;
+    for (line, (numbers, first, second)) in found.lines.as_slice().iter().zip(&rows) {
         assert!(rt; next < 9);
         next += 1;
-        match &line.what {
-            Statement::New { variable, class } => {
-                assert_eq!(rt; *variable, 0);
-                assert_eq!(rt; *class, ClassId(0));
+        assert_eq!(rt; line.line, next);
+        assert!(rt; does(&line.what, numbers, first, second));
+    }
+    Ok(())
+}
+
+#[test]
+fn resolves_hidden_and_inherited_members(rt: HostRuntime) -> Result<(), Fail> {
+    let text = b"{ T* t = new T; t->b = -7; int v = t->b; U* u = new U; u->a = 1; u->b = -0; L* l = u; bool s = l == u; }";
+    let found = program(rt.alloc(), text)?;
+    let rows: [(&[u32], &[u32], &[u32]); 8] = [
+        (&[0], &[3], &[]),
+        (&[0, 1], &[3], &[]),
+        (&[1, 0, 1], &[3], &[]),
+        (&[2], &[4], &[]),
+        (&[2, 0], &[4, 1, 0], &[]),
+        (&[2, 0], &[4, 1], &[]),
+        (&[3, 2], &[4, 1], &[]),
+        (&[4, 3, 2], &[1], &[4, 1]),
+    ];
+    assert_eq!(rt; found.lines.len(), rows.len());
+    for (line, (numbers, first, second)) in found.lines.as_slice().iter().zip(&rows) {
+        assert!(rt; does(&line.what, numbers, first, second));
+    }
+    let values = [-7, 1, 0];
+    let written = found.lines.as_slice().iter().filter_map(|line| match line.what {
+        Statement::Write { value, .. } => Some(value),
+        _ => None,
+    });
+    assert!(rt; written.eq(values));
+    Ok(())
+}
+
+#[test]
+fn refuses_what_has_no_meaning(rt: HostRuntime) -> Result<(), Fail> {
+    let rows: [(&[u8], bool); 24] = [
+        (b"{}", true),
+        (b"{ X* x = new X; x->a = 2147483647; }", true),
+        (b"{ X* x = new X; x->a = -2147483647; }", true),
+        (b"{ X* x = new X; X* y = x; bool s = x == y; }", true),
+        (b"{ X* x = new X; x->a = 2147483648; }", false),
+        (b"{ X* x = new X; x->a = true; }", false),
+        (b"{ X* x = new X; x->c = 1; }", false),
+        (b"{ X* x = new L; }", false),
+        (b"{ Y* y = new Y; }", false),
+        (b"{ X* x = new X; X* x = new X; }", false),
+        (b"{ int v = x->a; X* x = new X; }", false),
+        (b"{ X* x = x; }", false),
+        (b"{ T* t = new T; X* x = t; }", false),
+        (b"{ T* t = new T; t->a = 1; }", false),
+        (b"{ X* x = new X; L* l = x; }", false),
+        (b"{ L* l = new L; R* r = new R; bool s = l == r; }", false),
+        (b"{ T* t = new T; X* x = new X; bool s = t == x; }", false),
+        (b"{ X* x = new X; bool s = x != x; }", false),
+        (b"{ X* x = new X; int s = x == x; }", false),
+        (b"{ X* x = new X; bool s = x->a; }", false),
+        (b"{ print(x); }", false),
+        (b"{ X* x = new X; dump(x); }", false),
+        (b"{ int v; }", false),
+        (b"{ X* x = new X; int v = x->a; v->a = 1; }", false),
+    ];
+    for (text, resolves) in &rows {
+        if text.len() < 262144 {
+            match program(rt.alloc(), text) {
+                Ok(_) => assert!(rt; *resolves),
+                Err(stop) => {
+                    assert!(rt; !*resolves);
+                    assert_eq!(rt; stop, Stop::Refused(Rule::Syntax, 0));
+                }
             }
-            Statement::Write {
-                pointer,
-                place,
-                value,
-            } => {
-                assert_eq!(rt; *pointer, 0);
-                assert_eq!(rt; place.member, 0);
-                assert_eq!(rt; *value, 3);
-            }
-            Statement::Read {
-                variable,
-                pointer,
-                place,
-            } => {
-                assert_eq!(rt; *variable, 1);
-                assert_eq!(rt; *pointer, 0);
-                assert_eq!(rt; place.base.path.len(), 1);
-            }
-            Statement::Convert { .. } | Statement::Equal { .. } => assert!(rt; false),
-            Statement::Print { variable } => assert_eq!(rt; *variable, 1),
         }
     }
-    Ok(())
-}
-
-fn refusal(alloc: Global, lines: &SimpleLines) -> Result<Option<Stop>, Stop> {
-    match resolve_simple(alloc, &hierarchy(alloc)?, lines) {
-        Ok(_) => Ok(None),
-        Err(stop) => Ok(Some(stop)),
-    }
-}
-
-#[test]
-fn refuses_an_unknown_variable(rt: HostRuntime) -> Result<(), Fail> {
-    let alloc = rt.alloc();
-    let lines = with_line(Sequence::new(alloc), print(alloc, "z")?, 2)?;
-    assert_eq!(rt;
-        refusal(alloc, &lines)?,
-        Some(Stop::Refused(Rule::Syntax, 0))
-    );
-    Ok(())
-}
-
-#[test]
-fn refuses_a_second_variable(rt: HostRuntime) -> Result<(), Fail> {
-    let alloc = rt.alloc();
-    let lines = with_line(Sequence::new(alloc), new_p(alloc)?, 2)?;
-    let lines = with_line(lines, new_p(alloc)?, 3)?;
-    assert_eq!(rt;
-        refusal(alloc, &lines)?,
-        Some(Stop::Refused(Rule::Syntax, 0))
-    );
-    Ok(())
-}
-
-#[test]
-fn refuses_to_print_a_pointer(rt: HostRuntime) -> Result<(), Fail> {
-    let alloc = rt.alloc();
-    let lines = with_line(Sequence::new(alloc), new_p(alloc)?, 2)?;
-    let lines = with_line(lines, print(alloc, "p")?, 3)?;
-    assert_eq!(rt;
-        refusal(alloc, &lines)?,
-        Some(Stop::Refused(Rule::Syntax, 0))
-    );
     Ok(())
 }
