@@ -14,7 +14,7 @@ use Rattle.cxx_hierarchy.specs.Resolved.{resolved, resolved_base, class_of_name}
 use Rattle.cxx_subobject.specs.Subobjects.{IsSubobject, IsDirectBase, whole, whole_of}
 use Rattle.cxx_resolve.specs.Typed.{int, bool, IsTypedProgram, new, write, read, convert, equal, print, IsPointer, IsBase, IsConverted, LeadsToNumber, Types}
 use Rattle.abi_lower.specs.Blocks.{class_id}
-use Rattle.abi_refine.specs.Samples.{sample_base, sample_member, sample_part, base_records, base_of, converted_to, two_bases_program, part_program}
+use Rattle.abi_refine.specs.Samples.{sample_base, sample_member, sample_part, x_record, l_record, r_record, t_record, base_records, base_of, converted_to, two_bases_program, part_program}
 
 abbrev classes : Classes
 classes = resolved base_records
@@ -35,10 +35,10 @@ no_function_either number = grind (arith, nat_tests)
 
 pub base_records_in_order : All IsInOrder base_records
 base_records_in_order =
-    All-cons IsInOrder _ _ (record { members = one_part; functions = no_function_either })
-    (All-cons IsInOrder _ _ (record { members = no_part; functions = no_function })
-    (All-cons IsInOrder _ _ (record { members = no_part; functions = no_function })
-    (All-cons IsInOrder _ _ (record { members = one_part; functions = no_function_either }) (All-nil IsInOrder))))
+    All-cons IsInOrder x_record (l_record ∷ (r_record ∷ (t_record ∷ []))) (record { members = one_part; functions = no_function_either })
+    (All-cons IsInOrder l_record (r_record ∷ (t_record ∷ [])) (record { members = no_part; functions = no_function })
+    (All-cons IsInOrder r_record (t_record ∷ []) (record { members = no_part; functions = no_function })
+    (All-cons IsInOrder t_record [] (record { members = one_part; functions = no_function_either }) (All-nil IsInOrder))))
 
 -- the direct bases
 left_of_t : IsDirectBase classes (class_id 3) false (class_id 1)
@@ -59,20 +59,31 @@ direct c b is = record { valid = whole (class_id b ∷ []) (is, tt); class = ref
 itself : (c : ℕ) → IsBase classes (class_id c) (whole_of (class_id c)) (class_id c)
 itself c = record { valid = whole [] tt; class = refl; root = refl }
 
-abbrev types : Types
-types = two_bases_program.variables
-
 pub two_bases_typed : IsTypedProgram classes two_bases_program
 two_bases_typed = (
   new 0 (class_id 3) (record { type = refl; known = omega arith }),
-  convert 1 _ (class_id 3) (class_id 1) refl (record { pointer = record { type = refl; known = omega arith }; base = direct 3 1 left_of_t }),
-  convert 2 _ (class_id 3) (class_id 2) refl (record { pointer = record { type = refl; known = omega arith }; base = direct 3 2 right_of_t }),
-  convert 3 _ (class_id 1) (class_id 0) refl (record { pointer = record { type = refl; known = omega arith }; base = direct 1 0 x_of_l }),
-  convert 4 _ (class_id 2) (class_id 0) refl (record { pointer = record { type = refl; known = omega arith }; base = direct 2 0 x_of_r }),
-  equal 5 _ _ (class_id 0) (class_id 0) (class_id 0) refl (record { pointer = record { type = refl; known = omega arith }; base = itself 0 }) (record { pointer = record { type = refl; known = omega arith }; base = itself 0 }),
-  print 5 bool refl,
-  print 4 _ refl,
-  tt,
+  (
+    convert 1 _ (class_id 3) (class_id 1) refl (record { pointer = record { type = refl; known = omega arith }; base = direct 3 1 left_of_t }),
+    (
+      convert 2 _ (class_id 3) (class_id 2) refl (record { pointer = record { type = refl; known = omega arith }; base = direct 3 2 right_of_t }),
+      (
+        convert 3 _ (class_id 1) (class_id 0) refl (record { pointer = record { type = refl; known = omega arith }; base = direct 1 0 x_of_l }),
+        (
+          convert 4 _ (class_id 2) (class_id 0) refl (record { pointer = record { type = refl; known = omega arith }; base = direct 2 0 x_of_r }),
+          (
+            equal 5 _ _ (class_id 0) (class_id 0) (class_id 0) refl (record { pointer = record { type = refl; known = omega arith }; base = itself 0 }) (record { pointer = record { type = refl; known = omega arith }; base = itself 0 }),
+            (
+              print 5 bool refl,
+              (
+                print 4 _ refl,
+                tt,
+              ),
+            ),
+          ),
+        ),
+      ),
+    ),
+  ),
 )
 
 a_of_r : LeadsToNumber classes (class_id 2) (record { base = base_of 2 0; member = 0 }) (class_id 0) Int
@@ -81,12 +92,26 @@ a_of_r = record { base = (direct 2 0 x_of_r).valid; class = refl; root = refl; m
 pub part_typed : IsTypedProgram classes part_program
 part_typed = (
   new 0 (class_id 3) (record { type = refl; known = omega arith }),
-  convert 1 _ (class_id 3) (class_id 2) refl (record { pointer = record { type = refl; known = omega arith }; base = direct 3 2 right_of_t }),
-  write 1 _ _ (class_id 2) (class_id 0) Int (record { type = refl; known = omega arith }) a_of_r (record { least = omega (arith, ints); greatest = omega (arith, ints) }),
-  read 2 1 _ (class_id 2) (class_id 0) Int refl (record { type = refl; known = omega arith }) a_of_r tt,
-  print 2 int refl,
-  equal 3 _ _ (class_id 2) (class_id 3) (class_id 2) refl (record { pointer = record { type = refl; known = omega arith }; base = itself 2 }) (record { pointer = record { type = refl; known = omega arith }; base = direct 3 2 right_of_t }),
-  print 3 bool refl,
-  print 1 _ refl,
-  tt,
+  (
+    convert 1 _ (class_id 3) (class_id 2) refl (record { pointer = record { type = refl; known = omega arith }; base = direct 3 2 right_of_t }),
+    (
+      write 1 _ _ (class_id 2) (class_id 0) Int (record { type = refl; known = omega arith }) a_of_r (record { least = omega (arith, ints); greatest = omega (arith, ints) }),
+      (
+        read 2 1 _ (class_id 2) (class_id 0) Int refl (record { type = refl; known = omega arith }) a_of_r tt,
+        (
+          print 2 int refl,
+          (
+            equal 3 _ _ (class_id 2) (class_id 3) (class_id 2) refl (record { pointer = record { type = refl; known = omega arith }; base = itself 2 }) (record { pointer = record { type = refl; known = omega arith }; base = direct 3 2 right_of_t }),
+            (
+              print 3 bool refl,
+              (
+                print 1 _ refl,
+                tt,
+              ),
+            ),
+          ),
+        ),
+      ),
+    ),
+  ),
 )

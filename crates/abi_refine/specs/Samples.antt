@@ -90,12 +90,20 @@ sample_record name bases members order = record {
 }
 
 -- struct X { int a; }; struct L : X {}; struct R : X {}; struct T : L, R { char t; };
+abbrev pub x_record : Record
+x_record = sample_record (88 ∷ []) [] (sample_member (97 ∷ []) Int 0 ∷ []) (sample_part 0 0 0 ∷ [])
+
+abbrev pub l_record : Record
+l_record = sample_record (76 ∷ []) (sample_base (88 ∷ []) ∷ []) [] []
+
+abbrev pub r_record : Record
+r_record = sample_record (82 ∷ []) (sample_base (88 ∷ []) ∷ []) [] []
+
+abbrev pub t_record : Record
+t_record = sample_record (84 ∷ []) (sample_base (76 ∷ []) ∷ (sample_base (82 ∷ []) ∷ [])) (sample_member (116 ∷ []) Char 0 ∷ []) (sample_part 0 0 0 ∷ [])
+
 abbrev pub base_records : List Record
-base_records =
-    sample_record (88 ∷ []) [] (sample_member (97 ∷ []) Int 0 ∷ []) (sample_part 0 0 0 ∷ []) ∷
-    (sample_record (76 ∷ []) (sample_base (88 ∷ []) ∷ []) [] [] ∷
-    (sample_record (82 ∷ []) (sample_base (88 ∷ []) ∷ []) [] [] ∷
-    (sample_record (84 ∷ []) (sample_base (76 ∷ []) ∷ (sample_base (82 ∷ []) ∷ [])) (sample_member (116 ∷ []) Char 0 ∷ []) (sample_part 0 0 0 ∷ []) ∷ [])))
+base_records = x_record ∷ (l_record ∷ (r_record ∷ (t_record ∷ [])))
 
 -- the base that is a part of a class
 abbrev pub base_of : ℕ → ℕ → Subobject

@@ -256,15 +256,15 @@ fn two_bases_of_one_class_differ(rt: HostRuntime) -> Result<(), Fail> {
 
 /// A memory that counts the stores that it did.
 #[derive(Drop)]
-struct Counting {
-    inner: FlatMemory,
+struct Counting<M> {
+    inner: M,
     stores: u32,
 }
 
-impl Memory for Counting {
-    ghost meaning = { λ m. ⟦<FlatMemory as Memory>⟧.meaning m.inner };
+impl<M: Memory> Memory for Counting<M> {
+    ghost meaning = { λ m. M.meaning m.inner };
 
-    ghost ascends = { λ m. ⟦<FlatMemory as Memory>⟧.ascends m.inner };
+    ghost ascends = { λ m. M.ascends m.inner };
 
     fn open(&mut self, size: u64) -> Result<u64, MemoryFault> {
         self.inner.open(size)

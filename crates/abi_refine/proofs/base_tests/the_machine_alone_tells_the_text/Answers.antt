@@ -13,3 +13,8 @@ run_machine-requires-clause-typed g c = rw (c.in_ok-h.ensures, c.in_ok-program.e
 
 pub execute-requires-clause-typed : goal.execute-requires-clause-typed
 execute-requires-clause-typed g c = rw (c.in_ok-h.ensures, c.in_ok-program.ensures) part_typed
+
+pub run_machine-requires-clause-stands : goal.run_machine-requires-clause-stands
+run_machine-requires-clause-stands g c =
+    let x = setup c.in_ok-h.h (places_of c.in_ok-h.h c.in_ok-layout.layout) c.in_ok-program.program.variables in
+    rw (c.in_ok-machine.ensures.state, c.new-2.ensures, c.in_ok-code.ensures) (stands_at_start x c.in_ok-program.program 100 refl)
