@@ -19,6 +19,8 @@ pub mod plain;
 mod rows;
 pub mod soundness;
 pub mod statics;
+#[cfg(test)]
+mod tests;
 
 pub use crate::class_layout::{AbiLayout, ClassLayout, PlaceList, Primary};
 pub use crate::hierarchy_layout::{lay_out, lay_out_front, one_layout, some_layout};
