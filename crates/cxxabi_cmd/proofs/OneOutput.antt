@@ -16,6 +16,7 @@ use Rattle.cxx_resolve.proofs.Programs.{one_program}
 use Rattle.abi_layout.specs.declared.class_layout.ClassLayout.{ClassLayout}
 use Rattle.abi_layout.specs.Laid.{IsLaid, AreSmall, HasTooLarge}
 use Rattle.abi_layout.proofs.Unique.{layout_is_one}
+use Rattle.abi_layout.proofs.StaticLemmas.{plain_static}
 use Rattle.cxxabi_cmd.specs.Output.{IsCommand, IsProgram, Output, usage, too_long, refused, too_large, ran, Answer, run_answer, run_by}
 use Rattle.cxxabi_cmd.proofs.FormLemmas.{records_in_order}
 use Rattle.cxxabi_cmd.proofs.ProgramLemmas.{plain_program}
@@ -41,7 +42,7 @@ same_program text h k p q a b =
 -- what is too large in one layout is too large in the other
 no_both : (text : List ℕ) (h : Classes) (program : SimpleProgram) (rows : List ClassLayout) → IsProgram text h program → IsLaid h rows → AreSmall rows → HasTooLarge h → ⊥
 no_both text h program rows is laid small large =
-    let same = layout_is_one h rows large.rows (plain_program text h program is) laid large.laid in
+    let same = layout_is_one h rows large.rows (plain_static h (plain_program text h program is)) laid large.laid in
     let there : slice_get rows large.number ≡ Some large.row = subst (λ (r : List ClassLayout). slice_get r large.number ≡ Some large.row) (sym same) large.there in
     let few = small.each large.number large.row there in
     let many = large.large in
@@ -52,7 +53,7 @@ same_run : (text : List ℕ) (h k : Classes) (p q : SimpleProgram) (rows others 
 same_run text h k p q rows others a b laid other =
     let same = same_program text h k p q a b in
     let here : IsLaid h others = subst (λ (c : Classes). IsLaid c others) (sym same.classes) other in
-    let layout = layout_is_one h rows others (plain_program text h p a) laid here in
+    let layout = layout_is_one h rows others (plain_static h (plain_program text h p a)) laid here in
     ap (λ (r : List ClassLayout). run_answer (run_by h r p)) layout ∙ ap (λ (x : SimpleProgram). run_answer (run_by h others x)) same.program ∙ ap (λ (c : Classes). run_answer (run_by c others q)) same.classes
 
 -- words and bytes have one answer

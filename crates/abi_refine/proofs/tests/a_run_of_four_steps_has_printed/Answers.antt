@@ -1,8 +1,9 @@
 use Rattle.abi_refine.proofs.SampleLemmas.{sample_plain, char_program_typed}
+use Rattle.abi_layout.proofs.StaticLemmas.{plain_static}
 use Rattle.abi_refine.proofs.tests.a_run_of_four_steps_has_printed.Goals as goal
 
 pub lay_out-requires : goal.lay_out-requires
-lay_out-requires g c = rw c.in_ok-h.ensures sample_plain
+lay_out-requires g c = rw c.in_ok-h.ensures (plain_static _ sample_plain)
 
 pub execute-requires-clause-typed : goal.execute-requires-clause-typed
 execute-requires-clause-typed g c = rw (c.in_ok-h.ensures, c.in_ok-program.ensures) char_program_typed

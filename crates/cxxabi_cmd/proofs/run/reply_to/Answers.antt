@@ -1,5 +1,6 @@
 use Rattle.cxxabi_cmd.proofs.ProgramLemmas.{refused_output, no_machine, none_found, plain_program, typed_program, accepted_program, ran_output, ran_answered, ran_machine, large_output, large_machine}
 use Rattle.cxxabi_cmd.specs.Output.{run_by}
+use Rattle.abi_layout.proofs.StaticLemmas.{plain_static}
 use Rattle.cxxabi_cmd.proofs.run.reply_to.Goals as goal
 
 pub returns-in_default-clause-output : goal.returns-in_default-clause-output
@@ -9,7 +10,7 @@ pub returns-in_default-clause-machine : goal.returns-in_default-clause-machine
 returns-in_default-clause-machine c = no_machine c.refusal.result c.args.bytes.now c.refusal.ensures.machine (λ h program is. absurd (none_found c.args.bytes.now c.in_ok-accepted.field-0 c.in_ok-accepted.ensures c.in_default.is h program is))
 
 pub lay_out-requires : goal.lay_out-requires
-lay_out-requires c = plain_program c.args.bytes.now c.in-Some.accepted.hierarchy c.in-Some.accepted.program (accepted_program c.args.bytes.now c.in_ok-accepted.field-0 c.in-Some.accepted c.in_ok-accepted.ensures c.in-Some.is)
+lay_out-requires c = plain_static c.in-Some.accepted.hierarchy (plain_program c.args.bytes.now c.in-Some.accepted.hierarchy c.in-Some.accepted.program (accepted_program c.args.bytes.now c.in_ok-accepted.field-0 c.in-Some.accepted c.in_ok-accepted.ensures c.in-Some.is))
 
 pub reply_of-requires-clause-typed : goal.reply_of-requires-clause-typed
 reply_of-requires-clause-typed c = typed_program c.args.bytes.now c.in-Some.accepted.hierarchy c.in-Some.accepted.program c.typed.ensures (accepted_program c.args.bytes.now c.in_ok-accepted.field-0 c.in-Some.accepted c.in_ok-accepted.ensures c.in-Some.is)
