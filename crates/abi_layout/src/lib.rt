@@ -1,8 +1,10 @@
 //! The layout of classes in bytes (Itanium C++ ABI 2.2 and 2.4, on LP64).
 //!
-//! This crate owns two definitions. `IsSound` says what any layout has to keep: leaves are disjoint and lie
-//! inside, subobjects of one class lie at different places, all lie aligned. `IsLaid` says which layout the ABI
-//! gives. `lay_out` gives the layout of `IsLaid`, and its contract says that it is sound.
+//! This crate owns three definitions. `IsStatic` says which hierarchies have no dynamic class. `IsLaid` says which
+//! layout the ABI gives them: POD classes, members of class type, arrays, empty bases, tail padding. `IsSound` says
+//! what any layout has to keep: leaves are disjoint and lie inside, subobjects of one class lie at different places,
+//! all lie aligned. `lay_out` gives the layout of `IsLaid`, and its contract says that it is sound; `lay_out_front`
+//! gives that of the first classes alone.
 //!
 //! The layers above may rely on `IsSound` alone, over `Places`: the sizes of classes, the places of subobjects
 //! in their complete object and of members in their class, in bytes.
@@ -19,6 +21,8 @@ pub mod plain;
 mod rows;
 pub mod soundness;
 pub mod statics;
+#[cfg(test)]
+mod tests;
 
 pub use crate::class_layout::{AbiLayout, ClassLayout, PlaceList, Primary};
 pub use crate::hierarchy_layout::{lay_out, lay_out_front, one_layout, some_layout};
