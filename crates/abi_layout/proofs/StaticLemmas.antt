@@ -11,7 +11,6 @@ use Rattle.cxx_hierarchy.specs.declared.records.FieldType.{FieldType}
 use Rattle.cxx_hierarchy.specs.declared.records.FieldType.TheVariants.{Value, Object}
 use Rattle.cxx_hierarchy.specs.Classes.{Class, Classes, class_at, leaf_type_in, value_type_in}
 use Rattle.abi_layout.specs.Kinds.{has_virtual_function, is_virtual_destructor, is_static_base, is_static_type, has_elements, is_static_member, is_static_class, IsStaticClass, IsStatic}
-use Rattle.abi_layout.specs.Plain.{IsPlain, IsPlainClass}
 use Rattle.abi_layout.proofs.Lists.{number, has_here, has_later}
 use Rattle.abi_layout.proofs.Parts.{opposed}
 
@@ -81,28 +80,3 @@ static_more h n here at static before c class lt e = ⊎_elim
     subst (λ (x : Class). IsStaticClass c x) g (subst (λ (x : ClassId). IsStaticClass x here) id static))
     (λ o. ⊎_elim (λ l. before c class l e) (λ g. absurd (omega arith)) o)
     (cases_order c.0 n)
-
--- a plain hierarchy
-pub plain_static : (h : Classes) → IsPlain h → IsStatic h
-plain_static h plain = record { each = λ c class at. of_class c class (plain.each c class at) }
-  where
-    no_object : (ty : FieldType ClassId) (o : Option ℕ) (d : ClassId) → ty ≡ Object d → IsSome (value_type_in ty o) → ⊥
-    no_object (Value ty) o d e some = cc
-    no_object (Object d') o d e some = cc
-
-    no_count : (ty : FieldType ClassId) (o : Option ℕ) (n : ℕ) → o ≡ Some n → IsSome (value_type_in ty o) → ⊥
-    no_count (Value ty) None n e some = cc
-    no_count (Value ty) (Some m) n e some = cc
-    no_count (Object d) o n e some = cc
-
-    of_class : (c : ClassId) (class : Class) → IsPlainClass h c class → IsStaticClass c class
-    of_class c class p =
-        let functions : list_any (λ (function : Function ClassId). function.is_virtual) class.functions ≡ false = none_of (λ (function : Function ClassId). function.is_virtual) class.functions (λ f has. p.functions f has) in
-        let destructor : is_virtual_destructor class.destructor ≡ false = ap is_virtual_destructor p.destructor in
-        record {
-          functions = cc;
-          ways = λ base has. (p.bases base has).way;
-          bases = λ base has. (p.bases base has).before;
-          objects = λ member d has e. absurd (no_object member.ty member.count d e (p.members member has).value);
-          counts = λ member n has e. absurd (no_count member.ty member.count n e (p.members member has).value);
-        }

@@ -1,7 +1,6 @@
 pub mod Places
 pub mod Locations
 pub mod Sound
-pub mod Plain
 pub mod Kinds
 pub mod Laid
 pub mod Alignments

@@ -17,7 +17,6 @@ pub mod known;
 mod member;
 pub mod places;
 pub mod placing;
-pub mod plain;
 mod rows;
 pub mod soundness;
 pub mod statics;
@@ -26,6 +25,5 @@ mod tests;
 
 pub use crate::class_layout::{AbiLayout, ClassLayout, PlaceList, Primary};
 pub use crate::hierarchy_layout::{lay_out, lay_out_front, one_layout, some_layout};
-pub use crate::plain::is_plain;
 pub use crate::soundness::laid_is_sound;
-pub use crate::statics::{is_static, plain_is_static};
+pub use crate::statics::is_static;

@@ -3,7 +3,6 @@
 ghost use Rattle.std.specs.Prelude.{◌≡◌, ◌<◌, ◌↔◌, IsTrue, length};
 ghost use Rattle.std.specs.List.{list_all};
 ghost use Rattle.cxx_hierarchy.specs.Classes.{Classes};
-ghost use Rattle.abi_layout.specs.Plain.{IsPlain};
 ghost use Rattle.abi_layout.specs.Kinds.{is_static_base, is_static_type, has_elements, is_static_member, is_static_class, IsStatic};
 
 use crate::known::has_virtual_function;
@@ -70,8 +69,3 @@ pub fn is_static(h: &Hierarchy) -> bool
     }
     true
 }
-
-/// In a plain hierarchy no class is dynamic.
-pub fn plain_is_static()
-    ensures { (h : Classes) → IsPlain h → IsStatic h }
-{}

@@ -12,7 +12,6 @@ use Rattle.cxx_hierarchy.specs.ClassPass.{IsInOrder, NamesEach, is_member, is_fu
 use Rattle.cxx_hierarchy.specs.Resolved.{resolved, resolved_class, resolved_member, class_of_name}
 use Rattle.cxx_subobject.specs.Subobjects.{whole}
 use Rattle.cxx_resolve.specs.Typed.{int, IsTypedProgram, new, write, read, convert, print, IsPointer, LeadsToNumber}
-use Rattle.abi_layout.specs.Plain.{IsPlain, IsPlainClass, IsPlainMember}
 use Rattle.abi_lower.specs.Blocks.{class_id}
 use Rattle.abi_refine.specs.Samples.{sample_records, sample_class, sample_member, sample_place, char_program, unset_program, unset_pointer_program}
 
