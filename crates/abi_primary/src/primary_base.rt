@@ -7,6 +7,7 @@ ghost use Rattle.cxx_hierarchy.specs.declared.records.Base.{Base};
 ghost use Rattle.cxx_subobject.specs.Subobjects.{class_of};
 ghost use Rattle.cxx_subobject.specs.Preorder.{preorder};
 ghost use Rattle.abi_primary.specs.PrimaryBase.{IsFirstDynamic, HasNoDynamicBase, is_virtual_primary, has_primary_in, has_primary, is_nearly_root, is_nearly_base, is_taken_root, is_free_base, as_primary, virtual_primary, IsPrimary};
+ghost use Rattle.abi_primary.specs.Holder.{holder_of};
 
 use crate::Primary;
 use crate::kinds::is_dynamic;
