@@ -1,2 +1,3 @@
 pub mod Nth
 pub mod KindLemmas
+pub mod PrimaryLemmas

@@ -11,9 +11,11 @@
 
 pub mod kinds;
 pub mod nearly_empty;
+pub mod primary_base;
 
 pub use crate::kinds::{is_dynamic, is_empty};
 pub use crate::nearly_empty::is_nearly_empty;
+pub use crate::primary_base::{holder_among, primary_among};
 use cxx_hierarchy::ClassId;
 
 /// The primary base of a class: the base whose virtual pointer it shares (Itanium C++ ABI 2.4).

@@ -9,7 +9,7 @@ use crate::kinds::{is_dynamic, is_empty};
 use cxx_hierarchy::{Base, ClassId, Hierarchy};
 
 /// Whether the list says of a class that it is nearly empty.
-fn is_nearly(nearly: &[bool], c: ClassId) -> bool
+pub(crate) fn is_nearly(nearly: &[bool], c: ClassId) -> bool
     ensures { result ≡ is_nearly nearly.now c }
 {
     match nearly.get(c.0 as usize) {
