@@ -58,24 +58,23 @@ record IsLeast (rows : List ClassLayout) : Type 0 where
   big : 500000 < row.size
   before : (n : ℕ) (r : ClassLayout) → n < number → slice_get rows n ≡ Some r → r.size ≤ 500000
 
+earlier : (r : ClassLayout) (rows : List ClassLayout) → r.size ≤ 500000 → (found : IsLeast rows) (n : ℕ) (x : ClassLayout) → n < suc found.number → slice_get (r ∷ rows) n ≡ Some x → x.size ≤ 500000
+earlier r rows small found zero x below at = let same : r ≡ x = cc in subst (λ (y : ClassLayout). y.size ≤ 500000) same small
+earlier r rows small found (suc n) x below at = found.before n x (omega arith) at
+
+behind : (r : ClassLayout) (rows : List ClassLayout) → r.size ≤ 500000 → IsLeast rows → IsLeast (r ∷ rows)
+behind r rows small found = record { number = suc found.number; row = found.row; there = found.there; big = found.big; before = earlier r rows small found }
+
+in_tail : (r : ClassLayout) (rows : List ClassLayout) (row : ClassLayout) (n : ℕ) → r.size ≤ 500000 → 500000 < row.size → slice_get (r ∷ rows) n ≡ Some row → ((k : ℕ) → slice_get rows k ≡ Some row → IsLeast rows) → IsLeast rows
+in_tail r rows row zero small big at find = let same : r ≡ row = cc in absurd (let e : r.size ≡ row.size = ap (λ (x : ClassLayout). x.size) same in omega arith)
+in_tail r rows row (suc n) small big at find = find n at
+
 least : (rows : List ClassLayout) (number : ℕ) (row : ClassLayout) → slice_get rows number ≡ Some row → 500000 < row.size → IsLeast rows
 least [] number row there big = absurd (cc)
-least (r ∷ rows) number row there big = by_head (cases_lt 500000 r.size)
-  where
-    tail : r.size ≤ 500000 → (n : ℕ) → slice_get (r ∷ rows) n ≡ Some row → IsLeast rows
-    tail small zero at = let same : r ≡ row = cc in absurd (let e : r.size ≡ row.size = ap (λ (x : ClassLayout). x.size) same in omega arith)
-    tail small (suc n) at = least rows n row at big
-
-    behind : r.size ≤ 500000 → IsLeast rows → IsLeast (r ∷ rows)
-    behind small found = record { number = suc found.number; row = found.row; there = found.there; big = found.big; before = earlier small found }
-      where
-        earlier : r.size ≤ 500000 → (found : IsLeast rows) (n : ℕ) (x : ClassLayout) → n < suc found.number → slice_get (r ∷ rows) n ≡ Some x → x.size ≤ 500000
-        earlier small found zero x below at = let same : r ≡ x = cc in subst (λ (y : ClassLayout). y.size ≤ 500000) same small
-        earlier small found (suc n) x below at = found.before n x (omega arith) at
-
-    by_head : (500000 < r.size) ⊎ (r.size ≤ 500000) → IsLeast (r ∷ rows)
-    by_head (inl large) = record { number = 0; row = r; there = refl; big = large; before = λ n x below at. absurd (omega arith) }
-    by_head (inr small) = behind small (tail small number there)
+least (r ∷ rows) number row there big =
+    ⊎_elim (λ large. record { number = 0; row = r; there = refl; big = large; before = λ n x below at. absurd (omega arith) })
+    (λ small. behind r rows small (in_tail r rows row number small big there (λ k at. least rows k row at big)))
+    (cases_lt 500000 r.size)
 
 abbrev pub numbered : ℕ → ClassId
 numbered n = record { 0 = n }

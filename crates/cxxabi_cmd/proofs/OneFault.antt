@@ -1,16 +1,16 @@
 -- A hierarchy has one first fault.
-use Rattle.std.proofs.Common.{◌≡◌, ℕ, ◌<◌, ◌⊎◌, ⊎_elim, inl, inr, refl, sym, ap, arith}
+use Rattle.std.proofs.Common.{◌≡◌, ℕ, ◌<◌, ◌⊎◌, ⊎_elim, inl, inr, refl, sym, ◌∙◌, ap, arith}
 use Rattle.std.proofs.lemmas.Bool.{cases_order}
 use Rattle.cxx_hierarchy.specs.declared.records.ClassId.{ClassId}
 use Rattle.cxx_hierarchy.specs.declared.stop.Stop.{Stop}
 use Rattle.cxx_hierarchy.specs.Classes.{Classes}
-use Rattle.cxxabi_cmd.specs.Verdict.{Spot, IsBefore, by_class, by_part, Fault, many_parts, large, IsFirstFault, HasNoFault}
+use Rattle.cxxabi_cmd.specs.Verdict.{Spot, spot, IsBefore, by_class, by_part, Fault, many_parts, large, IsFirstFault, HasNoFault}
 
 same_number : (a b : ClassId) → a.0 ≡ b.0 → a ≡ b
 same_number a b same = ap (λ (n : ℕ). let c : ClassId = record { 0 = n } in c) same
 
 same_spot : (a b : Spot) → a.class ≡ b.class → a.part ≡ b.part → a ≡ b
-same_spot a b class part = cc
+same_spot a b class part = ap (λ (c : ClassId). spot c a.part) class ∙ ap (λ (n : ℕ). spot b.class n) part
 
 by_parts : (a b : Spot) → a.class ≡ b.class → IsBefore a b ⊎ ((a ≡ b) ⊎ IsBefore b a)
 by_parts a b class =
@@ -28,8 +28,8 @@ in_order a b =
 -- one condition is asked at a spot
 fault_same : (h : Classes) (a b : Spot) (d e : Stop) → Fault h a d → Fault h b e → a ≡ b → d ≡ e
 fault_same h _ _ _ _ (many_parts c known many) (many_parts c' known' many') same = refl
-fault_same h _ _ _ _ (many_parts c known many) (large c' known' static is) same = absurd (cc)
-fault_same h _ _ _ _ (large c known static is) (many_parts c' known' many) same = absurd (cc)
+fault_same h _ _ _ _ (many_parts c known many) (large c' known' static is) same = absurd (let clash : ◌≡◌ {A = ℕ} 0 1 = ap (λ (s : Spot). s.part) same in omega arith)
+fault_same h _ _ _ _ (large c known static is) (many_parts c' known' many) same = absurd (let clash : ◌≡◌ {A = ℕ} 1 0 = ap (λ (s : Spot). s.part) same in omega arith)
 fault_same h _ _ _ _ (large c known static is) (large c' known' static' is') same = refl
 
 -- the first fault is one
