@@ -61,7 +61,7 @@ record_in_order text n bases parts = record {
 }
 
 record_of_item : (text : List ℕ) (i : Item) (is : List Item) (ts rest : List Lexeme) → ItemReads text i ts rest → AllByRecursion IsInOrder (filter_map record_in is) → AllByRecursion IsInOrder (filter_map record_in (i ∷ is))
-record_of_item text _ is _ _ (a_class {n = n} {bases = bases} {parts = parts} k m b o p z q e f) h = (subst IsInOrder (sym e) (record_in_order text n bases parts), h)
+record_of_item text _ is _ _ (a_class {bases = bases} {parts = parts} {n = n} k m b o p z q e f) h = (subst IsInOrder (sym e) (record_in_order text n bases parts), h)
 record_of_item text _ is _ _ (a_forward k m q) h = h
 record_of_item text _ is _ _ (a_global f v m q e) h = h
 record_of_item text _ is _ _ (a_main w m o z b) h = h
