@@ -63,11 +63,11 @@ pub class_place : (s : SourceText) (is : List Item) (i : Item) (n : ℕ) → Are
 class_place s is i n h e q p =
     let none : filter_map main_in (is ++ i ∷ []) ≡ [] = filter_map-append main_in is (i ∷ []) ∙ (ap (λ u. u ++ filter_map main_in (i ∷ [])) (no_main_item s is h e) ∙ no_tree i q) in
     p ∙ (ap (λ u. length (u ++ flat_map bodies_in (i ∷ []))) h.bodies ∙ (ap length (sym (flat_map-append bodies_in is (i ∷ []))) ∙ ap length (sym (before_no_main (is ++ i ∷ []) none)))) where
-  no_tree : (i : Item) → is_no_main i ≡ true → filter_map main_in (i ∷ []) ≡ []
-  no_tree (item.Class c bs) q = refl
-  no_tree item.Forward q = refl
-  no_tree (item.Global g) q = refl
-  no_tree (item.Main t) q = absurd (cc)
+      no_tree : (i : Item) → is_no_main i ≡ true → filter_map main_in (i ∷ []) ≡ []
+      no_tree (item.Class c bs) q = refl
+      no_tree item.Forward q = refl
+      no_tree (item.Global g) q = refl
+      no_tree (item.Main t) q = absurd (cc)
 
 -- any item behind a main
 pub place_behind : (s : SourceText) (is : List Item) (i : Item) (t : BodyTree) → AreItemsOf s is → s.main ≡ Some t → s.main_place ≡ length (bodies_before_main (is ++ i ∷ []))
@@ -88,14 +88,14 @@ pub first_class : (s : SourceText) (is : List Item) (c : ClassRec Spelled) (bs :
 first_class s is c bs rs all n h e rq aq nq =
     let more : all ≡ s.bodies ++ flat_map bodies_in (item.Class c bs ∷ []) = aq ∙ ap (λ u. s.bodies ++ u) (sym (append-nil bs)) in
     gathered s (record s { records = rs; bodies = all; main_place = n }) is (item.Class c bs) h rq (sym (append-nil s.globals)) more (sym (append-nil (trees_in s.main)))
-      (class_place s is (item.Class c bs) n h e refl (nq ∙ ap length more))
+    (class_place s is (item.Class c bs) n h e refl (nq ∙ ap length more))
 
 pub later_class : (s : SourceText) (is : List Item) (c : ClassRec Spelled) (bs : List Body) (t : BodyTree) (rs : List (ClassRec Spelled)) (all : List Body) → AreItemsOf s is → s.main ≡ Some t →
     rs ≡ s.records ++ c ∷ [] → all ≡ s.bodies ++ bs → AreItemsOf (record s { records = rs; bodies = all }) (is ++ item.Class c bs ∷ [])
 later_class s is c bs t rs all h e rq aq =
     let more : all ≡ s.bodies ++ flat_map bodies_in (item.Class c bs ∷ []) = aq ∙ ap (λ u. s.bodies ++ u) (sym (append-nil bs)) in
     gathered s (record s { records = rs; bodies = all }) is (item.Class c bs) h rq (sym (append-nil s.globals)) more (sym (append-nil (trees_in s.main)))
-      (place_behind s is (item.Class c bs) t h e)
+    (place_behind s is (item.Class c bs) t h e)
 
 -- the tree of a main that is there
 pub tree_of : (o : Option BodyTree) → (o ≡ None → ⊥) → (t : BodyTree) × (o ≡ Some t)

@@ -46,13 +46,13 @@ members_named : (before ps : List Part) (done : List PartAt) → NamesEach is_me
 members_named before [] done h = subst₂ (λ (o : List PartAt) (n : ℕ). NamesEach is_member o n) (sym (append-nil done)) (ap (λ u. length (members_of u)) (sym (append-nil before))) h
 members_named before (p ∷ ps) done h =
     subst₂ (λ (o : List PartAt) (n : ℕ). NamesEach is_member o n) (append_assoc done (part_at before p) (in_turn part_at (before ++ p ∷ []) ps)) (ap (λ u. length (members_of u)) (append_assoc before (p ∷ []) ps))
-      (members_named (before ++ p ∷ []) ps (done ++ part_at before p) (member_step before done p h))
+    (members_named (before ++ p ∷ []) ps (done ++ part_at before p) (member_step before done p h))
 
 functions_named : (before ps : List Part) (done : List PartAt) → NamesEach is_function done (length (functions_of before)) → NamesEach is_function (done ++ in_turn part_at before ps) (length (functions_of (before ++ ps)))
 functions_named before [] done h = subst₂ (λ (o : List PartAt) (n : ℕ). NamesEach is_function o n) (sym (append-nil done)) (ap (λ u. length (functions_of u)) (sym (append-nil before))) h
 functions_named before (p ∷ ps) done h =
     subst₂ (λ (o : List PartAt) (n : ℕ). NamesEach is_function o n) (append_assoc done (part_at before p) (in_turn part_at (before ++ p ∷ []) ps)) (ap (λ u. length (functions_of u)) (append_assoc before (p ∷ []) ps))
-      (functions_named (before ++ p ∷ []) ps (done ++ part_at before p) (function_step before done p h))
+    (functions_named (before ++ p ∷ []) ps (done ++ part_at before p) (function_step before done p h))
 
 record_in_order : (text : List ℕ) (n : Lexeme) (bases : List (Base Spelled)) (parts : List Part) → IsInOrder (record_of text n bases parts)
 record_in_order text n bases parts = record {
@@ -61,7 +61,7 @@ record_in_order text n bases parts = record {
 }
 
 record_of_item : (text : List ℕ) (i : Item) (is : List Item) (ts rest : List Lexeme) → ItemReads text i ts rest → AllByRecursion IsInOrder (filter_map record_in is) → AllByRecursion IsInOrder (filter_map record_in (i ∷ is))
-record_of_item text _ is _ _ (a_class {n = n} {bases = bases} {parts = parts} k m b o p z q e f) h = (subst IsInOrder (sym e) (record_in_order text n bases parts), h)
+record_of_item text _ is _ _ (a_class {bases = bases} {parts = parts} {n = n} k m b o p z q e f) h = (subst IsInOrder (sym e) (record_in_order text n bases parts), h)
 record_of_item text _ is _ _ (a_forward k m q) h = h
 record_of_item text _ is _ _ (a_global f v m q e) h = h
 record_of_item text _ is _ _ (a_main w m o z b) h = h

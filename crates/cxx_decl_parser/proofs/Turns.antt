@@ -10,6 +10,7 @@ use Rattle.cxx_grammar.specs.Run.{admits, go_on, run, Outcome}
 use Rattle.cxx_decl_parser.specs.Parts.{access_of}
 use Rattle.cxx_decl_parser.specs.Sources.{default_of}
 use Rattle.cxx_decl_parser.specs.Readers.{begins_value, value_rest}
+
 -- An access after "virtual".
 virtual_access_at : (l : Lexeme) (ts : List Lexeme) (s : State) (k : List Task) (p : Bool) → access_of l.sort ≡ Some p → run (l ∷ ts) s (BaseAfterVirtual ∷ k) ≡ run ts s (AName ∷ k)
 virtual_access_at l ts s k p h0 = by_sort l.sort h0 where

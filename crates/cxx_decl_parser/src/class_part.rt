@@ -27,11 +27,7 @@ use cxx_hierarchy::{FieldType, Member, Name, ReturnType, Stop, ValueType};
 use std::alloc::Global;
 
 // access ":" after its word
-fn label(
-    first: Lexeme,
-    access: bool,
-    rest: &[Lexeme],
-) -> Result<(Part, &[Lexeme]), Stop>
+fn label(first: Lexeme, access: bool, rest: &[Lexeme]) -> Result<(Part, &[Lexeme]), Stop>
     requires { access_of first.sort ≡ Some access }
     ensures reads { IfOk result (λ x. (text : List ℕ) (is_public : Bool) → PartReads text is_public x.0 (first ∷ rest.now) x.1.now) }
     ensures shorter { IfOk result (λ x. length x.1.now ≤ length rest.now) }

@@ -23,11 +23,7 @@ use cxx_hierarchy::{Function, Name, ParamList, ReturnType, Stop};
 use std::alloc::Global;
 
 // init
-fn init<'a>(
-    alloc: Global,
-    text: &[u8],
-    rest: &'a [Lexeme],
-) -> Result<(Init, &'a [Lexeme]), Stop>
+fn init<'a>(alloc: Global, text: &[u8], rest: &'a [Lexeme]) -> Result<(Init, &'a [Lexeme]), Stop>
     ensures reads { IfOk result (λ x. InitReads text.now x.0 rest.now x.1.now) }
     ensures shorter { IfOk result (λ x. length x.1.now ≤ length rest.now) }
     ensures follows { (s : State) → Follows (λ x. x.1.now) s (AnInit ∷ []) rest.now s [] result }

@@ -1,12 +1,17 @@
-//! From a text to its declarations and the lines of its `main`, in the first form of the source.
+//! From a text to its declarations: the classes, variables and bodies of a source, and its `main`.
 //!
-//! This crate owns the grammar of that form: structs with `int` and `char` fields, and a `main` that makes
-//! objects, writes and reads their fields and prints variables. `IsSimple` says which source a text spells:
-//! its tokens, without comments, derive the source by the productions, within the limits on classes, fields
-//! and declarations.
+//! This crate owns the definition of which tokens a source stands for (`SourceReads`), a case for each form of each
+//! production, and of the class record that the parts of a class make (`record_of`).
 //!
-//! The layer above may rely on: `parse_simple` gives the one source that a text spells, and refuses exactly the
-//! texts that spell none, by Syntax at 0. Whether names are distinct and what they name is not judged here.
+//! The layer above may rely on: `parse_source` gives the source of the tokens up to the end of the text, its records
+//! are in order for the class pass, and it refuses exactly by the first event: E1, E21 or E2 at the first token with
+//! which the tokens begin no source, L3 at the 65th block that is open, or E7 at a second `main`. Blocks are read by
+//! recursion, at most 64 deep; all else is read by loops, and each token is looked at a fixed number of times.
+//!
+//! It also owns the first form of the source, which `run` takes until it takes the whole language: structs with `int`
+//! and `char` fields, and a `main` that makes objects, writes and reads their fields and prints variables. `IsSimple`
+//! says which source a text spells by it, within the limits on classes, fields and declarations; `parse_simple` gives
+//! the one source that a text spells, and refuses exactly the texts that spell none, by Syntax at 0.
 #![tactic(auto)]
 
 mod base;
@@ -21,10 +26,10 @@ pub mod parser;
 pub mod part;
 pub mod simple;
 pub mod source;
-pub mod source_text;
-pub mod statement;
 #[cfg(test)]
 mod source_tests;
+pub mod source_text;
+pub mod statement;
 #[cfg(test)]
 mod tests;
 mod value;

@@ -3,7 +3,8 @@
 ghost use Rattle.std.specs.Prelude.{◌≡◌, ◌≤◌, length};
 
 use crate::source::parse_source;
-use cxx_hierarchy::{LimitNo, Rule, Stop};
+use crate::source_text::{BodyOwner, SourceText};
+use cxx_hierarchy::{Destructor, LimitNo, PartKind, Rule, Stop};
 use cxx_text::tokens;
 use std::alloc::Global;
 use std::process::Abort;
@@ -22,11 +23,7 @@ fn said(alloc: Global, text: &[u8]) -> Option<Stop>
     }
 }
 
-fn check(
-    rt: &impl Abort,
-    alloc: Global,
-    rows: &[(&[u8], Option<Stop>)],
-) -> Result<(), Fail> {
+fn check(rt: &impl Abort, alloc: Global, rows: &[(&[u8], Option<Stop>)]) -> Result<(), Fail> {
     for (text, want) in rows {
         assert!(rt; text.len() <= 262144);
         assert_eq!(rt; said(alloc, text), *want, "of {text:?}");
@@ -34,8 +31,216 @@ fn check(
     Ok(())
 }
 
+// The refusal of a rule at a byte.
+fn refused(rule: Rule, at: u32) -> Option<Stop> {
+    Some(Stop::Refused(rule, at))
+}
+
 #[test]
-fn an_empty_source(rt: HostRuntime) -> Result<(), Fail> {
-    let rows: [(&[u8], Option<Stop>); 2] = [(b"", None), (b"{", Some(Stop::Refused(Rule::Syntax, 0)))];
+fn items(rt: HostRuntime) -> Result<(), Fail> {
+    let rows: [(&[u8], Option<Stop>); 22] = [
+        (b"", None),
+        (
+            b"struct A; class B; A* a; unsigned long long b; int main() {} int c;",
+            None,
+        ),
+        (b"/* struct */ struct A {}; // end", None),
+        (b";", refused(Rule::Syntax, 0)),
+        (b"struct;", refused(Rule::Syntax, 6)),
+        (b"struct A", refused(Rule::Syntax, 8)),
+        (b"struct A {}", refused(Rule::Syntax, 11)),
+        (b"struct A {} a;", refused(Rule::Syntax, 12)),
+        (b"A a;", refused(Rule::Syntax, 2)),
+        (b"void a;", refused(Rule::Syntax, 0)),
+        (b"int a = 1;", refused(Rule::Syntax, 6)),
+        (b"int a[2];", refused(Rule::Syntax, 5)),
+        (b"main() {}", refused(Rule::Syntax, 0)),
+        (b"long main() {}", refused(Rule::Syntax, 5)),
+        (b"int main(int a) {}", refused(Rule::Syntax, 9)),
+        (b"int main();", refused(Rule::Syntax, 10)),
+        (
+            b"int main() {} int main() {}",
+            refused(Rule::DuplicateMember, 18),
+        ),
+        (
+            b"int main() {} int main;",
+            refused(Rule::DuplicateMember, 18),
+        ),
+        (b"int main() {} long main", refused(Rule::Syntax, 19)),
+        (b"int main() {} float x;", refused(Rule::LeftOut, 14)),
+        (b"int a; #", refused(Rule::Lex, 7)),
+        (b"int a /*", refused(Rule::Lex, 6)),
+    ];
     check(&rt, rt.alloc(), &rows)
+}
+
+#[test]
+fn bases(rt: HostRuntime) -> Result<(), Fail> {
+    let rows: [(&[u8], Option<Stop>); 9] = [
+        (
+            b"struct A : B, virtual C, private D, virtual public E, protected virtual F {};",
+            None,
+        ),
+        (b"struct A : A {};", None),
+        (b"struct A : ;", refused(Rule::Syntax, 11)),
+        (b"struct A : {};", refused(Rule::Syntax, 11)),
+        (b"struct A : B, {};", refused(Rule::Syntax, 14)),
+        (b"struct A : B C {};", refused(Rule::Syntax, 13)),
+        (
+            b"struct A : public private B {};",
+            refused(Rule::Syntax, 18),
+        ),
+        (
+            b"struct A : virtual public virtual B {};",
+            refused(Rule::Syntax, 26),
+        ),
+        (b"struct A : B;", refused(Rule::Syntax, 12)),
+    ];
+    check(&rt, rt.alloc(), &rows)
+}
+
+#[test]
+fn parts(rt: HostRuntime) -> Result<(), Fail> {
+    let rows: [(&[u8], Option<Stop>); 31] = [
+        (
+            b"struct A { int a; A* b; B c; A d[3]; unsigned e[0]; };",
+            None,
+        ),
+        (b"struct A { public: protected: private: };", None),
+        (
+            b"struct A { int f() {} A* g(int a, B* b) {} void h() {} };",
+            None,
+        ),
+        (
+            b"struct A { virtual int f() = 0; virtual void g(A* a) = 0; virtual A* h() {} };",
+            None,
+        ),
+        (b"struct A { A() {} ~A() {} };", None),
+        (
+            b"struct A { A() : a(1), b(-2), c(true) {} virtual ~A() {} };",
+            None,
+        ),
+        (b"struct A { A() {} A() {} };", None),
+        (b"struct B; struct A { A() {} }; struct B;", None),
+        (b"struct A { int; };", refused(Rule::Syntax, 14)),
+        (b"struct A { int a, b; };", refused(Rule::Syntax, 16)),
+        (b"struct A { int a[]; };", refused(Rule::Syntax, 17)),
+        (b"struct A { int a[b]; };", refused(Rule::Syntax, 17)),
+        (b"struct A { int a[1][2]; };", refused(Rule::Syntax, 19)),
+        (b"struct A { void a; };", refused(Rule::Syntax, 17)),
+        (b"struct A { void* a; };", refused(Rule::Syntax, 15)),
+        (b"struct A { int f(); };", refused(Rule::Syntax, 18)),
+        (b"struct A { int f() = 0; };", refused(Rule::Syntax, 19)),
+        (
+            b"struct A { virtual int f() = 1; };",
+            refused(Rule::Syntax, 29),
+        ),
+        (b"struct A { virtual int f; };", refused(Rule::Syntax, 24)),
+        (b"struct A { virtual A() {} };", refused(Rule::Syntax, 20)),
+        (b"struct A { B f() {} };", refused(Rule::Syntax, 14)),
+        (b"struct A { B() {} };", refused(Rule::Syntax, 12)),
+        (b"struct A { ~B() {} };", refused(Rule::Syntax, 12)),
+        (
+            b"struct A { virtual ~A() = 0; };",
+            refused(Rule::Syntax, 24),
+        ),
+        (b"struct A { int f(void) {} };", refused(Rule::Syntax, 17)),
+        (b"struct A { int f(A a) {} };", refused(Rule::Syntax, 19)),
+        (b"struct A { A(int a) {} };", refused(Rule::Syntax, 13)),
+        (b"struct A { A() : {} };", refused(Rule::Syntax, 17)),
+        (b"struct A { A() : a(b) {} };", refused(Rule::Syntax, 19)),
+        (b"struct A { A() : a(1), {} };", refused(Rule::Syntax, 23)),
+        (b"struct A { public int a; };", refused(Rule::Syntax, 18)),
+    ];
+    check(&rt, rt.alloc(), &rows)
+}
+
+#[test]
+fn open_blocks(rt: HostRuntime) -> Result<(), Fail> {
+    let mut most = Vec::new(rt.alloc());
+    let mut more = Vec::new(rt.alloc());
+    most.extend_from_slice(b"struct A { void f() {")?;
+    more.extend_from_slice(b"struct A { void f() {")?;
+    for _ in 0..63 {
+        most.extend_from_slice(b" while (a) {")?;
+        more.extend_from_slice(b" while (a) {")?;
+    }
+    more.extend_from_slice(b" while (a) {")?;
+    for _ in 0..64 {
+        most.extend_from_slice(b"}")?;
+    }
+    most.extend_from_slice(b"};")?;
+    let rows: [(&[u8], Option<Stop>); 2] = [
+        (most.as_slice(), None),
+        (more.as_slice(), Some(Stop::Limit(LimitNo::L3))),
+    ];
+    check(&rt, rt.alloc(), &rows)
+}
+
+// The source of a text, and no memory otherwise.
+fn read(rt: &impl Abort, alloc: Global, text: &[u8]) -> Result<SourceText, Fail> {
+    assert!(rt; text.len() <= 262144);
+    let list = tokens(alloc, text)?;
+    let source = parse_source(alloc, text, &list).ok().ok_or("refused")?;
+    Ok(source)
+}
+
+#[test]
+fn records(rt: HostRuntime) -> Result<(), Fail> {
+    let text =
+        b"class A : B, public virtual C { int a[7]; public: A* f(long x) {} virtual void g() = 0; C c; A() : a(0) {} private: virtual ~A() {} int d[4294967296]; }; int main() {} A* p; struct D { D() {} };";
+    let source = read(&rt, rt.alloc(), text)?;
+    assert_eq!(rt; source.records.len(), 2);
+    let a = source.records.as_slice().first().ok_or("no class")?;
+    assert_eq!(rt; a.at, 6);
+    assert_eq!(rt; a.name.as_slice(), b"A".as_slice());
+    assert_eq!(rt; a.has_constructor, true);
+    assert_eq!(rt; a.destructor, Destructor::Virtual);
+    let mut bases = a.bases.as_slice().iter();
+    let b = bases.next().ok_or("no base")?;
+    assert_eq!(rt; (b.is_virtual, b.is_public, b.at), (false, false, 10));
+    let c = bases.next().ok_or("no base")?;
+    assert_eq!(rt; (c.is_virtual, c.is_public, c.at), (true, true, 28));
+    let wanted: [(Option<u32>, bool, u32); 3] = [
+        (Some(7), false, 36),
+        (None, true, 90),
+        (Some(4294967295), false, 136),
+    ];
+    assert_eq!(rt; a.members.len(), 3);
+    for (member, want) in a.members.as_slice().iter().zip(wanted.iter()) {
+        assert_eq!(rt; (member.count, member.is_public, member.at), *want);
+    }
+    let functions: [(bool, bool, u32); 2] = [(false, false, 53), (true, true, 79)];
+    assert_eq!(rt; a.functions.len(), 2);
+    for (function, want) in a.functions.as_slice().iter().zip(functions.iter()) {
+        assert_eq!(rt; (function.is_virtual, function.is_pure, function.at), *want);
+    }
+    let order: [(PartKind, u32, Option<u32>, u32); 7] = [
+        (PartKind::Member, 0, Some(32), 36),
+        (PartKind::Function, 0, Some(50), 53),
+        (PartKind::Function, 1, Some(74), 79),
+        (PartKind::Member, 1, Some(88), 90),
+        (PartKind::Constructor, 0, None, 93),
+        (PartKind::Destructor, 0, None, 125),
+        (PartKind::Member, 2, Some(132), 136),
+    ];
+    assert_eq!(rt; a.order.len(), 7);
+    for (part, want) in a.order.as_slice().iter().zip(order.iter()) {
+        assert_eq!(rt; (part.kind, part.number, part.ty_at, part.at), *want);
+    }
+    let owners = [
+        BodyOwner::Function(0),
+        BodyOwner::Constructor,
+        BodyOwner::Destructor,
+        BodyOwner::Constructor,
+    ];
+    assert_eq!(rt; source.bodies.len(), 4);
+    for (body, owner) in source.bodies.as_slice().iter().zip(owners.iter()) {
+        assert_eq!(rt; body.owner, *owner);
+    }
+    assert_eq!(rt; source.main_place, 3);
+    assert!(rt; source.main.is_some());
+    let p = source.globals.as_slice().first().ok_or("no variable")?;
+    assert_eq!(rt; (p.ty_at, p.at), (168, 171));
+    Ok(())
 }

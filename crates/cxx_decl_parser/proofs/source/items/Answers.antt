@@ -11,6 +11,8 @@ use Rattle.cxx_decl_parser.specs.Readers.{outside, value_rest, HeadReads}
 use Rattle.cxx_decl_parser.proofs.Turns as turns
 use Rattle.cxx_decl_parser.proofs.Series as series
 use Rattle.std.proofs.Common.{is_some}
+use Rattle.cxx_grammar.specs.declared.sort.Lexeme.{Lexeme}
+use Rattle.cxx_decl_parser.specs.Readers.{main_after}
 use Rattle.cxx_decl_parser.proofs.Others.{same_error_to}
 use Rattle.cxx_decl_parser.proofs.source.items.Goals as goal
 
@@ -27,10 +29,10 @@ pub returns-then-is_same-clause-follows : goal.returns-then-is_same-clause-follo
 returns-then-is_same-clause-follows c = λ k. c.loop-source.invariant.follows k ∙ takes _ ItemsEnd End [] _ _ _ k c.in_ok-first.ensures.ok (search rules) refl refl
 
 pub returns-in_err-read-clause-follows : goal.returns-in_err-read-clause-follows
-returns-in_err-read-clause-follows c = same_error_to (λ x. x.1.now) (outside false) (outside (is_some c.loop-source.source.main)) (λ x. outside (is_some x.0.main)) (ItemsEnd ∷ []) (ItemsEnd ∷ []) [] c.args.rest.now _ _ c.in_err-read.field-0.0 (search rules) (λ k. c.loop-source.invariant.follows k ∙ rw c.in_ok-first.ensures.ok refl) c.in_err-read.ensures.follows
+returns-in_err-read-clause-follows c = let e : c.is_some.result ≡ is_some c.loop-source.source.main = search rules in same_error_to (λ x. x.1.now) (outside false) (outside c.is_some.result) (λ x. outside (is_some x.0.main)) (ItemsEnd ∷ []) (ItemsEnd ∷ []) [] c.args.rest.now (c.in_ok-first.first ∷ c.in_ok-first.after.now) _ c.in_err-read.field-0.0 (search rules) (λ k. c.loop-source.invariant.follows k ∙ (ap (λ (ts : List Lexeme). run ts (outside (is_some c.loop-source.source.main)) (ItemsEnd ∷ k)) c.in_ok-first.ensures.ok ∙ ap (λ (b : Bool). run (c.in_ok-first.first ∷ c.in_ok-first.after.now) (outside b) (ItemsEnd ∷ k)) (sym e))) c.in_err-read.ensures.follows
 
 pub loop-source-preserved : goal.loop-source-preserved
-loop-source-preserved c = record {
+loop-source-preserved c = let e : c.is_some.result ≡ is_some c.loop-source.source.main = search rules in record {
   reads = (c.loop-source.invariant.reads.0 ++ c.in_ok-read.read ∷ [], series.next_item _ _ _ _ _ _ c.loop-source.invariant.reads.1 (rw c.in_ok-first.ensures.ok c.in_ok-read.ensures.reads), c.in_ok-add.ensures.items c.loop-source.invariant.reads.0 c.loop-source.invariant.reads.2);
-  follows = λ k. c.loop-source.invariant.follows k ∙ (rw (c.in_ok-first.ensures.ok, c.in_ok-add.ensures.main) (c.in_ok-read.ensures.follows k));
+  follows = λ k. c.loop-source.invariant.follows k ∙ (rw (c.in_ok-first.ensures.ok, c.in_ok-add.ensures.main) (subst (λ (b : Bool). run (c.in_ok-first.first ∷ c.in_ok-first.after.now) (outside b) (ItemsEnd ∷ k) ≡ run c.in_ok-read.more.now (outside (main_after b c.in_ok-read.read)) (ItemsEnd ∷ k)) e (c.in_ok-read.ensures.follows k)));
 }
