@@ -130,28 +130,28 @@ fn has_path(s: &Subobject, classes: &[u32]) -> bool {
 /// Whether a statement does what the words say: the numbers of its variables, and the classes of its paths.
 fn does(statement: &Statement, numbers: &[u32], first: &[u32], second: &[u32]) -> bool {
     match statement {
-        Statement::New { variable, class } => *numbers == [*variable] && *first == [class.0],
+        Statement::New { variable, class } => numbers == [*variable].as_slice() && first == [class.0].as_slice(),
         Statement::Write {
             pointer, place, ..
-        } => *numbers == [*pointer, place.member] && has_path(&place.base, first),
+        } => numbers == [*pointer, place.member].as_slice() && has_path(&place.base, first),
         Statement::Read {
             variable,
             pointer,
             place,
-        } => *numbers == [*variable, *pointer, place.member] && has_path(&place.base, first),
+        } => numbers == [*variable, *pointer, place.member].as_slice() && has_path(&place.base, first),
         Statement::Convert { variable, from } => {
-            *numbers == [*variable, from.pointer] && has_path(&from.base, first)
+            numbers == [*variable, from.pointer].as_slice() && has_path(&from.base, first)
         }
         Statement::Equal {
             variable,
             left,
             right,
         } => {
-            *numbers == [*variable, left.pointer, right.pointer]
+            numbers == [*variable, left.pointer, right.pointer].as_slice()
                 && has_path(&left.base, first)
                 && has_path(&right.base, second)
         }
-        Statement::Print { variable } => *numbers == [*variable],
+        Statement::Print { variable } => numbers == [*variable].as_slice(),
     }
 }
 
