@@ -1,9 +1,3 @@
-pub mod Found
-pub mod Made
-pub mod Repeats
-pub mod Forms
-pub mod Loops
-pub mod Exits
 pub mod SameBases
 pub mod SameParts
 pub mod SameRecords

@@ -1,9 +1,3 @@
-pub mod Lexemes
-pub mod Words
-pub mod Takes
-pub mod Grammar
-pub mod Refusal
-pub mod Reading
 pub mod Parts
 pub mod Definitions
 pub mod Sources

@@ -7,37 +7,22 @@
 //! are in order for the class pass, and it refuses exactly by the first event: E1, E21 or E2 at the first token with
 //! which the tokens begin no source, L3 at the 65th block that is open, or E7 at a second `main`. Blocks are read by
 //! recursion, at most 64 deep; all else is read by loops, and each token is looked at a fixed number of times.
-//!
-//! It also owns the first form of the source, which `run` takes until it takes the whole language: structs with `int`
-//! and `char` fields, and a `main` that makes objects, writes and reads their fields and prints variables. `IsSimple`
-//! says which source a text spells by it, within the limits on classes, fields and declarations; `parse_simple` gives
-//! the one source that a text spells, and refuses exactly the texts that spell none, by Syntax at 0.
 #![tactic(auto)]
 
 mod base;
-pub mod class;
 mod class_part;
-pub mod cursor;
 mod draft;
 mod function;
 mod item;
 pub mod laws;
-pub mod parser;
 pub mod part;
-pub mod simple;
 pub mod source;
 #[cfg(test)]
 mod source_tests;
 pub mod source_text;
-pub mod statement;
-#[cfg(test)]
-mod tests;
 mod value;
-pub mod words;
 
 pub use crate::laws::one_source_text;
-pub use crate::parser::{one_source, parse_simple};
-pub use crate::simple::{Simple, SimpleLine, SimpleLines, SimpleSource};
 pub use crate::source::parse_source;
 pub use crate::source_text::{
     Body, BodyList, BodyOwner, Global, GlobalList, Init, InitList, SourceText,
