@@ -9,7 +9,8 @@
 //! The layer above may rely on: `build` gives the hierarchy of records without a fault, and else the first fault;
 //! the class of number `n` is the n-th definition of the source; `find` gives the class of a name, and None
 //! exactly where no class has it; `Hierarchy::keeps` tells `IsHierarchy`, what every hierarchy keeps: names apart,
-//! bases and member objects of smaller numbers than their class (ISO C++03 10), at most 1,024 classes.
+//! bases and member objects of smaller numbers than their class (ISO C++03 10), at most 1,024 classes. The virtual
+//! bases of each class (`HasVirtualBase`) are looked up in a table that `build` makes.
 #![tactic(auto)]
 
 mod class_pass;

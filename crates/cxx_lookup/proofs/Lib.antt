@@ -1,3 +1,0 @@
-pub mod TopLemmas
-pub mod ChoiceLemmas
-pub mod FoundLemmas

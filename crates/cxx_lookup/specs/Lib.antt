@@ -1,4 +1,2 @@
 pub mod Lookup
 pub mod UniqueBase
-pub mod Wanted
-pub mod Named

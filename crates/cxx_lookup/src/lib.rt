@@ -10,15 +10,7 @@
 //! exactly whether there is none or more than one.
 #![tactic(auto)]
 
-mod choice;
-pub mod lookup;
-#[cfg(test)]
-mod tests;
-mod wanted;
-
-pub use crate::lookup::{lookup, unique_base};
 use cxx_subobject::Subobject;
-use foundation::NoMemory;
 use thiserror::Error;
 
 /// What a name finds: a data member or a function, by its subobject and its number among the members or the
@@ -49,26 +41,4 @@ pub enum BaseFault {
     NotBase,
     #[error("out of memory")]
     NoMemory,
-}
-
-impl From<NoMemory> for LookupFault {
-    ghost use Rattle.std.specs.Prelude.{◌≡◌};
-    ghost use Rattle.cxx_lookup.specs.declared.LookupFault.{LookupFault};
-
-    ghost from_gives = { λ _ fault. fault ≡ LookupFault.NoMemory };
-
-    fn from(_error: NoMemory) -> LookupFault {
-        LookupFault::NoMemory
-    }
-}
-
-impl From<NoMemory> for BaseFault {
-    ghost use Rattle.std.specs.Prelude.{◌≡◌};
-    ghost use Rattle.cxx_lookup.specs.declared.BaseFault.{BaseFault};
-
-    ghost from_gives = { λ _ fault. fault ≡ BaseFault.NoMemory };
-
-    fn from(_error: NoMemory) -> BaseFault {
-        BaseFault::NoMemory
-    }
 }

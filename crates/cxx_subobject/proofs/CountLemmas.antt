@@ -115,12 +115,12 @@ own_once : (h : Classes) → IsHierarchy h → (n : ℕ) (c : ClassId) (s : Subo
 own_once h keeps zero c s = tt
 own_once h keeps (suc n) c s = (
   λ has.
-  let m = has_from_mapped (own_below h n s) (bases_of h c) s has in
-  let f = own_found h n c s m.0 s m.1 m.2 in
-  not_longer s.path f.0 m.0.class (ap (λ (x : Subobject). x.path) f.1),
+      let m = has_from_mapped (own_below h n s) (bases_of h c) s has in
+      let f = own_found h n c s m.0 s m.1 m.2 in
+      not_longer s.path f.0 m.0.class (ap (λ (x : Subobject). x.path) f.1),
   once_mapped (own_below h n s) (bases_of h c)
-  (λ base has. split base.is_virtual (λ b. EachOnce (if b then [] else own_tree h n base.class (base_subobject s base))) (λ e. tt) (λ e. own_once h keeps n base.class (base_subobject s base)))
-  (bases_apart (own_below h n s) (bases_of h c) (keeps.once c) (own_apart h n c s)),
+      (λ base has. split base.is_virtual (λ b. EachOnce (if b then [] else own_tree h n base.class (base_subobject s base))) (λ e. tt) (λ e. own_once h keeps n base.class (base_subobject s base)))
+      (bases_apart (own_below h n s) (bases_of h c) (keeps.once c) (own_apart h n c s)),
 )
 
 -- the weight of a class, if there is one
@@ -182,11 +182,13 @@ each_apart h (v ∷ vs) once = (
 roots_once : (h : Classes) → IsHierarchy h → (c : ClassId) (vs : List ClassId) → ListsVirtualBases h c c.0 vs → EachOnce (by_roots h c vs)
 roots_once h keeps c vs lists = once_append _ _ (own_once h keeps (c.0 + 1) c (whole_of c))
     (once_mapped (λ (v : ClassId). own_tree h (v.0 + 1) v (shared_base v)) vs (λ v has. own_once h keeps (v.0 + 1) v (shared_base v)) (each_apart h vs lists.once))
-    (record { none = λ t p q.
-    let a = own_sound h (c.0 + 1) c (whole_of c) t p in
-    let m = has_from_mapped (λ (x : ClassId). own_tree h (x.0 + 1) x (shared_base x)) vs t q in
-    let b = own_sound h (m.0.0 + 1) m.0 (shared_base m.0) t m.2 in
-    let roots : Whole ≡ Shared m.0 = ap (λ (x : Subobject). x.root) (sym a.is ∙ b.is) in cc })
+    (record {
+      none = λ t p q.
+          let a = own_sound h (c.0 + 1) c (whole_of c) t p in
+          let m = has_from_mapped (λ (x : ClassId). own_tree h (x.0 + 1) x (shared_base x)) vs t q in
+          let b = own_sound h (m.0.0 + 1) m.0 (shared_base m.0) t m.2 in
+          let roots : Whole ≡ Shared m.0 = ap (λ (x : Subobject). x.root) (sym a.is ∙ b.is) in cc;
+    })
 
 -- the weight of all subobjects of a class
 pub preorder_sum : (h : Classes) → IsHierarchy h → (w : ClassId → ℕ) (c : ClassId) (vs : List ClassId) → ListsVirtualBases h c c.0 vs →

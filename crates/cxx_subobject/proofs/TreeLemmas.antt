@@ -201,4 +201,3 @@ one_more f bases i d lt = rw (take_more bases i d lt, flat_map-append f (take i 
 
 pub base_listed : (h : Classes) (c : ClassId) (bases : List (Base ClassId)) (i : ℕ) (d : Base ClassId) → bases ≡ bases_of h c → i < length bases → Contains (bases_of h c) (get_or bases i d)
 base_listed h c bases i d is lt = subst (λ (xs : List (Base ClassId)). Contains xs (get_or bases i d)) is (contains_from_has bases (get_or bases i d) (has_at bases i (get_or bases i d) (slice_get-get_or bases i d lt)))
-

@@ -106,11 +106,9 @@ fn is_public_edge(h: &Hierarchy, c: ClassId, b: ClassId) -> bool
     ensures { result ≡ list_any (leads_publicly b) (bases_of h.now c) }
 {
     c.0 < h.len()
-        && h.class(c)
-            .bases
-            .as_slice()
-            .iter()
-            .any(|base| base.class.0 == b.0 && !base.is_virtual && base.is_public)
+        && h.class(c).bases.as_slice().iter().any(|base| base.class.0 == b.0
+            && !base.is_virtual
+            && base.is_public)
 }
 
 /// Whether each class of a path names the next one as a public non-virtual base.

@@ -2,11 +2,14 @@
 //!
 //! An object of class C has the subobjects (Whole, path) and (Shared V, path): the path begins with C, or with V
 //! where V is a virtual base of C, and each later class is a direct non-virtual base of the one before it.
-//! This crate owns that definition, and what it means that one subobject is a subobject of another (`join`).
-//! Nothing here has an address or an offset.
+//! This crate owns that definition, what it means that one subobject lies in another (`IsInside`) or that public edges
+//! lead to it (`IsPublicWalk`), the preorder of a class, and its number of parts (`parts_of`). Nothing here has an
+//! address or an offset.
 //!
-//! The layer above may rely on: a subobject of a subobject is, by `join`, a subobject of the whole; the list of
-//! `subobjects_of` has exactly the subobjects of a class, each once, in preorder; `contains` is a partial order.
+//! The layer above may rely on: the list of `subobjects_of` has exactly the subobjects of a class, each once, in
+//! preorder, and L5 stands in its place exactly past the limits; `contains` and `is_public_base` are their
+//! definitions and take no memory; containment is a partial order (`containment_is_order`), in which a shared base
+//! lies in all that reach it. `PartCounts` tells of all classes at once which are within the limits.
 #![tactic(auto)]
 
 pub mod containment;
@@ -16,7 +19,9 @@ pub mod parts;
 mod tests;
 
 pub use crate::containment::{class_of, containment_is_order, contains, is_public_base, join};
-pub use crate::listing::{SubobjectList, list_subobjects, no_marks, subobject_below, subobjects_of};
+pub use crate::listing::{
+    SubobjectList, list_subobjects, no_marks, subobject_below, subobjects_of,
+};
 pub use crate::parts::PartCounts;
 use cxx_hierarchy::ClassId;
 use foundation::Sequence;

@@ -96,11 +96,7 @@ fn visit(
 /// its bases, bases in declaration order (ISO C++03 10.1). A class within the limits has at most 1,024.
 ///
 /// Errors: want of memory.
-pub fn list_subobjects(
-    alloc: Global,
-    h: &Hierarchy,
-    c: ClassId,
-) -> Result<SubobjectList, NoMemory>
+pub fn list_subobjects(alloc: Global, h: &Hierarchy, c: ClassId) -> Result<SubobjectList, NoMemory>
     requires { c.0 < length h.now }
     ensures preorder { IfOk result (λ list. list ≡ preorder h.now c) }
     ensures lists { IfOk result (λ list. ListsSubobjects h.now c list) }

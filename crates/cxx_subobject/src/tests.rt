@@ -3,7 +3,7 @@
 ghost use Rattle.std.specs.Prelude.{◌<◌, All, IfOk, length};
 ghost use Rattle.cxx_hierarchy.specs.ClassPass.{IsInOrder};
 
-use crate::{PartCounts, Root, Subobject, class_of, contains, is_public_base, subobjects_of};
+use crate::{PartCounts, Root, Subobject, subobjects_of};
 use cxx_hierarchy::{
     Base, ClassId, ClassRec, Destructor, Hierarchy, Name, RecordList, Stop, build,
 };

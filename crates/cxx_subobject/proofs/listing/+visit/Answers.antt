@@ -59,12 +59,25 @@ visit-requires t c =
     let size = c.loop-base.invariant.size in
     let is = c.in_ok-inner.ensures in
     let placed = placed_down h c.args.c c.args.s.now base c.requires.place listed in
-    let across = base_across c.args.s.now base c.if-base.true in
-    (omega arith, (omega arith, (length-set marks base.class.0 true ∙ size,
-    (subst (λ (x : Subobject). IsPlaced h base.class x) (sym is) (subst (λ (x : Subobject). IsPlaced h base.class x) across placed),
-    (subst (λ (x : Subobject). IsFresh found x) (sym is) (fresh_shared marks found base.class c.loop-base.invariant.marks c.if-not-marks-number.true),
-    (subst (λ (x : Subobject). AreMarks (set marks base.class.0 true) (found ++ x ∷ [])) (sym is) (marks_across marks found base.class c.loop-base.invariant.marks (omega arith)),
-    closed_less h c.args.c.0 (base.class.0 + 1) found (omega arith) c.loop-base.invariant.closed))))))
+    let across = base_across c.args.s.now base c.if-base.true in (
+      omega arith,
+      (
+        omega arith,
+        (
+          length-set marks base.class.0 true ∙ size,
+          (
+            subst (λ (x : Subobject). IsPlaced h base.class x) (sym is) (subst (λ (x : Subobject). IsPlaced h base.class x) across placed),
+            (
+              subst (λ (x : Subobject). IsFresh found x) (sym is) (fresh_shared marks found base.class c.loop-base.invariant.marks c.if-not-marks-number.true),
+              (
+                subst (λ (x : Subobject). AreMarks (set marks base.class.0 true) (found ++ x ∷ [])) (sym is) (marks_across marks found base.class c.loop-base.invariant.marks (omega arith)),
+                closed_less h c.args.c.0 (base.class.0 + 1) found (omega arith) c.loop-base.invariant.closed,
+              ),
+            ),
+          ),
+        ),
+      ),
+    )
 
 -- a base of its own
 pub visit-requires-else-base : goal.visit-requires-else-base
@@ -83,12 +96,25 @@ visit-requires-else-base t c =
     let is = c.in_ok-inner-2.ensures in
     let placed = placed_down h c.args.c s base c.requires.place listed in
     let there = base_down s base c.if-base.false in
-    let fresh = fresh_next h c.keeps.ensures c.args.c s base (take i bases) old c.requires.place c.requires.fresh (others_before h c.keeps.ensures c.args.c bases i no_base c.loop-base.invariant.items c.loop-base-test.true) in
-    (omega arith, (omega arith, (c.loop-base.invariant.size,
-    (subst (λ (x : Subobject). IsPlaced h base.class x) (sym is) (subst (λ (x : Subobject). IsPlaced h base.class x) there placed),
-    (subst (λ (x : Subobject). IsFresh found x) (sym is) (subst (λ (xs : List Subobject). IsFresh xs (subobject s.root (s.path ++ base.class ∷ []))) (sym c.loop-base.invariant.found) fresh),
-    (subst (λ (x : Subobject). AreMarks marks (found ++ x ∷ [])) (sym is) (marks_down marks found s c.args.c base.class c.loop-base.invariant.marks (has_start old (flat_map (below h c.args.c s) (take i bases)) found s c.loop-base.invariant.found) c.requires.place.class),
-    closed_less h c.args.c.0 (base.class.0 + 1) found (omega arith) c.loop-base.invariant.closed))))))
+    let fresh = fresh_next h c.keeps.ensures c.args.c s base (take i bases) old c.requires.place c.requires.fresh (others_before h c.keeps.ensures c.args.c bases i no_base c.loop-base.invariant.items c.loop-base-test.true) in (
+      omega arith,
+      (
+        omega arith,
+        (
+          c.loop-base.invariant.size,
+          (
+            subst (λ (x : Subobject). IsPlaced h base.class x) (sym is) (subst (λ (x : Subobject). IsPlaced h base.class x) there placed),
+            (
+              subst (λ (x : Subobject). IsFresh found x) (sym is) (subst (λ (xs : List Subobject). IsFresh xs (subobject s.root (s.path ++ base.class ∷ []))) (sym c.loop-base.invariant.found) fresh),
+              (
+                subst (λ (x : Subobject). AreMarks marks (found ++ x ∷ [])) (sym is) (marks_down marks found s c.args.c base.class c.loop-base.invariant.marks (has_start old (flat_map (below h c.args.c s) (take i bases)) found s c.loop-base.invariant.found) c.requires.place.class),
+                closed_less h c.args.c.0 (base.class.0 + 1) found (omega arith) c.loop-base.invariant.closed,
+              ),
+            ),
+          ),
+        ),
+      ),
+    )
 
 pub loop-base-preserved : goal.loop-base-preserved
 loop-base-preserved t c =
@@ -101,12 +127,12 @@ loop-base-preserved t c =
     let walked = c.loop-base.invariant in
     let lt = c.loop-base-test.true in
     elim c.if-base.branch [
-      then-base+then-not-marks-number+in_ok-inner+in_ok-visit w ↦ rw (w.marks-is, w.found-is)
+      | then-base+then-not-marks-number+in_ok-inner+in_ok-visit w ↦ rw (w.marks-is, w.found-is)
           (next_walked h c.keeps.ensures c.args.c s bases i no_base old c.loop-base.marks w.visit.new.marks c.loop-base.found.items w.visit.new.found.items w.in_ok-inner.inner c.requires.place lt walked
           (w.in_ok-inner.ensures ∙ sym (base_across s base w.if-base.true)) w.in_ok-visit.ensures.found w.in_ok-visit.ensures.marks w.in_ok-visit.ensures.size)
-    | then-base+else-not-marks-number w ↦ rw (w.marks-is, w.found-is)
+      | then-base+else-not-marks-number w ↦ rw (w.marks-is, w.found-is)
           (skip_walked h c.keeps.ensures c.args.c s bases i no_base old c.loop-base.marks c.loop-base.found.items lt walked w.if-base.true w.if-not-marks-number.false)
-    | else-base+in_ok-inner-2+in_ok-visit-2 w ↦ rw (w.marks-is, w.found-is)
+      | else-base+in_ok-inner-2+in_ok-visit-2 w ↦ rw (w.marks-is, w.found-is)
           (next_walked h c.keeps.ensures c.args.c s bases i no_base old c.loop-base.marks w.visit-else-base.new.marks c.loop-base.found.items w.visit-else-base.new.found.items w.in_ok-inner-2.inner c.requires.place lt walked
           (w.in_ok-inner-2.ensures ∙ sym (base_down s base w.if-base.false)) w.in_ok-visit-2.ensures.found w.in_ok-visit-2.ensures.marks w.in_ok-visit-2.ensures.size)
     ]
