@@ -1,13 +1,14 @@
 //! Programs with every name resolved.
 //!
-//! A resolved program names a variable by its number, a class by its number, and a member by the subobject that
-//! declares it and its number there. This crate owns that form, the definition of what a source's `main`
-//! resolves to (`Resolves`, with the look-up of a member in `IsMemberOf`), and of programs whose types fit
+//! A resolved program names a variable by its number, a class by its number, a member by the subobject that declares
+//! it and its number there, and a converted pointer by the subobject that is its base. This crate owns that form, the
+//! form of `main` and of classes that `run` takes (`IsSimple`, `IsSimpleHierarchy`), what a body resolves to
+//! (`MainResolves`, by the look-up of a member and of the one base of a class), and programs whose types fit
 //! (`IsTypedProgram`).
 //!
-//! The layer above may rely on: `resolve_simple` gives a program that the lines resolve to, and refuses exactly the
-//! lines that resolve to none; there is one such program at most (`one_program`), its types fit where the numbers
-//! that are written are an `int`'s (`typed`), and its statements stand in text order with their lines.
+//! The layer above may rely on: `resolve_main` gives a program that the body resolves to, and refuses exactly the
+//! bodies and classes that have none; bodies that say the same have one such program at most (`one_program`), its
+//! types fit (`typed`), and its statements stand in text order with their lines.
 #![tactic(auto)]
 
 mod fields;
