@@ -170,9 +170,10 @@ param_of text f v n = record { name = bytes_of text n; ty = v; ty_at = f.at; at 
 
 param_same : {text : List ℕ} {p q : Param Spelled} {ts us r s : List Lexeme} → ts ≡ us → ParamReads text p ts r → ParamReads text q us s → (p ≡ q) × (r ≡ s)
 param_same {text = text} e (a_param {v = x} {f = k} f v n p) (a_param {v = y} {f = j} {n = m} f' v' n' p') =
-    let x' = value_same e n n' v v' in
-    (p ∙ (ap (λ l. param_of text k x l) (firsts x'.1 n.front n'.front) ∙ (ap (λ w. param_of text k w m) x'.0 ∙ (ap (λ l. param_of text l y m) (firsts e f.front f'.front) ∙ sym p'))),
-     rests x'.1 n.front n'.front)
+    let x' = value_same e n n' v v' in (
+      p ∙ (ap (λ l. param_of text k x l) (firsts x'.1 n.front n'.front) ∙ (ap (λ w. param_of text k w m) x'.0 ∙ (ap (λ l. param_of text l y m) (firsts e f.front f'.front) ∙ sym p'))),
+      rests x'.1 n.front n'.front,
+    )
 
 abbrev pub param_mark : Sort → ℕ
 param_mark CloseParen = 0

@@ -198,12 +198,12 @@ lengths (more_bodies c o i b s) = ap suc (lengths s)
 
 source_of : {s t : SourceText} {is js : List Item} → SameItems is js → AreItemsOf s is → AreItemsOf t js → SameSource s t
 source_of {s = s} {t = t} {is = is} {js = js} i x y = record {
-    records = x.records ∙ (records_same i ∙ sym y.records);
-    globals = x.globals ∙ (globals_same i ∙ sym y.globals);
-    bodies = subst (λ r. SameBodies s.bodies r) (sym y.bodies) (subst (λ l. SameBodies l (flat_map bodies_in js)) (sym x.bodies) (all_bodies i));
-    main = main_same s.main t.main (subst (λ r. SameTrees (trees_in s.main) r) (sym y.main) (subst (λ l. SameTrees l (filter_map main_in js)) (sym x.main) (all_mains i)));
-    main_place = x.main_place ∙ (lengths (before_main i) ∙ sym y.main_place);
-  }
+  records = x.records ∙ (records_same i ∙ sym y.records);
+  globals = x.globals ∙ (globals_same i ∙ sym y.globals);
+  bodies = subst (λ r. SameBodies s.bodies r) (sym y.bodies) (subst (λ l. SameBodies l (flat_map bodies_in js)) (sym x.bodies) (all_bodies i));
+  main = main_same s.main t.main (subst (λ r. SameTrees (trees_in s.main) r) (sym y.main) (subst (λ l. SameTrees l (filter_map main_in js)) (sym x.main) (all_mains i)));
+  main_place = x.main_place ∙ (lengths (before_main i) ∙ sym y.main_place);
+}
 
 pub source_same : (text : List ℕ) (s t : SourceText) (ts a b : List Lexeme) → SourceReads text s ts a → SourceReads text t ts b → SameSource s t × (a ≡ b)
 source_same text s t ts a b (a_source h e x) (a_source g f y) =

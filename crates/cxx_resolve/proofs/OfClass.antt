@@ -60,11 +60,11 @@ unique_of_class h c d list n s lists found at rest =
           ⊎_elim
           (λ same. let e : Some t ≡ Some s = sym there ∙ ap (slice_get list) same ∙ here.0 in cc)
           (λ o. ⊎_elim
-              (λ less. let fails : is_of_class d (get_or list has.0 s) ≡ false = p.2 has.0 less in
-              let same : get_or list has.0 s ≡ t = get_or_from_slice_get list has.0 t s there in
-              let clash : true ≡ false = sym passes ∙ ap (is_of_class d) (sym same) ∙ fails in absurd (cc))
-              (λ more. absurd (none_passes (is_of_class d) (drop (n + 1) list) (has.0 - (n + 1)) t rest (past_drop list (n + 1) has.0 t (omega arith) there) passes))
-              o)
+          (λ less. let fails : is_of_class d (get_or list has.0 s) ≡ false = p.2 has.0 less in
+          let same : get_or list has.0 s ≡ t = get_or_from_slice_get list has.0 t s there in
+          let clash : true ≡ false = sym passes ∙ ap (is_of_class d) (sym same) ∙ fails in absurd (cc))
+          (λ more. absurd (none_passes (is_of_class d) (drop (n + 1) list) (has.0 - (n + 1)) t rest (past_drop list (n + 1) has.0 t (omega arith) there) passes))
+          o)
           (cases_order has.0 n);
     }
 

@@ -86,10 +86,7 @@ fn arrow(alloc: Global, place: &PlaceText) -> Result<Option<(Name, Name)>, NoMem
     if part.index.is_some() {
         return Ok(None);
     }
-    Ok(Some((
-        copy(alloc, &pointer.name)?,
-        copy(alloc, &part.name.name)?,
-    )))
+    Ok(Some((copy(alloc, &pointer.name)?, copy(alloc, &part.name.name)?)))
 }
 
 /// `bool variable = left == right;`
@@ -179,9 +176,7 @@ fn declared(
     match init {
         None => Ok(None),
         Some(value) => match ty {
-            ValueType::Number(number) => {
-                declared_number(alloc, *number, &variable.name, value)
-            }
+            ValueType::Number(number) => { declared_number(alloc, *number, &variable.name, value) }
             ValueType::Pointer(class) => declared_pointer(alloc, class, &variable.name, value),
         },
     }

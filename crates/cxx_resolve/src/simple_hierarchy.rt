@@ -20,7 +20,9 @@ use std::alloc::Global;
 
 /// The largest numbers of direct bases, members and subobjects of a class.
 const BASE_LIMIT: usize = 16;
+
 const MEMBER_LIMIT: usize = 64;
+
 const SUBOBJECT_LIMIT: usize = 64;
 
 /// Whether a class has a base or a member.

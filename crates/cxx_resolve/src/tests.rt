@@ -130,15 +130,16 @@ fn has_path(s: &Subobject, classes: &[u32]) -> bool {
 /// Whether a statement does what the words say: the numbers of its variables, and the classes of its paths.
 fn does(statement: &Statement, numbers: &[u32], first: &[u32], second: &[u32]) -> bool {
     match statement {
-        Statement::New { variable, class } => numbers == [*variable].as_slice() && first == [class.0].as_slice(),
-        Statement::Write {
-            pointer, place, ..
-        } => numbers == [*pointer, place.member].as_slice() && has_path(&place.base, first),
+        Statement::New { variable, class } => numbers == [*variable].as_slice()
+            && first == [class.0].as_slice(),
+        Statement::Write { pointer, place, .. } => numbers == [*pointer, place.member].as_slice()
+            && has_path(&place.base, first),
         Statement::Read {
             variable,
             pointer,
             place,
-        } => numbers == [*variable, *pointer, place.member].as_slice() && has_path(&place.base, first),
+        } => numbers == [*variable, *pointer, place.member].as_slice()
+            && has_path(&place.base, first),
         Statement::Convert { variable, from } => {
             numbers == [*variable, from.pointer].as_slice() && has_path(&from.base, first)
         }
@@ -157,7 +158,8 @@ fn does(statement: &Statement, numbers: &[u32], first: &[u32], second: &[u32]) -
 
 #[test]
 fn resolves_over_two_paths(rt: HostRuntime) -> Result<(), Fail> {
-    let text = b"{ T* t = new T;\n L* l = t;\n R* r = t;\n X* x = l;\n X* y = r;\n bool s = x == y;\n print(s);\n print(y); }";
+    let text =
+        b"{ T* t = new T;\n L* l = t;\n R* r = t;\n X* x = l;\n X* y = r;\n bool s = x == y;\n print(s);\n print(y); }";
     let found = program(rt.alloc(), text)?;
     assert_eq!(rt; found.variables.len(), 6);
     let rows: [(&[u32], &[u32], &[u32]); 8] = [
@@ -183,7 +185,8 @@ fn resolves_over_two_paths(rt: HostRuntime) -> Result<(), Fail> {
 
 #[test]
 fn resolves_hidden_and_inherited_members(rt: HostRuntime) -> Result<(), Fail> {
-    let text = b"{ T* t = new T; t->b = -7; int v = t->b; U* u = new U; u->a = 1; u->b = -0; L* l = u; bool s = l == u; }";
+    let text =
+        b"{ T* t = new T; t->b = -7; int v = t->b; U* u = new U; u->a = 1; u->b = -0; L* l = u; bool s = l == u; }";
     let found = program(rt.alloc(), text)?;
     let rows: [(&[u32], &[u32], &[u32]); 8] = [
         (&[0], &[3], &[]),
@@ -200,10 +203,14 @@ fn resolves_hidden_and_inherited_members(rt: HostRuntime) -> Result<(), Fail> {
         assert!(rt; does(&line.what, numbers, first, second));
     }
     let values = [-7, 1, 0];
-    let written = found.lines.as_slice().iter().filter_map(|line| match line.what {
-        Statement::Write { value, .. } => Some(value),
-        _ => None,
-    });
+    let written = found
+        .lines
+        .as_slice()
+        .iter()
+        .filter_map(|line| match line.what {
+            Statement::Write { value, .. } => Some(value),
+            _ => None,
+        });
     assert!(rt; written.eq(values));
     Ok(())
 }

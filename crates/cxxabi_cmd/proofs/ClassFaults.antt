@@ -28,10 +28,10 @@ taken_front : (h : Classes) (count n : ℕ) (rows : List ClassLayout) → IsStat
 taken_front h count n rows static laid fits = record {
   one_each = length-take-le n rows (let all = laid.one_each in omega arith);
   row = λ c class row at there.
-    let size : length (take n rows) ≡ n = length-take-le n rows (let all = laid.one_each in omega arith) in
-    let inside = slice_get_within (take n rows) c.0 row there in
-    let below : c.0 < n = omega arith in
-    row_agrees h static rows (take n rows) c class row at (λ d before. sym (taken_get rows n d.0 (omega arith)))
+      let size : length (take n rows) ≡ n = length-take-le n rows (let all = laid.one_each in omega arith) in
+      let inside = slice_get_within (take n rows) c.0 row there in
+      let below : c.0 < n = omega arith in
+      row_agrees h static rows (take n rows) c class row at (λ d before. sym (taken_get rows n d.0 (omega arith)))
       (laid.row c class row at (sym (taken_get rows n c.0 below) ∙ there));
 }
 

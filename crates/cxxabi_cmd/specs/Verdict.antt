@@ -53,6 +53,7 @@ pub record Spot : Type 0 where
 -- the parts of a class in their order: the counts of its subobjects and parts, and its size
 abbrev pub count_part : ℕ
 count_part = 0
+
 abbrev pub size_part : ℕ
 size_part = 1
 

@@ -18,7 +18,7 @@ returns-then-is_some-clause-err c =
     inr (
       refl,
       found_twice c.args.h.now c.keeps.ensures c.requires.simple (c.containment_is_order.ensures.through c.args.h.now) (c.containment_is_order.ensures.itself c.args.h.now) c.args.c c.args.name.now c.as_slice-parts.result.now
-      c.in-Some.best.now c.shortest-2.result c.is_some.result lists c.in-Some.ensures c.shortest-2.ensures c.is_some.ensures c.if-is_some.true,
+          c.in-Some.best.now c.shortest-2.result c.is_some.result lists c.in-Some.ensures c.shortest-2.ensures c.is_some.ensures c.if-is_some.true,
     )
 
 pub returns-clause-ok : goal.returns-clause-ok

@@ -21,8 +21,8 @@ returns-in_err-from-clause-err c =
     let named : slice_get (class_names c.args.h.now) c.in-Some.target.0 ≡ Some c.args.class.now = c.in-Some.ensures ∙ ap Some c.as_slice.ensures in
     rw (p.1, p.2) (refused_more _ _ _
     (λ none. no_convert _ _ _ _ _ _ (λ from k d here leads free.
-        none from k (subst (λ (z : ClassId). IsPointerTo c.args.h.now (number_in c.args.variables.now.table) c.args.variables.now.types c.args.pointer.now from k z)
-        (same_class _ c.keeps.ensures _ d c.in-Some.target here named) leads)))
+    none from k (subst (λ (z : ClassId). IsPointerTo c.args.h.now (number_in c.args.variables.now.table) c.args.variables.now.types c.args.pointer.now from k z)
+    (same_class _ c.keeps.ensures _ d c.in-Some.target here named) leads)))
     c.in_err-from.ensures.err)
 
 pub returns-then-not-is_free-clause-err : goal.returns-then-not-is_free-clause-err

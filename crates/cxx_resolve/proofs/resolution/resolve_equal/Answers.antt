@@ -16,8 +16,8 @@ returns-in_err-first-clause-err c =
     let p = err_from_is_err_and c.from_residual.result c.from_residual.ensures.1 in
     rw (p.1, p.2) (refused_more _ _ _
     (λ none. no_equal _ _ _ _ _ _ (λ a b k d e one l r free.
-        none a k (subst (λ (z : ClassId). IsPointerTo c.args.h.now (number_in c.args.variables.now.table) c.args.variables.now.types c.args.left.now a k z)
-        (common_only _ c.keeps.ensures _ _ _ _ a b k d e c.in-Some.target one l r c.in-Some.ensures) l)))
+    none a k (subst (λ (z : ClassId). IsPointerTo c.args.h.now (number_in c.args.variables.now.table) c.args.variables.now.types c.args.left.now a k z)
+    (common_only _ c.keeps.ensures _ _ _ _ a b k d e c.in-Some.target one l r c.in-Some.ensures) l)))
     c.in_err-first.ensures.err)
 
 pub returns-in_err-second-clause-err : goal.returns-in_err-second-clause-err
@@ -25,8 +25,8 @@ returns-in_err-second-clause-err c =
     let p = err_from_is_err_and c.from_residual-in_err-second.result c.from_residual-in_err-second.ensures.1 in
     rw (p.1, p.2) (refused_more _ _ _
     (λ none. no_equal _ _ _ _ _ _ (λ a b k d e one l r free.
-        none b d (subst (λ (z : ClassId). IsPointerTo c.args.h.now (number_in c.args.variables.now.table) c.args.variables.now.types c.args.right.now b d z)
-        (common_only _ c.keeps.ensures _ _ _ _ a b k d e c.in-Some.target one l r c.in-Some.ensures) r)))
+    none b d (subst (λ (z : ClassId). IsPointerTo c.args.h.now (number_in c.args.variables.now.table) c.args.variables.now.types c.args.right.now b d z)
+    (common_only _ c.keeps.ensures _ _ _ _ a b k d e c.in-Some.target one l r c.in-Some.ensures) r)))
     c.in_err-second.ensures.err)
 
 pub returns-then-not-is_free-clause-err : goal.returns-then-not-is_free-clause-err
