@@ -102,11 +102,11 @@ main_missing_right None None a same none is = cc
 main_missing_right (Some c) None a same none is = same
 main_missing_right m (Some b) a same none is = cc
 
-no_bodies_left : (as bs : List Body) → SameBodies as bs → bs ≡ [] → as ≡ []
+no_bodies_left : (xs ys : List Body) → SameBodies xs ys → ys ≡ [] → xs ≡ []
 no_bodies_left _ _ no_bodies none = refl
 no_bodies_left _ _ (more_bodies class owner inits tree rest) none = absurd (cc)
 
-no_bodies_right : (as bs : List Body) → SameBodies as bs → as ≡ [] → bs ≡ []
+no_bodies_right : (xs ys : List Body) → SameBodies xs ys → xs ≡ [] → ys ≡ []
 no_bodies_right _ _ no_bodies none = refl
 no_bodies_right _ _ (more_bodies class owner inits tree rest) none = absurd (cc)
 

@@ -15,14 +15,34 @@ fn run_word(alloc: Global) -> Result<Vec<String>, AllocError> {
     Ok(vec![in alloc; word]?)
 }
 
-// What the command answers to a source, and what it writes.
+// What `run` answers to a source, and what it writes.
 fn run_text(alloc: Global, source: &[u8]) -> Result<(Status, Vec<u8>), Fail> {
     let words = run_word(alloc)?;
+    text_of(alloc, &words, source)
+}
+
+// What `layout` answers to a source, and what it writes.
+fn layout_text(alloc: Global, source: &[u8]) -> Result<(Status, Vec<u8>), Fail> {
+    let word = String::from_str(alloc, "layout")?;
+    let words = vec![in alloc; word]?;
+    text_of(alloc, &words, source)
+}
+
+// What `layout` with a name answers to a source, and what it writes.
+fn class_text(alloc: Global, name: &str, source: &[u8]) -> Result<(Status, Vec<u8>), Fail> {
+    let word = String::from_str(alloc, "layout")?;
+    let class = String::from_str(alloc, name)?;
+    let words = vec![in alloc; word, class]?;
+    text_of(alloc, &words, source)
+}
+
+// What words and a source are answered, and what is written.
+fn text_of(alloc: Global, words: &[String], source: &[u8]) -> Result<(Status, Vec<u8>), Fail> {
     let mut source = BytesSource::new(Vec::from_slice(alloc, source)?, Vec::new(alloc));
     let mut sink = BytesSink::new(alloc, Vec::new(alloc));
     sink.reserve(1 << 16)?;
     let mut last = None;
-    let status = run_cxxabi(alloc, &words, &mut source, &mut sink, &mut last);
+    let status = run_cxxabi(alloc, words, &mut source, &mut sink, &mut last);
     Ok((status, Vec::from_slice(alloc, sink.taken())?))
 }
 
@@ -58,16 +78,66 @@ fn unset_read_has_its_line(rt: HostRuntime) -> Result<(), Fail> {
 
 #[test]
 fn other_texts_are_refused(rt: HostRuntime) -> Result<(), Fail> {
-    let (status, text) = run_text(rt.alloc(), b"")?;
-    assert_eq!(rt; status, Status::Refused(Rule::Syntax, 0));
-    assert_eq!(rt; text.as_slice(), b"refused E2 Syntax at 0\n".as_slice());
+    let (missing, text) = run_text(rt.alloc(), b"struct A {};")?;
+    assert_eq!(rt; missing, Status::Refused(Rule::UnknownName, 12));
+    assert_eq!(rt; text.as_slice(), b"refused E22 UnknownName at 12\n".as_slice());
     let (second, _) = run_text(rt.alloc(), b"struct A {}; struct A {}; int main() {}")?;
-    assert_eq!(rt; second, Status::Refused(Rule::Syntax, 0));
-    let (unknown, _) = run_text(
+    assert_eq!(rt; second, Status::Refused(Rule::DuplicateClass, 20));
+    let (unknown, text) = run_text(
         rt.alloc(),
         b"struct A { int a; }; int main() { A* p = new A; p->b = 1; }",
     )?;
     assert_eq!(rt; unknown, Status::Refused(Rule::Syntax, 0));
+    assert_eq!(rt; text.as_slice(), b"refused E2 Syntax at 0\n".as_slice());
+    Ok(())
+}
+
+#[test]
+fn two_bases_of_one_class(rt: HostRuntime) -> Result<(), Fail> {
+    let (status, text) = run_text(
+        rt.alloc(),
+        b"struct X { int a; }; struct L : X {}; struct R : X {}; struct T : L, R { char t; }; /* two X */ int main() { T* t = new T; L* l = t; R* r = t; X* x = l; X* y = r; bool s = x == y; print(s); print(y); }",
+    )?;
+    assert_eq!(rt; status, Status::Done);
+    assert_eq!(rt; text.as_slice(), b"0\n#1+4\n".as_slice());
+    Ok(())
+}
+
+#[test]
+fn layouts_of_all_classes(rt: HostRuntime) -> Result<(), Fail> {
+    let (status, text) = layout_text(rt.alloc(), b"struct E {}; struct D : E { int x; };")?;
+    assert_eq!(rt; status, Status::Done);
+    assert_eq!(rt; text.as_slice(), b"class E size 1 align 1 dsize 1 nvsize 1 nvalign 1\nprimary none\nclass D size 4 align 4 dsize 4 nvsize 4 nvalign 4\nprimary none\n0 base E\n0 field int x\n".as_slice());
+    let (dynamic, _) = layout_text(rt.alloc(), b"struct A { virtual void f() {} };")?;
+    assert_eq!(rt; dynamic, Status::Refused(Rule::Syntax, 0));
+    Ok(())
+}
+
+#[test]
+fn layout_of_one_class(rt: HostRuntime) -> Result<(), Fail> {
+    let (status, text) = class_text(rt.alloc(), "F", b"struct E {}; struct F : E { E e; int x; };")?;
+    assert_eq!(rt; status, Status::Done);
+    assert_eq!(rt; text.as_slice(), b"class F size 8 align 4 dsize 8 nvsize 8 nvalign 4\nprimary none\n0 base E\n1 field E e\n4 field int x\n".as_slice());
+    let (unknown, _) = class_text(rt.alloc(), "Q", b"struct E {}; struct D : E { int x; };")?;
+    assert_eq!(rt; unknown, Status::Refused(Rule::UnknownName, 37));
+    let (option, _) = class_text(rt.alloc(), "-E", b"struct E {};")?;
+    assert_eq!(rt; option, Status::Usage);
+    Ok(())
+}
+
+#[test]
+fn a_size_past_the_limit(rt: HostRuntime) -> Result<(), Fail> {
+    let (within, _) = layout_text(
+        rt.alloc(),
+        b"struct A { long a[4096]; }; struct B { A b[15]; long c[1060]; };",
+    )?;
+    assert_eq!(rt; within, Status::Done);
+    let (past, text) = layout_text(
+        rt.alloc(),
+        b"struct A { long a[4096]; }; struct B { A b[15]; long c[1061]; };",
+    )?;
+    assert_eq!(rt; past, Status::Limit(LimitNo::L6));
+    assert_eq!(rt; text.as_slice(), b"limit L6\n".as_slice());
     Ok(())
 }
 
