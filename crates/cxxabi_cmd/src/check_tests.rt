@@ -26,22 +26,70 @@ struct Answered {
 }
 
 const ANSWERS: [Answered; 16] = [
-    Answered { source: "", text: "0 classes\n" },
-    Answered { source: "// no class\n/* struct */", text: "0 classes\n" },
-    Answered { source: "struct A; class B {}; struct A { B b; };", text: "2 classes\n" },
-    Answered { source: "struct A { int x;", text: "refused E2 Syntax at 17\n" },
-    Answered { source: "int 3x;", text: "refused E1 Lex at 4\n" },
-    Answered { source: "int x; /* x", text: "refused E1 Lex at 7\n" },
-    Answered { source: "float x;", text: "refused E21 LeftOut at 0\n" },
-    Answered { source: "struct B : A {};", text: "refused E3 UnknownClass at 11\n" },
-    Answered { source: "struct A {}; struct A {};", text: "refused E4 DuplicateClass at 20\n" },
-    Answered { source: "struct A { A a; };", text: "refused E5 IncompleteClass at 11\n" },
-    Answered { source: "struct A {}; struct B : A, A {};", text: "refused E6 DuplicateBase at 27\n" },
-    Answered { source: "int main() {} int main() {}", text: "refused E7 DuplicateMember at 18\n" },
-    Answered { source: "struct A { int x; int x; };", text: "refused E7 DuplicateMember at 22\n" },
-    Answered { source: "struct A { int x[4097]; };", text: "limit L4\n" },
-    Answered { source: "struct A { ~B() {} };", text: "refused E2 Syntax at 12\n" },
-    Answered { source: "struct A : B {}; x", text: "refused E2 Syntax at 18\n" },
+    Answered {
+        source: "",
+        text: "0 classes\n",
+    },
+    Answered {
+        source: "// no class\n/* struct */",
+        text: "0 classes\n",
+    },
+    Answered {
+        source: "struct A; class B {}; struct A { B b; };",
+        text: "2 classes\n",
+    },
+    Answered {
+        source: "struct A { int x;",
+        text: "refused E2 Syntax at 17\n",
+    },
+    Answered {
+        source: "int 3x;",
+        text: "refused E1 Lex at 4\n",
+    },
+    Answered {
+        source: "int x; /* x",
+        text: "refused E1 Lex at 7\n",
+    },
+    Answered {
+        source: "float x;",
+        text: "refused E21 LeftOut at 0\n",
+    },
+    Answered {
+        source: "struct B : A {};",
+        text: "refused E3 UnknownClass at 11\n",
+    },
+    Answered {
+        source: "struct A {}; struct A {};",
+        text: "refused E4 DuplicateClass at 20\n",
+    },
+    Answered {
+        source: "struct A { A a; };",
+        text: "refused E5 IncompleteClass at 11\n",
+    },
+    Answered {
+        source: "struct A {}; struct B : A, A {};",
+        text: "refused E6 DuplicateBase at 27\n",
+    },
+    Answered {
+        source: "int main() {} int main() {}",
+        text: "refused E7 DuplicateMember at 18\n",
+    },
+    Answered {
+        source: "struct A { int x; int x; };",
+        text: "refused E7 DuplicateMember at 22\n",
+    },
+    Answered {
+        source: "struct A { int x[4097]; };",
+        text: "limit L4\n",
+    },
+    Answered {
+        source: "struct A { ~B() {} };",
+        text: "refused E2 Syntax at 12\n",
+    },
+    Answered {
+        source: "struct A : B {}; x",
+        text: "refused E2 Syntax at 18\n",
+    },
 ];
 
 #[test]

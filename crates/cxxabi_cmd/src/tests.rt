@@ -80,7 +80,10 @@ fn unset_read_has_its_line(rt: HostRuntime) -> Result<(), Fail> {
 fn other_texts_are_refused(rt: HostRuntime) -> Result<(), Fail> {
     let (missing, text) = run_text(rt.alloc(), b"struct A {};")?;
     assert_eq!(rt; missing, Status::Refused(Rule::UnknownName, 12));
-    assert_eq!(rt; text.as_slice(), b"refused E22 UnknownName at 12\n".as_slice());
+    assert_eq!(rt;
+        text.as_slice(),
+        b"refused E22 UnknownName at 12\n".as_slice()
+    );
     let (second, _) = run_text(rt.alloc(), b"struct A {}; struct A {}; int main() {}")?;
     assert_eq!(rt; second, Status::Refused(Rule::DuplicateClass, 20));
     let (unknown, text) = run_text(
@@ -107,7 +110,10 @@ fn two_bases_of_one_class(rt: HostRuntime) -> Result<(), Fail> {
 fn layouts_of_all_classes(rt: HostRuntime) -> Result<(), Fail> {
     let (status, text) = layout_text(rt.alloc(), b"struct E {}; struct D : E { int x; };")?;
     assert_eq!(rt; status, Status::Done);
-    assert_eq!(rt; text.as_slice(), b"class E size 1 align 1 dsize 1 nvsize 1 nvalign 1\nprimary none\nclass D size 4 align 4 dsize 4 nvsize 4 nvalign 4\nprimary none\n0 base E\n0 field int x\n".as_slice());
+    assert_eq!(rt;
+        text.as_slice(),
+        b"class E size 1 align 1 dsize 1 nvsize 1 nvalign 1\nprimary none\nclass D size 4 align 4 dsize 4 nvsize 4 nvalign 4\nprimary none\n0 base E\n0 field int x\n".as_slice()
+    );
     let (dynamic, _) = layout_text(rt.alloc(), b"struct A { virtual void f() {} };")?;
     assert_eq!(rt; dynamic, Status::Refused(Rule::Syntax, 0));
     Ok(())
@@ -115,9 +121,16 @@ fn layouts_of_all_classes(rt: HostRuntime) -> Result<(), Fail> {
 
 #[test]
 fn layout_of_one_class(rt: HostRuntime) -> Result<(), Fail> {
-    let (status, text) = class_text(rt.alloc(), "F", b"struct E {}; struct F : E { E e; int x; };")?;
+    let (status, text) = class_text(
+        rt.alloc(),
+        "F",
+        b"struct E {}; struct F : E { E e; int x; };",
+    )?;
     assert_eq!(rt; status, Status::Done);
-    assert_eq!(rt; text.as_slice(), b"class F size 8 align 4 dsize 8 nvsize 8 nvalign 4\nprimary none\n0 base E\n1 field E e\n4 field int x\n".as_slice());
+    assert_eq!(rt;
+        text.as_slice(),
+        b"class F size 8 align 4 dsize 8 nvsize 8 nvalign 4\nprimary none\n0 base E\n1 field E e\n4 field int x\n".as_slice()
+    );
     let (unknown, _) = class_text(rt.alloc(), "Q", b"struct E {}; struct D : E { int x; };")?;
     assert_eq!(rt; unknown, Status::Refused(Rule::UnknownName, 37));
     let (option, _) = class_text(rt.alloc(), "-E", b"struct E {};")?;
