@@ -1,0 +1,11 @@
+pub mod Functions
+pub mod Overriding
+pub mod Covariance
+pub mod TooLarge
+pub mod Faults
+pub mod Places
+pub mod Numbers
+pub mod Kinds
+pub mod Marks
+pub mod Entries
+pub mod EntryTables
