@@ -13,7 +13,7 @@ use crate::signatures::{Numbering, number_signatures};
 use crate::virtuals::{MarkRow, is_marked, virtual_rows};
 use crate::FunctionId;
 use cxx_hierarchy::{ClassId, FieldType, Hierarchy, LimitNo, Rule, Stop};
-use crate::stubs::{PartCounts, has_virtual_base};
+use crate::stubs::PartCounts;
 use foundation::NoMemory;
 use std::alloc::Global;
 
@@ -91,7 +91,7 @@ fn is_abstract(h: &Hierarchy, tables: &Tables, entries: &EntryTable, c: ClassId)
     }
     for number in 0..c.0 {
         let v = ClassId(number);
-        if has_virtual_base(h, c, v) && leaves_shared(tables, entries, c, v) {
+        if h.has_virtual_base(c, v) && leaves_shared(tables, entries, c, v) {
             return true;
         }
     }

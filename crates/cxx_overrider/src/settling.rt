@@ -6,7 +6,7 @@ use crate::entries::{Entry, EntryTable, key_of};
 use crate::kinds::KindRow;
 use crate::places::{Place, lifted};
 use crate::signatures::{Numbering, own_function};
-use crate::stubs::has_virtual_base;
+
 use crate::virtuals::{MarkRow, is_marked};
 use cxx_hierarchy::{ClassId, Hierarchy};
 use foundation::NoMemory;
@@ -33,7 +33,7 @@ pub(crate) enum Settled {
 fn holds(h: &Hierarchy, outer: Entry, inner: Entry) -> bool {
     outer.place == inner.place
         || match inner.place {
-            Place::InShared(root) => has_virtual_base(h, outer.function.class, root),
+            Place::InShared(root) => h.has_virtual_base(outer.function.class, root),
             Place::Itself | Place::InBase(_) => false,
         }
 }
@@ -141,7 +141,7 @@ pub(crate) fn settle_class(
 {
     for number in 0..c.0 {
         let v = ClassId(number);
-        if has_virtual_base(h, c, v) && !settle_base(alloc, h, tables, entries, c, v)? {
+        if h.has_virtual_base(c, v) && !settle_base(alloc, h, tables, entries, c, v)? {
             return Ok(false);
         }
     }
