@@ -4,5 +4,6 @@ pub mod Parts
 pub mod Listed
 pub mod Accepted
 pub mod Kept
+pub mod VirtualRows
 pub mod Builds
 pub mod Orders

@@ -1,6 +1,7 @@
 pub mod Scalars
 pub mod Classes
 pub mod VirtualBases
+pub mod VirtualRows
 pub mod Stops
 pub mod NameTables
 pub mod ClassPass

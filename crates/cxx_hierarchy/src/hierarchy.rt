@@ -1,16 +1,19 @@
 //! The classes of a source.
 
-ghost use Rattle.std.specs.Prelude.{◌≡◌, ◌==◌, ◌<◌, Some, [], All, IfOk, IfErr, length};
+ghost use Rattle.std.specs.Prelude.{◌≡◌, ◌==◌, ◌<◌, ◌↔◌, Some, [], All, IfOk, IfErr, IsTrue, length};
 ghost use Rattle.cxx_hierarchy.specs.Classes.{class_at, IsFound};
 ghost use Rattle.cxx_hierarchy.specs.ClassPass.{faults_of, StopsAt, IsInOrder};
 ghost use Rattle.cxx_hierarchy.specs.Resolved.{resolved};
 ghost use Rattle.cxx_hierarchy.specs.Hierarchies.{IsHierarchy};
+ghost use Rattle.cxx_hierarchy.specs.VirtualBases.{HasVirtualBase, HasPublicVirtualBase};
 
 use crate::class_pass::{check_classes, name_table};
 use crate::names::NameTable;
 use crate::records::{ClassId, ClassRec, RecordList};
 use crate::resolution::resolve_classes;
 use crate::stop::Stop;
+use crate::virtual_rows::{is_marked, virtual_rows};
+use foundation::Sequence;
 use std::alloc::Global;
 use std::marker::Model;
 
@@ -19,6 +22,8 @@ use std::marker::Model;
 pub struct Hierarchy {
     classes: Vec<ClassRec<ClassId>>,
     names: NameTable,
+    virtual_bases: Vec<Sequence<bool>>,
+    public_virtual_bases: Vec<Sequence<bool>>,
 }
 
 impl Model for Hierarchy {
@@ -28,12 +33,13 @@ impl Model for Hierarchy {
     ghost use Rattle.cxx_hierarchy.specs.Classes.{class_names};
     ghost use Rattle.cxx_hierarchy.specs.NameTables.{Numbers};
     ghost use Rattle.cxx_hierarchy.specs.Hierarchies.{IsHierarchy};
+    ghost use Rattle.cxx_hierarchy.specs.VirtualRows.{AreTables};
 
     ghost Value = { List (ClassRec ClassId) };
 
     ghost view = { λ h. h.classes.items };
 
-    ghost invariant = { λ h. IsHierarchy h.classes.items × Numbers h.names (class_names h.classes.items) };
+    ghost invariant = { λ h. IsHierarchy h.classes.items × Numbers h.names (class_names h.classes.items) × AreTables h.classes.items h.virtual_bases.items h.public_virtual_bases.items };
 }
 
 /// The hierarchy of the class definitions of a source, in its order.
@@ -50,7 +56,14 @@ pub fn build(alloc: Global, records: &RecordList) -> Result<Hierarchy, Stop>
     let names = name_table(alloc, definitions)?;
     check_classes(alloc, definitions, &names)?;
     let classes = resolve_classes(alloc, &names, definitions)?;
-    Ok(Hierarchy { classes, names })
+    let virtual_bases = virtual_rows(alloc, &classes, false)?;
+    let public_virtual_bases = virtual_rows(alloc, &classes, true)?;
+    Ok(Hierarchy {
+        classes,
+        names,
+        virtual_bases,
+        public_virtual_bases,
+    })
 }
 
 impl Hierarchy {
@@ -84,6 +97,22 @@ impl Hierarchy {
             Some(number) => Some(ClassId(number as u32)),
             None => None,
         }
+    }
+
+    /// Whether a class has another as a virtual base: it names it so, or a base of it has it (ISO C++03 10.1).
+    /// It takes no memory.
+    pub fn has_virtual_base(&self, c: ClassId, v: ClassId) -> bool
+        ensures { IsTrue result ↔ HasVirtualBase self.now c v }
+    {
+        is_marked(&self.virtual_bases, c, v)
+    }
+
+    /// Whether public edges alone lead from a class to another that the last edge names as virtual
+    /// (ISO C++03 11.2). It takes no memory.
+    pub fn has_public_virtual_base(&self, c: ClassId, v: ClassId) -> bool
+        ensures { IsTrue result ↔ HasPublicVirtualBase self.now c v }
+    {
+        is_marked(&self.public_virtual_bases, c, v)
     }
 
     /// What every hierarchy keeps, as a law for the layers above. It does nothing.

@@ -20,6 +20,7 @@ mod resolution;
 pub mod stop;
 #[cfg(test)]
 mod tests;
+mod virtual_rows;
 
 pub use crate::hierarchy::{Hierarchy, build};
 pub use crate::names::NameTable;
