@@ -1,2 +1,4 @@
+pub mod Lists
 pub mod Paths
 pub mod Numbering
+pub mod KindLemmas

@@ -7,6 +7,7 @@ use Rattle.cxx_hierarchy.specs.declared.records.Base.{Base}
 use Rattle.cxx_hierarchy.specs.Classes.{Classes, bases_of}
 use Rattle.cxx_hierarchy.specs.Hierarchies.{IsHierarchy}
 use Rattle.cxx_hierarchy.specs.VirtualBases.{IsDirectBase, HasVirtualBase, direct, further}
+use Rattle.cxx_subobject.specs.declared.Root.{Root}
 use Rattle.cxx_subobject.specs.declared.Root.TheVariants.{Whole, Shared}
 use Rattle.cxx_subobject.specs.declared.Subobject.{Subobject}
 use Rattle.cxx_subobject.specs.Subobjects.{Leads, IsSubobject, whole, shared, subobject, whole_of, last_of, class_of_path, class_of, tail_of, join_at, join}
@@ -264,3 +265,30 @@ whole_inside h c s valid = record { class = c; of_class = refl; part = s; valid 
     joined_whole : (x : Subobject) → IsSubobject h c x → x ≡ join (whole_of c) x
     joined_whole _ (whole p l) = refl
     joined_whole _ (shared v p has l) = refl
+
+-- subobjects of a direct base stay apart in the class
+joined_apart : (h : Classes) → IsHierarchy h → (w : Bool) (c b v : ClassId) (p q : List ClassId) → HasVirtualBase h b v → subobject (Shared v) (v ∷ q) ≡ join (base_subobject w c b) (subobject Whole (b ∷ p)) → ⊥
+joined_apart h keeps true c b v p q has e = let same : v.0 ≡ b.0 = ap root_number e in let lt = virtual_below h keeps b v has in omega arith
+  where
+    number_in : Root → ℕ
+    number_in Whole = 0
+    number_in (Shared x) = x.0
+    root_number : Subobject → ℕ
+    root_number s = number_in s.root
+joined_apart h keeps false c b v p q has e = cc
+
+joined_same : (w : Bool) (c b : ClassId) (p q : List ClassId) → join (base_subobject w c b) (subobject Whole (b ∷ p)) ≡ join (base_subobject w c b) (subobject Whole (b ∷ q)) → p ≡ q
+joined_same true c b p q e = cc
+joined_same false c b p q e = cc
+
+join_injective : (h : Classes) → IsHierarchy h → (c : ClassId) (base : Base ClassId) (s t : Subobject) → IsSubobject h base.class s → IsSubobject h base.class t → join (base_of c base) s ≡ join (base_of c base) t → s ≡ t
+join_injective h keeps c base _ _ (whole p l) (whole q m) e = ap (λ (x : List ClassId). subobject Whole (base.class ∷ x)) (joined_same base.is_virtual c base.class p q e)
+join_injective h keeps c base _ _ (whole p l) (shared v q has m) e = absurd (joined_apart h keeps base.is_virtual c base.class v p q has (sym e))
+join_injective h keeps c base _ _ (shared v p has l) (whole q m) e = absurd (joined_apart h keeps base.is_virtual c base.class v q p has e)
+join_injective h keeps c base _ _ (shared v p has l) (shared w q hw m) e = e
+
+pub through_apart : (h : Classes) → IsHierarchy h → (c : ClassId) (base : Base ClassId) (s t : Subobject) → (a : IsThrough h c base s) → (b : IsThrough h c base t) → s ≡ t → a.part ≡ b.part
+through_apart h keeps c base s t a b e = join_injective h keeps c base a.part b.part a.valid b.valid (sym a.joined ∙ e ∙ b.joined)
+
+pub through_join : (h : Classes) (c : ClassId) (base : Base ClassId) (part : Subobject) → IsSubobject h base.class part → IsThrough h c base (join (base_of c base) part)
+through_join h c base part valid = record { part = part; valid = valid; joined = refl }

@@ -1,5 +1,5 @@
 -- Signatures by numbers: functions have one number exactly where they have one signature.
-use Rattle.std.specs.Prelude.{◌≡◌, ℕ, ◌+◌, ◌<◌, Option, Some, IsSome, List, [], length, slice_get, slice_index_or}
+use Rattle.std.specs.Prelude.{◌≡◌, ℕ, ◌+◌, ◌<◌, ◌≤◌, Option, Some, IsSome, List, [], length, slice_get, slice_index_or}
 use Rattle.cxx_hierarchy.specs.declared.records.ClassId.{ClassId}
 use Rattle.cxx_hierarchy.specs.Classes.{Classes, functions_of}
 use Rattle.cxx_overrider.specs.declared.FunctionId.{FunctionId}
@@ -12,12 +12,18 @@ row_of rows c = slice_index_or rows c.0 []
 abbrev pub number_of : List (List ℕ) → FunctionId → Option ℕ
 number_of rows f = slice_get (row_of rows f.class) f.index
 
+-- a row has at most 1024 functions and a destructor
+pub record AreShort (rows : List (List ℕ)) : Type 0 where
+  pub each : (c : ClassId) → length (row_of rows c) ≤ 1025
+
+-- functions have one number exactly where they have one signature
 pub record IsNumbering (h : Classes) (rows : List (List ℕ)) (count : ℕ) : Type 0 where
   pub all : length rows ≡ length h
   pub numbered : (f : FunctionId) (s : Signature) → signature_of h f ≡ Some s → (n : ℕ) × (number_of rows f ≡ Some n)
   pub known : (f : FunctionId) (n : ℕ) → number_of rows f ≡ Some n → (s : Signature) × (signature_of h f ≡ Some s)
   pub same : (f g : FunctionId) (n : ℕ) → number_of rows f ≡ Some n → number_of rows g ≡ Some n → signature_of h f ≡ signature_of h g
   pub apart : (f g : FunctionId) (n m : ℕ) → number_of rows f ≡ Some n → number_of rows g ≡ Some m → signature_of h f ≡ signature_of h g → n ≡ m
+  pub short : AreShort rows
   pub few : (f : FunctionId) (n : ℕ) → number_of rows f ≡ Some n → n < count
 
 -- the number is that of the signature
@@ -29,6 +35,7 @@ pub record IsNumberOf (h : Classes) (rows : List (List ℕ)) (n : ℕ) (signatur
 -- the functions that were met first, each of a signature of its own
 pub record AreFirst (h : Classes) (firsts : List FunctionId) : Type 0 where
   pub known : (i : ℕ) (f : FunctionId) → slice_get firsts i ≡ Some f → IsSome (signature_of h f)
+  pub classes : (i : ℕ) (f : FunctionId) → slice_get firsts i ≡ Some f → f.class.0 < length h
   pub apart : (i j : ℕ) (f g : FunctionId) → slice_get firsts i ≡ Some f → slice_get firsts j ≡ Some g → signature_of h f ≡ signature_of h g → i ≡ j
 
 -- the number is the place of the first function of f's signature

@@ -4,7 +4,7 @@ ghost use Rattle.std.specs.Prelude.{◌≡◌, ◌<◌, ◌≤◌, [], length, t
 ghost use Rattle.cxx_hierarchy.specs.declared.records.ClassId.{ClassId};
 ghost use Rattle.cxx_hierarchy.specs.declared.records.Base.{Base};
 ghost use Rattle.cxx_hierarchy.specs.Classes.{bases_of};
-ghost use Rattle.cxx_overrider.specs.Kinds.{Counts, IsPart, IsPartThrough, AreKinds, kind_of};
+ghost use Rattle.cxx_overrider.specs.Kinds.{Counts, IsPartThrough, AreKinds, IsKindRow, IsMerged, kind_of, lifted_kind};
 
 use crate::places::{Place, lifted};
 use cxx_hierarchy::{Base, ClassId, Hierarchy};
@@ -37,7 +37,9 @@ pub(crate) fn kind_of(rows: &[KindRow], c: ClassId, d: ClassId) -> BaseKind
 }
 
 /// The kind where some subobjects count as one kind says, and those of one more direct base as the other.
-fn merged(so_far: BaseKind, more: BaseKind) -> BaseKind {
+fn merged(so_far: BaseKind, more: BaseKind) -> BaseKind
+    ensures { IsMerged so_far more result }
+{
     match so_far {
         BaseKind::NotBase => more,
         BaseKind::Ambiguous => BaseKind::Ambiguous,
@@ -56,7 +58,9 @@ fn merged(so_far: BaseKind, more: BaseKind) -> BaseKind {
 }
 
 /// The kind of the same subobjects in a class that has the base.
-fn lifted_kind(base: &Base<ClassId>, kind: BaseKind) -> BaseKind {
+fn lifted_kind(base: &Base<ClassId>, kind: BaseKind) -> BaseKind
+    ensures { result ≡ lifted_kind base.now kind }
+{
     match kind {
         BaseKind::NotBase => BaseKind::NotBase,
         BaseKind::Unique(place) => BaseKind::Unique(lifted(base, place)),
@@ -64,12 +68,13 @@ fn lifted_kind(base: &Base<ClassId>, kind: BaseKind) -> BaseKind {
     }
 }
 
+#[tactic(auto, using(crate::proofs::KindLemmas::none_through, crate::proofs::KindLemmas::counts_next))]
 /// How often `d` is among the direct bases of `c` and their bases.
 fn kind_through(h: &Hierarchy, rows: &[KindRow], c: ClassId, d: ClassId) -> BaseKind
     requires known { c.0 < length h.now }
     requires rows { AreKinds h.now rows.now }
     requires size { length rows.now ≡ c.0 }
-    ensures { Counts (IsPartThrough h.now c d (bases_of h.now c)) result }
+    ensures { Counts (IsPartThrough h.now c d (length (bases_of h.now c))) result }
 {
     h.keeps();
     let mut kind = BaseKind::NotBase;
@@ -80,7 +85,13 @@ fn kind_through(h: &Hierarchy, rows: &[KindRow], c: ClassId, d: ClassId) -> Base
 }
 
 /// The row of a class, behind the rows of the classes before it.
-fn kind_row(alloc: Global, h: &Hierarchy, rows: &[KindRow], c: ClassId) -> Result<KindRow, NoMemory> {
+fn kind_row(alloc: Global, h: &Hierarchy, rows: &[KindRow], c: ClassId) -> Result<KindRow, NoMemory>
+    requires known { c.0 < length h.now }
+    requires rows { AreKinds h.now rows.now }
+    requires size { length rows.now ≡ c.0 }
+    ensures { IfOk result (IsKindRow h.now c) }
+{
+    h.keeps();
     let mut row = Sequence::new(alloc);
     for number in 0..c.0 {
         row.push(kind_through(h, rows, c, ClassId(number)))?;

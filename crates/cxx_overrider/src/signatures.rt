@@ -7,7 +7,7 @@ ghost use Rattle.cxx_hierarchy.specs.declared.records.Param.{Param};
 ghost use Rattle.cxx_hierarchy.specs.Classes.{functions_of};
 ghost use Rattle.cxx_overrider.specs.declared.FunctionId.{FunctionId};
 ghost use Rattle.cxx_overrider.specs.Functions.{Signature, declaration_of, signature_of};
-ghost use Rattle.cxx_overrider.specs.Numbers.{number_of, row_of, IsNumbering, IsNumberOf, AreFirst, IsFirstOf, IsRow};
+ghost use Rattle.cxx_overrider.specs.Numbers.{number_of, row_of, IsNumbering, IsNumberOf, AreShort, AreFirst, IsFirstOf, IsRow};
 
 use crate::FunctionId;
 use cxx_hierarchy::{ClassId, Function, Hierarchy, Param, ValueType};
@@ -82,6 +82,7 @@ fn has_same_signature(h: &Hierarchy, f: FunctionId, g: FunctionId) -> bool
 /// The place of the first function of the signature of `f`, if there is one.
 fn first_place(h: &Hierarchy, firsts: &[FunctionId], f: FunctionId) -> Option<usize>
     requires firsts { AreFirst h.now firsts.now }
+    requires class { f.class.0 < length h.now }
     requires known { IsSome (signature_of h.now f) }
     ensures { MatchOption result ((i : ℕ) (g : FunctionId) → slice_get firsts.now i ≡ Some g → signature_of h.now g ≡ signature_of h.now f → ⊥) (IsFirstOf h.now firsts.now f) }
 {
@@ -93,6 +94,7 @@ fn first_place(h: &Hierarchy, firsts: &[FunctionId], f: FunctionId) -> Option<us
     None
 }
 
+#[tactic(auto, using(crate::proofs::Numbering::first_kept, crate::proofs::Numbering::first_new, crate::proofs::Numbering::firsts_pushed))]
 /// The number of a function: the place of the first function of its signature, which may be the function itself.
 fn number_function(
     h: &Hierarchy,
@@ -100,6 +102,7 @@ fn number_function(
     f: FunctionId,
 ) -> Result<usize, NoMemory>
     requires firsts { AreFirst h.now firsts.old.items }
+    requires class { f.class.0 < length h.now }
     requires known { IsSome (signature_of h.now f) }
     ensures firsts { OnOk result (AreFirst h.now firsts.new.items) }
     ensures kept { OnOk result ((g : FunctionId) (n : ℕ) → IsFirstOf h.now firsts.old.items g n → IsFirstOf h.now firsts.new.items g n) }
@@ -163,18 +166,32 @@ pub(crate) fn number_signatures(alloc: Global, h: &Hierarchy) -> Result<Numberin
     Ok(Numbering { rows, count })
 }
 
+/// The first place of a number.
+fn place_of(row: &[usize], n: usize) -> Option<usize>
+    ensures { MatchOption result ((i : ℕ) → slice_get row.now i ≡ Some n → ⊥) (λ i. slice_get row.now i ≡ Some n) }
+{
+    for (place, m) in row.iter().enumerate() {
+        if *m == n {
+            return Some(place);
+        }
+    }
+    None
+}
+
 /// The function of a class that has the number.
 pub(crate) fn own_function(rows: &[NumberRow], c: ClassId, n: usize) -> Option<FunctionId>
+    requires { AreShort rows.now }
     ensures { MatchOption result ((f : FunctionId) → f.class ≡ c → number_of rows.now f ≡ Some n → ⊥) (λ f. (f.class ≡ c) × (number_of rows.now f ≡ Some n)) }
 {
-    match rows.get(c.0 as usize) {
-        Some(row) => match row.as_slice().iter().position(|m| *m == n) {
-            Some(index) => Some(FunctionId {
-                class: c,
-                index: index as u32,
-            }),
-            None => None,
-        },
+    let row = match rows.get(c.0 as usize) {
+        Some(row) => row,
+        None => return None,
+    };
+    match place_of(row.as_slice(), n) {
+        Some(place) => Some(FunctionId {
+            class: c,
+            index: place as u32,
+        }),
         None => None,
     }
 }
