@@ -44,7 +44,7 @@ pub record IsPartOf (h : Classes) (c d : ClassId) (base : Base ClassId) (s : Sub
 part_class : (h : Classes) (c d : ClassId) (base : Base ClassId) (s : Subobject) → (k : IsPartOf h c d base s) → IsPart h base.class d k.through.part
 part_class h c d base s k = record { valid = k.through.valid; class = sym (through_class h c base s k.through) ∙ k.class }
 
-part_joined : (h : Classes) (c d : ClassId) (base : Base ClassId) (part : Subobject) → IsPart h base.class d part → IsPartOf h c d base (join (base_of c base) part)
+abbrev part_joined : (h : Classes) (c d : ClassId) (base : Base ClassId) (part : Subobject) → IsPart h base.class d part → IsPartOf h c d base (join (base_of c base) part)
 part_joined h c d base part k = let t = through_join h c base part k.valid in record { through = t; class = through_class h c base (join (base_of c base) part) t ∙ k.class }
 
 pub counts_lifted : (h : Classes) → IsHierarchy h → (c d : ClassId) (base : Base ClassId) (k : BaseKind) → Counts (IsPart h base.class d) k → Counts (IsPartOf h c d base) (lifted_kind base k)
@@ -141,3 +141,6 @@ kinds_more h keeps c rows row has size is = record {
         (λ ge. subst (λ (k : BaseKind). Counts (IsPart h c d) k) (sym (or_past row d.0 NotBase (λ lt. omega arith)))
           (λ s p. let n = is.size in ⊎_elim (λ e. let same : Some c ≡ Some d = sym (ap class_of e) ∙ p.class in let one : c.0 ≡ d.0 = let f : c ≡ d = cc in ap (λ (x : ClassId). x.0) f in omega arith) (λ lt. omega arith) (smaller h keeps c d s p.valid p.class)))
         a
+
+pub kind_row_made : (h : Classes) → IsHierarchy h → (c : ClassId) (row : List BaseKind) → CountsBelow h c row → length row ≡ c.0 → IsKindRow h c (row ++ Unique Itself ∷ [])
+kind_row_made h keeps c row has size = record { size = let l : length (row ++ Unique Itself ∷ []) ≡ length row + 1 = length-append row (Unique Itself ∷ []) in omega arith; each = (below_more h c c row (Unique Itself) has size (counts_itself h keeps c)).each }

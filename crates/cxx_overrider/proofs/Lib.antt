@@ -2,3 +2,4 @@ pub mod Lists
 pub mod Paths
 pub mod Numbering
 pub mod KindLemmas
+pub mod MarkLemmas

@@ -1,6 +1,7 @@
 -- Items of lists that grow at their end.
-use Rattle.std.proofs.Common.{◌≡◌, ℕ, zero, suc, ◌+◌, ◌<◌, ◌⊎◌, inl, inr, ⊎_elim, Some, List, [], ◌∷◌, ◌++◌, length, get_or, ◌≤◌, refl, ap, arith}
+use Rattle.std.proofs.Common.{◌≡◌, ℕ, zero, suc, ◌+◌, ◌<◌, ◌⊎◌, inl, inr, ⊎_elim, Some, List, [], ◌∷◌, ◌++◌, length, get_or, ◌≤◌, refl, ap, subst, arith}
 use Rattle.std.specs.List.{slice_get, Contains}
+use Rattle.std.proofs.lemmas.Option.{slice_get-get_or}
 
 pub get_front : {X : Type 0} (xs ys : List X) (i : ℕ) (x : X) → slice_get xs i ≡ Some x → slice_get (xs ++ ys) i ≡ Some x
 get_front [] ys i x e = cc
@@ -62,3 +63,6 @@ pub get_contains : {X : Type 0} (xs : List X) (k : ℕ) (x : X) → slice_get xs
 get_contains [] k x e = cc
 get_contains (y ∷ xs) zero x e = (zero, omega arith, let f : y ≡ x = cc in f)
 get_contains (y ∷ xs) (suc k) x e = let r = get_contains xs k x e in let lt = r.1 in (suc r.0, omega arith, r.2)
+
+pub get_at : {X : Type 0} (xs ys : List X) (i : ℕ) (d : X) → xs ≡ ys → i < length xs → slice_get ys i ≡ Some (get_or xs i d)
+get_at {X} xs ys i d e lt = subst (λ (zs : List X). slice_get zs i ≡ Some (get_or xs i d)) e (slice_get-get_or xs i d lt)

@@ -275,11 +275,14 @@ joined_apart h keeps true c b v p q has e = let same : v.0 ≡ b.0 = ap root_num
     number_in (Shared x) = x.0
     root_number : Subobject → ℕ
     root_number s = number_in s.root
-joined_apart h keeps false c b v p q has e = cc
+joined_apart h keeps false c b v p q has e = let f : Shared v ≡ Whole = ap (λ (s : Subobject). s.root) e in apart f
+  where
+    apart : Shared v ≡ Whole → ⊥
+    apart k = cc
 
 joined_same : (w : Bool) (c b : ClassId) (p q : List ClassId) → join (base_subobject w c b) (subobject Whole (b ∷ p)) ≡ join (base_subobject w c b) (subobject Whole (b ∷ q)) → p ≡ q
-joined_same true c b p q e = cc
-joined_same false c b p q e = cc
+joined_same true c b p q e = let f : b ∷ p ≡ b ∷ q = ap (λ (s : Subobject). s.path) e in cc
+joined_same false c b p q e = let f : c ∷ b ∷ p ≡ c ∷ b ∷ q = ap (λ (s : Subobject). s.path) e in cc
 
 join_injective : (h : Classes) → IsHierarchy h → (c : ClassId) (base : Base ClassId) (s t : Subobject) → IsSubobject h base.class s → IsSubobject h base.class t → join (base_of c base) s ≡ join (base_of c base) t → s ≡ t
 join_injective h keeps c base _ _ (whole p l) (whole q m) e = ap (λ (x : List ClassId). subobject Whole (base.class ∷ x)) (joined_same base.is_virtual c base.class p q e)
@@ -290,5 +293,5 @@ join_injective h keeps c base _ _ (shared v p has l) (shared w q hw m) e = e
 pub through_apart : (h : Classes) → IsHierarchy h → (c : ClassId) (base : Base ClassId) (s t : Subobject) → (a : IsThrough h c base s) → (b : IsThrough h c base t) → s ≡ t → a.part ≡ b.part
 through_apart h keeps c base s t a b e = join_injective h keeps c base a.part b.part a.valid b.valid (sym a.joined ∙ e ∙ b.joined)
 
-pub through_join : (h : Classes) (c : ClassId) (base : Base ClassId) (part : Subobject) → IsSubobject h base.class part → IsThrough h c base (join (base_of c base) part)
+abbrev pub through_join : (h : Classes) (c : ClassId) (base : Base ClassId) (part : Subobject) → IsSubobject h base.class part → IsThrough h c base (join (base_of c base) part)
 through_join h c base part valid = record { part = part; valid = valid; joined = refl }

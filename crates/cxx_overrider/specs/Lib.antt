@@ -7,5 +7,6 @@ pub mod Places
 pub mod Numbers
 pub mod Kinds
 pub mod Marks
+pub mod Pure
 pub mod Entries
 pub mod EntryTables

@@ -68,7 +68,6 @@ fn lifted_kind(base: &Base<ClassId>, kind: BaseKind) -> BaseKind
     }
 }
 
-#[tactic(auto, using(crate::proofs::KindLemmas::none_through, crate::proofs::KindLemmas::counts_next))]
 /// How often `d` is among the direct bases of `c` and their bases.
 fn kind_through(h: &Hierarchy, rows: &[KindRow], c: ClassId, d: ClassId) -> BaseKind
     requires known { c.0 < length h.now }
@@ -105,6 +104,7 @@ pub(crate) fn kind_rows(alloc: Global, h: &Hierarchy) -> Result<Vec<KindRow>, No
     ensures rows { IfOk result (λ rows. AreKinds h.now rows.items) }
     ensures size { IfOk result (λ rows. length rows.items ≡ length h.now) }
 {
+    h.keeps();
     let mut rows = Vec::new(alloc);
     for number in 0..h.len() {
         let row = kind_row(alloc, h, &rows, ClassId(number))?;

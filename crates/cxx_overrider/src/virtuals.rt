@@ -4,7 +4,7 @@ ghost use Rattle.std.specs.Prelude.{◌≡◌, ◌<◌, ◌↔◌, false, IsTrue
 ghost use Rattle.cxx_overrider.specs.Functions.{Signature, signature_of, says_virtual};
 ghost use Rattle.cxx_overrider.specs.Overriding.{HasVirtual};
 ghost use Rattle.cxx_overrider.specs.Numbers.{IsNumbering, IsNumberOf};
-ghost use Rattle.cxx_overrider.specs.Marks.{mark_of, AreVirtuals};
+ghost use Rattle.cxx_overrider.specs.Marks.{mark_of, AreMarks, IsMarkRow, HasMarkedBase, SaysVirtual};
 
 use crate::FunctionId;
 use crate::signatures::{Numbering, declaration, own_function};
@@ -36,9 +36,11 @@ fn says_virtual(h: &Hierarchy, f: FunctionId) -> bool
     }
 }
 
-/// Whether the class itself declares a function of the number with the word `virtual`.
+/// Whether the class itself declares a function of the signature with the word `virtual`.
 fn says_own_virtual(h: &Hierarchy, numbering: &Numbering, c: ClassId, n: usize) -> bool
-    requires { c.0 < length h.now }
+    requires known { c.0 < length h.now }
+    requires numbering { IsNumbering h.now numbering.now.rows.items numbering.now.count }
+    ensures { (s : Signature) → IsNumberOf h.now numbering.now.rows.items n s → (IsTrue result ↔ SaysVirtual h.now c s) }
 {
     match own_function(&numbering.rows, c, n) {
         Some(f) => says_virtual(h, f),
@@ -46,7 +48,20 @@ fn says_own_virtual(h: &Hierarchy, numbering: &Numbering, c: ClassId, n: usize) 
     }
 }
 
-/// Whether the class or a base of it does.
+/// Whether a direct base has the mark.
+fn has_marked_base(h: &Hierarchy, rows: &[MarkRow], c: ClassId, n: usize) -> bool
+    requires { c.0 < length h.now }
+    ensures { IsTrue result ↔ HasMarkedBase h.now rows.now c n }
+{
+    for base in h.class(c).bases.as_slice() {
+        if is_marked(rows, base.class, n) {
+            return true;
+        }
+    }
+    false
+}
+
+/// Whether the class or a base of it declares a function of the signature with the word `virtual`.
 fn has_virtual(
     h: &Hierarchy,
     numbering: &Numbering,
@@ -54,14 +69,16 @@ fn has_virtual(
     c: ClassId,
     n: usize,
 ) -> bool
-    requires { c.0 < length h.now }
+    requires known { c.0 < length h.now }
+    requires numbering { IsNumbering h.now numbering.now.rows.items numbering.now.count }
+    requires rows { AreMarks h.now numbering.now.rows.items (HasVirtual h.now) rows.now }
+    requires size { length rows.now ≡ c.0 }
+    ensures { (s : Signature) → IsNumberOf h.now numbering.now.rows.items n s → (IsTrue result ↔ HasVirtual h.now c s) }
 {
-    says_own_virtual(h, numbering, c, n)
-        || h.class(c)
-            .bases
-            .as_slice()
-            .iter()
-            .any(|base| is_marked(rows, base.class, n))
+    h.keeps();
+    let own = says_own_virtual(h, numbering, c, n);
+    let inherited = has_marked_base(h, rows, c, n);
+    own || inherited
 }
 
 fn virtual_row(
@@ -71,7 +88,11 @@ fn virtual_row(
     rows: &[MarkRow],
     c: ClassId,
 ) -> Result<MarkRow, NoMemory>
-    requires { c.0 < length h.now }
+    requires known { c.0 < length h.now }
+    requires numbering { IsNumbering h.now numbering.now.rows.items numbering.now.count }
+    requires rows { AreMarks h.now numbering.now.rows.items (HasVirtual h.now) rows.now }
+    requires size { length rows.now ≡ c.0 }
+    ensures { IfOk result (IsMarkRow h.now numbering.now.rows.items numbering.now.count (HasVirtual h.now c)) }
 {
     let mut row = Sequence::new(alloc);
     for n in 0..numbering.count {
@@ -86,6 +107,9 @@ pub(crate) fn virtual_rows(
     h: &Hierarchy,
     numbering: &Numbering,
 ) -> Result<Vec<MarkRow>, NoMemory>
+    requires { IsNumbering h.now numbering.now.rows.items numbering.now.count }
+    ensures marks { IfOk result (λ rows. AreMarks h.now numbering.now.rows.items (HasVirtual h.now) rows.items) }
+    ensures size { IfOk result (λ rows. length rows.items ≡ length h.now) }
 {
     let mut rows = Vec::new(alloc);
     for number in 0..h.len() {

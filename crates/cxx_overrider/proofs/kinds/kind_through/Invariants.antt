@@ -6,6 +6,6 @@ use Rattle.cxx_overrider.proofs.kinds.kind_through.Given as goal
 -- the kind counts what the bases so far give
 abbrev pub invariant-loop-base : goal.invariant-loop-base
 invariant-loop-base l = record {
-  items : l.base-items ≡ bases_of l.h l.c;
-  counts : Counts (IsPartThrough l.h l.c l.d l.base-index) l.kind;
+  items : l.base-items ≡ bases_of l.h l.fn.c;
+  counts : Counts (IsPartThrough l.h l.fn.c l.d l.base-index) l.kind;
 }
