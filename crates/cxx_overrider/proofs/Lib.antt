@@ -3,3 +3,4 @@ pub mod Paths
 pub mod Numbering
 pub mod KindLemmas
 pub mod MarkLemmas
+pub mod PureLemmas

@@ -15,6 +15,7 @@ use Rattle.cxx_overrider.specs.Numbers.{number_of, IsNumbering, IsNumberOf}
 use Rattle.cxx_overrider.specs.Places.{base_of, IsThrough}
 use Rattle.cxx_overrider.specs.Marks.{mark_of, MarksEach, IsMarkRow, AreMarks, HasMarkedBase, SaysVirtual}
 use Rattle.cxx_overrider.proofs.Lists.{get_contains, or_front, or_last, either}
+use Rattle.cxx_overrider.proofs.Numbering.{same_function}
 use Rattle.cxx_overrider.proofs.Paths.{same_id, through_cases, through_valid, through_class, through_join}
 
 -- the functions of a number are those of its signature
@@ -110,3 +111,16 @@ mark_rows_more h numbers count P rows c row is has size new = record {
         subst (λ (r : List Bool). (get_or r n false ≡ true) ↔ P x s) (sym value) (subst (λ (y : ClassId). (get_or row n false ≡ true) ↔ P y s) same (new.marks.each n s (omega arith) k)))
       (either x.0 (length rows));
 }
+
+pub own_decided : (h : Classes) → IsHierarchy h → (c : ClassId) (s : Signature) (f : FunctionId) (b : Bool) → f.class ≡ c → signature_of h f ≡ Some s → b ≡ says_virtual h f → (b ≡ true) ↔ SaysVirtual h c s
+own_decided h keeps c s f b class same is = (
+    λ e. record { source = f; class = class; same = same; says = sym is ∙ e },
+    λ k. let one : k.source ≡ f = same_function h keeps k.source f s (k.class ∙ sym class) k.same same in is ∙ sym (ap (says_virtual h) one) ∙ k.says,
+  )
+
+pub virtual_then : (h : Classes) (c : ClassId) (s : Signature) (own : Bool) → own ≡ true → (own ≡ true) ↔ SaysVirtual h c s → (own ≡ true) ↔ HasVirtual h c s
+virtual_then h c s own t a = (λ e. virtual_own h c s (a.0 e), λ v. t)
+
+pub virtual_else : (h : Classes) → IsHierarchy h → (numbers : List (List ℕ)) (rows : List (List Bool)) (c : ClassId) (n : ℕ) (s : Signature) (own inherited : Bool) → own ≡ false → AreMarks h numbers (HasVirtual h) rows → length rows ≡ c.0 → IsNumberOf h numbers n s → (own ≡ true) ↔ SaysVirtual h c s → (inherited ≡ true) ↔ HasMarkedBase h rows c n → (inherited ≡ true) ↔ HasVirtual h c s
+virtual_else h keeps numbers rows c n s own inherited f are size k a b =
+    subst (λ (o : Bool). ((o || inherited) ≡ true) ↔ HasVirtual h c s) f (virtual_decided h keeps numbers rows c n s own inherited are size k a b)

@@ -152,3 +152,25 @@ module _ (h : Classes) (firsts : List FunctionId) (rows : List (List ℕ)) (keep
     short = record { each = λ c. short_row c (either c.0 (length h)) };
     few = λ f n e. let a = first_at f n e in get_within firsts n a.first a.at_n;
   }
+
+-- a class declares at most one function of a signature
+same_declared : (class : Class) (i j : ℕ) (s : Signature) → ((a b : ℕ) (x y : Function ClassId) → slice_get class.functions a ≡ Some x → slice_get class.functions b ≡ Some y → x.name ≡ y.name → a ≡ b) → (o p : Option (Function ClassId)) → slice_get class.functions i ≡ o → slice_get class.functions j ≡ p → (x y : Bool) → nat_eq i (length class.functions) ≡ x → nat_eq j (length class.functions) ≡ y → signature_at o x ≡ Some s → signature_at p y ≡ Some s → i ≡ j
+same_declared class i j s once (Some a) (Some b) ei ej x y ex ey f g = let name : a.name ≡ b.name = cc in once i j a b ei ej name
+same_declared class i j s once (Some a) None ei ej x true ex ey f g = cc
+same_declared class i j s once (Some a) None ei ej x false ex ey f g = cc
+same_declared class i j s once None (Some b) ei ej true y ex ey f g = cc
+same_declared class i j s once None (Some b) ei ej false y ex ey f g = cc
+same_declared class i j s once None None ei ej false y ex ey f g = cc
+same_declared class i j s once None None ei ej true false ex ey f g = cc
+same_declared class i j s once None None ei ej true true ex ey f g = eqb-true i (length class.functions) ex ∙ sym (eqb-true j (length class.functions) ey)
+
+same_in : (o : Option Class) (i j : ℕ) (s : Signature) → ((a b : ℕ) (x y : Function ClassId) → slice_get (functions_in o) a ≡ Some x → slice_get (functions_in o) b ≡ Some y → x.name ≡ y.name → a ≡ b) → signature_in o i ≡ Some s → signature_in o j ≡ Some s → i ≡ j
+same_in None i j s once e f = cc
+same_in (Some class) i j s once e f = same_declared class i j s once (slice_get class.functions i) (slice_get class.functions j) refl refl (nat_eq i (length class.functions)) (nat_eq j (length class.functions)) refl refl e f
+
+pub same_function : (h : Classes) → IsHierarchy h → (f g : FunctionId) (s : Signature) → f.class ≡ g.class → signature_of h f ≡ Some s → signature_of h g ≡ Some s → f ≡ g
+same_function h keeps f g s e ef eg =
+    let moved : signature_in (class_at h f.class) g.index ≡ Some s = ap (λ (x : ClassId). signature_in (class_at h x) g.index) e ∙ eg in
+    let index = same_in (class_at h f.class) f.index g.index s (keeps.functions f.class) ef moved in
+    let make : ClassId → ℕ → FunctionId = λ c i. record { class = c; index = i } in
+    let one : make f.class f.index ≡ make g.class g.index = ap (λ c. make c f.index) e ∙ ap (λ i. make g.class i) index in one

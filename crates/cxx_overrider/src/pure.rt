@@ -1,7 +1,11 @@
 //! Which pure functions the non-virtual part of a class leaves without an overrider.
 
-ghost use Rattle.std.specs.Prelude.{◌≡◌, ◌<◌, length};
-ghost use Rattle.cxx_overrider.specs.Functions.{is_pure};
+ghost use Rattle.std.specs.Prelude.{◌≡◌, ◌<◌, ◌↔◌, true, IsTrue, IfOk, length};
+ghost use Rattle.cxx_overrider.specs.Functions.{Signature, is_pure};
+ghost use Rattle.cxx_overrider.specs.Overriding.{HasVirtual};
+ghost use Rattle.cxx_overrider.specs.Numbers.{IsNumbering, IsNumberOf};
+ghost use Rattle.cxx_overrider.specs.Marks.{mark_of, AreMarks, IsMarkRow, HasMarkedPart};
+ghost use Rattle.cxx_overrider.specs.Pure.{LeavesPure};
 
 use crate::FunctionId;
 use crate::signatures::{Numbering, declaration, own_function};
@@ -21,17 +25,28 @@ fn is_pure(h: &Hierarchy, f: FunctionId) -> bool
     }
 }
 
-/// Whether a direct non-virtual base leaves it.
-fn base_leaves_pure(h: &Hierarchy, rows: &[MarkRow], c: ClassId, n: usize) -> bool
+/// Whether a direct non-virtual base has the mark.
+fn has_marked_part(h: &Hierarchy, rows: &[MarkRow], c: ClassId, n: usize) -> bool
     requires { c.0 < length h.now }
+    ensures { IsTrue result ↔ HasMarkedPart h.now rows.now c n }
 {
-    h.class(c)
-        .bases
-        .as_slice()
-        .iter()
-        .any(|base| !base.is_virtual && is_marked(rows, base.class, n))
+    for base in h.class(c).bases.as_slice() {
+        if !base.is_virtual && is_marked(rows, base.class, n) {
+            return true;
+        }
+    }
+    false
 }
 
+/// Whether a function is pure, and its number marked in its class.
+fn is_marked_pure(h: &Hierarchy, virtuals: &[MarkRow], f: FunctionId, n: usize) -> bool
+    requires { f.class.0 < length h.now }
+    ensures { IsTrue result ↔ ((is_pure h.now f ≡ true) × (mark_of virtuals.now f.class n ≡ true)) }
+{
+    is_pure(h, f) && is_marked(virtuals, f.class, n)
+}
+
+/// Whether a virtual pure function of the signature stands first on some path of non-virtual bases.
 fn leaves_pure(
     h: &Hierarchy,
     numbering: &Numbering,
@@ -40,11 +55,18 @@ fn leaves_pure(
     c: ClassId,
     n: usize,
 ) -> bool
-    requires { c.0 < length h.now }
+    requires known { c.0 < length h.now }
+    requires numbering { IsNumbering h.now numbering.now.rows.items numbering.now.count }
+    requires virtuals { AreMarks h.now numbering.now.rows.items (HasVirtual h.now) virtuals.now }
+    requires all { length virtuals.now ≡ length h.now }
+    requires rows { AreMarks h.now numbering.now.rows.items (LeavesPure h.now) rows.now }
+    requires size { length rows.now ≡ c.0 }
+    ensures { (s : Signature) → IsNumberOf h.now numbering.now.rows.items n s → (IsTrue result ↔ LeavesPure h.now c s) }
 {
+    h.keeps();
     match own_function(&numbering.rows, c, n) {
-        Some(f) => is_pure(h, f) && is_marked(virtuals, c, n),
-        None => base_leaves_pure(h, rows, c, n),
+        Some(f) => is_marked_pure(h, virtuals, f, n),
+        None => has_marked_part(h, rows, c, n),
     }
 }
 
@@ -56,7 +78,13 @@ fn pure_row(
     rows: &[MarkRow],
     c: ClassId,
 ) -> Result<MarkRow, NoMemory>
-    requires { c.0 < length h.now }
+    requires known { c.0 < length h.now }
+    requires numbering { IsNumbering h.now numbering.now.rows.items numbering.now.count }
+    requires virtuals { AreMarks h.now numbering.now.rows.items (HasVirtual h.now) virtuals.now }
+    requires all { length virtuals.now ≡ length h.now }
+    requires rows { AreMarks h.now numbering.now.rows.items (LeavesPure h.now) rows.now }
+    requires size { length rows.now ≡ c.0 }
+    ensures { IfOk result (IsMarkRow h.now numbering.now.rows.items numbering.now.count (LeavesPure h.now c)) }
 {
     let mut row = Sequence::new(alloc);
     for n in 0..numbering.count {
@@ -65,13 +93,18 @@ fn pure_row(
     Ok(row)
 }
 
-/// For each class the signatures whose first declaration on some path of non-virtual bases is virtual and pure.
+/// For each class the signatures of which a virtual pure function stands first on some path of non-virtual bases.
 pub(crate) fn pure_rows(
     alloc: Global,
     h: &Hierarchy,
     numbering: &Numbering,
     virtuals: &[MarkRow],
 ) -> Result<Vec<MarkRow>, NoMemory>
+    requires numbering { IsNumbering h.now numbering.now.rows.items numbering.now.count }
+    requires virtuals { AreMarks h.now numbering.now.rows.items (HasVirtual h.now) virtuals.now }
+    requires all { length virtuals.now ≡ length h.now }
+    ensures marks { IfOk result (λ rows. AreMarks h.now numbering.now.rows.items (LeavesPure h.now) rows.items) }
+    ensures size { IfOk result (λ rows. length rows.items ≡ length h.now) }
 {
     let mut rows = Vec::new(alloc);
     for number in 0..h.len() {

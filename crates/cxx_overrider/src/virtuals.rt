@@ -42,6 +42,7 @@ fn says_own_virtual(h: &Hierarchy, numbering: &Numbering, c: ClassId, n: usize) 
     requires numbering { IsNumbering h.now numbering.now.rows.items numbering.now.count }
     ensures { (s : Signature) → IsNumberOf h.now numbering.now.rows.items n s → (IsTrue result ↔ SaysVirtual h.now c s) }
 {
+    h.keeps();
     match own_function(&numbering.rows, c, n) {
         Some(f) => says_virtual(h, f),
         None => false,
