@@ -4,3 +4,4 @@ pub mod Numbering
 pub mod KindLemmas
 pub mod MarkLemmas
 pub mod PureLemmas
+pub mod SettlingLemmas

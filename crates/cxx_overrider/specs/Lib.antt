@@ -10,3 +10,5 @@ pub mod Marks
 pub mod Pure
 pub mod Entries
 pub mod EntryTables
+pub mod Settling
+pub mod Tables

@@ -3,6 +3,7 @@
 ghost use Rattle.std.specs.Prelude.{◌≡◌, OnOk, None, Some, if◌then◌else◌};
 ghost use Rattle.cxx_overrider.specs.EntryTables.{entry_of, same_key};
 ghost use Rattle.cxx_overrider.specs.declared.entries.Key.{Key};
+ghost use Rattle.cxx_overrider.specs.Settling.{key};
 
 use crate::FunctionId;
 use crate::places::Place;
@@ -28,7 +29,7 @@ pub(crate) struct Key {
 
 /// The key of a class, a virtual base and a signature.
 pub(crate) fn key_of(c: ClassId, v: ClassId, n: usize) -> Key
-    ensures { result ≡ record { class = c.0; root = v.0; number = n } }
+    ensures { result ≡ key c v n }
 {
     Key {
         class: c.0,
@@ -46,6 +47,7 @@ pub(crate) struct EntryTable {
 impl EntryTable {
     /// The empty table, which takes no memory.
     pub(crate) fn new(alloc: Global) -> EntryTable
+        ensures { (q : Key) → entry_of result q ≡ None }
     {
         EntryTable {
             entries: IndexMap::new(alloc),

@@ -1,6 +1,14 @@
 //! Finds for each virtual base of a class the final overriders of its functions, from those of the direct bases.
 
-ghost use Rattle.std.specs.Prelude.{◌≡◌, ◌<◌, length};
+ghost use Rattle.std.specs.Prelude.{◌≡◌, ◌<◌, ◌+◌, ◌↔◌, IsTrue, IfOk, MatchOption, MatchBool, length};
+ghost use Rattle.cxx_hierarchy.specs.Classes.{bases_of};
+ghost use Rattle.cxx_hierarchy.specs.VirtualBases.{HasVirtualBase};
+ghost use Rattle.cxx_overrider.specs.declared.entries.Entry.{Entry};
+ghost use Rattle.cxx_overrider.specs.Functions.{Signature};
+ghost use Rattle.cxx_overrider.specs.Overriding.{HasTwoFinalOverriders};
+ghost use Rattle.cxx_overrider.specs.Numbers.{IsNumbering, IsNumberOf};
+ghost use Rattle.cxx_overrider.specs.Settling.{Holds, AreCandidates, IsAmong, IsOrder, IsAbove, IsPicked, IsSettled, TellsBefore, IsMade};
+ghost use Rattle.cxx_overrider.specs.Tables.{AreTables};
 
 use crate::entries::{Entry, EntryTable, key_of};
 use crate::kinds::KindRow;
@@ -22,20 +30,25 @@ pub(crate) struct Tables {
     pub(crate) pure: Vec<MarkRow>,
 }
 
-/// What overrides a function: nothing, one function, or two of which neither contains the other.
+/// What overrides a function: nothing, one function, or two of which neither lies in the other.
+#[derive(Clone, Copy, Debug)]
 pub(crate) enum Settled {
     Nothing,
     One(Entry),
-    Two,
+    Two(Entry, Entry),
 }
 
 /// Whether the one subobject lies in the other. Both lie in direct bases.
-fn holds(h: &Hierarchy, outer: Entry, inner: Entry) -> bool {
-    outer.place == inner.place
-        || match inner.place {
-            Place::InShared(root) => h.has_virtual_base(outer.function.class, root),
-            Place::Itself | Place::InBase(_) => false,
-        }
+fn holds(h: &Hierarchy, outer: Entry, inner: Entry) -> bool
+    ensures { IsTrue result ↔ Holds h.now outer inner }
+{
+    if outer.place == inner.place {
+        return true;
+    }
+    match inner.place {
+        Place::InShared(root) => h.has_virtual_base(outer.function.class, root),
+        Place::Itself | Place::InBase(_) => false,
+    }
 }
 
 /// What the direct bases of a class have under the signature.
@@ -48,10 +61,13 @@ fn candidates(
     n: usize,
 ) -> Result<Vec<Entry>, NoMemory>
     requires known { c.0 < length h.now }
+    ensures { IfOk result (λ xs. (s : Signature) → TellsBefore h.now entries.now c v n s → AreCandidates h.now c v s (length (bases_of h.now c)) xs.items) }
 {
+    h.keeps();
     let mut found = Vec::new(alloc);
     for base in h.class(c).bases.as_slice() {
-        if let Some(entry) = entries.find(key_of(base.class, v, n)) {
+        let below = entries.find(key_of(base.class, v, n));
+        if let Some(entry) = below {
             found.push(Entry {
                 place: lifted(base, entry.place),
                 function: entry.function,
@@ -61,31 +77,46 @@ fn candidates(
     Ok(found)
 }
 
-/// One that no other one holds, unless it holds that one.
-fn highest(h: &Hierarchy, xs: &[Entry]) -> Option<Entry> {
-    let mut best = match xs.first() {
-        Some(x) => *x,
-        None => return None,
-    };
+/// One above the start that no other one holds, unless it holds that one.
+fn highest(h: &Hierarchy, xs: &[Entry], start: Entry) -> Entry
+    requires { IsAmong xs.now start }
+    ensures among { IsAmong xs.now result }
+    ensures above { IsOrder h.now xs.now → IsAbove h.now xs.now start result }
+{
+    let mut best = start;
     for x in xs {
         if holds(h, *x, best) {
             best = *x;
         }
     }
-    Some(best)
+    best
 }
 
-/// The one that holds all others.
-fn pick(h: &Hierarchy, xs: &[Entry]) -> Settled {
-    match highest(h, xs) {
-        Some(best) => {
-            if xs.iter().all(|x| holds(h, best, *x)) {
-                Settled::One(best)
-            } else {
-                Settled::Two
+/// One that is not held.
+fn not_held(h: &Hierarchy, xs: &[Entry], best: Entry) -> Option<Entry>
+    ensures { MatchOption result ((x : Entry) → IsAmong xs.now x → Holds h.now best x) (λ x. IsAmong xs.now x × (Holds h.now best x → ⊥)) }
+{
+    for x in xs {
+        if !holds(h, best, *x) {
+            return Some(*x);
+        }
+    }
+    None
+}
+
+/// The one that holds all others, or two of which none holds the other.
+fn pick(h: &Hierarchy, xs: &[Entry]) -> Settled
+    ensures { IsPicked h.now xs.now result }
+{
+    match xs {
+        [] => Settled::Nothing,
+        [first, ..] => {
+            let best = highest(h, xs, *first);
+            match not_held(h, xs, best) {
+                None => Settled::One(best),
+                Some(other) => Settled::Two(best, highest(h, xs, other)),
             }
         }
-        None => Settled::Nothing,
     }
 }
 
@@ -93,18 +124,28 @@ fn pick(h: &Hierarchy, xs: &[Entry]) -> Settled {
 fn settle(
     alloc: Global,
     h: &Hierarchy,
-    tables: &Tables,
+    numbering: &Numbering,
     entries: &EntryTable,
-    key: (ClassId, ClassId, usize),
+    c: ClassId,
+    v: ClassId,
+    n: usize,
 ) -> Result<Settled, NoMemory>
+    requires known { c.0 < length h.now }
+    requires base { HasVirtualBase h.now c v }
+    requires numbering { IsNumbering h.now numbering.now.rows.items numbering.now.count }
+    ensures { IfOk result (λ settled. (s : Signature) → IsNumberOf h.now numbering.now.rows.items n s → TellsBefore h.now entries.now c v n s → IsSettled h.now c v s settled) }
 {
-    let (c, v, n) = key;
-    match own_function(&tables.numbering.rows, c, n) {
+    h.keeps();
+    match own_function(&numbering.rows, c, n) {
         Some(function) => Ok(Settled::One(Entry {
             place: Place::Itself,
             function,
         })),
-        None => Ok(pick(h, &candidates(alloc, h, entries, c, v, n)?)),
+        None => {
+            let found = candidates(alloc, h, entries, c, v, n)?;
+            let picked = pick(h, &found);
+            Ok(picked)
+        }
     }
 }
 
@@ -117,13 +158,18 @@ fn settle_base(
     c: ClassId,
     v: ClassId,
 ) -> Result<bool, NoMemory>
+    requires known { c.0 < length h.now }
+    requires base { HasVirtualBase h.now c v }
+    requires tables { AreTables h.now tables.now }
+    requires made { IsMade h.now tables.now.numbering.rows.items entries.old c.0 v.0 0 }
+    ensures { IfOk result (λ is_one. MatchBool is_one (IsMade h.now tables.now.numbering.rows.items entries.new c.0 (v.0 + 1) 0) (HasTwoFinalOverriders h.now c)) }
 {
     for n in 0..tables.numbering.count {
         if is_marked(&tables.virtuals, v, n) {
-            match settle(alloc, h, tables, entries, (c, v, n))? {
+            match settle(alloc, h, &tables.numbering, entries, c, v, n)? {
                 Settled::Nothing => {}
                 Settled::One(entry) => entries.put(key_of(c, v, n), entry)?,
-                Settled::Two => return Ok(false),
+                Settled::Two(_, _) => return Ok(false),
             }
         }
     }
@@ -138,11 +184,18 @@ pub(crate) fn settle_class(
     entries: &mut EntryTable,
     c: ClassId,
 ) -> Result<bool, NoMemory>
+    requires known { c.0 < length h.now }
+    requires tables { AreTables h.now tables.now }
+    requires made { IsMade h.now tables.now.numbering.rows.items entries.old c.0 0 0 }
+    ensures { IfOk result (λ is_one. MatchBool is_one (IsMade h.now tables.now.numbering.rows.items entries.new (c.0 + 1) 0 0) (HasTwoFinalOverriders h.now c)) }
 {
+    h.keeps();
     for number in 0..c.0 {
         let v = ClassId(number);
-        if h.has_virtual_base(c, v) && !settle_base(alloc, h, tables, entries, c, v)? {
-            return Ok(false);
+        if h.has_virtual_base(c, v) {
+            if !settle_base(alloc, h, tables, entries, c, v)? {
+                return Ok(false);
+            }
         }
     }
     Ok(true)
