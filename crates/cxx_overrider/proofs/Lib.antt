@@ -5,3 +5,5 @@ pub mod KindLemmas
 pub mod MarkLemmas
 pub mod PureLemmas
 pub mod SettlingLemmas
+pub mod Made
+pub mod Finals

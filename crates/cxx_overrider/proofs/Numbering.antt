@@ -109,6 +109,10 @@ pub some_is : {X : Type 0} (o : Option X) (x : X) → o ≡ Some x → IsSome o
 some_is (Some y) x e = refl
 some_is None x e = cc
 
+pub some_value : {X : Type 0} (o : Option X) → IsSome o → (x : X) × (o ≡ Some x)
+some_value (Some y) e = (y, refl)
+some_value None e = cc
+
 -- the whole numbering
 module _ (h : Classes) (firsts : List FunctionId) (rows : List (List ℕ)) (keeps : IsHierarchy h) (are : AreFirst h firsts) (size : length rows ≡ length h) (has : HasRows h firsts rows) where
   at_row : (c : ClassId) → c.0 < length h → IsRow h firsts c (row_of rows c)
@@ -126,14 +130,27 @@ module _ (h : Classes) (firsts : List FunctionId) (rows : List (List ℕ)) (keep
   short_row : (c : ClassId) → (c.0 < length h) ⊎ (length h ≤ c.0) → length (row_of rows c) ≤ 1025
   short_row c dec = ⊎_elim (λ a. let k = (at_row c a).size in let f = keeps.few_functions c in omega arith) (λ b. let past : length (row_of rows c) ≡ 0 = ap length (or_past rows c.0 [] (λ lt. omega arith)) in omega arith) dec
 
+  numbered_there : (f : FunctionId) (s : Signature) → signature_of h f ≡ Some s → (n : ℕ) × (number_of rows f ≡ Some n)
+  numbered_there f s e =
+      let k = at_row f.class (signature_class h f s e) in
+      let i = signature_index h f s e in
+      let z = k.size in
+      get_there (row_of rows f.class) f.index (omega arith)
+
+  used_there : (n : ℕ) → n < length firsts → (f : FunctionId) × (number_of rows f ≡ Some n)
+  used_there n lt =
+      let t = get_there firsts n lt in
+      let s = some_value (signature_of h t.0) (are.known n t.0 t.1) in
+      let m = numbered_there t.0 s.0 s.1 in
+      let a = first_at t.0 m.0 m.1 in
+      let one : m.0 ≡ n = are.apart m.0 n a.first t.0 a.at_n t.1 a.same in
+      (t.0, m.1 ∙ ap (λ x. Some x) one)
+
   pub numbering_made : IsNumbering h rows (length firsts)
   numbering_made = record {
     all = size;
-    numbered = λ f s e.
-        let k = at_row f.class (signature_class h f s e) in
-        let i = signature_index h f s e in
-        let z = k.size in
-        get_there (row_of rows f.class) f.index (omega arith);
+    numbered = numbered_there;
+    used = used_there;
     known = λ f n e.
         let c = row_class f.class f.index n e (either f.class.0 (length h)) in
         let k = at_row f.class c in

@@ -1,6 +1,7 @@
 -- The overriders of a virtual base's functions, from those of the direct bases.
-use Rattle.std.proofs.Common.{◌≡◌, ◌≢◌, ℕ, ◌+◌, ◌<◌, ◌≤◌, ◌⊎◌, inl, inr, ⊎_elim, Bool, true, false, Option, Some, None, List, [], ◌∷◌, ◌++◌, length, refl, ap, subst, sym, ◌∙◌, arith}
+use Rattle.std.proofs.Common.{◌≡◌, ◌≢◌, ℕ, ◌+◌, ◌<◌, ◌≤◌, ◌⊎◌, inl, inr, ⊎_elim, Bool, true, false, get_or, ◌↔◌, Option, Some, None, List, [], ◌∷◌, ◌++◌, length, refl, ap, subst, sym, ◌∙◌, arith}
 use Rattle.std.specs.List.{slice_get, Contains}
+use Rattle.std.proofs.lemmas.Option.{slice_get-get_or}
 use Rattle.cxx_hierarchy.specs.declared.records.ClassId.{ClassId}
 use Rattle.cxx_hierarchy.specs.declared.records.Base.{Base}
 use Rattle.cxx_hierarchy.specs.Classes.{Classes, bases_of}
@@ -16,11 +17,16 @@ use Rattle.cxx_overrider.specs.declared.Overrider.{Overrider}
 use Rattle.cxx_overrider.specs.declared.places.Place.{Place}
 use Rattle.cxx_overrider.specs.declared.places.Place.TheVariants.{Itself, InBase, InShared}
 use Rattle.cxx_overrider.specs.declared.entries.Entry.{Entry}
+use Rattle.cxx_overrider.specs.declared.entries.Key.{Key}
+use Rattle.cxx_overrider.specs.declared.entries.EntryTable.{EntryTable}
+use Rattle.cxx_overrider.specs.EntryTables.{entry_of}
+use Rattle.cxx_overrider.specs.declared.settling.Settled.{Settled}
+use Rattle.cxx_overrider.specs.declared.settling.Settled.TheVariants.{Nothing, One, Two}
 use Rattle.cxx_overrider.specs.Functions.{Signature, signature_of}
 use Rattle.cxx_overrider.specs.Overriding.{HasVirtual, IsVirtualIn, IsCandidate, IsLeft, HasTwoFinalOverriders}
 use Rattle.cxx_overrider.specs.Places.{place_of, lifted, base_place, base_of, IsThrough}
 use Rattle.cxx_overrider.specs.Entries.{Declares, IsGreatest, Tells, TellsOf}
-use Rattle.cxx_overrider.specs.Settling.{Holds, StandsFor, HasHolder, AreCandidates, IsAmong, IsOrder, IsTop, IsUnheld, IsAbove, AreTwoTops}
+use Rattle.cxx_overrider.specs.Settling.{Holds, StandsFor, HasHolder, AreCandidates, IsAmong, IsOrder, IsTop, IsUnheld, IsAbove, AreTwoTops, IsPicked, IsSettled, TellsBefore, key}
 use Rattle.cxx_overrider.specs.Pure.{DeclaresNone}
 use Rattle.cxx_overrider.proofs.Lists.{get_front, get_last, get_pushed, get_within, get_contains, contains_get, either}
 use Rattle.cxx_overrider.proofs.Numbering.{same_function}
@@ -283,3 +289,34 @@ two_tops h xs first best other second order io not a b = record {
   other_unheld = b.unheld;
   apart = λ k. not (order.through best second other a.unheld.among b.unheld.among io k b.above);
 }
+
+pub refuted : (b : Bool) (P : Type 0) → (b ≡ true) ↔ P → b ≡ false → P → ⊥
+refuted b P is f p = let t = is.1 p in cc
+
+pub next_all : (P : Entry → Type 0) (xs : List Entry) (i : ℕ) (d : Entry) → i < length xs → ((k : ℕ) (x : Entry) → k < i → slice_get xs k ≡ Some x → P x) → P (get_or xs i d) → (k : ℕ) (x : Entry) → k < i + 1 → slice_get xs k ≡ Some x → P x
+next_all P xs i d within so at k x lt e = ⊎_elim (λ small. so k x small e)
+    (λ past.
+      let same : k ≡ i = omega arith in
+      let moved : slice_get xs k ≡ Some (get_or xs i d) = ap (slice_get xs) same ∙ slice_get-get_or xs i d within in
+      let one : get_or xs i d ≡ x = cc in subst (λ (z : Entry). P z) one at)
+    (either k i)
+
+pub settled_picked : (h : Classes) → IsHierarchy h → (c v : ClassId) (s : Signature) (xs : List Entry) (settled : Settled) → DeclaresNone h c s → AreCandidates h c v s (length (bases_of h c)) xs → HasVirtualBase h c v → IsPicked h xs settled → IsSettled h c v s settled
+settled_picked h keeps c v s xs Nothing none are has picked = nothing_tells h c v s xs none are picked
+settled_picked h keeps c v s xs (One e) none are has picked = top_tells h c v s xs e none are picked
+settled_picked h keeps c v s xs (Two one other) none are has picked = λ f. two_refused h keeps c v s xs one other none are (picked (candidates_order h c v s (length (bases_of h c)) xs are)) has f
+
+candidates_step : (h : Classes) (c v : ClassId) (s : Signature) (count : ℕ) (xs ys : List Entry) (base : Base ClassId) (e : Entry) (place : Place) → slice_get (bases_of h c) count ≡ Some base → AreCandidates h c v s count xs → Tells h base.class v s e → place ≡ lifted base e.place → ys ≡ xs ++ (record { place = place; function = e.function }) ∷ [] → AreCandidates h c v s (count + 1) ys
+candidates_step h c v s count xs ys base e place listed are tells at grown =
+    let made : ys ≡ xs ++ (record { place = lifted base e.place; function = e.function }) ∷ [] = grown ∙ ap (λ (p : Place). xs ++ (record { place = p; function = e.function }) ∷ []) at in
+    subst (λ (zs : List Entry). AreCandidates h c v s (count + 1) zs) (sym made) (candidates_push h c v s count xs base e listed are tells)
+
+pub found_step : (h : Classes) (table : EntryTable) (c v : ClassId) (n : ℕ) (s : Signature) (count : ℕ) (xs ys : List Entry) (base : Base ClassId) (e : Entry) (place : Place) (k : Key) → slice_get (bases_of h c) count ≡ Some base → base.class.0 < c.0 → k ≡ key base.class v n → Some e ≡ entry_of table k → place ≡ lifted base e.place → ys ≡ xs ++ (record { place = place; function = e.function }) ∷ [] → TellsBefore h table c v n s → AreCandidates h c v s count xs → AreCandidates h c v s (count + 1) ys
+found_step h table c v n s count xs ys base e place k listed lt is found at grown tells are =
+    let there : entry_of table (key base.class v n) ≡ Some e = sym (found ∙ ap (entry_of table) is) in
+    candidates_step h c v s count xs ys base e place listed are (subst (λ (o : Option Entry). TellsOf h base.class v s o) there (tells.each base.class lt)) at grown
+
+pub missing_step : (h : Classes) (table : EntryTable) (c v : ClassId) (n : ℕ) (s : Signature) (count : ℕ) (xs : List Entry) (base : Base ClassId) (k : Key) → slice_get (bases_of h c) count ≡ Some base → base.class.0 < c.0 → k ≡ key base.class v n → None ≡ entry_of table k → TellsBefore h table c v n s → AreCandidates h c v s count xs → AreCandidates h c v s (count + 1) xs
+missing_step h table c v n s count xs base k listed lt is found tells are =
+    let there : entry_of table (key base.class v n) ≡ None = sym (found ∙ ap (entry_of table) is) in
+    candidates_skip h c v s count xs base listed are (subst (λ (o : Option Entry). TellsOf h base.class v s o) there (tells.each base.class lt))

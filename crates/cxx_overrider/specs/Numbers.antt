@@ -24,6 +24,7 @@ pub record IsNumbering (h : Classes) (rows : List (List ℕ)) (count : ℕ) : Ty
   pub same : (f g : FunctionId) (n : ℕ) → number_of rows f ≡ Some n → number_of rows g ≡ Some n → signature_of h f ≡ signature_of h g
   pub apart : (f g : FunctionId) (n m : ℕ) → number_of rows f ≡ Some n → number_of rows g ≡ Some m → signature_of h f ≡ signature_of h g → n ≡ m
   pub short : AreShort rows
+  pub used : (n : ℕ) → n < count → (f : FunctionId) × (number_of rows f ≡ Some n)
   pub few : (f : FunctionId) (n : ℕ) → number_of rows f ≡ Some n → n < count
 
 -- the number is that of the signature

@@ -149,6 +149,37 @@ fn settle(
     }
 }
 
+/// Puts down what overrides the functions of one signature, if they are virtual, and tells whether it is one.
+fn settle_number(
+    alloc: Global,
+    h: &Hierarchy,
+    tables: &Tables,
+    entries: &mut EntryTable,
+    c: ClassId,
+    v: ClassId,
+    n: usize,
+) -> Result<bool, NoMemory>
+    requires known { c.0 < length h.now }
+    requires base { HasVirtualBase h.now c v }
+    requires tables { AreTables h.now tables.now }
+    requires number { n < tables.now.numbering.count }
+    requires made { IsMade h.now tables.now.numbering.rows.items entries.old c.0 v.0 n }
+    ensures { IfOk result (λ is_one. MatchBool is_one (IsMade h.now tables.now.numbering.rows.items entries.new c.0 v.0 (n + 1)) (HasTwoFinalOverriders h.now c)) }
+{
+    h.keeps();
+    if !is_marked(&tables.virtuals, v, n) {
+        return Ok(true);
+    }
+    match settle(alloc, h, &tables.numbering, entries, c, v, n)? {
+        Settled::Nothing => Ok(true),
+        Settled::One(entry) => {
+            entries.put(key_of(c, v, n), entry)?;
+            Ok(true)
+        }
+        Settled::Two(_, _) => Ok(false),
+    }
+}
+
 /// Puts down what overrides the virtual functions of a virtual base, and tells whether each has one overrider.
 fn settle_base(
     alloc: Global,
@@ -165,15 +196,32 @@ fn settle_base(
     ensures { IfOk result (λ is_one. MatchBool is_one (IsMade h.now tables.now.numbering.rows.items entries.new c.0 (v.0 + 1) 0) (HasTwoFinalOverriders h.now c)) }
 {
     for n in 0..tables.numbering.count {
-        if is_marked(&tables.virtuals, v, n) {
-            match settle(alloc, h, &tables.numbering, entries, c, v, n)? {
-                Settled::Nothing => {}
-                Settled::One(entry) => entries.put(key_of(c, v, n), entry)?,
-                Settled::Two(_, _) => return Ok(false),
-            }
+        if !settle_number(alloc, h, tables, entries, c, v, n)? {
+            return Ok(false);
         }
     }
     Ok(true)
+}
+
+/// The same for a class that may be no virtual base.
+fn settle_if_base(
+    alloc: Global,
+    h: &Hierarchy,
+    tables: &Tables,
+    entries: &mut EntryTable,
+    c: ClassId,
+    v: ClassId,
+) -> Result<bool, NoMemory>
+    requires known { c.0 < length h.now }
+    requires tables { AreTables h.now tables.now }
+    requires made { IsMade h.now tables.now.numbering.rows.items entries.old c.0 v.0 0 }
+    ensures { IfOk result (λ is_one. MatchBool is_one (IsMade h.now tables.now.numbering.rows.items entries.new c.0 (v.0 + 1) 0) (HasTwoFinalOverriders h.now c)) }
+{
+    if h.has_virtual_base(c, v) {
+        settle_base(alloc, h, tables, entries, c, v)
+    } else {
+        Ok(true)
+    }
 }
 
 /// The same for all virtual bases of a class.
@@ -192,10 +240,8 @@ pub(crate) fn settle_class(
     h.keeps();
     for number in 0..c.0 {
         let v = ClassId(number);
-        if h.has_virtual_base(c, v) {
-            if !settle_base(alloc, h, tables, entries, c, v)? {
-                return Ok(false);
-            }
+        if !settle_if_base(alloc, h, tables, entries, c, v)? {
+            return Ok(false);
         }
     }
     Ok(true)
