@@ -1,124 +1,100 @@
--- The tree below a subobject lists exactly what lies in it, each once.
-use Rattle.std.proofs.Common.{◌≡◌, ℕ, zero, suc, ◌+◌, ◌<◌, ◌≤◌, inl, inr, ⊎_elim, true, false, Some, List, [], ◌∷◌, ◌++◌, length, get_or, take, refl, ap, subst, sym, ◌∙◌, arith, append_assoc, add-one, length-append}
-use Rattle.std.specs.Prelude.{not, nat_eq, filter}
+-- The tree below a subobject lists exactly what lies in it.
+use Rattle.std.proofs.Common.{◌≡◌, ℕ, zero, suc, ◌+◌, ◌<◌, ◌≤◌, inl, inr, ⊎_elim, Bool, true, false, Some, List, [], ◌∷◌, ◌++◌, length, get_or, take, refl, ap, subst, sym, ◌∙◌, arith, append_assoc, add-one}
+use Rattle.std.specs.Prelude.{not, nat_eq, filter, ◌&&◌, if◌then◌else◌}
 use Rattle.std.specs.List.{slice_get, Contains, flat_map}
-use Rattle.std.proofs.lemmas.Bool.{eqb-true}
+use Rattle.std.proofs.lemmas.Bool.{eqb-true, eq-eqb}
 use Rattle.std.proofs.lemmas.Bool.Decides.{nat_tests}
-use Rattle.std.proofs.lemmas.List.{append-nil, append_cancel_left, take_more, take_all}
+use Rattle.std.proofs.lemmas.List.{append-nil, take_more}
 use Rattle.std.proofs.lemmas.List.Concat.{flat_map-append}
 use Rattle.std.proofs.lemmas.Option.{slice_get-get_or}
 use Rattle.cxx_hierarchy.specs.declared.records.ClassId.{ClassId}
 use Rattle.cxx_hierarchy.specs.declared.records.Base.{Base}
 use Rattle.cxx_hierarchy.specs.Classes.{Classes, bases_of}
+use Rattle.cxx_hierarchy.specs.Hierarchies.{IsHierarchy}
+use Rattle.cxx_hierarchy.specs.VirtualBases.{IsDirectBase, HasVirtualBase, direct, further}
 use Rattle.cxx_subobject.specs.declared.Root.{Root}
 use Rattle.cxx_subobject.specs.declared.Root.TheVariants.{Whole, Shared}
 use Rattle.cxx_subobject.specs.declared.Subobject.{Subobject}
-use Rattle.cxx_hierarchy.specs.VirtualBases.{HasVirtualBase, direct, further}
-use Rattle.cxx_subobject.specs.Subobjects.{Leads, IsSubobject, whole, shared, subobject, whole_of, same_path, same_root, same_subobject}
-use Rattle.cxx_subobject.specs.Ordered.{HasOrderedBases, HasNoVirtualBase}
-use Rattle.cxx_subobject.specs.Preorder.{base_subobject, tree, firsts, preorder, ListsSubobjects}
-use Rattle.cxx_subobject.proofs.ListLemmas.{Has, EachOnce, AreApart, EachApart, has_mapped, has_from_mapped, once_mapped, mapped_same, has_at, contains_from_has, has_from_contains, once_by_place, filter_all, split}
+use Rattle.cxx_subobject.specs.Subobjects.{Leads, IsSubobject, whole, shared, subobject, shared_base, whole_of, base_subobject, same_path, same_root, same_subobject}
+use Rattle.cxx_subobject.specs.Preorder.{tree, firsts, preorder, ListsSubobjects}
+use Rattle.cxx_subobject.proofs.ListLemmas.{Has, EachOnce, has_mapped, has_from_mapped, mapped_same, has_at, contains_from_has, has_from_contains, once_by_place, split}
 
-pub no_virtual : (h : Classes) → HasNoVirtualBase h → (c v : ClassId) → HasVirtualBase h c v → ⊥
-no_virtual h plain _ _ (direct c v d) = let e = plain.each c d.base d.listed in let f = d.way in let g : true ≡ false = sym f ∙ e in cc
-no_virtual h plain _ _ (further c b v way d rest) = no_virtual h plain b v rest
+-- t is what a walk down from s, of class c, leads to
+pub data IsBelow (h : Classes) (c : ClassId) (s : Subobject) : Subobject → Type 0 where
+  down : (path : List ClassId) (t : Subobject) → Leads h c path → t ≡ subobject s.root (s.path ++ path) → IsBelow h c s t
+  across : (v : ClassId) (path : List ClassId) (t : Subobject) → HasVirtualBase h c v → Leads h v path → t ≡ subobject (Shared v) (v ∷ path) → IsBelow h c s t
 
--- t is what a path down from s, of class c, leads to
-pub record IsBelow (h : Classes) (c : ClassId) (s t : Subobject) : Type 0 where
-  pub path : List ClassId
-  pub leads : Leads h c path
-  pub is : t ≡ subobject s.root (s.path ++ path)
+pub base_down : (s : Subobject) (base : Base ClassId) → base.is_virtual ≡ false → base_subobject s base ≡ subobject s.root (s.path ++ base.class ∷ [])
+base_down s base e = rw e refl
 
-base_is : (s : Subobject) (base : Base ClassId) → base.is_virtual ≡ false → base_subobject s base ≡ subobject s.root (s.path ++ base.class ∷ [])
-base_is s base e = rw e refl
+pub base_across : (s : Subobject) (base : Base ClassId) → base.is_virtual ≡ true → base_subobject s base ≡ shared_base base.class
+base_across s base e = rw e refl
 
-pub tree_sound : (h : Classes) → HasNoVirtualBase h → (n : ℕ) (c : ClassId) (s t : Subobject) → Has (tree h n c s) t → IsBelow h c s t
-tree_sound h plain zero c s t has = absurd has
-tree_sound h plain (suc n) c s t has = ⊎_elim
-    (λ e. record { path = []; leads = tt; is = sym e ∙ ap (λ p. subobject s.root p) (sym (append-nil s.path)) })
+pub edge : (h : Classes) (c : ClassId) (base : Base ClassId) (way : Bool) → Contains (bases_of h c) base → base.is_virtual ≡ way → IsDirectBase h c way base.class
+edge h c base way listed e = record { base = base; listed = listed; class = refl; way = e }
+
+from_down : (h : Classes) (c : ClassId) (s : Subobject) (base : Base ClassId) → Contains (bases_of h c) base → base.is_virtual ≡ false → (t : Subobject) → IsBelow h base.class (subobject s.root (s.path ++ base.class ∷ [])) t → IsBelow h c s t
+from_down h c s base listed e _ (down path t l is) = down (base.class ∷ path) t (edge h c base false listed e, l) (is ∙ ap (λ p. subobject s.root p) (append_assoc s.path (base.class ∷ []) path))
+from_down h c s base listed e _ (across v path t has l is) = across v path t (further c base.class v false (edge h c base false listed e) has) l is
+
+from_across : (h : Classes) (c : ClassId) (s : Subobject) (base : Base ClassId) → Contains (bases_of h c) base → base.is_virtual ≡ true → (t : Subobject) → IsBelow h base.class (shared_base base.class) t → IsBelow h c s t
+from_across h c s base listed e _ (down path t l is) = across base.class path t (direct c base.class (edge h c base true listed e)) l is
+from_across h c s base listed e _ (across v path t has l is) = across v path t (further c base.class v true (edge h c base true listed e) has) l is
+
+pub from_base : (h : Classes) (c : ClassId) (s : Subobject) (base : Base ClassId) (t : Subobject) → Contains (bases_of h c) base → IsBelow h base.class (base_subobject s base) t → IsBelow h c s t
+from_base h c s base t listed below = split base.is_virtual (λ b. IsBelow h c s t)
+    (λ e. from_across h c s base listed e t (subst (λ (x : Subobject). IsBelow h base.class x t) (base_across s base e) below))
+    (λ e. from_down h c s base listed e t (subst (λ (x : Subobject). IsBelow h base.class x t) (base_down s base e) below))
+
+pub tree_sound : (h : Classes) (n : ℕ) (c : ClassId) (s t : Subobject) → Has (tree h n c s) t → IsBelow h c s t
+tree_sound h zero c s t has = absurd has
+tree_sound h (suc n) c s t has = ⊎_elim
+    (λ e. down [] t tt (sym e ∙ ap (λ p. subobject s.root p) (sym (append-nil s.path))))
     (λ r.
     let m = has_from_mapped (λ base. tree h n base.class (base_subobject s base)) (bases_of h c) t r in
-    let base = m.0 in
-    let listed = contains_from_has (bases_of h c) base m.1 in
-    let way = plain.each c base listed in
-    let there = subst (λ (x : Subobject). Has (tree h n base.class x) t) (base_is s base way) m.2 in
-    let b = tree_sound h plain n base.class (subobject s.root (s.path ++ base.class ∷ [])) t there in
-    record {
-      path = base.class ∷ b.path;
-      leads = (record { base = base; listed = listed; class = refl; way = way }, b.leads);
-      is = b.is ∙ ap (λ p. subobject s.root p) (append_assoc s.path (base.class ∷ []) b.path);
-    })
+    from_base h c s m.0 t (contains_from_has (bases_of h c) m.0 m.1) (tree_sound h n m.0.class (base_subobject s m.0) t m.2))
     has
 
-pub tree_complete : (h : Classes) → HasOrderedBases h → HasNoVirtualBase h → (n : ℕ) (c : ClassId) (s : Subobject) (path : List ClassId) → c.0 < n → Leads h c path → Has (tree h n c s) (subobject s.root (s.path ++ path))
-tree_complete h ordered plain zero c s path lt leads = absurd (omega arith)
-tree_complete h ordered plain (suc n) c s [] lt leads = inl (ap (λ p. subobject s.root p) (sym (append-nil s.path)))
-tree_complete h ordered plain (suc n) c s (b ∷ path) lt leads =
+in_base : (h : Classes) (n : ℕ) (c : ClassId) (s : Subobject) (base : Base ClassId) (inner t : Subobject) → Contains (bases_of h c) base → base_subobject s base ≡ inner → Has (tree h n base.class inner) t → Has (tree h (suc n) c s) t
+in_base h n c s base inner t listed e there = inr (has_mapped (λ b. tree h n b.class (base_subobject s b)) (bases_of h c) base t (has_from_contains (bases_of h c) base listed)
+    (subst (λ (x : Subobject). Has (tree h n base.class x) t) (sym e) there))
+
+tree_down : (h : Classes) → IsHierarchy h → (n : ℕ) (c : ClassId) (s : Subobject) (path : List ClassId) → c.0 < n → Leads h c path → Has (tree h n c s) (subobject s.root (s.path ++ path))
+tree_down h keeps zero c s path lt leads = absurd (omega arith)
+tree_down h keeps (suc n) c s [] lt leads = inl (ap (λ p. subobject s.root p) (sym (append-nil s.path)))
+tree_down h keeps (suc n) c s (b ∷ path) lt leads =
     let d = leads.0 in
-    let before = ordered.before c d.base d.listed in
+    let before = keeps.bases c d.base d.listed in
     let same = d.class in
-    let down : Leads h d.base.class path = subst (λ (x : ClassId). Leads h x path) (sym same) leads.1 in
-    let inner = tree_complete h ordered plain n d.base.class (subobject s.root (s.path ++ d.base.class ∷ [])) path (omega arith) down in
-    let there = subst (λ (x : Subobject). Has (tree h n d.base.class x) (subobject s.root ((s.path ++ d.base.class ∷ []) ++ path))) (sym (base_is s d.base d.way)) inner in
+    let further_down : Leads h d.base.class path = subst (λ (x : ClassId). Leads h x path) (sym same) leads.1 in
+    let inner = tree_down h keeps n d.base.class (subobject s.root (s.path ++ d.base.class ∷ [])) path (omega arith) further_down in
     let is : subobject s.root ((s.path ++ d.base.class ∷ []) ++ path) ≡ subobject s.root (s.path ++ b ∷ path) = ap (λ p. subobject s.root p) (append_assoc s.path (d.base.class ∷ []) path ∙ ap (λ (x : ClassId). s.path ++ x ∷ path) same) in
-    inr (subst (λ x. Has (flat_map (λ base. tree h n base.class (base_subobject s base)) (bases_of h c)) x) is
-    (has_mapped (λ base. tree h n base.class (base_subobject s base)) (bases_of h c) d.base (subobject s.root ((s.path ++ d.base.class ∷ []) ++ path)) (has_from_contains (bases_of h c) d.base d.listed) there))
+    subst (λ x. Has (tree h (suc n) c s) x) is (in_base h n c s d.base (subobject s.root (s.path ++ d.base.class ∷ [])) (subobject s.root ((s.path ++ d.base.class ∷ []) ++ path)) d.listed (base_down s d.base d.way) inner)
+
+tree_across : (h : Classes) → IsHierarchy h → (n : ℕ) (c : ClassId) (s : Subobject) (v : ClassId) (path : List ClassId) → c.0 < n → HasVirtualBase h c v → Leads h v path → Has (tree h n c s) (subobject (Shared v) (v ∷ path))
+tree_across h keeps zero c s v path lt has leads = absurd (omega arith)
+tree_across h keeps (suc n) _ s _ path lt (direct c v d) leads =
+    let before = keeps.bases c d.base d.listed in
+    let there : Leads h d.base.class path = subst (λ (x : ClassId). Leads h x path) (sym d.class) leads in
+    let inner = tree_down h keeps n d.base.class (shared_base d.base.class) path (omega arith) there in
+    subst (λ (x : ClassId). Has (tree h (suc n) c s) (subobject (Shared x) (x ∷ path))) d.class
+    (in_base h n c s d.base (shared_base d.base.class) (subobject (Shared d.base.class) (d.base.class ∷ path)) d.listed (base_across s d.base d.way) inner)
+tree_across h keeps (suc n) _ s _ path lt (further c b v way d rest) leads =
+    let before = keeps.bases c d.base d.listed in
+    let there : HasVirtualBase h d.base.class v = subst (λ (x : ClassId). HasVirtualBase h x v) (sym d.class) rest in
+    in_base h n c s d.base (base_subobject s d.base) (subobject (Shared v) (v ∷ path)) d.listed refl (tree_across h keeps n d.base.class (base_subobject s d.base) v path (omega arith) there leads)
+
+pub tree_complete : (h : Classes) → IsHierarchy h → (n : ℕ) (c : ClassId) (s t : Subobject) → c.0 < n → IsBelow h c s t → Has (tree h n c s) t
+tree_complete h keeps n c s _ lt (down path t l is) = subst (λ x. Has (tree h n c s) x) (sym is) (tree_down h keeps n c s path lt l)
+tree_complete h keeps n c s _ lt (across v path t has l is) = subst (λ x. Has (tree h n c s) x) (sym is) (tree_across h keeps n c s v path lt has l)
 
 -- the number of steps does not matter where there are enough
-pub tree_steps : (h : Classes) → HasOrderedBases h → (n m : ℕ) (c : ClassId) (s : Subobject) → c.0 < n → c.0 < m → tree h n c s ≡ tree h m c s
-tree_steps h ordered zero m c s a b = absurd (omega arith)
-tree_steps h ordered (suc n) zero c s a b = absurd (omega arith)
-tree_steps h ordered (suc n) (suc m) c s a b =
+pub tree_steps : (h : Classes) → IsHierarchy h → (n m : ℕ) (c : ClassId) (s : Subobject) → c.0 < n → c.0 < m → tree h n c s ≡ tree h m c s
+tree_steps h keeps zero m c s a b = absurd (omega arith)
+tree_steps h keeps (suc n) zero c s a b = absurd (omega arith)
+tree_steps h keeps (suc n) (suc m) c s a b =
     ap (λ t. s ∷ t) (mapped_same (λ base. tree h n base.class (base_subobject s base)) (λ base. tree h m base.class (base_subobject s base)) (bases_of h c)
-    (λ base has. let f = ordered.before c base (contains_from_has (bases_of h c) base has) in tree_steps h ordered n m base.class (base_subobject s base) (omega arith) (omega arith)))
-
-not_longer : (p q : List ClassId) (b : ClassId) → p ≡ p ++ b ∷ q → ⊥
-not_longer [] q b e = cc
-not_longer (c ∷ p) q b e = not_longer p q b (let f : p ≡ p ++ b ∷ q = cc in f)
-
--- two bases of a class head are of two classes
-bases_differ : (h : Classes) → HasOrderedBases h → (c : ClassId) (f : Base ClassId → List Subobject) → ((x y : Base ClassId) → (x.class ≡ y.class → ⊥) → Has (bases_of h c) x → Has (bases_of h c) y → AreApart (f x) (f y)) → EachApart f (bases_of h c)
-bases_differ h ordered c f apart = go (bases_of h c) (λ i j x y e g s. ordered.once c i j x y e g s) (λ x y d a b. apart x y d a b)
-  where
-    go : (bases : List (Base ClassId)) → ((i j : ℕ) (x y : Base ClassId) → slice_get bases i ≡ Some x → slice_get bases j ≡ Some y → x.class ≡ y.class → i ≡ j) → ((x y : Base ClassId) → (x.class ≡ y.class → ⊥) → Has bases x → Has bases y → AreApart (f x) (f y)) → EachApart f bases
-    go [] once each = tt
-    go (x ∷ bases) once each = (
-      λ y has. each x y (λ s. let p = place bases y has in let e = once zero (suc p.0) x y refl p.1 s in absurd (omega arith)) (inl refl) (inr has),
-      go bases (λ i j a b e g s. let r = once (suc i) (suc j) a b e g s in omega arith) (λ a b d p q. each a b d (inr p) (inr q)),
-    )
-      where
-        place : (xs : List (Base ClassId)) (y : Base ClassId) → Has xs y → (i : ℕ) × (slice_get xs i ≡ Some y)
-        place [] y has = absurd has
-        place (z ∷ xs) y has = ⊎_elim (λ e. (zero, ap (λ w. Some w) e)) (λ k. let r = place xs y k in (suc r.0, r.1)) has
-
-pub tree_once : (h : Classes) → HasOrderedBases h → HasNoVirtualBase h → (n : ℕ) (c : ClassId) (s : Subobject) → EachOnce (tree h n c s)
-tree_once h ordered plain zero c s = tt
-tree_once h ordered plain (suc n) c s = (not_again, once_mapped below (bases_of h c) (λ base has. tree_once h ordered plain n base.class (base_subobject s base)) (bases_differ h ordered c below two))
-  where
-    below : Base ClassId → List Subobject
-    below base = tree h n base.class (base_subobject s base)
-
-    found : (base : Base ClassId) (t : Subobject) → Has (bases_of h c) base → Has (tree h n base.class (base_subobject s base)) t → (path : List ClassId) × (t ≡ subobject s.root (s.path ++ base.class ∷ path))
-    found base t has there =
-        let way = plain.each c base (contains_from_has (bases_of h c) base has) in
-        let b = tree_sound h plain n base.class (subobject s.root (s.path ++ base.class ∷ [])) t (subst (λ (x : Subobject). Has (tree h n base.class x) t) (base_is s base way) there) in
-        (b.path, b.is ∙ ap (λ p. subobject s.root p) (append_assoc s.path (base.class ∷ []) b.path))
-
-    not_again : Has (flat_map (λ base. tree h n base.class (base_subobject s base)) (bases_of h c)) s → ⊥
-    not_again has =
-        let m = has_from_mapped (λ base. tree h n base.class (base_subobject s base)) (bases_of h c) s has in
-        let f = found m.0 s m.1 m.2 in
-        not_longer s.path f.0 m.0.class (ap (λ (x : Subobject). x.path) f.1)
-
-    two : (x y : Base ClassId) → (x.class ≡ y.class → ⊥) → Has (bases_of h c) x → Has (bases_of h c) y → AreApart (tree h n x.class (base_subobject s x)) (tree h n y.class (base_subobject s y))
-    two x y differ a b = record {
-      none = λ t p q.
-          let f = found x t a p in
-          let g = found y t b q in
-          let e : s.path ++ x.class ∷ f.0 ≡ s.path ++ y.class ∷ g.0 = ap (λ (z : Subobject). z.path) (sym f.1 ∙ g.1) in
-          let r = append_cancel_left s.path (x.class ∷ f.0) (y.class ∷ g.0) e in
-          differ (let same : x.class ≡ y.class = cc in same);
-    }
+    (λ base has. let f = keeps.bases c base (contains_from_has (bases_of h c) base has) in tree_steps h keeps n m base.class (base_subobject s base) (omega arith) (omega arith)))
 
 path_same : (p q : List ClassId) → same_path p q ≡ true → p ≡ q
 path_same [] [] e = refl
@@ -132,7 +108,7 @@ path_same (c ∷ p) (d ∷ q) e =
     same_id : (x y : ClassId) → x.0 ≡ y.0 → x ≡ y
     same_id x y e = let make : ℕ → ClassId = λ n. record { 0 = n } in let f : make x.0 ≡ make y.0 = ap make e in f
 
-root_same : (r s : Root) → same_root r s ≡ true → r ≡ s
+pub root_same : (r s : Root) → same_root r s ≡ true → r ≡ s
 root_same Whole Whole e = refl
 root_same Whole (Shared v) e = cc
 root_same (Shared v) Whole e = cc
@@ -144,35 +120,80 @@ subobject_same s t e =
     let b : same_path s.path t.path ≡ true = grind (arith, nat_tests) in
     let f : subobject s.root s.path ≡ subobject t.root t.path = ap (λ r. subobject r s.path) (root_same s.root t.root a) ∙ ap (λ p. subobject t.root p) (path_same s.path t.path b) in f
 
--- a list without repeats is its first elements
-pub firsts_once : (list : List Subobject) → EachOnce list → firsts list ≡ list
-firsts_once [] once = refl
-firsts_once (s ∷ list) once =
-    let r = firsts_once list once.1 in
-    let others : filter (λ t. not (same_subobject s t)) list ≡ list = filter_all (λ t. not (same_subobject s t)) list
-    (λ t has. split (same_subobject s t) (λ b. not b ≡ true) (λ e. absurd (once.0 (subst (λ z. Has list z) (sym (subobject_same s t e)) has))) (λ e. refl)) in
-    ap (λ xs. s ∷ filter (λ t. not (same_subobject s t)) xs) r ∙ ap (λ xs. s ∷ xs) others
+pub path_itself : (p : List ClassId) → same_path p p ≡ true
+path_itself [] = refl
+path_itself (c ∷ p) = rw (eq-eqb c.0 c.0 refl) (path_itself p)
 
-pub preorder_is : (h : Classes) (c : ClassId) → HasOrderedBases h → HasNoVirtualBase h → tree h (c.0 + 1) c (whole_of c) ≡ preorder h c
-preorder_is h c ordered plain = sym (firsts_once (tree h (c.0 + 1) c (whole_of c)) (tree_once h ordered plain (c.0 + 1) c (whole_of c)))
+pub root_itself : (r : Root) → same_root r r ≡ true
+root_itself Whole = refl
+root_itself (Shared v) = eq-eqb v.0 v.0 refl
+
+pub same_itself : (s : Subobject) → same_subobject s s ≡ true
+same_itself s = rw (root_itself s.root, path_itself s.path) refl
+
+pub has_filter : {X : Type 0} (p : X → Bool) (xs : List X) (x : X) → Has (filter p xs) x → Has xs x × (p x ≡ true)
+has_filter p [] x = λ h. absurd h
+has_filter {X} p (y ∷ xs) x =
+    split (p y) (λ b. Has (if b then y ∷ filter p xs else filter p xs) x → Has (y ∷ xs) x × (p x ≡ true))
+    (λ e h. ⊎_elim (λ same. (inl same, ap p (sym same) ∙ e)) (λ k. let r = has_filter p xs x k in (inr r.0, r.1)) h)
+    (λ e h. let r = has_filter p xs x h in (inr r.0, r.1))
+
+pub filter_has : {X : Type 0} (p : X → Bool) (xs : List X) (x : X) → Has xs x → p x ≡ true → Has (filter p xs) x
+filter_has p [] x h k = absurd h
+filter_has {X} p (y ∷ xs) x h k =
+    split (p y) (λ b. Has (if b then y ∷ filter p xs else filter p xs) x)
+    (λ e. ⊎_elim (λ same. inl same) (λ r. inr (filter_has p xs x r k)) h)
+    (λ e. ⊎_elim (λ same. absurd (let f : p x ≡ false = ap p (sym same) ∙ e in let g : true ≡ false = sym k ∙ f in cc)) (λ r. filter_has p xs x r k) h)
+
+pub once_filter : {X : Type 0} (p : X → Bool) (xs : List X) → EachOnce xs → EachOnce (filter p xs)
+once_filter p [] once = tt
+once_filter {X} p (x ∷ xs) once =
+    split (p x) (λ b. EachOnce (if b then x ∷ filter p xs else filter p xs))
+    (λ e. (λ h. once.0 (has_filter p xs x h).0, once_filter p xs once.1))
+    (λ e. once_filter p xs once.1)
+
+not_true : (b : Bool) → not b ≡ true → b ≡ false
+not_true true h = absurd (cc)
+not_true false h = refl
+
+pub firsts_has : (list : List Subobject) (t : Subobject) → Has list t → Has (firsts list) t
+firsts_has [] t h = absurd h
+firsts_has (s ∷ list) t h = split (same_subobject s t) (λ b. Has (firsts (s ∷ list)) t)
+    (λ e. inl (subobject_same s t e))
+    (λ e. ⊎_elim (λ same. inl same) (λ k. inr (filter_has (λ u. not (same_subobject s u)) (firsts list) t (firsts_has list t k) (ap not e))) h)
+
+pub has_firsts : (list : List Subobject) (t : Subobject) → Has (firsts list) t → Has list t
+has_firsts [] t h = absurd h
+has_firsts (s ∷ list) t h = ⊎_elim (λ same. inl same) (λ k. inr (has_firsts list t (has_filter (λ u. not (same_subobject s u)) (firsts list) t k).0)) h
+
+pub firsts_once : (list : List Subobject) → EachOnce (firsts list)
+firsts_once [] = tt
+firsts_once (s ∷ list) = (
+  λ h. let r = has_filter (λ u. not (same_subobject s u)) (firsts list) s h in let e = not_true (same_subobject s s) r.1 in let g : true ≡ false = sym (same_itself s) ∙ e in absurd (cc),
+  once_filter (λ u. not (same_subobject s u)) (firsts list) (firsts_once list),
+)
+
+pub below_whole : (h : Classes) (c : ClassId) (s : Subobject) → IsSubobject h c s → IsBelow h c (whole_of c) s
+below_whole h c _ (whole path l) = down path (subobject Whole (c ∷ path)) l refl
+below_whole h c _ (shared v path has l) = across v path (subobject (Shared v) (v ∷ path)) has l refl
+
+pub whole_below : (h : Classes) (c : ClassId) (s : Subobject) → IsBelow h c (whole_of c) s → IsSubobject h c s
+whole_below h c _ (down path t l is) = subst (λ x. IsSubobject h c x) (sym is) (whole path l)
+whole_below h c _ (across v path t has l is) = subst (λ x. IsSubobject h c x) (sym is) (shared v path has l)
 
 -- the law of the list
-pub preorder_lists : (h : Classes) (c : ClassId) → HasOrderedBases h → HasNoVirtualBase h → ListsSubobjects h c (preorder h c)
-preorder_lists h c ordered plain = subst (λ list. ListsSubobjects h c list) (preorder_is h c ordered plain) (record {
-  listed = λ s valid. contains_from_has all s (listed s valid);
-  valid = λ s has. valid s (tree_sound h plain (c.0 + 1) c (whole_of c) s (has_from_contains all s has));
-  once = once_by_place all (tree_once h ordered plain (c.0 + 1) c (whole_of c));
-})
-  where
-    all : List Subobject
-    all = tree h (c.0 + 1) c (whole_of c)
+pub preorder_has : (h : Classes) (c : ClassId) → IsHierarchy h → (s : Subobject) → IsSubobject h c s → Has (preorder h c) s
+preorder_has h c keeps s valid = firsts_has (tree h (c.0 + 1) c (whole_of c)) s (tree_complete h keeps (c.0 + 1) c (whole_of c) s (omega arith) (below_whole h c s valid))
 
-    listed : (s : Subobject) → IsSubobject h c s → Has (tree h (c.0 + 1) c (whole_of c)) s
-    listed _ (whole path leads) = tree_complete h ordered plain (c.0 + 1) c (whole_of c) path (omega arith) leads
-    listed _ (shared v path has leads) = absurd (no_virtual h plain c v has)
+pub has_preorder : (h : Classes) (c : ClassId) (s : Subobject) → Has (preorder h c) s → IsSubobject h c s
+has_preorder h c s has = whole_below h c s (tree_sound h (c.0 + 1) c (whole_of c) s (has_firsts (tree h (c.0 + 1) c (whole_of c)) s has))
 
-    valid : (s : Subobject) → IsBelow h c (whole_of c) s → IsSubobject h c s
-    valid s b = subst (λ x. IsSubobject h c x) (sym b.is) (whole b.path b.leads)
+pub preorder_lists : (h : Classes) (c : ClassId) → IsHierarchy h → ListsSubobjects h c (preorder h c)
+preorder_lists h c keeps = record {
+  listed = λ s valid. contains_from_has (preorder h c) s (preorder_has h c keeps s valid);
+  valid = λ s has. has_preorder h c s (has_from_contains (preorder h c) s has);
+  once = once_by_place (preorder h c) (firsts_once (tree h (c.0 + 1) c (whole_of c)));
+}
 
 -- one more base of a class
 pub one_more : (f : Base ClassId → List Subobject) (bases : List (Base ClassId)) (i : ℕ) (d : Base ClassId) → i < length bases → flat_map f (take (i + 1) bases) ≡ flat_map f (take i bases) ++ f (get_or bases i d)
@@ -181,41 +202,3 @@ one_more f bases i d lt = rw (take_more bases i d lt, flat_map-append f (take i 
 pub base_listed : (h : Classes) (c : ClassId) (bases : List (Base ClassId)) (i : ℕ) (d : Base ClassId) → bases ≡ bases_of h c → i < length bases → Contains (bases_of h c) (get_or bases i d)
 base_listed h c bases i d is lt = subst (λ (xs : List (Base ClassId)). Contains xs (get_or bases i d)) is (contains_from_has bases (get_or bases i d) (has_at bases i (get_or bases i d) (slice_get-get_or bases i d lt)))
 
--- what a base gives in the tree of its class
-abbrev pub below : Classes → ClassId → Subobject → Base ClassId → List Subobject
-below h c s base = tree h c.0 base.class (base_subobject s base)
-
-pub tree_next : (h : Classes) (c : ClassId) (s inner : Subobject) (bases : List (Base ClassId)) (i : ℕ) (d : Base ClassId) (start found : List Subobject) → HasOrderedBases h → HasNoVirtualBase h → bases ≡ bases_of h c → i < length bases
-    → inner ≡ subobject s.root (s.path ++ (get_or bases i d).class ∷ []) → found ≡ start ++ flat_map (below h c s) (take i bases)
-    → found ++ tree h ((get_or bases i d).class.0 + 1) (get_or bases i d).class inner ≡ start ++ flat_map (below h c s) (take (i + 1) bases)
-tree_next h c s inner bases i d start found ordered plain is lt inner_is found_is =
-    let base = get_or bases i d in
-    let listed = base_listed h c bases i d is lt in
-    let before = ordered.before c base listed in
-    let same : inner ≡ base_subobject s base = inner_is ∙ sym (base_is s base (plain.each c base listed)) in
-    let tree_is : tree h (base.class.0 + 1) base.class inner ≡ below h c s base = ap (λ (x : Subobject). tree h (base.class.0 + 1) base.class x) same ∙ tree_steps h ordered (base.class.0 + 1) c.0 base.class (base_subobject s base) (omega arith) before in
-    ap (λ x. found ++ x) tree_is ∙ (ap (λ x. x ++ below h c s base) found_is ∙ (append_assoc start (flat_map (below h c s) (take i bases)) (below h c s base) ∙ ap (λ x. start ++ x) (sym (one_more (below h c s) bases i d lt))))
-
-tree_opened : (h : Classes) (c : ClassId) (s : Subobject) → s ∷ flat_map (below h c s) (bases_of h c) ≡ tree h (c.0 + 1) c s
-tree_opened h c s = let e : tree h (c.0 + 1) c s ≡ tree h (suc c.0) c s = ap (λ n. tree h n c s) (add-one c.0) in sym e
-
-pub tree_whole : (h : Classes) (c : ClassId) (s : Subobject) (bases : List (Base ClassId)) (i : ℕ) (old found : List Subobject) → bases ≡ bases_of h c → length bases ≤ i → found ≡ (old ++ s ∷ []) ++ flat_map (below h c s) (take i bases) → found ≡ old ++ tree h (c.0 + 1) c s
-tree_whole h c s bases i old found is le found_is =
-    let all : take i bases ≡ bases_of h c = take_all i bases le ∙ is in
-    found_is ∙ (ap (λ x. (old ++ s ∷ []) ++ flat_map (below h c s) x) all ∙ (append_assoc old (s ∷ []) (flat_map (below h c s) (bases_of h c)) ∙ ap (λ x. old ++ x) (tree_opened h c s)))
-
-length_taken : (f : Base ClassId → List Subobject) (bases : List (Base ClassId)) (i : ℕ) → length (flat_map f (take i bases)) ≤ length (flat_map f bases)
-length_taken f bases zero = omega arith
-length_taken f [] (suc i) = omega arith
-length_taken f (x ∷ bases) (suc i) = let r = length_taken f bases i in let a = length-append (f x) (flat_map f (take i bases)) in let b = length-append (f x) (flat_map f bases) in omega arith
-
--- what was found so far is no longer than the whole
-pub tree_longer : (h : Classes) (c : ClassId) (s : Subobject) (bases : List (Base ClassId)) (i : ℕ) (old found : List Subobject) → bases ≡ bases_of h c → found ≡ (old ++ s ∷ []) ++ flat_map (below h c s) (take i bases) → length found ≤ length (old ++ tree h (c.0 + 1) c s)
-tree_longer h c s bases i old found is found_is =
-    let whole = tree_whole h c s (bases_of h c) (length (bases_of h c)) old ((old ++ s ∷ []) ++ flat_map (below h c s) (bases_of h c)) refl (omega arith) (ap (λ x. (old ++ s ∷ []) ++ flat_map (below h c s) x) (sym (take_all (length (bases_of h c)) (bases_of h c) (omega arith)))) in
-    let w : length ((old ++ s ∷ []) ++ flat_map (below h c s) (bases_of h c)) ≡ length (old ++ tree h (c.0 + 1) c s) = ap length whole in
-    let f : length found ≡ length ((old ++ s ∷ []) ++ flat_map (below h c s) (take i (bases_of h c))) = ap length (found_is ∙ ap (λ (x : List (Base ClassId)). (old ++ s ∷ []) ++ flat_map (below h c s) (take i x)) is) in
-    let t = length_taken (below h c s) (bases_of h c) i in
-    let a = length-append (old ++ s ∷ []) (flat_map (below h c s) (take i (bases_of h c))) in
-    let b = length-append (old ++ s ∷ []) (flat_map (below h c s) (bases_of h c)) in
-    omega arith

@@ -1,9 +1,10 @@
 -- When one subobject of an object lies in another.
-use Rattle.std.specs.Prelude.{◌≡◌, Bool, true, false, nat_eq, ◌&&◌, Some, List, [], ◌∷◌}
+use Rattle.std.specs.Prelude.{◌≡◌, true, Some, Contains}
 use Rattle.cxx_hierarchy.specs.declared.records.ClassId.{ClassId}
-use Rattle.cxx_hierarchy.specs.Classes.{Classes}
+use Rattle.cxx_hierarchy.specs.declared.records.Base.{Base}
+use Rattle.cxx_hierarchy.specs.Classes.{Classes, bases_of}
 use Rattle.cxx_subobject.specs.declared.Subobject.{Subobject}
-use Rattle.cxx_subobject.specs.Subobjects.{IsSubobject, class_of, join}
+use Rattle.cxx_subobject.specs.Subobjects.{IsSubobject, class_of, join, base_subobject}
 
 -- the inner subobject is one of the outer one's class, as a subobject of the outer one
 pub record IsInside (h : Classes) (outer inner : Subobject) : Type 0 where
@@ -19,8 +20,8 @@ pub record IsPart (h : Classes) (outer part : Subobject) : Type 0 where
   pub of_class : class_of outer ≡ Some class
   pub valid : IsSubobject h class part
 
--- the test that a path begins with another
-abbrev pub begins : List ClassId → List ClassId → Bool
-begins [] path = true
-begins (c ∷ front) [] = false
-begins (c ∷ front) (d ∷ path) = nat_eq c.0 d.0 && begins front path
+-- a walk of public edges from one subobject to another: each step goes to the subobject of a public direct base of
+-- the class it stands at (ISO C++03 11.2)
+pub data IsPublicWalk (h : Classes) : Subobject → Subobject → Type 0 where
+  stays : (s : Subobject) → IsPublicWalk h s s
+  steps : (s t : Subobject) (c : ClassId) (base : Base ClassId) → class_of s ≡ Some c → Contains (bases_of h c) base → base.is_public ≡ true → IsPublicWalk h (base_subobject s base) t → IsPublicWalk h s t

@@ -1,4 +1,7 @@
 pub mod Subobjects
-pub mod Ordered
 pub mod Preorder
 pub mod Inside
+pub mod Tests
+pub mod Parts
+pub mod Counts
+pub mod Walks

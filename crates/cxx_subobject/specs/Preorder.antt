@@ -1,16 +1,10 @@
 -- The subobjects of a class in preorder: depth first, a class before its bases, bases in declaration order.
-use Rattle.std.specs.Prelude.{◌≡◌, ℕ, zero, suc, ◌+◌, not, if◌then◌else◌, Some, List, [], ◌∷◌, ◌++◌, Contains, filter, slice_get}
+use Rattle.std.specs.Prelude.{◌≡◌, ℕ, zero, suc, ◌+◌, not, Some, List, [], ◌∷◌, ◌++◌, Contains, filter, slice_get}
 use Rattle.std.specs.List.{flat_map}
 use Rattle.cxx_hierarchy.specs.declared.records.ClassId.{ClassId}
-use Rattle.cxx_hierarchy.specs.declared.records.Base.{Base}
 use Rattle.cxx_hierarchy.specs.Classes.{Classes, bases_of}
-use Rattle.cxx_subobject.specs.declared.Root.TheVariants.{Shared}
 use Rattle.cxx_subobject.specs.declared.Subobject.{Subobject}
-use Rattle.cxx_subobject.specs.Subobjects.{IsSubobject, subobject, whole_of, same_subobject}
-
--- the subobject that a direct base of the class of s is
-abbrev pub base_subobject : Subobject → Base ClassId → Subobject
-base_subobject s base = if base.is_virtual then subobject (Shared base.class) (base.class ∷ []) else subobject s.root (s.path ++ base.class ∷ [])
+use Rattle.cxx_subobject.specs.Subobjects.{IsSubobject, whole_of, same_subobject, base_subobject}
 
 -- s, of class c, and behind it what its bases give, in their order; a shared base stands wherever it is met. A
 -- walk down takes fewer steps than the class has as its number, so that one more is enough

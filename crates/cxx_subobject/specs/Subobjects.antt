@@ -1,6 +1,7 @@
 -- The inheritance subobjects of a class, as paths (ISO C++03 10.1; Rossie and Friedman).
-use Rattle.std.specs.Prelude.{◌≡◌, Bool, true, false, nat_eq, ◌&&◌, Option, Some, None, List, [], ◌∷◌, ◌++◌}
+use Rattle.std.specs.Prelude.{◌≡◌, Bool, true, false, if◌then◌else◌, nat_eq, ◌&&◌, Option, Some, None, List, [], ◌∷◌, ◌++◌}
 use Rattle.cxx_hierarchy.specs.declared.records.ClassId.{ClassId}
+use Rattle.cxx_hierarchy.specs.declared.records.Base.{Base}
 use Rattle.cxx_hierarchy.specs.Classes.{Classes}
 use Rattle.cxx_hierarchy.specs.VirtualBases.{IsDirectBase, HasVirtualBase}
 use Rattle.cxx_subobject.specs.declared.Root.{Root}
@@ -18,6 +19,14 @@ subobject root path = record { root = root; path = path }
 -- the whole of an object of class c
 abbrev pub whole_of : ClassId → Subobject
 whole_of c = subobject Whole (c ∷ [])
+
+-- the subobject that a direct base of the class of s is: a shared one, or one more class behind the path
+abbrev pub base_subobject : Subobject → Base ClassId → Subobject
+base_subobject s base = if base.is_virtual then subobject (Shared base.class) (base.class ∷ []) else subobject s.root (s.path ++ base.class ∷ [])
+
+-- the virtual base v, as the one subobject that all who reach it share
+abbrev pub shared_base : ClassId → Subobject
+shared_base v = subobject (Shared v) (v ∷ [])
 
 -- s is a subobject of c
 pub data IsSubobject (h : Classes) (c : ClassId) : Subobject → Type 0 where

@@ -11,9 +11,13 @@
 
 pub mod containment;
 pub mod listing;
+pub mod parts;
+#[cfg(test)]
+mod tests;
 
-pub use crate::containment::{containment_is_order, contains, join};
-pub use crate::listing::{SubobjectList, subobjects_of};
+pub use crate::containment::{class_of, containment_is_order, contains, is_public_base, join};
+pub use crate::listing::{SubobjectList, list_subobjects, no_marks, subobject_below, subobjects_of};
+pub use crate::parts::PartCounts;
 use cxx_hierarchy::ClassId;
 use foundation::Sequence;
 

@@ -1,12 +1,12 @@
 //! The subobjects of a class, in preorder.
 
-ghost use Rattle.std.specs.Prelude.{◌≡◌, ◌+◌, ◌≤◌, ◌<◌, ◌++◌, ◌∷◌, [], ◌⊎◌, IfOk, IfErr, OnOk, length};
-ghost use Rattle.cxx_hierarchy.specs.Classes.{Classes};
-ghost use Rattle.cxx_hierarchy.specs.declared.records.ClassId.{ClassId};
-ghost use Rattle.cxx_subobject.specs.Subobjects.{subobject};
-ghost use Rattle.cxx_subobject.specs.Ordered.{HasOrderedBases, HasNoVirtualBase};
+ghost use Rattle.std.specs.Prelude.{◌≡◌, ◌+◌, ◌≤◌, ◌<◌, ◌++◌, ◌∷◌, [], ◌⊎◌, IfOk, IfErr, OnOk, length, replicate, false};
+ghost use Rattle.cxx_subobject.specs.Subobjects.{subobject, shared_base};
 ghost use Rattle.cxx_subobject.specs.Preorder.{tree, preorder, ListsSubobjects};
+ghost use Rattle.cxx_subobject.specs.Parts.{IsWithinLimits};
+ghost use Rattle.cxx_subobject.specs.Walks.{with_new, IsFresh, AreMarks, IsClosed, IsPlaced};
 
+use crate::parts::PartCounts;
 use crate::{ClassPath, Root, Subobject};
 use cxx_hierarchy::{ClassId, Hierarchy, LimitNo, Stop};
 use foundation::{NoMemory, Sequence};
@@ -14,9 +14,6 @@ use std::alloc::Global;
 
 /// A list of subobjects.
 pub type SubobjectList = Sequence<Subobject>;
-
-/// The largest number of subobjects of a class.
-const SUBOBJECT_LIMIT: usize = 1024;
 
 /// A path, and more classes behind it.
 pub fn longer_path(alloc: Global, path: &[ClassId], more: &[ClassId]) -> Result<ClassPath, NoMemory>
@@ -39,53 +36,100 @@ pub fn subobject_below(
     Ok(Subobject { root: s.root, path })
 }
 
-/// Puts a subobject of class `c`, and what its bases give, behind the others.
+/// A mark for each of some classes, none of them set.
+pub fn no_marks(alloc: Global, classes: u32) -> Result<Vec<bool>, NoMemory>
+    ensures { IfOk result (λ marks. marks.items ≡ replicate classes false) }
+{
+    Ok(vec![in alloc; false; classes as usize]?)
+}
+
+/// The subobject that a virtual base is.
+fn shared_base(alloc: Global, v: ClassId) -> Result<Subobject, NoMemory>
+    ensures { IfOk result (λ s. s ≡ shared_base v) }
+{
+    Ok(Subobject {
+        root: Root::Shared(v),
+        path: longer_path(alloc, &[v], &[])?,
+    })
+}
+
+/// Puts a subobject of class `c`, and what its bases give, behind the others, each once. A class is marked where it
+/// was met as a shared base.
 fn visit(
     alloc: Global,
     h: &Hierarchy,
     s: &Subobject,
     c: ClassId,
+    marks: &mut [bool],
     found: &mut Vec<Subobject>,
-) -> Result<(), Stop>
-    requires ordered { HasOrderedBases h.now }
-    requires plain { HasNoVirtualBase h.now }
+) -> Result<(), NoMemory>
     requires known { c.0 < length h.now }
-    requires within { length found.old.items ≤ 1024 }
-    ensures found { OnOk result (found.new.items ≡ found.old.items ++ tree h.now (c.0 + 1) c s.now) }
-    ensures within { OnOk result (length found.new.items ≤ 1024) }
-    ensures limit { IfErr result (λ e. (e ≡ Stop.NoMemory)
-        ⊎ ((e ≡ Stop.Limit LimitNo.L5) × (1024 < length (found.old.items ++ tree h.now (c.0 + 1) c s.now)))) }
+    requires size { length marks.old ≡ length h.now }
+    requires place { IsPlaced h.now c s.now }
+    requires fresh { IsFresh found.old.items s.now }
+    requires marks { AreMarks marks.old (found.old.items ++ s.now ∷ []) }
+    requires closed { IsClosed h.now (c.0 + 1) found.old.items }
+    ensures size { length marks.new ≡ length h.now }
+    ensures found { OnOk result (found.new.items ≡ with_new found.old.items (tree h.now (c.0 + 1) c s.now)) }
+    ensures marks { OnOk result (AreMarks marks.new found.new.items) }
 {
-    if found.len() >= SUBOBJECT_LIMIT {
-        return Err(Stop::Limit(LimitNo::L5));
-    }
+    h.keeps();
     let itself = subobject_below(alloc, s, &[])?;
     found.push(itself)?;
     for base in h.class(c).bases.as_slice() {
-        let inner = subobject_below(alloc, s, &[base.class])?;
-        visit(alloc, h, &inner, base.class, found)?;
+        let number = base.class.0 as usize;
+        if base.is_virtual {
+            if !marks[number] {
+                marks[number] = true;
+                let inner = shared_base(alloc, base.class)?;
+                visit(alloc, h, &inner, base.class, marks, found)?;
+            }
+        } else {
+            let inner = subobject_below(alloc, s, &[base.class])?;
+            visit(alloc, h, &inner, base.class, marks, found)?;
+        }
     }
     Ok(())
 }
 
-/// The inheritance subobjects of a class without virtual bases, in preorder: depth first, a class before its
-/// bases, bases in declaration order (ISO C++03 10.1).
+/// All inheritance subobjects of a class in preorder, each once, however many there are: depth first, a class before
+/// its bases, bases in declaration order (ISO C++03 10.1). A class within the limits has at most 1,024.
 ///
-/// Errors: the limit L5 exactly where there are more than 1,024, or want of memory.
-pub fn subobjects_of(alloc: Global, h: &Hierarchy, c: ClassId) -> Result<SubobjectList, Stop>
-    requires ordered { HasOrderedBases h.now }
-    requires plain { HasNoVirtualBase h.now }
-    requires known { c.0 < length h.now }
+/// Errors: want of memory.
+pub fn list_subobjects(
+    alloc: Global,
+    h: &Hierarchy,
+    c: ClassId,
+) -> Result<SubobjectList, NoMemory>
+    requires { c.0 < length h.now }
     ensures preorder { IfOk result (λ list. list ≡ preorder h.now c) }
     ensures lists { IfOk result (λ list. ListsSubobjects h.now c list) }
-    ensures within { IfOk result (λ list. length list ≤ 1024) }
-    ensures limit { IfErr result (λ e. (e ≡ Stop.NoMemory) ⊎ ((e ≡ Stop.Limit LimitNo.L5) × (1024 < length (preorder h.now c)))) }
 {
+    h.keeps();
     let mut found = Vec::new(alloc);
+    let mut marks = no_marks(alloc, h.len())?;
     let whole = Subobject {
         root: Root::Whole,
         path: longer_path(alloc, &[c], &[])?,
     };
-    visit(alloc, h, &whole, c, &mut found)?;
+    visit(alloc, h, &whole, c, &mut marks, &mut found)?;
     Ok(Sequence::from_vec(found))
+}
+
+/// The inheritance subobjects of a class in preorder, each once.
+///
+/// Errors: the limit L5 exactly where there are more than 1,024, or where the class has more than 65,536 parts,
+/// counted with the parts of its members at every depth; want of memory.
+pub fn subobjects_of(alloc: Global, h: &Hierarchy, c: ClassId) -> Result<SubobjectList, Stop>
+    requires known { c.0 < length h.now }
+    ensures preorder { IfOk result (λ list. list ≡ preorder h.now c) }
+    ensures lists { IfOk result (λ list. ListsSubobjects h.now c list) }
+    ensures within { IfOk result (λ list. IsWithinLimits h.now c) }
+    ensures limit { IfErr result (λ e. (e ≡ Stop.NoMemory) ⊎ ((e ≡ Stop.Limit LimitNo.L5) × (IsWithinLimits h.now c → ⊥))) }
+{
+    let counts = PartCounts::new(alloc, h)?;
+    if !counts.is_within(c) {
+        return Err(Stop::Limit(LimitNo::L5));
+    }
+    Ok(list_subobjects(alloc, h, c)?)
 }

@@ -1,11 +1,15 @@
-use Rattle.std.proofs.Common.{◌≡◌, sym, ◌∙◌, ap}
-use Rattle.cxx_subobject.specs.Inside.{begins}
-use Rattle.cxx_subobject.proofs.InsideLemmas.{test_sound, test_complete}
+use Rattle.std.proofs.Common.{◌≡◌, sym, ◌∙◌, ⊎_elim}
+use Rattle.cxx_subobject.proofs.TestLemmas.{longer_sound, inside_longer, inside_reached, inside_cases, true_false}
 use Rattle.cxx_subobject.proofs.containment.contains.Goals as goal
 
-pub returns : goal.returns
-returns c =
-    let is : c.begins.result ≡ begins c.args.outer.now.path c.args.inner.now.path = c.begins.ensures ∙ (ap (λ p. begins p c.as_slice-2.result.now) c.as_slice.ensures ∙ ap (begins c.args.outer.now.path) c.as_slice-2.ensures) in (
-      λ t. test_sound c.args._h.now c.args._c c.args.outer.now c.args.inner.now c.requires.plain c.requires.outer c.requires.inner (sym is ∙ t),
-      λ k. is ∙ test_complete c.args._h.now c.args.outer.now c.args.inner.now c.requires.plain k,
-    )
+pub returns-then-is_longer : goal.returns-then-is_longer
+returns-then-is_longer c = (
+  λ t. inside_longer c.args.h.now c.args._c c.args.outer.now c.args.inner.now c.requires.outer c.requires.inner (longer_sound c.args.outer.now c.args.inner.now (sym c.is_longer.ensures ∙ t)),
+  λ k. c.if-is_longer.true,
+)
+
+pub returns-else-is_longer : goal.returns-else-is_longer
+returns-else-is_longer c = (
+  λ t. inside_reached c.args.h.now c.args._c c.args.outer.now c.args.inner.now c.requires.inner (c.has_shared.ensures.0 t),
+  λ k. ⊎_elim (λ l. absurd (true_false _ (c.is_longer.ensures ∙ l) c.if-is_longer.false)) (λ r. c.has_shared.ensures.1 r) (inside_cases c.args.h.now c.args.outer.now c.args.inner.now k),
+)

@@ -1,0 +1,3 @@
+pub mod TopLemmas
+pub mod ChoiceLemmas
+pub mod FoundLemmas

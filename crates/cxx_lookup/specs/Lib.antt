@@ -1,0 +1,4 @@
+pub mod Lookup
+pub mod UniqueBase
+pub mod Wanted
+pub mod Named

@@ -1,0 +1,74 @@
+//! Member lookup and unique bases, over the subobjects of a class (ISO C++03 10.2; Rossie and Friedman).
+//!
+//! A name may be declared in several subobjects of a class. A declaration hides another where the other's
+//! subobject lies in its own: so in a diamond a declaration in a derived class hides that of the shared base, by
+//! whatever way the shared base is reached. The name finds the one declaration that no other hides.
+//! This crate owns the definition of that (`IsFound`) and of the one subobject that a class means as a base
+//! (`IsUniqueBase`), each over all subobjects of the class.
+//!
+//! The layer above may rely on: `lookup` and `unique_base` give the one answer where there is one, and else say
+//! exactly whether there is none or more than one.
+#![tactic(auto)]
+
+mod choice;
+pub mod lookup;
+#[cfg(test)]
+mod tests;
+mod wanted;
+
+pub use crate::lookup::{lookup, unique_base};
+use cxx_subobject::Subobject;
+use foundation::NoMemory;
+use thiserror::Error;
+
+/// What a name finds: a data member or a function, by its subobject and its number among the members or the
+/// functions of the subobject's class.
+#[derive(Debug, Drop)]
+pub enum Found {
+    Member(Subobject, u32),
+    Function(Subobject, u32),
+}
+
+/// Why a name finds no one declaration.
+#[derive(Clone, Copy, Debug, PartialEq, Eq, Error)]
+pub enum LookupFault {
+    #[error("the name is ambiguous")]
+    AmbiguousName,
+    #[error("there is no such member")]
+    NoSuchMember,
+    #[error("out of memory")]
+    NoMemory,
+}
+
+/// Why a class means no one base subobject.
+#[derive(Clone, Copy, Debug, PartialEq, Eq, Error)]
+pub enum BaseFault {
+    #[error("the base is ambiguous")]
+    AmbiguousBase,
+    #[error("the class is no base")]
+    NotBase,
+    #[error("out of memory")]
+    NoMemory,
+}
+
+impl From<NoMemory> for LookupFault {
+    ghost use Rattle.std.specs.Prelude.{◌≡◌};
+    ghost use Rattle.cxx_lookup.specs.declared.LookupFault.{LookupFault};
+
+    ghost from_gives = { λ _ fault. fault ≡ LookupFault.NoMemory };
+
+    fn from(_error: NoMemory) -> LookupFault {
+        LookupFault::NoMemory
+    }
+}
+
+impl From<NoMemory> for BaseFault {
+    ghost use Rattle.std.specs.Prelude.{◌≡◌};
+    ghost use Rattle.cxx_lookup.specs.declared.BaseFault.{BaseFault};
+
+    ghost from_gives = { λ _ fault. fault ≡ BaseFault.NoMemory };
+
+    fn from(_error: NoMemory) -> BaseFault {
+        BaseFault::NoMemory
+    }
+}
