@@ -11,7 +11,7 @@ use Rattle.cxx_subobject.specs.declared.Root.{Root}
 use Rattle.cxx_subobject.specs.declared.Root.TheVariants.{Whole, Shared}
 use Rattle.cxx_subobject.specs.declared.Subobject.{Subobject}
 use Rattle.cxx_subobject.specs.Subobjects.{Leads, IsSubobject, whole, shared, subobject, whole_of, last_of, class_of_path, class_of, tail_of, join_at, join}
-use Rattle.cxx_subobject.specs.Ordered.{HasOrderedBases}
+
 use Rattle.cxx_subobject.specs.Inside.{IsInside}
 use Rattle.cxx_subobject.proofs.InsideLemmas.{join_valid, inside_back}
 use Rattle.cxx_overrider.specs.declared.places.Place.{Place}
@@ -22,7 +22,7 @@ pub same_id : (x y : ClassId) → x.0 ≡ y.0 → x ≡ y
 same_id x y e = let make : ℕ → ClassId = λ n. record { 0 = n } in let f : make x.0 ≡ make y.0 = ap make e in f
 
 pub inside_antisymmetric : (h : Classes) → IsHierarchy h → (s t : Subobject) → IsInside h s t → IsInside h t s → s ≡ t
-inside_antisymmetric h keeps s t a b = inside_back h s t (record { before = keeps.bases; once = keeps.once }) a b
+inside_antisymmetric h keeps s t a b = inside_back h s t keeps a b
 
 pub last_append : (c : ClassId) (p q : List ClassId) → last_of c (p ++ q) ≡ last_of (last_of c p) q
 last_append c [] q = refl

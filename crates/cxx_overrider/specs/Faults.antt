@@ -10,7 +10,7 @@ use Rattle.cxx_hierarchy.specs.declared.stop.Rule.TheVariants.{ReturnMismatch, I
 use Rattle.cxx_hierarchy.specs.declared.stop.LimitNo.TheVariants.{L5}
 use Rattle.cxx_hierarchy.specs.Classes.{Class, Classes, class_at, members_of, functions_of}
 use Rattle.cxx_overrider.specs.declared.FunctionId.{FunctionId}
-use Rattle.cxx_overrider.specs.TooLarge.{IsTooLarge}
+use Rattle.cxx_subobject.specs.Parts.{IsWithinLimits}
 use Rattle.cxx_overrider.specs.Overriding.{HasTwoFinalOverriders, IsAbstract}
 use Rattle.cxx_overrider.specs.Covariance.{HasMismatch, HasIncompleteReturn, HasAmbiguousReturn}
 
@@ -52,7 +52,7 @@ function_of c index = record { class = c; index = index }
 
 -- the condition asked at the spot refuses the hierarchy with the stop
 pub data Fault (h : Classes) : Spot → Stop → Type 0 where
-  too_large : (c : ClassId) → c.0 < length h → IsTooLarge h c → Fault h (spot c limit_part 0 0) (Limit L5)
+  too_large : (c : ClassId) → c.0 < length h → (IsWithinLimits h c → ⊥) → Fault h (spot c limit_part 0 0) (Limit L5)
   mismatch : (c : ClassId) (i : ℕ) (f : Function ClassId) → slice_get (functions_of h c) i ≡ Some f → HasMismatch h (function_of c i) → Fault h (spot c function_part i 0) (Refused ReturnMismatch f.at)
   incomplete : (c : ClassId) (i : ℕ) (f : Function ClassId) → slice_get (functions_of h c) i ≡ Some f → HasIncompleteReturn h (function_of c i) → Fault h (spot c function_part i 1) (Refused IncompleteClass f.at)
   ambiguous : (c : ClassId) (i : ℕ) (f : Function ClassId) → slice_get (functions_of h c) i ≡ Some f → HasAmbiguousReturn h (function_of c i) → Fault h (spot c function_part i 2) (Refused AmbiguousCovariant f.at)

@@ -1,7 +1,6 @@
 pub mod Functions
 pub mod Overriding
 pub mod Covariance
-pub mod TooLarge
 pub mod Faults
 pub mod Places
 pub mod Numbers

@@ -19,7 +19,6 @@ mod places;
 mod pure;
 mod settling;
 mod signatures;
-mod stubs;
 
 
 mod virtuals;

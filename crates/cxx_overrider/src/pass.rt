@@ -13,7 +13,7 @@ use crate::signatures::{Numbering, number_signatures};
 use crate::virtuals::{MarkRow, is_marked, virtual_rows};
 use crate::FunctionId;
 use cxx_hierarchy::{ClassId, FieldType, Hierarchy, LimitNo, Rule, Stop};
-use crate::stubs::PartCounts;
+use cxx_subobject::PartCounts;
 use foundation::NoMemory;
 use std::alloc::Global;
 
