@@ -1,7 +1,7 @@
 -- What is known of all classes before the pass.
 use Rattle.std.specs.Prelude.{◌≡◌, length}
 use Rattle.cxx_hierarchy.specs.Classes.{Classes}
-use Rattle.cxx_overrider.specs.declared.settling.Tables.{Tables}
+use Rattle.cxx_overrider.specs.declared.tables.Tables.{Tables}
 use Rattle.cxx_overrider.specs.Overriding.{HasVirtual}
 use Rattle.cxx_overrider.specs.Numbers.{IsNumbering}
 use Rattle.cxx_overrider.specs.Kinds.{AreKinds}

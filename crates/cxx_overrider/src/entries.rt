@@ -14,21 +14,21 @@ use std::alloc::Global;
 
 /// A function, and where its subobject lies in the class.
 #[derive(Clone, Copy, Debug, PartialEq, Eq)]
-pub(crate) struct Entry {
-    pub(crate) place: Place,
-    pub(crate) function: FunctionId,
+pub struct Entry {
+    pub place: Place,
+    pub function: FunctionId,
 }
 
 /// A class, one of its virtual bases, and the number of a signature.
 #[derive(Clone, Copy, Debug, PartialEq, Eq, Hash)]
-pub(crate) struct Key {
-    pub(crate) class: u32,
-    pub(crate) root: u32,
-    pub(crate) number: usize,
+pub struct Key {
+    pub class: u32,
+    pub root: u32,
+    pub number: usize,
 }
 
 /// The key of a class, a virtual base and a signature.
-pub(crate) fn key_of(c: ClassId, v: ClassId, n: usize) -> Key
+pub fn key_of(c: ClassId, v: ClassId, n: usize) -> Key
     ensures { result ≡ key c v n }
 {
     Key {
@@ -40,13 +40,13 @@ pub(crate) fn key_of(c: ClassId, v: ClassId, n: usize) -> Key
 
 /// What overrides the functions of virtual bases, by class, base and signature.
 #[derive(Drop)]
-pub(crate) struct EntryTable {
+pub struct EntryTable {
     entries: IndexMap<Key, Entry>,
 }
 
 impl EntryTable {
     /// The empty table, which takes no memory.
-    pub(crate) fn new(alloc: Global) -> EntryTable
+    pub fn new(alloc: Global) -> EntryTable
         ensures { (q : Key) → entry_of result q ≡ None }
     {
         EntryTable {
@@ -55,14 +55,14 @@ impl EntryTable {
     }
 
     /// The entry under a key.
-    pub(crate) fn find(&self, key: Key) -> Option<Entry>
+    pub fn find(&self, key: Key) -> Option<Entry>
         ensures { result ≡ entry_of self.now key }
     {
         self.entries.get(&key).copied()
     }
 
     /// Puts an entry under a key.
-    pub(crate) fn put(&mut self, key: Key, entry: Entry) -> Result<(), NoMemory>
+    pub fn put(&mut self, key: Key, entry: Entry) -> Result<(), NoMemory>
         ensures { OnOk result ((q : Key) → entry_of self.new q ≡ (if same_key q key then Some entry else entry_of self.old q)) }
     {
         self.entries.insert(key, entry)?;

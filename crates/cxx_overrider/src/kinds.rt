@@ -20,10 +20,10 @@ pub enum BaseKind {
 }
 
 /// For the classes in their order how often each is among the class and its bases.
-pub(crate) type KindRow = Sequence<BaseKind>;
+pub type KindRow = Sequence<BaseKind>;
 
 /// How often `d` is among `c` and its bases.
-pub(crate) fn kind_of(rows: &[KindRow], c: ClassId, d: ClassId) -> BaseKind
+pub fn kind_of(rows: &[KindRow], c: ClassId, d: ClassId) -> BaseKind
     ensures { result ≡ kind_of rows.now c d }
 {
     match rows.get(c.0 as usize) {
@@ -100,7 +100,7 @@ fn kind_row(alloc: Global, h: &Hierarchy, rows: &[KindRow], c: ClassId) -> Resul
 }
 
 /// For all classes how often each is among the others and their bases.
-pub(crate) fn kind_rows(alloc: Global, h: &Hierarchy) -> Result<Vec<KindRow>, NoMemory>
+pub fn kind_rows(alloc: Global, h: &Hierarchy) -> Result<Vec<KindRow>, NoMemory>
     ensures rows { IfOk result (λ rows. AreKinds h.now rows.items) }
     ensures size { IfOk result (λ rows. length rows.items ≡ length h.now) }
 {

@@ -5,26 +5,20 @@
 //! This crate owns these definitions, over subobjects as paths, and the class-meaning pass that refuses the
 //! hierarchies in which a final overrider is not unique, a return type does not fit, or a member is abstract.
 //!
-//! The layer above may rely on: `check_overriders` accepts exactly a hierarchy without a fault of the pass, and
-//! else gives its first fault; on an accepted hierarchy `final_overrider` gives the one final overrider of every
-//! virtual function in every subobject, and `is_virtual` and `is_abstract` say what their definitions say.
+//! So far it has what the pass stands on, proved: the signatures of all functions by numbers, how often each class
+//! is a base of another, which functions are virtual, which pure functions the non-virtual part of a class leaves,
+//! and for each virtual base of a class what overrides its functions, from those of the direct bases (`settling`).
 #![tactic(auto)]
 
-mod covariance;
-mod entries;
-mod kinds;
-mod overriders;
-mod pass;
-mod places;
-mod pure;
-mod settling;
-mod signatures;
+pub mod entries;
+pub mod kinds;
+pub mod places;
+pub mod pure;
+pub mod settling;
+pub mod signatures;
+pub mod tables;
+pub mod virtuals;
 
-
-mod virtuals;
-
-pub use crate::overriders::Overriders;
-pub use crate::pass::{Refusal, check_overriders, first_refused};
 use cxx_hierarchy::ClassId;
 use cxx_subobject::Subobject;
 

@@ -25,7 +25,7 @@ fn base_place(base: &Base<ClassId>) -> Place
 }
 
 /// Where a subobject of a direct base lies in the class.
-pub(crate) fn lifted(base: &Base<ClassId>, place: Place) -> Place
+pub fn lifted(base: &Base<ClassId>, place: Place) -> Place
     ensures { result ≡ lifted base.now place }
 {
     match place {

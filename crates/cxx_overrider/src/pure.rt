@@ -94,7 +94,7 @@ fn pure_row(
 }
 
 /// For each class the signatures of which a virtual pure function stands first on some path of non-virtual bases.
-pub(crate) fn pure_rows(
+pub fn pure_rows(
     alloc: Global,
     h: &Hierarchy,
     numbering: &Numbering,

@@ -11,28 +11,18 @@ ghost use Rattle.cxx_overrider.specs.Settling.{Holds, AreCandidates, IsAmong, Is
 ghost use Rattle.cxx_overrider.specs.Tables.{AreTables};
 
 use crate::entries::{Entry, EntryTable, key_of};
-use crate::kinds::KindRow;
 use crate::places::{Place, lifted};
 use crate::signatures::{Numbering, own_function};
 
-use crate::virtuals::{MarkRow, is_marked};
+use crate::tables::Tables;
+use crate::virtuals::is_marked;
 use cxx_hierarchy::{ClassId, Hierarchy};
 use foundation::NoMemory;
 use std::alloc::Global;
 
-/// What is known of all classes of a hierarchy before the pass: the numbers of the signatures, which classes are
-/// bases of which, and which signatures are virtual, and left pure, in each.
-#[derive(Drop)]
-pub(crate) struct Tables {
-    pub(crate) numbering: Numbering,
-    pub(crate) kinds: Vec<KindRow>,
-    pub(crate) virtuals: Vec<MarkRow>,
-    pub(crate) pure: Vec<MarkRow>,
-}
-
 /// What overrides a function: nothing, one function, or two of which neither lies in the other.
 #[derive(Clone, Copy, Debug)]
-pub(crate) enum Settled {
+pub enum Settled {
     Nothing,
     One(Entry),
     Two(Entry, Entry),
@@ -225,7 +215,7 @@ fn settle_if_base(
 }
 
 /// The same for all virtual bases of a class.
-pub(crate) fn settle_class(
+pub fn settle_class(
     alloc: Global,
     h: &Hierarchy,
     tables: &Tables,

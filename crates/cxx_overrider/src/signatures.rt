@@ -15,10 +15,10 @@ use foundation::{NoMemory, Sequence};
 use std::alloc::Global;
 
 /// The numbers of the functions of a class, its destructor last.
-pub(crate) type NumberRow = Sequence<usize>;
+pub type NumberRow = Sequence<usize>;
 
 /// What a class declares under an index; None for the destructor.
-pub(crate) fn declaration<'a>(h: &'a Hierarchy, f: FunctionId) -> Option<&'a Function<ClassId>>
+pub fn declaration<'a>(h: &'a Hierarchy, f: FunctionId) -> Option<&'a Function<ClassId>>
     requires { f.class.0 < length h.now }
     ensures { option_copied result ≡ declaration_of h.now f }
 {
@@ -146,13 +146,13 @@ fn number_class(
 
 /// The numbers of all functions, and how many numbers there are.
 #[derive(Drop)]
-pub(crate) struct Numbering {
-    pub(crate) rows: Vec<NumberRow>,
-    pub(crate) count: usize,
+pub struct Numbering {
+    pub rows: Vec<NumberRow>,
+    pub count: usize,
 }
 
 /// A number for each function, the same exactly for functions of one signature.
-pub(crate) fn number_signatures(alloc: Global, h: &Hierarchy) -> Result<Numbering, NoMemory>
+pub fn number_signatures(alloc: Global, h: &Hierarchy) -> Result<Numbering, NoMemory>
     ensures { IfOk result (λ numbering. IsNumbering h.now numbering.rows.items numbering.count) }
 {
     h.keeps();
@@ -179,7 +179,7 @@ fn place_of(row: &[usize], n: usize) -> Option<usize>
 }
 
 /// The function of a class that has the number.
-pub(crate) fn own_function(rows: &[NumberRow], c: ClassId, n: usize) -> Option<FunctionId>
+pub fn own_function(rows: &[NumberRow], c: ClassId, n: usize) -> Option<FunctionId>
     requires { AreShort rows.now }
     ensures { MatchOption result ((f : FunctionId) → f.class ≡ c → number_of rows.now f ≡ Some n → ⊥) (λ f. (f.class ≡ c) × (number_of rows.now f ≡ Some n)) }
 {
@@ -197,7 +197,7 @@ pub(crate) fn own_function(rows: &[NumberRow], c: ClassId, n: usize) -> Option<F
 }
 
 /// The number of a function.
-pub(crate) fn number_of(rows: &[NumberRow], f: FunctionId) -> Option<usize>
+pub fn number_of(rows: &[NumberRow], f: FunctionId) -> Option<usize>
     ensures { result ≡ number_of rows.now f }
 {
     match rows.get(f.class.0 as usize) {

@@ -13,10 +13,10 @@ use foundation::{NoMemory, Sequence};
 use std::alloc::Global;
 
 /// For the numbers in their order whether each is marked.
-pub(crate) type MarkRow = Sequence<bool>;
+pub type MarkRow = Sequence<bool>;
 
 /// Whether a number is marked in the row of a class.
-pub(crate) fn is_marked(rows: &[MarkRow], c: ClassId, n: usize) -> bool
+pub fn is_marked(rows: &[MarkRow], c: ClassId, n: usize) -> bool
     ensures { result ≡ mark_of rows.now c n }
 {
     match rows.get(c.0 as usize) {
@@ -103,7 +103,7 @@ fn virtual_row(
 }
 
 /// For each class the signatures that are virtual in it.
-pub(crate) fn virtual_rows(
+pub fn virtual_rows(
     alloc: Global,
     h: &Hierarchy,
     numbering: &Numbering,
