@@ -17,8 +17,6 @@ pub mod pure;
 pub mod settling;
 pub mod signatures;
 pub mod tables;
-#[cfg(test)]
-mod tests;
 pub mod virtuals;
 
 use cxx_hierarchy::ClassId;
