@@ -1,0 +1,142 @@
+-- The table of overriders as it grows, key by key.
+use Rattle.std.proofs.Common.{◌≡◌, ℕ, ◌+◌, ◌<◌, ◌≤◌, ◌⊎◌, inl, inr, ⊎_elim, Bool, true, false, cond, Option, Some, None, List, refl, ap, subst, sym, ◌∙◌, arith}
+use Rattle.std.specs.Prelude.{nat_eq, ◌&&◌, if◌then◌else◌}
+use Rattle.std.proofs.lemmas.Bool.{eqb-true, eq-eqb}
+use Rattle.cxx_hierarchy.specs.declared.records.ClassId.{ClassId}
+use Rattle.cxx_hierarchy.specs.Classes.{Classes}
+use Rattle.cxx_hierarchy.specs.Hierarchies.{IsHierarchy}
+use Rattle.cxx_hierarchy.specs.VirtualBases.{HasVirtualBase}
+use Rattle.cxx_overrider.specs.declared.entries.Entry.{Entry}
+use Rattle.cxx_overrider.specs.declared.entries.Key.{Key}
+use Rattle.cxx_overrider.specs.declared.entries.EntryTable.{EntryTable}
+use Rattle.cxx_overrider.specs.Functions.{Signature}
+use Rattle.cxx_overrider.specs.Overriding.{HasVirtual}
+use Rattle.cxx_overrider.specs.Numbers.{IsNumbering, IsNumberOf}
+use Rattle.cxx_overrider.specs.Entries.{Declares, Tells, TellsOf}
+use Rattle.cxx_overrider.specs.EntryTables.{same_key, entry_of}
+use Rattle.cxx_overrider.specs.Settling.{TellsBefore, IsDone, IsMade, key}
+use Rattle.cxx_overrider.proofs.Lists.{either}
+use Rattle.cxx_overrider.proofs.Paths.{same_id, part_virtual, virtual_below}
+
+same_parts : (a b c d e f : ℕ) → (nat_eq a b && (nat_eq c d && nat_eq e f)) ≡ true → (a ≡ b) × (c ≡ d) × (e ≡ f)
+same_parts a b c d e f k = (eqb-true a b (left (nat_eq a b) (nat_eq c d && nat_eq e f) k), eqb-true c d (left (nat_eq c d) (nat_eq e f) (right (nat_eq a b) (nat_eq c d && nat_eq e f) k)), eqb-true e f (right (nat_eq c d) (nat_eq e f) (right (nat_eq a b) (nat_eq c d && nat_eq e f) k)))
+  where
+    left : (x y : Bool) → (x && y) ≡ true → x ≡ true
+    left true y r = refl
+    left false y r = cc
+    right : (x y : Bool) → (x && y) ≡ true → y ≡ true
+    right true y r = r
+    right false y r = cc
+
+same_itself : (q : Key) → same_key q q ≡ true
+same_itself q = rw (eq-eqb q.class q.class refl, eq-eqb q.root q.root refl, eq-eqb q.number q.number refl) refl
+
+-- what a key has after an entry was put down under another, or the same one
+put_other : (b : Bool) (e : Entry) (old new : Option Entry) → new ≡ (if b then Some e else old) → (b ≡ true → ⊥) → new ≡ old
+put_other true e old new is not = absurd (not refl)
+put_other false e old new is not = is
+
+put_same : (b : Bool) (e : Entry) (old new : Option Entry) → new ≡ (if b then Some e else old) → b ≡ true → new ≡ Some e
+put_same true e old new is same = is
+put_same false e old new is same = cc
+
+done_more : (c v n : ℕ) (q : Key) → IsDone c v n q → IsDone c v (n + 1) q
+done_more c v n q d = ⊎_elim (λ a. inl a) (λ r. inr (⊎_elim (λ a. inl a) (λ b. let lt = b.2 in inr (b.0, b.1, omega arith)) r)) d
+
+done_cases : (c v n : ℕ) (q : Key) → IsDone c v (n + 1) q → IsDone c v n q ⊎ ((q.class ≡ c) × (q.root ≡ v) × (q.number ≡ n))
+done_cases c v n q d = ⊎_elim (λ a. inl (inl a))
+    (λ r. ⊎_elim (λ a. inl (inr (inl a)))
+      (λ b. ⊎_elim (λ lt. inl (inr (inr (b.0, b.1, lt)))) (λ ge. let up = b.2 in inr (b.0, b.1, omega arith)) (either q.number n)) r)
+    d
+
+not_done : (c v n : ℕ) (q : Key) → q.class ≡ c → q.root ≡ v → q.number ≡ n → IsDone c v n q → ⊥
+not_done c v n q a b e d = ⊎_elim (λ x. omega arith) (λ r. ⊎_elim (λ x. let y = x.1 in omega arith) (λ x. let y = x.2 in omega arith) r) d
+
+tells_moved : (h : Classes) (b c w v : ClassId) (s : Signature) (o : Option Entry) → b.0 ≡ c.0 → w.0 ≡ v.0 → TellsOf h c v s o → TellsOf h b w s o
+tells_moved h b c w v s o eb ew t = subst (λ (x : ClassId). TellsOf h x w s o) (sym (same_id b c eb)) (subst (λ (y : ClassId). TellsOf h c y s o) (sym (same_id w v ew)) t)
+
+module _ (h : Classes) (numbers : List (List ℕ)) (table : EntryTable) (c v : ClassId) (n : ℕ) (made : IsMade h numbers table c.0 v.0 n) where
+  pub made_tells : (s : Signature) → IsNumberOf h numbers n s → HasVirtual h v s → TellsBefore h table c v n s
+  made_tells s k has = record { each = λ b lt. made.told b v n s (inl lt) k has }
+
+  pub made_skip : ((s : Signature) → IsNumberOf h numbers n s → HasVirtual h v s → TellsOf h c v s None) → IsMade h numbers table c.0 v.0 (n + 1)
+  made_skip none = record {
+    told = λ b w m s d k has. ⊎_elim (λ old. made.told b w m s old k has)
+        (λ new.
+          let v_same = same_id w v new.1 in
+          let kn : IsNumberOf h numbers n s = subst (λ (i : ℕ). IsNumberOf h numbers i s) new.2 k in
+          let t = tells_moved h b c w v s None new.0 new.1 (none s kn (subst (λ (x : ClassId). HasVirtual h x s) v_same has)) in
+          subst (λ (o : Option Entry). TellsOf h b w s o) (sym (made.fresh (key b w m) (not_done c.0 v.0 n (key b w m) new.0 new.1 new.2))) t)
+        (done_cases c.0 v.0 n (key b w m) d);
+    fresh = λ q not. made.fresh q (λ d. not (done_more c.0 v.0 n q d));
+  }
+
+  pub made_put : (after : EntryTable) (e : Entry) → ((s : Signature) → IsNumberOf h numbers n s → HasVirtual h v s → Tells h c v s e) → ((q : Key) → entry_of after q ≡ (if same_key q (key c v n) then Some e else entry_of table q)) → IsMade h numbers after c.0 v.0 (n + 1)
+  made_put after e tells put = record {
+    told = λ b w m s d k has. ⊎_elim
+        (λ old.
+          let apart : same_key (key b w m) (key c v n) ≡ true → ⊥ = λ t. let p = same_parts b.0 c.0 w.0 v.0 m n t in not_done c.0 v.0 n (key b w m) p.0 p.1 p.2 old in
+          subst (λ (o : Option Entry). TellsOf h b w s o) (sym (put_other (same_key (key b w m) (key c v n)) e (entry_of table (key b w m)) (entry_of after (key b w m)) (put (key b w m)) apart)) (made.told b w m s old k has))
+        (λ new.
+          let v_same = same_id w v new.1 in
+          let kn : IsNumberOf h numbers n s = subst (λ (i : ℕ). IsNumberOf h numbers i s) new.2 k in
+          let t = tells_moved h b c w v s (Some e) new.0 new.1 (tells s kn (subst (λ (x : ClassId). HasVirtual h x s) v_same has)) in
+          let one : same_key (key b w m) (key c v n) ≡ true = rw (eq-eqb b.0 c.0 new.0, eq-eqb w.0 v.0 new.1, eq-eqb m n new.2) refl in
+          subst (λ (o : Option Entry). TellsOf h b w s o) (sym (put_same (same_key (key b w m) (key c v n)) e (entry_of table (key b w m)) (entry_of after (key b w m)) (put (key b w m)) one)) t)
+        (done_cases c.0 v.0 n (key b w m) d);
+    fresh = λ q not.
+        let apart : same_key q (key c v n) ≡ true → ⊥ = λ t. let p = same_parts q.class c.0 q.root v.0 q.number n t in not (inr (inr (p.0, p.1, (let z = p.2 in omega arith)))) in
+        put_other (same_key q (key c v n)) e (entry_of table q) (entry_of after q) (put q) apart ∙ made.fresh q (λ d. not (done_more c.0 v.0 n q d));
+  }
+
+-- the numbers of one virtual base are through
+pub made_end : (h : Classes) (numbers : List (List ℕ)) (table : EntryTable) (c v count : ℕ) → IsNumbering h numbers count → IsMade h numbers table c v count → IsMade h numbers table c (v + 1) 0
+made_end h numbers table c v count is made = record {
+  told = λ b w m s d k has.
+      let few = is.few k.function m k.number in
+      made.told b w m s (⊎_elim (λ a. inl a) (λ r. ⊎_elim (λ a. let lt = a.1 in ⊎_elim (λ small. inr (inl (a.0, small))) (λ ge. inr (inr (a.0, omega arith, few))) (either w.0 v)) (λ x. let lt = x.2 in absurd (omega arith)) r) d) k has;
+  fresh = λ q not. made.fresh q (λ d. not (⊎_elim (λ a. inl a) (λ r. ⊎_elim (λ a. let lt = a.1 in inr (inl (a.0, omega arith))) (λ x. let at = x.1 in inr (inl (x.0, omega arith))) r) d));
+}
+
+-- nothing is put down for a class that is no virtual base
+none_declared : (h : Classes) (c w : ClassId) (s : Signature) → (HasVirtualBase h c w → ⊥) → TellsOf h c w s None
+none_declared h c w s not = λ p d. not (part_virtual h c p.function.class w p.at d.valid d.class d.has)
+
+pub made_none : (h : Classes) (numbers : List (List ℕ)) (table : EntryTable) (c v : ClassId) → (HasVirtualBase h c v → ⊥) → IsMade h numbers table c.0 v.0 0 → IsMade h numbers table c.0 (v.0 + 1) 0
+made_none h numbers table c v not made = record {
+  told = λ b w m s d k has. ⊎_elim (λ a. made.told b w m s (inl a) k has)
+      (λ r. ⊎_elim
+        (λ a. let lt = a.1 in ⊎_elim (λ small. made.told b w m s (inr (inl (a.0, small))) k has)
+          (λ ge.
+            let at : w.0 ≡ v.0 = omega arith in
+            let t = tells_moved h b c w v s None a.0 at (none_declared h c v s not) in
+            subst (λ (o : Option Entry). TellsOf h b w s o) (sym (made.fresh (key b w m) (λ e. ⊎_elim (λ x. let y = a.0 in omega arith) (λ z. ⊎_elim (λ x. let y = x.1 in omega arith) (λ x. let y = x.2 in omega arith) z) e))) t)
+          (either w.0 v.0))
+        (λ x. let lt = x.2 in absurd (omega arith)) r)
+      d;
+  fresh = λ q not_yet. made.fresh q (λ d. not_yet (⊎_elim (λ a. inl a) (λ r. ⊎_elim (λ a. let lt = a.1 in inr (inl (a.0, omega arith))) (λ x. let lt = x.2 in absurd (omega arith)) r) d));
+}
+
+-- the virtual bases of one class are through
+pub made_class : (h : Classes) → IsHierarchy h → (numbers : List (List ℕ)) (table : EntryTable) (c : ClassId) → IsMade h numbers table c.0 c.0 0 → IsMade h numbers table (c.0 + 1) 0 0
+made_class h keeps numbers table c made = record {
+  told = λ b w m s d k has. ⊎_elim
+      (λ a. ⊎_elim (λ small. made.told b w m s (inl small) k has)
+        (λ ge.
+          let at : b.0 ≡ c.0 = omega arith in
+          ⊎_elim (λ below. made.told b w m s (inr (inl (at, below))) k has)
+            (λ above.
+              let t : TellsOf h b w s None = none_declared h b w s (λ v. let lt = virtual_below h keeps b w v in omega arith) in
+              subst (λ (o : Option Entry). TellsOf h b w s o) (sym (made.fresh (key b w m) (λ e. ⊎_elim (λ x. omega arith) (λ z. ⊎_elim (λ x. let y = x.1 in omega arith) (λ x. let y = x.2 in omega arith) z) e))) t)
+            (either w.0 c.0))
+        (either b.0 c.0))
+      (λ r. ⊎_elim (λ x. let lt = x.1 in absurd (omega arith)) (λ x. let lt = x.2 in absurd (omega arith)) r)
+      d;
+  fresh = λ q not_yet. made.fresh q (λ d. not_yet (⊎_elim (λ a. inl (omega arith)) (λ r. ⊎_elim (λ x. let at = x.0 in inl (omega arith)) (λ x. let lt = x.2 in absurd (omega arith)) r) d));
+}
+
+pub made_start : (h : Classes) (numbers : List (List ℕ)) (table : EntryTable) → ((q : Key) → entry_of table q ≡ None) → IsMade h numbers table 0 0 0
+made_start h numbers table none = record {
+  told = λ b w m s d k has. absurd (⊎_elim (λ x. omega arith) (λ z. ⊎_elim (λ x. let y = x.1 in omega arith) (λ x. let y = x.2 in omega arith) z) d);
+  fresh = λ q not. none q;
+}

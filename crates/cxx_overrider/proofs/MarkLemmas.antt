@@ -1,0 +1,126 @@
+-- Marks, and which signatures are virtual.
+use Rattle.std.proofs.Common.{◌≡◌, ℕ, ◌+◌, ◌<◌, ◌≤◌, ◌⊎◌, ◌↔◌, inl, inr, ⊎_elim, Bool, true, false, Option, Some, None, List, [], ◌∷◌, ◌++◌, length, get_or, refl, ap, subst, sym, ◌∙◌, arith, length-append}
+use Rattle.std.specs.Prelude.{◌||◌}
+use Rattle.std.specs.List.{slice_get, Contains}
+use Rattle.cxx_hierarchy.specs.declared.records.ClassId.{ClassId}
+use Rattle.cxx_hierarchy.specs.declared.records.Base.{Base}
+use Rattle.cxx_hierarchy.specs.Classes.{Class, Classes, class_at, bases_of}
+use Rattle.cxx_hierarchy.specs.Hierarchies.{IsHierarchy}
+use Rattle.cxx_subobject.specs.declared.Subobject.{Subobject}
+use Rattle.cxx_subobject.specs.Subobjects.{IsSubobject, whole, class_of, whole_of, join}
+use Rattle.cxx_overrider.specs.declared.FunctionId.{FunctionId}
+use Rattle.cxx_overrider.specs.Functions.{Signature, signature_of, says_virtual}
+use Rattle.cxx_overrider.specs.Overriding.{HasPart, HasVirtual}
+use Rattle.cxx_overrider.specs.Numbers.{number_of, IsNumbering, IsNumberOf}
+use Rattle.cxx_overrider.specs.Places.{base_of, IsThrough}
+use Rattle.cxx_overrider.specs.Marks.{mark_of, MarksEach, IsMarkRow, AreMarks, HasMarkedBase, SaysVirtual}
+use Rattle.cxx_overrider.proofs.Lists.{get_contains, or_front, or_last, either}
+use Rattle.cxx_overrider.proofs.Numbering.{same_function}
+use Rattle.cxx_overrider.proofs.Paths.{same_id, through_cases, through_valid, through_class, through_join}
+
+-- the functions of a number are those of its signature
+pub number_says : (h : Classes) (rows : List (List ℕ)) (count n : ℕ) (s : Signature) (f : FunctionId) → IsNumbering h rows count → IsNumberOf h rows n s → number_of rows f ≡ Some n → signature_of h f ≡ Some s
+number_says h rows count n s f is k e = is.same f k.function n e k.number ∙ k.is
+
+pub says_number : (h : Classes) (rows : List (List ℕ)) (count n : ℕ) (s : Signature) (f : FunctionId) → IsNumbering h rows count → IsNumberOf h rows n s → signature_of h f ≡ Some s → number_of rows f ≡ Some n
+says_number h rows count n s f is k e =
+    let r = is.numbered f s e in
+    let same : r.0 ≡ n = is.apart f k.function r.0 n r.1 k.number (e ∙ sym k.is) in
+    r.1 ∙ ap (λ x. Some x) same
+
+-- a base of the class or of a direct base
+pub part_itself : (h : Classes) (c : ClassId) → HasPart h c c
+part_itself h c = record { part = whole_of c; valid = whole [] tt; class = refl }
+
+pub part_up : (h : Classes) (c d : ClassId) (base : Base ClassId) → Contains (bases_of h c) base → HasPart h base.class d → HasPart h c d
+part_up h c d base listed k =
+    let s = join (base_of c base) k.part in
+    let t : IsThrough h c base s = through_join h c base k.part k.valid in
+    record { part = s; valid = through_valid h c base s listed t; class = through_class h c base s t ∙ k.class }
+
+abbrev pub PartBelow : Classes → (c d : ClassId) → Type 0
+PartBelow h c d = (base : Base ClassId) × Contains (bases_of h c) base × HasPart h base.class d
+
+pub part_down : (h : Classes) (c d : ClassId) → HasPart h c d → (c ≡ d) ⊎ PartBelow h c d
+part_down h c d k = ⊎_elim
+    (λ e. inl (let same : Some c ≡ Some d = sym (ap class_of e) ∙ k.class in cc))
+    (λ b. inr (b.0, b.1, record { part = b.2.part; valid = b.2.valid; class = sym (through_class h c b.0 k.part b.2) ∙ k.class }))
+    (through_cases h c k.part k.valid)
+
+-- the class says so, or a direct base has it
+pub virtual_own : (h : Classes) (c : ClassId) (s : Signature) → SaysVirtual h c s → HasVirtual h c s
+virtual_own h c s k = record { source = k.source; same = k.same; says = k.says; base = subst (λ (x : ClassId). HasPart h c x) (sym k.class) (part_itself h c) }
+
+pub virtual_up : (h : Classes) (c : ClassId) (s : Signature) (base : Base ClassId) → Contains (bases_of h c) base → HasVirtual h base.class s → HasVirtual h c s
+virtual_up h c s base listed k = record { source = k.source; same = k.same; says = k.says; base = part_up h c k.source.class base listed k.base }
+
+pub virtual_down : (h : Classes) (c : ClassId) (s : Signature) → HasVirtual h c s → SaysVirtual h c s ⊎ ((base : Base ClassId) × Contains (bases_of h c) base × HasVirtual h base.class s)
+virtual_down h c s k = ⊎_elim
+    (λ e. inl (record { source = k.source; class = sym e; same = k.same; says = k.says }))
+    (λ b. inr (b.0, b.1, record { source = k.source; same = k.same; says = k.says; base = b.2 }))
+    (part_down h c k.source.class k.base)
+
+or_left : (a b : Bool) → a ≡ true → (a || b) ≡ true
+or_left true b e = refl
+or_left false b e = cc
+
+or_right : (a b : Bool) → b ≡ true → (a || b) ≡ true
+or_right true b e = refl
+or_right false b e = e
+
+or_either : (a b : Bool) → (a || b) ≡ true → (a ≡ true) ⊎ (b ≡ true)
+or_either true b e = inl refl
+or_either false b e = inr e
+
+pub virtual_decided : (h : Classes) → IsHierarchy h → (numbers : List (List ℕ)) (rows : List (List Bool)) (c : ClassId) (n : ℕ) (s : Signature) (own inherited : Bool) → AreMarks h numbers (HasVirtual h) rows → length rows ≡ c.0 → IsNumberOf h numbers n s → (own ≡ true) ↔ SaysVirtual h c s → (inherited ≡ true) ↔ HasMarkedBase h rows c n → ((own || inherited) ≡ true) ↔ HasVirtual h c s
+virtual_decided h keeps numbers rows c n s own inherited are size k a b = (
+    λ e. ⊎_elim (λ o. virtual_own h c s (a.0 o))
+      (λ i. let m = b.0 i in let lt = keeps.bases c m.base m.listed in virtual_up h c s m.base m.listed ((are.each m.base.class n s (omega arith) k).0 m.marked))
+      (or_either own inherited e),
+    λ v. ⊎_elim (λ o. or_left own inherited (a.1 o))
+      (λ i. let lt = keeps.bases c i.0 i.1 in or_right own inherited (b.1 (record { base = i.0; listed = i.1; marked = (are.each i.0.class n s (omega arith) k).1 i.2 })))
+      (virtual_down h c s v),
+  )
+
+-- rows of marks
+pub no_marks : (h : Classes) (numbers : List (List ℕ)) (P : Signature → Type 0) → MarksEach h numbers P []
+no_marks h numbers P = record { each = λ n s lt k. absurd (omega arith) }
+
+pub marks_more : (h : Classes) (numbers : List (List ℕ)) (P : Signature → Type 0) (row : List Bool) (n : ℕ) (b : Bool) → MarksEach h numbers P row → length row ≡ n → ((s : Signature) → IsNumberOf h numbers n s → (b ≡ true) ↔ P s) → MarksEach h numbers P (row ++ b ∷ [])
+marks_more h numbers P row n b has size new = record {
+  each = λ m s lt k. ⊎_elim
+      (λ small. subst (λ (x : Bool). (x ≡ true) ↔ P s) (sym (or_front row (b ∷ []) m false small)) (has.each m s small k))
+      (λ past. let at : m ≡ length row = let l : length (row ++ b ∷ []) ≡ length row + 1 = length-append row (b ∷ []) in omega arith in
+        let value : get_or (row ++ b ∷ []) m false ≡ b = ap (λ i. get_or (row ++ b ∷ []) i false) at ∙ or_last row b false in
+        subst (λ (x : Bool). (x ≡ true) ↔ P s) (sym value) (new s (subst (λ (i : ℕ). IsNumberOf h numbers i s) (at ∙ size) k)))
+      (either m (length row));
+}
+
+pub no_mark_rows : (h : Classes) (numbers : List (List ℕ)) (P : ClassId → Signature → Type 0) → AreMarks h numbers P []
+no_mark_rows h numbers P = record { each = λ c n s lt k. absurd (omega arith) }
+
+pub mark_rows_more : (h : Classes) (numbers : List (List ℕ)) (count : ℕ) (P : ClassId → Signature → Type 0) (rows : List (List Bool)) (c : ClassId) (row : List Bool) → IsNumbering h numbers count → AreMarks h numbers P rows → length rows ≡ c.0 → IsMarkRow h numbers count (P c) row → AreMarks h numbers P (rows ++ row ∷ [])
+mark_rows_more h numbers count P rows c row is has size new = record {
+  each = λ x n s lt k. ⊎_elim
+      (λ small. subst (λ (r : List Bool). (get_or r n false ≡ true) ↔ P x s) (sym (or_front rows (row ∷ []) x.0 [] small)) (has.each x n s small k))
+      (λ past. let at : x.0 ≡ length rows = let l : length (rows ++ row ∷ []) ≡ length rows + 1 = length-append rows (row ∷ []) in omega arith in
+        let same : c ≡ x = same_id c x (omega arith) in
+        let value : get_or (rows ++ row ∷ []) x.0 [] ≡ row = ap (λ i. get_or (rows ++ row ∷ []) i []) at ∙ or_last rows row [] in
+        let few = is.few k.function n k.number in
+        let all = new.size in
+        subst (λ (r : List Bool). (get_or r n false ≡ true) ↔ P x s) (sym value) (subst (λ (y : ClassId). (get_or row n false ≡ true) ↔ P y s) same (new.marks.each n s (omega arith) k)))
+      (either x.0 (length rows));
+}
+
+pub own_decided : (h : Classes) → IsHierarchy h → (c : ClassId) (s : Signature) (f : FunctionId) (b : Bool) → f.class ≡ c → signature_of h f ≡ Some s → b ≡ says_virtual h f → (b ≡ true) ↔ SaysVirtual h c s
+own_decided h keeps c s f b class same is = (
+    λ e. record { source = f; class = class; same = same; says = sym is ∙ e },
+    λ k. let one : k.source ≡ f = same_function h keeps k.source f s (k.class ∙ sym class) k.same same in is ∙ sym (ap (says_virtual h) one) ∙ k.says,
+  )
+
+pub virtual_then : (h : Classes) (c : ClassId) (s : Signature) (own : Bool) → own ≡ true → (own ≡ true) ↔ SaysVirtual h c s → (own ≡ true) ↔ HasVirtual h c s
+virtual_then h c s own t a = (λ e. virtual_own h c s (a.0 e), λ v. t)
+
+pub virtual_else : (h : Classes) → IsHierarchy h → (numbers : List (List ℕ)) (rows : List (List Bool)) (c : ClassId) (n : ℕ) (s : Signature) (own inherited : Bool) → own ≡ false → AreMarks h numbers (HasVirtual h) rows → length rows ≡ c.0 → IsNumberOf h numbers n s → (own ≡ true) ↔ SaysVirtual h c s → (inherited ≡ true) ↔ HasMarkedBase h rows c n → (inherited ≡ true) ↔ HasVirtual h c s
+virtual_else h keeps numbers rows c n s own inherited f are size k a b =
+    subst (λ (o : Bool). ((o || inherited) ≡ true) ↔ HasVirtual h c s) f (virtual_decided h keeps numbers rows c n s own inherited are size k a b)

@@ -1,0 +1,297 @@
+-- Subobjects of a class, and those of its direct bases.
+use Rattle.std.proofs.Common.{◌≡◌, ◌≢◌, ℕ, ◌<◌, ◌≤◌, ◌⊎◌, inl, inr, ⊎_elim, Bool, true, false, Option, Some, List, [], ◌∷◌, ◌++◌, refl, ap, subst, sym, ◌∙◌, arith, append_assoc}
+use Rattle.std.specs.List.{Contains}
+use Rattle.std.proofs.lemmas.List.{append-nil}
+use Rattle.cxx_hierarchy.specs.declared.records.ClassId.{ClassId}
+use Rattle.cxx_hierarchy.specs.declared.records.Base.{Base}
+use Rattle.cxx_hierarchy.specs.Classes.{Classes, bases_of}
+use Rattle.cxx_hierarchy.specs.Hierarchies.{IsHierarchy}
+use Rattle.cxx_hierarchy.specs.VirtualBases.{IsDirectBase, HasVirtualBase, direct, further}
+use Rattle.cxx_subobject.specs.declared.Root.{Root}
+use Rattle.cxx_subobject.specs.declared.Root.TheVariants.{Whole, Shared}
+use Rattle.cxx_subobject.specs.declared.Subobject.{Subobject}
+use Rattle.cxx_subobject.specs.Subobjects.{Leads, IsSubobject, whole, shared, subobject, whole_of, last_of, class_of_path, class_of, tail_of, join_at, join}
+
+use Rattle.cxx_subobject.specs.Inside.{IsInside}
+use Rattle.cxx_subobject.proofs.InsideLemmas.{join_valid, inside_back}
+use Rattle.cxx_overrider.specs.declared.places.Place.{Place}
+use Rattle.cxx_overrider.specs.declared.places.Place.TheVariants.{Itself, InBase, InShared}
+use Rattle.cxx_overrider.specs.Places.{place_of, place_at, place_below, base_place, lifted, base_subobject, base_of, IsThrough}
+
+pub same_id : (x y : ClassId) → x.0 ≡ y.0 → x ≡ y
+same_id x y e = let make : ℕ → ClassId = λ n. record { 0 = n } in let f : make x.0 ≡ make y.0 = ap make e in f
+
+pub inside_antisymmetric : (h : Classes) → IsHierarchy h → (s t : Subobject) → IsInside h s t → IsInside h t s → s ≡ t
+inside_antisymmetric h keeps s t a b = inside_back h s t keeps a b
+
+pub last_append : (c : ClassId) (p q : List ClassId) → last_of c (p ++ q) ≡ last_of (last_of c p) q
+last_append c [] q = refl
+last_append c (b ∷ p) q = last_append b p q
+
+pub leads_rest : (h : Classes) (c : ClassId) (p q : List ClassId) → Leads h c (p ++ q) → Leads h (last_of c p) q
+leads_rest h c [] q l = l
+leads_rest h c (b ∷ p) q l = leads_rest h b p q l.1
+
+pub leads_front : (h : Classes) (c : ClassId) (p q : List ClassId) → Leads h c (p ++ q) → Leads h c p
+leads_front h c [] q l = tt
+leads_front h c (b ∷ p) q l = (l.0, leads_front h b p q l.1)
+
+-- a virtual base of a base is one of the class
+pub virtual_along : (h : Classes) (c v : ClassId) (p : List ClassId) → Leads h c p → HasVirtualBase h (last_of c p) v → HasVirtualBase h c v
+virtual_along h c v [] l has = has
+virtual_along h c v (b ∷ p) l has = further c b v false l.0 (virtual_along h b v p l.1 has)
+
+pub virtual_again : (h : Classes) (c v w : ClassId) → HasVirtualBase h c v → HasVirtualBase h v w → HasVirtualBase h c w
+virtual_again h _ _ w (direct c v d) has = further c v w true d has
+virtual_again h _ _ w (further c b v way d rest) has = further c b w way d (virtual_again h b v w rest has)
+
+-- a virtual base of the class of a part is one of the whole
+pub part_virtual : (h : Classes) (c d v : ClassId) (s : Subobject) → IsSubobject h c s → class_of s ≡ Some d → HasVirtualBase h d v → HasVirtualBase h c v
+part_virtual h c d v _ (whole p l) e has = let same : last_of c p ≡ d = cc in virtual_along h c v p l (subst (λ (x : ClassId). HasVirtualBase h x v) (sym same) has)
+part_virtual h c d v _ (shared w p hw l) e has = let same : last_of w p ≡ d = cc in virtual_again h c w v hw (virtual_along h w v p l (subst (λ (x : ClassId). HasVirtualBase h x v) (sym same) has))
+
+class_of_longer : (path q : List ClassId) (d : ClassId) → class_of_path path ≡ Some d → class_of_path (path ++ q) ≡ Some (last_of d q)
+class_of_longer [] q d e = cc
+class_of_longer (c ∷ p) q d e = let same : last_of c p ≡ d = cc in ap (λ x. Some x) (last_append c p q ∙ ap (λ (x : ClassId). last_of x q) same)
+
+pub join_class : (h : Classes) (d : ClassId) (s t : Subobject) → class_of s ≡ Some d → IsSubobject h d t → class_of (join s t) ≡ class_of t
+join_class h d s _ e (whole q m) = class_of_longer s.path q d e
+join_class h d s _ e (shared v q has m) = refl
+
+pub join_join : (h : Classes) (d e : ClassId) (s t u : Subobject) → IsSubobject h d t → IsSubobject h e u → join (join s t) u ≡ join s (join t u)
+join_join h d e s _ _ (whole p l) (whole q m) = ap (λ x. subobject s.root x) (append_assoc s.path p q)
+join_join h d e s _ _ (whole p l) (shared v q has m) = refl
+join_join h d e s _ _ (shared w p hw l) (whole q m) = refl
+join_join h d e s _ _ (shared w p hw l) (shared v q has m) = refl
+
+pub class_there : (h : Classes) (c : ClassId) (s : Subobject) → IsSubobject h c s → (d : ClassId) × (class_of s ≡ Some d)
+class_there h c _ (whole p l) = (last_of c p, refl)
+class_there h c _ (shared v p has l) = (last_of v p, refl)
+
+-- what lies in a part lies in it as a part of the whole
+pub join_inside : (h : Classes) (d : ClassId) (s a b : Subobject) → class_of s ≡ Some d → IsSubobject h d a → IsInside h a b → IsInside h (join s a) (join s b)
+join_inside h d s a b e valid k = record {
+  class = k.class;
+  of_class = join_class h d s a e valid ∙ k.of_class;
+  part = k.part;
+  valid = k.valid;
+  joined = ap (λ x. join s x) k.joined ∙ sym (join_join h d k.class s a k.part valid k.valid);
+}
+
+-- the class of an inner subobject has no virtual base that the outer one's has not
+pub inside_virtual : (h : Classes) (d e v : ClassId) (s t : Subobject) → IsInside h s t → class_of s ≡ Some d → class_of t ≡ Some e → HasVirtualBase h e v → HasVirtualBase h d v
+inside_virtual h d e v s t k ds et has =
+    let part_class : class_of k.part ≡ Some e = sym (join_class h k.class s k.part k.of_class k.valid) ∙ (ap class_of (sym k.joined) ∙ et) in
+    let same : k.class ≡ d = let f = k.of_class in cc in
+    subst (λ (x : ClassId). HasVirtualBase h x v) same (part_virtual h k.class e v k.part k.valid part_class has)
+
+-- a shared subobject lies in each one whose class has its root as a virtual base
+pub virtual_inside : (h : Classes) (s : Subobject) (d w : ClassId) (q : List ClassId) → class_of s ≡ Some d → HasVirtualBase h d w → Leads h w q → IsInside h s (subobject (Shared w) (w ∷ q))
+virtual_inside h s d w q e has l = record { class = d; of_class = e; part = subobject (Shared w) (w ∷ q); valid = shared w q has l; joined = refl }
+
+-- the order of the classes
+base_before : (h : Classes) → IsHierarchy h → (c b : ClassId) (way : Bool) → IsDirectBase h c way b → b.0 < c.0
+base_before h keeps c b way d = let f = keeps.bases c d.base d.listed in let e : d.base.class.0 ≡ b.0 = ap (λ (x : ClassId). x.0) d.class in omega arith
+
+pub last_below : (h : Classes) → IsHierarchy h → (c : ClassId) (p : List ClassId) → Leads h c p → (last_of c p).0 ≤ c.0
+last_below h keeps c [] l = omega arith
+last_below h keeps c (b ∷ p) l = let f = base_before h keeps c b false l.0 in let r = last_below h keeps b p l.1 in omega arith
+
+pub virtual_below : (h : Classes) → IsHierarchy h → (c v : ClassId) → HasVirtualBase h c v → v.0 < c.0
+virtual_below h keeps _ _ (direct c v d) = base_before h keeps c v true d
+virtual_below h keeps _ _ (further c b v way d rest) = let f = base_before h keeps c b way d in let r = virtual_below h keeps b v rest in omega arith
+
+-- a subobject is the whole, or of a class before
+pub smaller : (h : Classes) → IsHierarchy h → (c d : ClassId) (s : Subobject) → IsSubobject h c s → class_of s ≡ Some d → (s ≡ whole_of c) ⊎ (d.0 < c.0)
+smaller h keeps c d _ (whole [] l) e = inl refl
+smaller h keeps c d _ (whole (b ∷ p) l) e =
+    let same : last_of b p ≡ d = cc in
+    let f = base_before h keeps c b false l.0 in
+    let r = last_below h keeps b p l.1 in
+    let g : (last_of b p).0 ≡ d.0 = ap (λ (x : ClassId). x.0) same in inr (omega arith)
+smaller h keeps c d _ (shared v p has l) e =
+    let same : last_of v p ≡ d = cc in
+    let f = virtual_below h keeps c v has in
+    let r = last_below h keeps v p l in
+    let g : (last_of v p).0 ≡ d.0 = ap (λ (x : ClassId). x.0) same in inr (omega arith)
+
+-- what a direct base is in the class
+base_valid : (h : Classes) (c b : ClassId) (w : Bool) → IsDirectBase h c w b → IsSubobject h c (base_subobject w c b)
+base_valid h c b true d = shared b [] (direct c b d) tt
+base_valid h c b false d = whole (b ∷ []) (d, tt)
+
+base_class : (w : Bool) (c b : ClassId) → class_of (base_subobject w c b) ≡ Some b
+base_class true c b = refl
+base_class false c b = refl
+
+pub direct_base : (h : Classes) (c : ClassId) (base : Base ClassId) → Contains (bases_of h c) base → IsDirectBase h c base.is_virtual base.class
+direct_base h c base l = record { base = base; listed = l; class = refl; way = refl }
+
+pub through_valid : (h : Classes) (c : ClassId) (base : Base ClassId) (s : Subobject) → Contains (bases_of h c) base → IsThrough h c base s → IsSubobject h c s
+through_valid h c base s l t = subst (λ (x : Subobject). IsSubobject h c x) (sym t.joined)
+    (join_valid h c base.class (base_of c base) t.part (base_valid h c base.class base.is_virtual (direct_base h c base l)) (base_class base.is_virtual c base.class) t.valid)
+
+pub through_class : (h : Classes) (c : ClassId) (base : Base ClassId) (s : Subobject) → (t : IsThrough h c base s) → class_of s ≡ class_of t.part
+through_class h c base s t = ap class_of t.joined ∙ join_class h base.class (base_of c base) t.part (base_class base.is_virtual c base.class) t.valid
+
+pub through_inside : (h : Classes) (c : ClassId) (base : Base ClassId) (s t : Subobject) → (a : IsThrough h c base s) → (b : IsThrough h c base t) → IsInside h a.part b.part → IsInside h s t
+through_inside h c base s t a b k =
+    subst (λ (x : Subobject). IsInside h x t) (sym a.joined) (subst (λ (x : Subobject). IsInside h (join (base_of c base) a.part) x) (sym b.joined)
+    (join_inside h base.class (base_of c base) a.part b.part (base_class base.is_virtual c base.class) a.valid k))
+
+join_false : (w : Bool) (c b : ClassId) (p : List ClassId) → w ≡ false → subobject Whole (c ∷ b ∷ p) ≡ join (base_subobject w c b) (subobject Whole (b ∷ p))
+join_false true c b p e = cc
+join_false false c b p e = refl
+
+join_true : (w : Bool) (c b : ClassId) (p : List ClassId) → w ≡ true → subobject (Shared b) (b ∷ p) ≡ join (base_subobject w c b) (subobject Whole (b ∷ p))
+join_true true c b p e = refl
+join_true false c b p e = cc
+
+through_false : (h : Classes) (c b : ClassId) (p : List ClassId) → (d : IsDirectBase h c false b) → Leads h b p → IsThrough h c d.base (subobject Whole (c ∷ b ∷ p))
+through_false h c b p d l = record {
+  part = subobject Whole (d.base.class ∷ p);
+  valid = whole p (subst (λ (x : ClassId). Leads h x p) (sym d.class) l);
+  joined = ap (λ (x : ClassId). subobject Whole (c ∷ x ∷ p)) (sym d.class) ∙ join_false d.base.is_virtual c d.base.class p d.way;
+}
+
+through_true : (h : Classes) (c v : ClassId) (p : List ClassId) → (d : IsDirectBase h c true v) → Leads h v p → IsThrough h c d.base (subobject (Shared v) (v ∷ p))
+through_true h c v p d l = record {
+  part = subobject Whole (d.base.class ∷ p);
+  valid = whole p (subst (λ (x : ClassId). Leads h x p) (sym d.class) l);
+  joined = ap (λ (x : ClassId). subobject (Shared x) (x ∷ p)) (sym d.class) ∙ join_true d.base.is_virtual c d.base.class p d.way;
+}
+
+through_further : (h : Classes) (c : ClassId) (base : Base ClassId) (v : ClassId) (p : List ClassId) → HasVirtualBase h base.class v → Leads h v p → IsThrough h c base (subobject (Shared v) (v ∷ p))
+through_further h c base v p has l = record { part = subobject (Shared v) (v ∷ p); valid = shared v p has l; joined = refl }
+
+-- a direct base of which the subobject is one
+abbrev pub SomeBase : Classes → ClassId → Subobject → Type 0
+SomeBase h c s = (base : Base ClassId) × Contains (bases_of h c) base × IsThrough h c base s
+
+through_shared : (h : Classes) (c v : ClassId) (p : List ClassId) → HasVirtualBase h c v → Leads h v p → SomeBase h c (subobject (Shared v) (v ∷ p))
+through_shared h _ _ p (direct c v d) l = (d.base, d.listed, through_true h c v p d l)
+through_shared h _ _ p (further c b v way d rest) l =
+    (d.base, d.listed, through_further h c d.base v p (subst (λ (x : ClassId). HasVirtualBase h x v) (sym d.class) rest) l)
+
+-- a subobject is the whole, or one of a direct base
+pub through_cases : (h : Classes) (c : ClassId) (s : Subobject) → IsSubobject h c s → (s ≡ whole_of c) ⊎ SomeBase h c s
+through_cases h c _ (whole [] l) = inl refl
+through_cases h c _ (whole (b ∷ p) l) = inr (l.0.base, l.0.listed, through_false h c b p l.0 l.1)
+through_cases h c _ (shared v p has l) = inr (through_shared h c v p has l)
+
+-- places
+lifted_below : (base : Base ClassId) (q : List ClassId) → lifted base (place_below q) ≡ base_place base.is_virtual base.class
+lifted_below base [] = refl
+lifted_below base (x ∷ q) = refl
+
+place_joined : (w : Bool) (c b : ClassId) (q : List ClassId) → place_of (join (base_subobject w c b) (subobject Whole (b ∷ q))) ≡ base_place w b
+place_joined true c b q = refl
+place_joined false c b q = refl
+
+place_lifted : (h : Classes) (c : ClassId) (base : Base ClassId) (part : Subobject) → IsSubobject h base.class part → place_of (join (base_of c base) part) ≡ lifted base (place_of part)
+place_lifted h c base _ (whole q m) = place_joined base.is_virtual c base.class q ∙ sym (lifted_below base q)
+place_lifted h c base _ (shared w q has m) = refl
+
+pub through_place : (h : Classes) (c : ClassId) (base : Base ClassId) (s : Subobject) → (t : IsThrough h c base s) → place_of s ≡ lifted base (place_of t.part)
+through_place h c base s t = ap place_of t.joined ∙ place_lifted h c base t.part t.valid
+
+not_itself : (w : Bool) (b : ClassId) → Itself ≡ base_place w b → ⊥
+not_itself true b e = cc
+not_itself false b e = cc
+
+base_place_base : (w : Bool) (b d : ClassId) → InBase d ≡ base_place w b → (w ≡ false) × (b ≡ d)
+base_place_base true b d e = cc
+base_place_base false b d e = (refl, cc)
+
+base_place_shared : (w : Bool) (b d : ClassId) → InShared d ≡ base_place w b → (w ≡ true) × (b ≡ d)
+base_place_shared true b d e = (refl, cc)
+base_place_shared false b d e = cc
+
+same_place : (h : Classes) (c : ClassId) (base : Base ClassId) (s part : Subobject) → Contains (bases_of h c) base → IsSubobject h c s → IsSubobject h base.class part → place_of s ≡ lifted base (place_of part) → IsThrough h c base s
+same_place h c base _ _ l (whole [] k) (whole q m) e = absurd (not_itself base.is_virtual base.class (e ∙ lifted_below base q))
+same_place h c base _ _ l (whole [] k) (shared w q has m) e = cc
+same_place h c base _ _ l (whole (b ∷ p) k) (whole q m) e =
+    let r = base_place_base base.is_virtual base.class b (e ∙ lifted_below base q) in
+    through_false h c b p (record { base = base; listed = l; class = r.1; way = r.0 }) k.1
+same_place h c base _ _ l (whole (b ∷ p) k) (shared w q has m) e = cc
+same_place h c base _ _ l (shared v p has k) (whole q m) e =
+    let r = base_place_shared base.is_virtual base.class v (e ∙ lifted_below base q) in
+    through_true h c v p (record { base = base; listed = l; class = r.1; way = r.0 }) k
+same_place h c base _ _ l (shared v p has k) (shared w q hw m) e =
+    let same : w ≡ v = cc in
+    through_further h c base v p (subst (λ (x : ClassId). HasVirtualBase h base.class x) same hw) k
+
+-- a subobject at the place of one of a direct base is one of that base
+pub place_through : (h : Classes) (c : ClassId) (base : Base ClassId) (s t : Subobject) → Contains (bases_of h c) base → IsSubobject h c s → IsThrough h c base t → place_of s ≡ place_of t → IsThrough h c base s
+place_through h c base s t l valid k e = same_place h c base s k.part l valid k.valid (e ∙ through_place h c base t k)
+
+-- what lies in a subobject lies at its place, or in a shared base of its class
+abbrev pub AtPlace : Classes → Subobject → ClassId → Subobject → Type 0
+AtPlace h s d t = (place_of s ≡ place_of t) ⊎ ((w : ClassId) × (place_of t ≡ InShared w) × HasVirtualBase h d w)
+
+longer_place : (h : Classes) (c : ClassId) (s : Subobject) (q : List ClassId) → IsSubobject h c s → (place_of s ≡ Itself → ⊥) → place_of s ≡ place_of (subobject s.root (s.path ++ q))
+longer_place h c _ q (whole [] l) not_whole = absurd (not_whole refl)
+longer_place h c _ q (whole (b ∷ p) l) not_whole = refl
+longer_place h c _ q (shared v p has l) not_whole = refl
+
+inside_part : (h : Classes) (c d : ClassId) (s part : Subobject) → IsSubobject h c s → (place_of s ≡ Itself → ⊥) → IsSubobject h d part → AtPlace h s d (join s part)
+inside_part h c d s _ valid not_whole (whole q m) = inl (longer_place h c s q valid not_whole)
+inside_part h c d s _ valid not_whole (shared w q has m) = inr (w, refl, has)
+
+pub inside_cases : (h : Classes) (c d : ClassId) (s t : Subobject) → IsSubobject h c s → class_of s ≡ Some d → (place_of s ≡ Itself → ⊥) → IsInside h s t → AtPlace h s d t
+inside_cases h c d s t valid e not_whole k =
+    let same : k.class ≡ d = let f = k.of_class in cc in
+    subst (λ (x : Subobject). AtPlace h s d x) (sym k.joined)
+    (subst (λ (x : ClassId). AtPlace h s x (join s k.part)) same (inside_part h c k.class s k.part valid not_whole k.valid))
+
+-- the whole is what lies at its own place
+pub place_whole : (h : Classes) (c : ClassId) (s : Subobject) → IsSubobject h c s → place_of s ≡ Itself → s ≡ whole_of c
+place_whole h c _ (whole [] l) e = refl
+place_whole h c _ (whole (b ∷ p) l) e = cc
+place_whole h c _ (shared v p has l) e = cc
+
+-- a subobject at a shared place begins there
+pub place_shared : (h : Classes) (c w : ClassId) (s : Subobject) → IsSubobject h c s → place_of s ≡ InShared w → (q : List ClassId) × (s ≡ subobject (Shared w) (w ∷ q)) × Leads h w q × HasVirtualBase h c w
+place_shared h c w _ (whole [] l) e = cc
+place_shared h c w _ (whole (b ∷ p) l) e = cc
+place_shared h c w _ (shared v p has l) e =
+    let same : v ≡ w = cc in
+    (p, ap (λ (x : ClassId). subobject (Shared x) (x ∷ p)) same, subst (λ (x : ClassId). Leads h x p) same l, subst (λ (x : ClassId). HasVirtualBase h c x) same has)
+
+-- the whole has each of its subobjects in it
+pub whole_inside : (h : Classes) (c : ClassId) (s : Subobject) → IsSubobject h c s → IsInside h (whole_of c) s
+whole_inside h c s valid = record { class = c; of_class = refl; part = s; valid = valid; joined = joined_whole s valid }
+  where
+    joined_whole : (x : Subobject) → IsSubobject h c x → x ≡ join (whole_of c) x
+    joined_whole _ (whole p l) = refl
+    joined_whole _ (shared v p has l) = refl
+
+-- subobjects of a direct base stay apart in the class
+joined_apart : (h : Classes) → IsHierarchy h → (w : Bool) (c b v : ClassId) (p q : List ClassId) → HasVirtualBase h b v → subobject (Shared v) (v ∷ q) ≡ join (base_subobject w c b) (subobject Whole (b ∷ p)) → ⊥
+joined_apart h keeps true c b v p q has e = let same : v.0 ≡ b.0 = ap root_number e in let lt = virtual_below h keeps b v has in omega arith
+  where
+    number_in : Root → ℕ
+    number_in Whole = 0
+    number_in (Shared x) = x.0
+    root_number : Subobject → ℕ
+    root_number s = number_in s.root
+joined_apart h keeps false c b v p q has e = let f : Shared v ≡ Whole = ap (λ (s : Subobject). s.root) e in apart f
+  where
+    apart : Shared v ≡ Whole → ⊥
+    apart k = cc
+
+joined_same : (w : Bool) (c b : ClassId) (p q : List ClassId) → join (base_subobject w c b) (subobject Whole (b ∷ p)) ≡ join (base_subobject w c b) (subobject Whole (b ∷ q)) → p ≡ q
+joined_same true c b p q e = let f : b ∷ p ≡ b ∷ q = ap (λ (s : Subobject). s.path) e in cc
+joined_same false c b p q e = let f : c ∷ b ∷ p ≡ c ∷ b ∷ q = ap (λ (s : Subobject). s.path) e in cc
+
+join_injective : (h : Classes) → IsHierarchy h → (c : ClassId) (base : Base ClassId) (s t : Subobject) → IsSubobject h base.class s → IsSubobject h base.class t → join (base_of c base) s ≡ join (base_of c base) t → s ≡ t
+join_injective h keeps c base _ _ (whole p l) (whole q m) e = ap (λ (x : List ClassId). subobject Whole (base.class ∷ x)) (joined_same base.is_virtual c base.class p q e)
+join_injective h keeps c base _ _ (whole p l) (shared v q has m) e = absurd (joined_apart h keeps base.is_virtual c base.class v p q has (sym e))
+join_injective h keeps c base _ _ (shared v p has l) (whole q m) e = absurd (joined_apart h keeps base.is_virtual c base.class v q p has e)
+join_injective h keeps c base _ _ (shared v p has l) (shared w q hw m) e = e
+
+pub through_apart : (h : Classes) → IsHierarchy h → (c : ClassId) (base : Base ClassId) (s t : Subobject) → (a : IsThrough h c base s) → (b : IsThrough h c base t) → s ≡ t → a.part ≡ b.part
+through_apart h keeps c base s t a b e = join_injective h keeps c base a.part b.part a.valid b.valid (sym a.joined ∙ e ∙ b.joined)
+
+abbrev pub through_join : (h : Classes) (c : ClassId) (base : Base ClassId) (part : Subobject) → IsSubobject h base.class part → IsThrough h c base (join (base_of c base) part)
+through_join h c base part valid = record { part = part; valid = valid; joined = refl }

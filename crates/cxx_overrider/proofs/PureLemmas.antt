@@ -1,0 +1,71 @@
+-- Pure functions that the non-virtual part of a class leaves.
+use Rattle.std.proofs.Common.{◌≡◌, ℕ, ◌<◌, ◌↔◌, Bool, true, false, Some, List, [], ◌∷◌, length, refl, ap, subst, sym, ◌∙◌, arith}
+use Rattle.std.specs.List.{Contains}
+use Rattle.cxx_hierarchy.specs.declared.records.ClassId.{ClassId}
+use Rattle.cxx_hierarchy.specs.declared.records.Base.{Base}
+use Rattle.cxx_hierarchy.specs.Classes.{Classes, bases_of}
+use Rattle.cxx_hierarchy.specs.Hierarchies.{IsHierarchy}
+use Rattle.cxx_hierarchy.specs.VirtualBases.{IsDirectBase}
+use Rattle.cxx_overrider.specs.declared.FunctionId.{FunctionId}
+use Rattle.cxx_overrider.specs.Functions.{Signature, signature_of, is_pure}
+use Rattle.cxx_overrider.specs.Overriding.{HasVirtual, IsVirtual}
+use Rattle.cxx_overrider.specs.Numbers.{number_of, IsNumbering, IsNumberOf}
+use Rattle.cxx_overrider.specs.Marks.{mark_of, AreMarks, HasMarkedPart}
+use Rattle.cxx_overrider.specs.Pure.{DeclaresNone, StandsFirst, here, below, LeavesPure}
+use Rattle.cxx_overrider.proofs.Numbering.{same_function}
+use Rattle.cxx_overrider.proofs.MarkLemmas.{says_number}
+
+pub none_declared : (h : Classes) (rows : List (List ℕ)) (count n : ℕ) (c : ClassId) (s : Signature) → IsNumbering h rows count → IsNumberOf h rows n s → ((f : FunctionId) → f.class ≡ c → number_of rows f ≡ Some n → ⊥) → DeclaresNone h c s
+none_declared h rows count n c s is k none = record { none = λ f class e. none f class (says_number h rows count n s f is k e) }
+
+-- the class declares one: it stands first there
+first_own : (h : Classes) → IsHierarchy h → (s : Signature) (c : ClassId) (path : List ClassId) (f g : FunctionId) → StandsFirst h s c path g → f.class ≡ c → signature_of h f ≡ Some s → g ≡ f
+first_own h keeps s _ _ f _ (here g e) class same = same_function h keeps g f s (sym class) e same
+first_own h keeps s _ _ f _ (below c b path g none d rest) class same = absurd (none.none f class same)
+
+first_signature : (h : Classes) (s : Signature) (c : ClassId) (path : List ClassId) (g : FunctionId) → StandsFirst h s c path g → signature_of h g ≡ Some s
+first_signature h s _ _ _ (here g e) = e
+first_signature h s _ _ _ (below c b path g none d rest) = first_signature h s b path g rest
+
+pub pure_own : (h : Classes) → IsHierarchy h → (c : ClassId) (s : Signature) (f : FunctionId) (b m : Bool) → f.class ≡ c → signature_of h f ≡ Some s → (b ≡ true) ↔ ((is_pure h f ≡ true) × (m ≡ true)) → (m ≡ true) ↔ HasVirtual h c s → (b ≡ true) ↔ LeavesPure h c s
+pure_own h keeps c s f b m class same is mark = (
+    λ e. let p = is.0 e in record {
+      path = [];
+      function = f;
+      first = subst (λ (x : ClassId). StandsFirst h s x [] f) class (here f same);
+      pure = p.0;
+      is_virtual = record { signature = s; is = same; source = subst (λ (x : ClassId). HasVirtual h x s) (sym class) (mark.0 p.1) };
+    },
+    λ k.
+      let one : k.function ≡ f = first_own h keeps s c k.path f k.function k.first class same in
+      let pure : is_pure h f ≡ true = sym (ap (is_pure h) one) ∙ k.pure in
+      let v : IsVirtual h f = subst (λ (x : FunctionId). IsVirtual h x) one k.is_virtual in
+      let signature : v.signature ≡ s = let x = v.is in cc in
+      is.1 (pure, mark.1 (subst (λ (x : ClassId). HasVirtual h x s) class (subst (λ (x : Signature). HasVirtual h f.class x) signature v.source))),
+  )
+
+pub record FirstBelow (h : Classes) (s : Signature) (c : ClassId) (g : FunctionId) : Type 0 where
+  pub b : ClassId
+  pub path : List ClassId
+  pub direct : IsDirectBase h c false b
+  pub first : StandsFirst h s b path g
+
+first_below : (h : Classes) (s : Signature) (c : ClassId) (path : List ClassId) (g : FunctionId) → StandsFirst h s c path g → DeclaresNone h c s → FirstBelow h s c g
+first_below h s _ _ _ (here g e) none = absurd (none.none g refl e)
+first_below h s _ _ _ (below c b path g other d rest) none = record { b = b; path = path; direct = d; first = rest }
+
+pub pure_below : (h : Classes) → IsHierarchy h → (numbers : List (List ℕ)) (rows : List (List Bool)) (c : ClassId) (n : ℕ) (s : Signature) (b : Bool) → AreMarks h numbers (LeavesPure h) rows → length rows ≡ c.0 → IsNumberOf h numbers n s → DeclaresNone h c s → (b ≡ true) ↔ HasMarkedPart h rows c n → (b ≡ true) ↔ LeavesPure h c s
+pure_below h keeps numbers rows c n s b are size k none is = (
+    λ e.
+      let m = is.0 e in
+      let lt = keeps.bases c m.base m.listed in
+      let p = (are.each m.base.class n s (omega arith) k).0 m.marked in
+      let d : IsDirectBase h c false m.base.class = record { base = m.base; listed = m.listed; class = refl; way = m.plain } in
+      record { path = m.base.class ∷ p.path; function = p.function; first = below c m.base.class p.path p.function none d p.first; pure = p.pure; is_virtual = p.is_virtual },
+    λ p.
+      let f = first_below h s c p.path p.function p.first none in
+      let base = f.direct.base in
+      let lt = keeps.bases c base f.direct.listed in
+      let leaves : LeavesPure h base.class s = subst (λ (x : ClassId). LeavesPure h x s) (sym f.direct.class) (record { path = f.path; function = p.function; first = f.first; pure = p.pure; is_virtual = p.is_virtual }) in
+      is.1 (record { base = base; listed = f.direct.listed; plain = f.direct.way; marked = (are.each base.class n s (omega arith) k).1 leaves }),
+  )

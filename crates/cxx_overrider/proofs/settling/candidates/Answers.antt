@@ -1,0 +1,35 @@
+use Rattle.std.proofs.Common.{◌≡◌, ◌<◌, ◌++◌, ◌∷◌, [], ◌+◌, ℕ, false, List, Some, get_or, subst, sym, ap, ◌∙◌}
+use Rattle.std.specs.List.{slice_get}
+use Rattle.cxx_hierarchy.specs.declared.records.ClassId.{ClassId}
+use Rattle.cxx_hierarchy.specs.declared.records.Base.{Base}
+use Rattle.cxx_hierarchy.specs.Classes.{bases_of}
+use Rattle.cxx_overrider.specs.declared.entries.Entry.{Entry}
+use Rattle.cxx_overrider.specs.Settling.{AreCandidates}
+use Rattle.cxx_overrider.proofs.Lists.{get_contains, get_at}
+use Rattle.cxx_overrider.proofs.SettlingLemmas.{found_step, missing_step}
+use Rattle.cxx_overrider.proofs.settling.candidates.Goals as goal
+use Rattle.cxx_overrider.proofs.settling.candidates.Goals.{in-Some+in_ok-push, in_default}
+
+abbrev no_base : Base ClassId
+no_base = record { class = record { 0 = 0 }; is_virtual = false; is_public = false; at = 0 }
+
+pub loop-base-preserved : goal.loop-base-preserved
+loop-base-preserved c =
+    let h = c.args.h.now in
+    let i = c.loop-base.base-index in
+    let base = get_or c.as_slice-base-items.result.now i no_base in
+    let listed : slice_get (bases_of h c.args.c) i ≡ Some base = get_at c.as_slice-base-items.result.now (bases_of h c.args.c) i no_base c.loop-base.invariant.items c.loop-base-test.true in
+    let before = c.keeps.ensures.bases c.args.c base (get_contains (bases_of h c.args.c) i base listed) in
+    record {
+      items = c.loop-base.invariant.items;
+      found = λ s tells. elim c.match-below.branch [
+        in-Some+in_ok-push w ↦
+          let grown : w.push.new.self.items ≡ c.loop-base.found.items ++ (record { place = w.lifted.result; function = w.in-Some.entry.function }) ∷ [] = w.in_ok-push.ensures.items in
+          let same : c.match-below.found.items ≡ w.push.new.self.items = ap (λ x. x.items) w.found-is in
+          found_step h c.args.entries.now c.args.c c.args.v c.args.n s i c.loop-base.found.items c.match-below.found.items base w.in-Some.entry w.lifted.result c.key_of.result listed before c.key_of.ensures w.in-Some.ensures w.lifted.ensures (same ∙ grown) tells (c.loop-base.invariant.found s tells)
+        | in_default w ↦
+          let same : c.loop-base.found.items ≡ c.match-below.found.items = sym (ap (λ x. x.items) w.found-is) in
+          subst (λ (xs : List Entry). AreCandidates h c.args.c c.args.v s (i + 1) xs) same
+          (missing_step h c.args.entries.now c.args.c c.args.v c.args.n s i c.loop-base.found.items base c.key_of.result listed before c.key_of.ensures (sym w.in_default.is ∙ c.find-below.ensures) tells (c.loop-base.invariant.found s tells))
+      ];
+    }

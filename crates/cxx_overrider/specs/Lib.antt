@@ -1,0 +1,13 @@
+pub mod Functions
+pub mod Overriding
+pub mod Covariance
+pub mod Faults
+pub mod Places
+pub mod Numbers
+pub mod Kinds
+pub mod Marks
+pub mod Pure
+pub mod Entries
+pub mod EntryTables
+pub mod Settling
+pub mod Tables

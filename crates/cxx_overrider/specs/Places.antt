@@ -1,0 +1,46 @@
+-- Where in an object a subobject lies: it is the whole, or lies in a direct base, or in a shared one.
+use Rattle.std.specs.Prelude.{◌≡◌, Bool, true, false, if◌then◌else◌, List, [], ◌∷◌}
+use Rattle.cxx_hierarchy.specs.declared.records.ClassId.{ClassId}
+use Rattle.cxx_hierarchy.specs.declared.records.Base.{Base}
+use Rattle.cxx_hierarchy.specs.Classes.{Classes}
+use Rattle.cxx_subobject.specs.declared.Root.{Root}
+use Rattle.cxx_subobject.specs.declared.Root.TheVariants.{Whole, Shared}
+use Rattle.cxx_subobject.specs.declared.Subobject.{Subobject}
+use Rattle.cxx_subobject.specs.Subobjects.{IsSubobject, subobject, tail_of, join}
+use Rattle.cxx_overrider.specs.declared.places.Place.{Place}
+use Rattle.cxx_overrider.specs.declared.places.Place.TheVariants.{Itself, InBase, InShared}
+
+abbrev pub place_below : List ClassId → Place
+place_below [] = Itself
+place_below (b ∷ path) = InBase b
+
+abbrev pub place_at : Root → List ClassId → Place
+place_at Whole path = place_below (tail_of path)
+place_at (Shared w) path = InShared w
+
+abbrev pub place_of : Subobject → Place
+place_of s = place_at s.root s.path
+
+abbrev pub base_place : Bool → ClassId → Place
+base_place true b = InShared b
+base_place false b = InBase b
+
+-- where a subobject of the base lies in the class
+abbrev pub lifted : Base ClassId → Place → Place
+lifted base Itself = base_place base.is_virtual base.class
+lifted base (InBase b) = base_place base.is_virtual base.class
+lifted base (InShared w) = InShared w
+
+abbrev pub base_subobject : Bool → ClassId → ClassId → Subobject
+base_subobject true c b = subobject (Shared b) (b ∷ [])
+base_subobject false c b = subobject Whole (c ∷ b ∷ [])
+
+-- the subobject of c that its direct base is
+abbrev pub base_of : ClassId → Base ClassId → Subobject
+base_of c base = base_subobject base.is_virtual c base.class
+
+-- s, in an object of class c, is a subobject of its direct base
+pub record IsThrough (h : Classes) (c : ClassId) (base : Base ClassId) (s : Subobject) : Type 0 where
+  pub part : Subobject
+  pub valid : IsSubobject h base.class part
+  pub joined : s ≡ join (base_of c base) part

@@ -1,0 +1,19 @@
+-- What is known of all classes before the pass.
+use Rattle.std.specs.Prelude.{◌≡◌, length}
+use Rattle.cxx_hierarchy.specs.Classes.{Classes}
+use Rattle.cxx_overrider.specs.declared.tables.Tables.{Tables}
+use Rattle.cxx_overrider.specs.Overriding.{HasVirtual}
+use Rattle.cxx_overrider.specs.Numbers.{IsNumbering}
+use Rattle.cxx_overrider.specs.Kinds.{AreKinds}
+use Rattle.cxx_overrider.specs.Marks.{AreMarks}
+use Rattle.cxx_overrider.specs.Pure.{LeavesPure}
+
+-- the tables are those of the hierarchy
+pub record AreTables (h : Classes) (tables : Tables) : Type 0 where
+  pub numbering : IsNumbering h tables.numbering.rows.items tables.numbering.count
+  pub kinds : AreKinds h tables.kinds.items
+  pub all_kinds : length tables.kinds.items ≡ length h
+  pub virtuals : AreMarks h tables.numbering.rows.items (HasVirtual h) tables.virtuals.items
+  pub all_virtuals : length tables.virtuals.items ≡ length h
+  pub pure : AreMarks h tables.numbering.rows.items (LeavesPure h) tables.pure.items
+  pub all_pure : length tables.pure.items ≡ length h

@@ -1,0 +1,37 @@
+//! Final overriders, covariant returns and abstract classes (ISO C++03 10.3, 10.4).
+//!
+//! A function of a base is overridden by the functions of the same name and parameter types in the classes that
+//! have that base. In an object the final overrider is the one whose subobject no other one's subobject contains.
+//! This crate owns these definitions, over subobjects as paths, and the class-meaning pass that refuses the
+//! hierarchies in which a final overrider is not unique, a return type does not fit, or a member is abstract.
+//!
+//! So far it has what the pass stands on, proved: the signatures of all functions by numbers, how often each class
+//! is a base of another, which functions are virtual, which pure functions the non-virtual part of a class leaves,
+//! and for each virtual base of a class what overrides its functions, from those of the direct bases (`settling`).
+#![tactic(auto)]
+
+pub mod entries;
+pub mod kinds;
+pub mod places;
+pub mod pure;
+pub mod settling;
+pub mod signatures;
+pub mod tables;
+pub mod virtuals;
+
+use cxx_hierarchy::ClassId;
+use cxx_subobject::Subobject;
+
+/// A member function of a class. The index after the last function is the destructor's.
+#[derive(Clone, Copy, Debug, PartialEq, Eq)]
+pub struct FunctionId {
+    pub class: ClassId,
+    pub index: u32,
+}
+
+/// A function, in a subobject of an object.
+#[derive(Debug, Drop)]
+pub struct Overrider {
+    pub at: Subobject,
+    pub function: FunctionId,
+}

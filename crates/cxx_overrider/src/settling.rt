@@ -1,0 +1,260 @@
+//! Finds for each virtual base of a class the final overriders of its functions, from those of the direct bases.
+
+ghost use Rattle.std.specs.Prelude.{◌≡◌, ◌<◌, ◌+◌, ◌↔◌, IsTrue, IfOk, MatchOption, MatchBool, MatchResult, length};
+ghost use Rattle.cxx_hierarchy.specs.Classes.{bases_of};
+ghost use Rattle.cxx_hierarchy.specs.VirtualBases.{HasVirtualBase};
+ghost use Rattle.cxx_overrider.specs.declared.entries.Entry.{Entry};
+ghost use Rattle.cxx_overrider.specs.Functions.{Signature};
+ghost use Rattle.cxx_overrider.specs.Overriding.{HasTwoFinalOverriders};
+ghost use Rattle.cxx_overrider.specs.Numbers.{IsNumbering, IsNumberOf};
+ghost use Rattle.cxx_overrider.specs.Settling.{Holds, AreCandidates, IsAmong, IsOrder, IsAbove, IsPicked, IsSettled, TellsBefore, IsMade};
+ghost use Rattle.cxx_overrider.specs.Tables.{AreTables};
+
+use crate::entries::{Entry, EntryTable, key_of};
+use crate::places::{Place, lifted};
+use crate::signatures::{Numbering, own_function};
+
+use crate::tables::Tables;
+use crate::virtuals::is_marked;
+use cxx_hierarchy::{ClassId, Hierarchy};
+use foundation::NoMemory;
+use std::alloc::Global;
+
+/// What overrides a function: nothing, one function, or two of which neither lies in the other.
+#[derive(Clone, Copy, Debug)]
+pub enum Settled {
+    Nothing,
+    One(Entry),
+    Two(Entry, Entry),
+}
+
+/// Whether the one subobject lies in the other. Both lie in direct bases.
+fn holds(h: &Hierarchy, outer: Entry, inner: Entry) -> bool
+    ensures { IsTrue result ↔ Holds h.now outer inner }
+{
+    if outer.place == inner.place {
+        return true;
+    }
+    match inner.place {
+        Place::InShared(root) => h.has_virtual_base(outer.function.class, root),
+        Place::Itself | Place::InBase(_) => false,
+    }
+}
+
+/// What the direct bases of a class have under the signature.
+fn candidates(
+    alloc: Global,
+    h: &Hierarchy,
+    entries: &EntryTable,
+    c: ClassId,
+    v: ClassId,
+    n: usize,
+) -> Result<Vec<Entry>, NoMemory>
+    requires known { c.0 < length h.now }
+    ensures { IfOk result (λ xs. (s : Signature) → TellsBefore h.now entries.now c v n s → AreCandidates h.now c v s (length (bases_of h.now c)) xs.items) }
+{
+    h.keeps();
+    let mut found = Vec::new(alloc);
+    for base in h.class(c).bases.as_slice() {
+        let below = entries.find(key_of(base.class, v, n));
+        if let Some(entry) = below {
+            found.push(Entry {
+                place: lifted(base, entry.place),
+                function: entry.function,
+            })?;
+        }
+    }
+    Ok(found)
+}
+
+/// One above the start that no other one holds, unless it holds that one.
+fn highest(h: &Hierarchy, xs: &[Entry], start: Entry) -> Entry
+    requires { IsAmong xs.now start }
+    ensures among { IsAmong xs.now result }
+    ensures above { IsOrder h.now xs.now → IsAbove h.now xs.now start result }
+{
+    let mut best = start;
+    for x in xs {
+        if holds(h, *x, best) {
+            best = *x;
+        }
+    }
+    best
+}
+
+/// One that is not held.
+fn not_held(h: &Hierarchy, xs: &[Entry], best: Entry) -> Option<Entry>
+    ensures { MatchOption result ((x : Entry) → IsAmong xs.now x → Holds h.now best x) (λ x. IsAmong xs.now x × (Holds h.now best x → ⊥)) }
+{
+    for x in xs {
+        if !holds(h, best, *x) {
+            return Some(*x);
+        }
+    }
+    None
+}
+
+/// The one that holds all others, or two of which none holds the other.
+fn pick(h: &Hierarchy, xs: &[Entry]) -> Settled
+    ensures { IsPicked h.now xs.now result }
+{
+    match xs {
+        [] => Settled::Nothing,
+        [first, ..] => {
+            let best = highest(h, xs, *first);
+            match not_held(h, xs, best) {
+                None => Settled::One(best),
+                Some(other) => Settled::Two(best, highest(h, xs, other)),
+            }
+        }
+    }
+}
+
+/// What overrides the functions of the signature in the virtual base.
+fn settle(
+    alloc: Global,
+    h: &Hierarchy,
+    numbering: &Numbering,
+    entries: &EntryTable,
+    c: ClassId,
+    v: ClassId,
+    n: usize,
+) -> Result<Settled, NoMemory>
+    requires known { c.0 < length h.now }
+    requires base { HasVirtualBase h.now c v }
+    requires numbering { IsNumbering h.now numbering.now.rows.items numbering.now.count }
+    ensures { IfOk result (λ settled. (s : Signature) → IsNumberOf h.now numbering.now.rows.items n s → TellsBefore h.now entries.now c v n s → IsSettled h.now c v s settled) }
+{
+    h.keeps();
+    match own_function(&numbering.rows, c, n) {
+        Some(function) => Ok(Settled::One(Entry {
+            place: Place::Itself,
+            function,
+        })),
+        None => {
+            let found = candidates(alloc, h, entries, c, v, n)?;
+            let picked = pick(h, &found);
+            Ok(picked)
+        }
+    }
+}
+
+/// Puts down what overrides the functions of one signature, if they are virtual, and tells whether it is one.
+fn settle_number(
+    alloc: Global,
+    h: &Hierarchy,
+    tables: &Tables,
+    entries: &mut EntryTable,
+    c: ClassId,
+    v: ClassId,
+    n: usize,
+) -> Result<bool, NoMemory>
+    requires known { c.0 < length h.now }
+    requires base { HasVirtualBase h.now c v }
+    requires tables { AreTables h.now tables.now }
+    requires number { n < tables.now.numbering.count }
+    requires made { IsMade h.now tables.now.numbering.rows.items entries.old c.0 v.0 n }
+    ensures { IfOk result (λ is_one. MatchBool is_one (IsMade h.now tables.now.numbering.rows.items entries.new c.0 v.0 (n + 1)) (HasTwoFinalOverriders h.now c)) }
+{
+    h.keeps();
+    if !is_marked(&tables.virtuals, v, n) {
+        return Ok(true);
+    }
+    match settle(alloc, h, &tables.numbering, entries, c, v, n)? {
+        Settled::Nothing => Ok(true),
+        Settled::One(entry) => {
+            entries.put(key_of(c, v, n), entry)?;
+            Ok(true)
+        }
+        Settled::Two(_, _) => Ok(false),
+    }
+}
+
+/// Puts down what overrides the virtual functions of a virtual base, and tells whether each has one overrider.
+fn settle_base(
+    alloc: Global,
+    h: &Hierarchy,
+    tables: &Tables,
+    entries: &mut EntryTable,
+    c: ClassId,
+    v: ClassId,
+) -> Result<bool, NoMemory>
+    requires known { c.0 < length h.now }
+    requires base { HasVirtualBase h.now c v }
+    requires tables { AreTables h.now tables.now }
+    requires made { IsMade h.now tables.now.numbering.rows.items entries.old c.0 v.0 0 }
+    ensures { IfOk result (λ is_one. MatchBool is_one (IsMade h.now tables.now.numbering.rows.items entries.new c.0 (v.0 + 1) 0) (HasTwoFinalOverriders h.now c)) }
+{
+    for n in 0..tables.numbering.count {
+        if !settle_number(alloc, h, tables, entries, c, v, n)? {
+            return Ok(false);
+        }
+    }
+    Ok(true)
+}
+
+/// The same for a class that may be no virtual base.
+fn settle_if_base(
+    alloc: Global,
+    h: &Hierarchy,
+    tables: &Tables,
+    entries: &mut EntryTable,
+    c: ClassId,
+    v: ClassId,
+) -> Result<bool, NoMemory>
+    requires known { c.0 < length h.now }
+    requires tables { AreTables h.now tables.now }
+    requires made { IsMade h.now tables.now.numbering.rows.items entries.old c.0 v.0 0 }
+    ensures { IfOk result (λ is_one. MatchBool is_one (IsMade h.now tables.now.numbering.rows.items entries.new c.0 (v.0 + 1) 0) (HasTwoFinalOverriders h.now c)) }
+{
+    if h.has_virtual_base(c, v) {
+        settle_base(alloc, h, tables, entries, c, v)
+    } else {
+        Ok(true)
+    }
+}
+
+/// The same for all virtual bases of a class.
+pub fn settle_class(
+    alloc: Global,
+    h: &Hierarchy,
+    tables: &Tables,
+    entries: &mut EntryTable,
+    c: ClassId,
+) -> Result<bool, NoMemory>
+    requires known { c.0 < length h.now }
+    requires tables { AreTables h.now tables.now }
+    requires made { IsMade h.now tables.now.numbering.rows.items entries.old c.0 0 0 }
+    ensures { IfOk result (λ is_one. MatchBool is_one (IsMade h.now tables.now.numbering.rows.items entries.new (c.0 + 1) 0 0) (HasTwoFinalOverriders h.now c)) }
+{
+    h.keeps();
+    for number in 0..c.0 {
+        let v = ClassId(number);
+        if !settle_if_base(alloc, h, tables, entries, c, v)? {
+            return Ok(false);
+        }
+    }
+    Ok(true)
+}
+
+/// What overrides the functions of the virtual bases of all classes, or a class of which some virtual function
+/// has two final overriders.
+///
+/// Errors: want of memory.
+pub fn settle_classes(
+    alloc: Global,
+    h: &Hierarchy,
+    tables: &Tables,
+) -> Result<Result<EntryTable, ClassId>, NoMemory>
+    requires { AreTables h.now tables.now }
+    ensures { IfOk result (λ r. MatchResult r (λ table. IsMade h.now tables.now.numbering.rows.items table (length h.now) 0 0) (HasTwoFinalOverriders h.now)) }
+{
+    let mut entries = EntryTable::new(alloc);
+    for number in 0..h.len() {
+        let c = ClassId(number);
+        if !settle_class(alloc, h, tables, &mut entries, c)? {
+            return Ok(Err(c));
+        }
+    }
+    Ok(Ok(entries))
+}

@@ -1,0 +1,40 @@
+//! What is known of all classes of a hierarchy before the class-meaning pass.
+
+ghost use Rattle.std.specs.Prelude.{IfOk};
+ghost use Rattle.cxx_overrider.specs.Tables.{AreTables};
+
+use crate::kinds::{KindRow, kind_rows};
+use crate::pure::pure_rows;
+use crate::signatures::{Numbering, number_signatures};
+use crate::virtuals::{MarkRow, virtual_rows};
+use cxx_hierarchy::Hierarchy;
+use foundation::NoMemory;
+use std::alloc::Global;
+
+/// The numbers of the signatures, which classes are bases of which, and which signatures are virtual, and left
+/// pure, in each class.
+#[derive(Drop)]
+pub struct Tables {
+    pub numbering: Numbering,
+    pub kinds: Vec<KindRow>,
+    pub virtuals: Vec<MarkRow>,
+    pub pure: Vec<MarkRow>,
+}
+
+/// The tables of a hierarchy.
+///
+/// Errors: want of memory.
+pub fn tables_of(alloc: Global, h: &Hierarchy) -> Result<Tables, NoMemory>
+    ensures { IfOk result (AreTables h.now) }
+{
+    let numbering = number_signatures(alloc, h)?;
+    let kinds = kind_rows(alloc, h)?;
+    let virtuals = virtual_rows(alloc, h, &numbering)?;
+    let pure = pure_rows(alloc, h, &numbering, &virtuals)?;
+    Ok(Tables {
+        numbering,
+        kinds,
+        virtuals,
+        pure,
+    })
+}
