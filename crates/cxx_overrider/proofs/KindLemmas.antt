@@ -31,8 +31,8 @@ counts_merged P Q R (Unique place) NotBase k pr qr rpq same ca cb e = subst (λ 
 counts_merged P Q R (Unique place) Ambiguous k pr qr rpq same ca cb e = subst (λ (x : BaseKind). Counts R x) (sym e) (two_more Q R qr cb)
 counts_merged P Q R (Unique place) (Unique other) k pr qr rpq same ca cb e = ⊎_elim
     (λ f. subst (λ (x : BaseKind). Counts R x) (sym f.1) (let at : place_of ca.one ≡ place_of cb.one = ca.at_place ∙ f.0 ∙ sym cb.at_place in
-      let one : ca.one ≡ cb.one = same ca.one cb.one ca.is cb.is cb.only at in
-      record { one = ca.one; is = pr ca.one ca.is; at_place = ca.at_place; only = λ s r. ⊎_elim (λ p. ca.only s p) (λ q. cb.only s q ∙ sym one) (rpq s r) }))
+    let one : ca.one ≡ cb.one = same ca.one cb.one ca.is cb.is cb.only at in
+    record { one = ca.one; is = pr ca.one ca.is; at_place = ca.at_place; only = λ s r. ⊎_elim (λ p. ca.only s p) (λ q. cb.only s q ∙ sym one) (rpq s r) }))
     (λ f. subst (λ (x : BaseKind). Counts R x) (sym f.1) (record { one = ca.one; other = cb.one; one_is = pr ca.one ca.is; other_is = qr cb.one cb.is; differ = λ d. f.0 (sym ca.at_place ∙ ap place_of d ∙ cb.at_place) }))
     e
 
@@ -76,14 +76,14 @@ counts_next h keeps c d number base so_far more k listed counts each merged =
     (λ s p. let lt = p.below in record { base = p.base; number = p.number; below = omega arith; listed = p.listed; through = p.through; class = p.class })
     (λ s p. record { base = base; number = number; below = omega arith; listed = listed; through = p.through; class = p.class })
     (λ s p. ⊎_elim
-      (λ lt. inl (record { base = p.base; number = p.number; below = lt; listed = p.listed; through = p.through; class = p.class }))
-      (λ ge. let lt = p.below in let at : p.number ≡ number = omega arith in
-        let same : p.base ≡ base = let x = p.listed in let y : slice_get (bases_of h c) p.number ≡ Some base = ap (slice_get (bases_of h c)) at ∙ listed in cc in
-        inr (record { through = subst (λ (x : Base ClassId). IsThrough h c x s) same p.through; class = p.class }))
-      (either p.number number))
+    (λ lt. inl (record { base = p.base; number = p.number; below = lt; listed = p.listed; through = p.through; class = p.class }))
+    (λ ge. let lt = p.below in let at : p.number ≡ number = omega arith in
+    let same : p.base ≡ base = let x = p.listed in let y : slice_get (bases_of h c) p.number ≡ Some base = ap (slice_get (bases_of h c)) at ∙ listed in cc in
+    inr (record { through = subst (λ (x : Base ClassId). IsThrough h c x s) same p.through; class = p.class }))
+    (either p.number number))
     (λ s t p q only at.
-      let valid = through_valid h c p.base s (get_contains (bases_of h c) p.number p.base p.listed) p.through in
-      only s (record { through = place_through h c base s t (get_contains (bases_of h c) number base listed) valid q.through at; class = p.class }))
+    let valid = through_valid h c p.base s (get_contains (bases_of h c) p.number p.base p.listed) p.through in
+    only s (record { through = place_through h c base s t (get_contains (bases_of h c) number base listed) valid q.through at; class = p.class }))
     counts (counts_lifted h keeps c d base more each) merged
 
 -- a base of another class than c lies in a direct base
@@ -91,9 +91,9 @@ pub counts_all : (h : Classes) → IsHierarchy h → (c d : ClassId) (k : BaseKi
 counts_all h keeps c d k lt = counts_same (IsPartThrough h c d (length (bases_of h c))) (IsPart h c d) k
     (λ s p. record { valid = through_valid h c p.base s (get_contains (bases_of h c) p.number p.base p.listed) p.through; class = p.class })
     (λ s p. ⊎_elim
-      (λ e. let same : Some c ≡ Some d = sym (ap class_of e) ∙ p.class in let one : c.0 ≡ d.0 = let f : c ≡ d = cc in ap (λ (x : ClassId). x.0) f in absurd (omega arith))
-      (λ b. let at = contains_get (bases_of h c) b.0 b.1 in record { base = b.0; number = at.0; below = get_within (bases_of h c) at.0 b.0 at.1; listed = at.1; through = b.2; class = p.class })
-      (through_cases h c s p.valid))
+    (λ e. let same : Some c ≡ Some d = sym (ap class_of e) ∙ p.class in let one : c.0 ≡ d.0 = let f : c ≡ d = cc in ap (λ (x : ClassId). x.0) f in absurd (omega arith))
+    (λ b. let at = contains_get (bases_of h c) b.0 b.1 in record { base = b.0; number = at.0; below = get_within (bases_of h c) at.0 b.0 at.1; listed = at.1; through = b.2; class = p.class })
+    (through_cases h c s p.valid))
 
 -- rows
 pub record CountsBelow (h : Classes) (c : ClassId) (row : List BaseKind) : Type 0 where
@@ -107,9 +107,9 @@ below_more h c d row k has size counts = record {
   each = λ e lt. ⊎_elim
       (λ small. subst (λ (x : BaseKind). Counts (IsPart h c e) x) (sym (or_front row (k ∷ []) e.0 NotBase small)) (has.each e small))
       (λ past. let at : e.0 ≡ length row = let l : length (row ++ k ∷ []) ≡ length row + 1 = length-append row (k ∷ []) in omega arith in
-        let same : d ≡ e = same_id d e (omega arith) in
-        let value : get_or (row ++ k ∷ []) e.0 NotBase ≡ k = ap (λ n. get_or (row ++ k ∷ []) n NotBase) at ∙ or_last row k NotBase in
-        subst (λ (x : BaseKind). Counts (IsPart h c e) x) (sym value) (subst (λ (x : ClassId). Counts (IsPart h c x) k) same counts))
+      let same : d ≡ e = same_id d e (omega arith) in
+      let value : get_or (row ++ k ∷ []) e.0 NotBase ≡ k = ap (λ n. get_or (row ++ k ∷ []) n NotBase) at ∙ or_last row k NotBase in
+      subst (λ (x : BaseKind). Counts (IsPart h c e) x) (sym value) (subst (λ (x : ClassId). Counts (IsPart h c x) k) same counts))
       (either e.0 (length row));
 }
 
@@ -130,16 +130,16 @@ kinds_more h keeps c rows row has size is = record {
   each = λ x d lt. ⊎_elim
       (λ small. subst (λ (r : List BaseKind). Counts (IsPart h x d) (get_or r d.0 NotBase)) (sym (or_front rows (row ∷ []) x.0 [] small)) (has.each x d small))
       (λ past. let at : x.0 ≡ length rows = let l : length (rows ++ row ∷ []) ≡ length rows + 1 = length-append rows (row ∷ []) in omega arith in
-        let same : c ≡ x = same_id c x (omega arith) in
-        let value : get_or (rows ++ row ∷ []) x.0 [] ≡ row = ap (λ n. get_or (rows ++ row ∷ []) n []) at ∙ or_last rows row [] in
-        subst (λ (r : List BaseKind). Counts (IsPart h x d) (get_or r d.0 NotBase)) (sym value) (subst (λ (y : ClassId). Counts (IsPart h y d) (get_or row d.0 NotBase)) same (in_row d (either d.0 (length row)))))
+      let same : c ≡ x = same_id c x (omega arith) in
+      let value : get_or (rows ++ row ∷ []) x.0 [] ≡ row = ap (λ n. get_or (rows ++ row ∷ []) n []) at ∙ or_last rows row [] in
+      subst (λ (r : List BaseKind). Counts (IsPart h x d) (get_or r d.0 NotBase)) (sym value) (subst (λ (y : ClassId). Counts (IsPart h y d) (get_or row d.0 NotBase)) same (in_row d (either d.0 (length row)))))
       (either x.0 (length rows));
 }
   where
     in_row : (d : ClassId) → (d.0 < length row) ⊎ (length row ≤ d.0) → Counts (IsPart h c d) (get_or row d.0 NotBase)
     in_row d a = ⊎_elim (λ lt. is.each d lt)
         (λ ge. subst (λ (k : BaseKind). Counts (IsPart h c d) k) (sym (or_past row d.0 NotBase (λ lt. omega arith)))
-          (λ s p. let n = is.size in ⊎_elim (λ e. let same : Some c ≡ Some d = sym (ap class_of e) ∙ p.class in let one : c.0 ≡ d.0 = let f : c ≡ d = cc in ap (λ (x : ClassId). x.0) f in omega arith) (λ lt. omega arith) (smaller h keeps c d s p.valid p.class)))
+        (λ s p. let n = is.size in ⊎_elim (λ e. let same : Some c ≡ Some d = sym (ap class_of e) ∙ p.class in let one : c.0 ≡ d.0 = let f : c ≡ d = cc in ap (λ (x : ClassId). x.0) f in omega arith) (λ lt. omega arith) (smaller h keeps c d s p.valid p.class)))
         a
 
 pub kind_row_made : (h : Classes) → IsHierarchy h → (c : ClassId) (row : List BaseKind) → CountsBelow h c row → length row ≡ c.0 → IsKindRow h c (row ++ Unique Itself ∷ [])

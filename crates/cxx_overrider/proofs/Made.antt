@@ -24,6 +24,7 @@ same_parts a b c d e f k = (eqb-true a b (left (nat_eq a b) (nat_eq c d && nat_e
     left : (x y : Bool) → (x && y) ≡ true → x ≡ true
     left true y r = refl
     left false y r = cc
+
     right : (x y : Bool) → (x && y) ≡ true → y ≡ true
     right true y r = r
     right false y r = cc
@@ -46,7 +47,7 @@ done_more c v n q d = ⊎_elim (λ a. inl a) (λ r. inr (⊎_elim (λ a. inl a) 
 done_cases : (c v n : ℕ) (q : Key) → IsDone c v (n + 1) q → IsDone c v n q ⊎ ((q.class ≡ c) × (q.root ≡ v) × (q.number ≡ n))
 done_cases c v n q d = ⊎_elim (λ a. inl (inl a))
     (λ r. ⊎_elim (λ a. inl (inr (inl a)))
-      (λ b. ⊎_elim (λ lt. inl (inr (inr (b.0, b.1, lt)))) (λ ge. let up = b.2 in inr (b.0, b.1, omega arith)) (either q.number n)) r)
+    (λ b. ⊎_elim (λ lt. inl (inr (inr (b.0, b.1, lt)))) (λ ge. let up = b.2 in inr (b.0, b.1, omega arith)) (either q.number n)) r)
     d
 
 not_done : (c v n : ℕ) (q : Key) → q.class ≡ c → q.root ≡ v → q.number ≡ n → IsDone c v n q → ⊥
@@ -63,10 +64,10 @@ module _ (h : Classes) (numbers : List (List ℕ)) (table : EntryTable) (c v : C
   made_skip none = record {
     told = λ b w m s d k has. ⊎_elim (λ old. made.told b w m s old k has)
         (λ new.
-          let v_same = same_id w v new.1 in
-          let kn : IsNumberOf h numbers n s = subst (λ (i : ℕ). IsNumberOf h numbers i s) new.2 k in
-          let t = tells_moved h b c w v s None new.0 new.1 (none s kn (subst (λ (x : ClassId). HasVirtual h x s) v_same has)) in
-          subst (λ (o : Option Entry). TellsOf h b w s o) (sym (made.fresh (key b w m) (not_done c.0 v.0 n (key b w m) new.0 new.1 new.2))) t)
+        let v_same = same_id w v new.1 in
+        let kn : IsNumberOf h numbers n s = subst (λ (i : ℕ). IsNumberOf h numbers i s) new.2 k in
+        let t = tells_moved h b c w v s None new.0 new.1 (none s kn (subst (λ (x : ClassId). HasVirtual h x s) v_same has)) in
+        subst (λ (o : Option Entry). TellsOf h b w s o) (sym (made.fresh (key b w m) (not_done c.0 v.0 n (key b w m) new.0 new.1 new.2))) t)
         (done_cases c.0 v.0 n (key b w m) d);
     fresh = λ q not. made.fresh q (λ d. not (done_more c.0 v.0 n q d));
   }
@@ -75,14 +76,14 @@ module _ (h : Classes) (numbers : List (List ℕ)) (table : EntryTable) (c v : C
   made_put after e tells put = record {
     told = λ b w m s d k has. ⊎_elim
         (λ old.
-          let apart : same_key (key b w m) (key c v n) ≡ true → ⊥ = λ t. let p = same_parts b.0 c.0 w.0 v.0 m n t in not_done c.0 v.0 n (key b w m) p.0 p.1 p.2 old in
-          subst (λ (o : Option Entry). TellsOf h b w s o) (sym (put_other (same_key (key b w m) (key c v n)) e (entry_of table (key b w m)) (entry_of after (key b w m)) (put (key b w m)) apart)) (made.told b w m s old k has))
+        let apart : same_key (key b w m) (key c v n) ≡ true → ⊥ = λ t. let p = same_parts b.0 c.0 w.0 v.0 m n t in not_done c.0 v.0 n (key b w m) p.0 p.1 p.2 old in
+        subst (λ (o : Option Entry). TellsOf h b w s o) (sym (put_other (same_key (key b w m) (key c v n)) e (entry_of table (key b w m)) (entry_of after (key b w m)) (put (key b w m)) apart)) (made.told b w m s old k has))
         (λ new.
-          let v_same = same_id w v new.1 in
-          let kn : IsNumberOf h numbers n s = subst (λ (i : ℕ). IsNumberOf h numbers i s) new.2 k in
-          let t = tells_moved h b c w v s (Some e) new.0 new.1 (tells s kn (subst (λ (x : ClassId). HasVirtual h x s) v_same has)) in
-          let one : same_key (key b w m) (key c v n) ≡ true = rw (eq-eqb b.0 c.0 new.0, eq-eqb w.0 v.0 new.1, eq-eqb m n new.2) refl in
-          subst (λ (o : Option Entry). TellsOf h b w s o) (sym (put_same (same_key (key b w m) (key c v n)) e (entry_of table (key b w m)) (entry_of after (key b w m)) (put (key b w m)) one)) t)
+        let v_same = same_id w v new.1 in
+        let kn : IsNumberOf h numbers n s = subst (λ (i : ℕ). IsNumberOf h numbers i s) new.2 k in
+        let t = tells_moved h b c w v s (Some e) new.0 new.1 (tells s kn (subst (λ (x : ClassId). HasVirtual h x s) v_same has)) in
+        let one : same_key (key b w m) (key c v n) ≡ true = rw (eq-eqb b.0 c.0 new.0, eq-eqb w.0 v.0 new.1, eq-eqb m n new.2) refl in
+        subst (λ (o : Option Entry). TellsOf h b w s o) (sym (put_same (same_key (key b w m) (key c v n)) e (entry_of table (key b w m)) (entry_of after (key b w m)) (put (key b w m)) one)) t)
         (done_cases c.0 v.0 n (key b w m) d);
     fresh = λ q not.
         let apart : same_key q (key c v n) ≡ true → ⊥ = λ t. let p = same_parts q.class c.0 q.root v.0 q.number n t in not (inr (inr (p.0, p.1, (let z = p.2 in omega arith)))) in
@@ -106,13 +107,13 @@ pub made_none : (h : Classes) (numbers : List (List ℕ)) (table : EntryTable) (
 made_none h numbers table c v not made = record {
   told = λ b w m s d k has. ⊎_elim (λ a. made.told b w m s (inl a) k has)
       (λ r. ⊎_elim
-        (λ a. let lt = a.1 in ⊎_elim (λ small. made.told b w m s (inr (inl (a.0, small))) k has)
-          (λ ge.
-            let at : w.0 ≡ v.0 = omega arith in
-            let t = tells_moved h b c w v s None a.0 at (none_declared h c v s not) in
-            subst (λ (o : Option Entry). TellsOf h b w s o) (sym (made.fresh (key b w m) (λ e. ⊎_elim (λ x. let y = a.0 in omega arith) (λ z. ⊎_elim (λ x. let y = x.1 in omega arith) (λ x. let y = x.2 in omega arith) z) e))) t)
-          (either w.0 v.0))
-        (λ x. let lt = x.2 in absurd (omega arith)) r)
+      (λ a. let lt = a.1 in ⊎_elim (λ small. made.told b w m s (inr (inl (a.0, small))) k has)
+      (λ ge.
+      let at : w.0 ≡ v.0 = omega arith in
+      let t = tells_moved h b c w v s None a.0 at (none_declared h c v s not) in
+      subst (λ (o : Option Entry). TellsOf h b w s o) (sym (made.fresh (key b w m) (λ e. ⊎_elim (λ x. let y = a.0 in omega arith) (λ z. ⊎_elim (λ x. let y = x.1 in omega arith) (λ x. let y = x.2 in omega arith) z) e))) t)
+      (either w.0 v.0))
+      (λ x. let lt = x.2 in absurd (omega arith)) r)
       d;
   fresh = λ q not_yet. made.fresh q (λ d. not_yet (⊎_elim (λ a. inl a) (λ r. ⊎_elim (λ a. let lt = a.1 in inr (inl (a.0, omega arith))) (λ x. let lt = x.2 in absurd (omega arith)) r) d));
 }
@@ -122,14 +123,14 @@ pub made_class : (h : Classes) → IsHierarchy h → (numbers : List (List ℕ))
 made_class h keeps numbers table c made = record {
   told = λ b w m s d k has. ⊎_elim
       (λ a. ⊎_elim (λ small. made.told b w m s (inl small) k has)
-        (λ ge.
-          let at : b.0 ≡ c.0 = omega arith in
-          ⊎_elim (λ below. made.told b w m s (inr (inl (at, below))) k has)
-            (λ above.
-              let t : TellsOf h b w s None = none_declared h b w s (λ v. let lt = virtual_below h keeps b w v in omega arith) in
-              subst (λ (o : Option Entry). TellsOf h b w s o) (sym (made.fresh (key b w m) (λ e. ⊎_elim (λ x. omega arith) (λ z. ⊎_elim (λ x. let y = x.1 in omega arith) (λ x. let y = x.2 in omega arith) z) e))) t)
-            (either w.0 c.0))
-        (either b.0 c.0))
+      (λ ge.
+      let at : b.0 ≡ c.0 = omega arith in
+      ⊎_elim (λ below. made.told b w m s (inr (inl (at, below))) k has)
+      (λ above.
+      let t : TellsOf h b w s None = none_declared h b w s (λ v. let lt = virtual_below h keeps b w v in omega arith) in
+      subst (λ (o : Option Entry). TellsOf h b w s o) (sym (made.fresh (key b w m) (λ e. ⊎_elim (λ x. omega arith) (λ z. ⊎_elim (λ x. let y = x.1 in omega arith) (λ x. let y = x.2 in omega arith) z) e))) t)
+      (either w.0 c.0))
+      (either b.0 c.0))
       (λ r. ⊎_elim (λ x. let lt = x.1 in absurd (omega arith)) (λ x. let lt = x.2 in absurd (omega arith)) r)
       d;
   fresh = λ q not_yet. made.fresh q (λ d. not_yet (⊎_elim (λ a. inl (omega arith)) (λ r. ⊎_elim (λ x. let at = x.0 in inl (omega arith)) (λ x. let lt = x.2 in absurd (omega arith)) r) d));

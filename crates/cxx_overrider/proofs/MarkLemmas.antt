@@ -74,13 +74,13 @@ or_either false b e = inr e
 
 pub virtual_decided : (h : Classes) → IsHierarchy h → (numbers : List (List ℕ)) (rows : List (List Bool)) (c : ClassId) (n : ℕ) (s : Signature) (own inherited : Bool) → AreMarks h numbers (HasVirtual h) rows → length rows ≡ c.0 → IsNumberOf h numbers n s → (own ≡ true) ↔ SaysVirtual h c s → (inherited ≡ true) ↔ HasMarkedBase h rows c n → ((own || inherited) ≡ true) ↔ HasVirtual h c s
 virtual_decided h keeps numbers rows c n s own inherited are size k a b = (
-    λ e. ⊎_elim (λ o. virtual_own h c s (a.0 o))
+  λ e. ⊎_elim (λ o. virtual_own h c s (a.0 o))
       (λ i. let m = b.0 i in let lt = keeps.bases c m.base m.listed in virtual_up h c s m.base m.listed ((are.each m.base.class n s (omega arith) k).0 m.marked))
       (or_either own inherited e),
-    λ v. ⊎_elim (λ o. or_left own inherited (a.1 o))
+  λ v. ⊎_elim (λ o. or_left own inherited (a.1 o))
       (λ i. let lt = keeps.bases c i.0 i.1 in or_right own inherited (b.1 (record { base = i.0; listed = i.1; marked = (are.each i.0.class n s (omega arith) k).1 i.2 })))
       (virtual_down h c s v),
-  )
+)
 
 -- rows of marks
 pub no_marks : (h : Classes) (numbers : List (List ℕ)) (P : Signature → Type 0) → MarksEach h numbers P []
@@ -91,8 +91,8 @@ marks_more h numbers P row n b has size new = record {
   each = λ m s lt k. ⊎_elim
       (λ small. subst (λ (x : Bool). (x ≡ true) ↔ P s) (sym (or_front row (b ∷ []) m false small)) (has.each m s small k))
       (λ past. let at : m ≡ length row = let l : length (row ++ b ∷ []) ≡ length row + 1 = length-append row (b ∷ []) in omega arith in
-        let value : get_or (row ++ b ∷ []) m false ≡ b = ap (λ i. get_or (row ++ b ∷ []) i false) at ∙ or_last row b false in
-        subst (λ (x : Bool). (x ≡ true) ↔ P s) (sym value) (new s (subst (λ (i : ℕ). IsNumberOf h numbers i s) (at ∙ size) k)))
+      let value : get_or (row ++ b ∷ []) m false ≡ b = ap (λ i. get_or (row ++ b ∷ []) i false) at ∙ or_last row b false in
+      subst (λ (x : Bool). (x ≡ true) ↔ P s) (sym value) (new s (subst (λ (i : ℕ). IsNumberOf h numbers i s) (at ∙ size) k)))
       (either m (length row));
 }
 
@@ -104,19 +104,19 @@ mark_rows_more h numbers count P rows c row is has size new = record {
   each = λ x n s lt k. ⊎_elim
       (λ small. subst (λ (r : List Bool). (get_or r n false ≡ true) ↔ P x s) (sym (or_front rows (row ∷ []) x.0 [] small)) (has.each x n s small k))
       (λ past. let at : x.0 ≡ length rows = let l : length (rows ++ row ∷ []) ≡ length rows + 1 = length-append rows (row ∷ []) in omega arith in
-        let same : c ≡ x = same_id c x (omega arith) in
-        let value : get_or (rows ++ row ∷ []) x.0 [] ≡ row = ap (λ i. get_or (rows ++ row ∷ []) i []) at ∙ or_last rows row [] in
-        let few = is.few k.function n k.number in
-        let all = new.size in
-        subst (λ (r : List Bool). (get_or r n false ≡ true) ↔ P x s) (sym value) (subst (λ (y : ClassId). (get_or row n false ≡ true) ↔ P y s) same (new.marks.each n s (omega arith) k)))
+      let same : c ≡ x = same_id c x (omega arith) in
+      let value : get_or (rows ++ row ∷ []) x.0 [] ≡ row = ap (λ i. get_or (rows ++ row ∷ []) i []) at ∙ or_last rows row [] in
+      let few = is.few k.function n k.number in
+      let all = new.size in
+      subst (λ (r : List Bool). (get_or r n false ≡ true) ↔ P x s) (sym value) (subst (λ (y : ClassId). (get_or row n false ≡ true) ↔ P y s) same (new.marks.each n s (omega arith) k)))
       (either x.0 (length rows));
 }
 
 pub own_decided : (h : Classes) → IsHierarchy h → (c : ClassId) (s : Signature) (f : FunctionId) (b : Bool) → f.class ≡ c → signature_of h f ≡ Some s → b ≡ says_virtual h f → (b ≡ true) ↔ SaysVirtual h c s
 own_decided h keeps c s f b class same is = (
-    λ e. record { source = f; class = class; same = same; says = sym is ∙ e },
-    λ k. let one : k.source ≡ f = same_function h keeps k.source f s (k.class ∙ sym class) k.same same in is ∙ sym (ap (says_virtual h) one) ∙ k.says,
-  )
+  λ e. record { source = f; class = class; same = same; says = sym is ∙ e },
+  λ k. let one : k.source ≡ f = same_function h keeps k.source f s (k.class ∙ sym class) k.same same in is ∙ sym (ap (says_virtual h) one) ∙ k.says,
+)
 
 pub virtual_then : (h : Classes) (c : ClassId) (s : Signature) (own : Bool) → own ≡ true → (own ≡ true) ↔ SaysVirtual h c s → (own ≡ true) ↔ HasVirtual h c s
 virtual_then h c s own t a = (λ e. virtual_own h c s (a.0 e), λ v. t)

@@ -26,9 +26,9 @@ firsts_pushed h firsts f are known class_known fresh = record {
   known = λ i g e. ⊎_elim (λ a. are.known i g a) (λ b. subst (λ (x : FunctionId). IsSome (signature_of h x)) (sym b.1) known) (get_pushed firsts f i g e);
   classes = λ i g e. ⊎_elim (λ a. are.classes i g a) (λ b. subst (λ (x : FunctionId). x.class.0 < length h) (sym b.1) class_known) (get_pushed firsts f i g e);
   apart = λ i j x y ex ey same. ⊎_elim
-    (λ a. ⊎_elim (λ b. are.apart i j x y a b same) (λ b. absurd (fresh i x a (subst (λ (z : FunctionId). signature_of h x ≡ signature_of h z) b.1 same))) (get_pushed firsts f j y ey))
-    (λ a. ⊎_elim (λ b. absurd (fresh j y b (subst (λ (z : FunctionId). signature_of h y ≡ signature_of h z) a.1 (sym same)))) (λ b. let p = a.0 in let q = b.0 in omega arith) (get_pushed firsts f j y ey))
-    (get_pushed firsts f i x ex);
+      (λ a. ⊎_elim (λ b. are.apart i j x y a b same) (λ b. absurd (fresh i x a (subst (λ (z : FunctionId). signature_of h x ≡ signature_of h z) b.1 same))) (get_pushed firsts f j y ey))
+      (λ a. ⊎_elim (λ b. absurd (fresh j y b (subst (λ (z : FunctionId). signature_of h y ≡ signature_of h z) a.1 (sym same)))) (λ b. let p = a.0 in let q = b.0 in omega arith) (get_pushed firsts f j y ey))
+      (get_pushed firsts f i x ex);
 }
 
 -- each number of the row is the place of the first function of its signature
@@ -42,7 +42,7 @@ pub firsts_more : (h : Classes) (old new : List FunctionId) (c : ClassId) (row :
 firsts_more h old new c row index n has kept size first = record {
   each = λ i m e. ⊎_elim (λ a. kept (record { class = c; index = i }) m (has.each i m a))
       (λ b. let at : i ≡ index = b.0 ∙ size in
-        subst (λ (x : ℕ). IsFirstOf h new (record { class = c; index = i }) x) (sym b.1) (subst (λ (x : ℕ). IsFirstOf h new (record { class = c; index = x }) n) (sym at) first))
+      subst (λ (x : ℕ). IsFirstOf h new (record { class = c; index = i }) x) (sym b.1) (subst (λ (x : ℕ). IsFirstOf h new (record { class = c; index = x }) n) (sym at) first))
       (get_pushed row n i m e);
 }
 
@@ -57,8 +57,8 @@ rows_more h old new rows number row has kept size is = record {
   each = λ c r e. ⊎_elim
       (λ a. let k = has.each c r a in record { size = k.size; each = λ i n f. kept (record { class = c; index = i }) n (k.each i n f) })
       (λ b. let at : c.0 ≡ number = b.0 ∙ size in
-        let same : c ≡ record { 0 = number } = same_class c number at in
-        subst (λ (x : List ℕ). IsRow h new c x) (sym b.1) (subst (λ (x : ClassId). IsRow h new x row) (sym same) is))
+      let same : c ≡ record { 0 = number } = same_class c number at in
+      subst (λ (x : List ℕ). IsRow h new c x) (sym b.1) (subst (λ (x : ClassId). IsRow h new x row) (sym same) is))
       (get_pushed rows row c.0 r e);
 }
   where
@@ -94,6 +94,7 @@ some_signature class i None e lt = (destructor, rw (eq-eqb i (length class.funct
   where
     by_either : (i < length class.functions) ⊎ (length class.functions ≤ i) → i ≡ length class.functions
     by_either a = ⊎_elim (λ k. absurd (let t = get_there class.functions i k in let f = e in let g = t.1 in cc)) (λ k. omega arith) a
+
     at_end : i ≡ length class.functions
     at_end = by_either (either i (length class.functions))
 

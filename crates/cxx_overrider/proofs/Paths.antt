@@ -11,7 +11,6 @@ use Rattle.cxx_subobject.specs.declared.Root.{Root}
 use Rattle.cxx_subobject.specs.declared.Root.TheVariants.{Whole, Shared}
 use Rattle.cxx_subobject.specs.declared.Subobject.{Subobject}
 use Rattle.cxx_subobject.specs.Subobjects.{Leads, IsSubobject, whole, shared, subobject, whole_of, last_of, class_of_path, class_of, tail_of, join_at, join}
-
 use Rattle.cxx_subobject.specs.Inside.{IsInside}
 use Rattle.cxx_subobject.proofs.InsideLemmas.{join_valid, inside_back}
 use Rattle.cxx_overrider.specs.declared.places.Place.{Place}
@@ -273,6 +272,7 @@ joined_apart h keeps true c b v p q has e = let same : v.0 ≡ b.0 = ap root_num
     number_in : Root → ℕ
     number_in Whole = 0
     number_in (Shared x) = x.0
+
     root_number : Subobject → ℕ
     root_number s = number_in s.root
 joined_apart h keeps false c b v p q has e = let f : Shared v ≡ Whole = ap (λ (s : Subobject). s.root) e in apart f

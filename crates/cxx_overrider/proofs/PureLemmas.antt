@@ -29,20 +29,20 @@ first_signature h s _ _ _ (below c b path g none d rest) = first_signature h s b
 
 pub pure_own : (h : Classes) → IsHierarchy h → (c : ClassId) (s : Signature) (f : FunctionId) (b m : Bool) → f.class ≡ c → signature_of h f ≡ Some s → (b ≡ true) ↔ ((is_pure h f ≡ true) × (m ≡ true)) → (m ≡ true) ↔ HasVirtual h c s → (b ≡ true) ↔ LeavesPure h c s
 pure_own h keeps c s f b m class same is mark = (
-    λ e. let p = is.0 e in record {
-      path = [];
-      function = f;
-      first = subst (λ (x : ClassId). StandsFirst h s x [] f) class (here f same);
-      pure = p.0;
-      is_virtual = record { signature = s; is = same; source = subst (λ (x : ClassId). HasVirtual h x s) (sym class) (mark.0 p.1) };
-    },
-    λ k.
+  λ e. let p = is.0 e in record {
+    path = [];
+    function = f;
+    first = subst (λ (x : ClassId). StandsFirst h s x [] f) class (here f same);
+    pure = p.0;
+    is_virtual = record { signature = s; is = same; source = subst (λ (x : ClassId). HasVirtual h x s) (sym class) (mark.0 p.1) };
+  },
+  λ k.
       let one : k.function ≡ f = first_own h keeps s c k.path f k.function k.first class same in
       let pure : is_pure h f ≡ true = sym (ap (is_pure h) one) ∙ k.pure in
       let v : IsVirtual h f = subst (λ (x : FunctionId). IsVirtual h x) one k.is_virtual in
       let signature : v.signature ≡ s = let x = v.is in cc in
       is.1 (pure, mark.1 (subst (λ (x : ClassId). HasVirtual h x s) class (subst (λ (x : Signature). HasVirtual h f.class x) signature v.source))),
-  )
+)
 
 pub record FirstBelow (h : Classes) (s : Signature) (c : ClassId) (g : FunctionId) : Type 0 where
   pub b : ClassId
@@ -56,16 +56,16 @@ first_below h s _ _ _ (below c b path g other d rest) none = record { b = b; pat
 
 pub pure_below : (h : Classes) → IsHierarchy h → (numbers : List (List ℕ)) (rows : List (List Bool)) (c : ClassId) (n : ℕ) (s : Signature) (b : Bool) → AreMarks h numbers (LeavesPure h) rows → length rows ≡ c.0 → IsNumberOf h numbers n s → DeclaresNone h c s → (b ≡ true) ↔ HasMarkedPart h rows c n → (b ≡ true) ↔ LeavesPure h c s
 pure_below h keeps numbers rows c n s b are size k none is = (
-    λ e.
+  λ e.
       let m = is.0 e in
       let lt = keeps.bases c m.base m.listed in
       let p = (are.each m.base.class n s (omega arith) k).0 m.marked in
       let d : IsDirectBase h c false m.base.class = record { base = m.base; listed = m.listed; class = refl; way = m.plain } in
       record { path = m.base.class ∷ p.path; function = p.function; first = below c m.base.class p.path p.function none d p.first; pure = p.pure; is_virtual = p.is_virtual },
-    λ p.
+  λ p.
       let f = first_below h s c p.path p.function p.first none in
       let base = f.direct.base in
       let lt = keeps.bases c base f.direct.listed in
       let leaves : LeavesPure h base.class s = subst (λ (x : ClassId). LeavesPure h x s) (sym f.direct.class) (record { path = f.path; function = p.function; first = f.first; pure = p.pure; is_virtual = p.is_virtual }) in
       is.1 (record { base = base; listed = f.direct.listed; plain = f.direct.way; marked = (are.each base.class n s (omega arith) k).1 leaves }),
-  )
+)

@@ -67,21 +67,21 @@ holds_inside : (h : Classes) (c v : ClassId) (s : Signature) (x y : Entry) → (
 holds_inside h c v s x y a b k =
     let valid = through_valid h c b.base b.subobject b.listed b.through in
     ⊎_elim
-      (λ e.
-        let same : place_of b.subobject ≡ place_of a.subobject = b.place ∙ (sym e ∙ sym a.place) in
-        let t = place_through h c a.base b.subobject a.subobject a.listed valid a.through same in
-        let d = declares_below h c v s a.base (overrider b.subobject y.function) t (stands_declares h c v s y b) in
-        through_inside h c a.base a.subobject b.subobject a.through t (a.greatest.all (overrider t.part y.function) d))
-      (λ w.
-        let p = place_shared h c w.0 b.subobject valid (b.place ∙ w.1) in
-        subst (λ (z : Subobject). IsInside h a.subobject z) (sym p.1) (virtual_inside h a.subobject x.function.class w.0 p.0 (stands_declares h c v s x a).class w.2 p.2))
-      k
+    (λ e.
+    let same : place_of b.subobject ≡ place_of a.subobject = b.place ∙ (sym e ∙ sym a.place) in
+    let t = place_through h c a.base b.subobject a.subobject a.listed valid a.through same in
+    let d = declares_below h c v s a.base (overrider b.subobject y.function) t (stands_declares h c v s y b) in
+    through_inside h c a.base a.subobject b.subobject a.through t (a.greatest.all (overrider t.part y.function) d))
+    (λ w.
+    let p = place_shared h c w.0 b.subobject valid (b.place ∙ w.1) in
+    subst (λ (z : Subobject). IsInside h a.subobject z) (sym p.1) (virtual_inside h a.subobject x.function.class w.0 p.0 (stands_declares h c v s x a).class w.2 p.2))
+    k
 
 inside_holds : (h : Classes) (c v : ClassId) (s : Signature) (x y : Entry) → (a : StandsFor h c v s x) → (b : StandsFor h c v s y) → IsInside h a.subobject b.subobject → Holds h x y
 inside_holds h c v s x y a b k =
     let d = stands_declares h c v s x a in
     ⊎_elim (λ e. inl (sym a.place ∙ (e ∙ b.place))) (λ w. inr (w.0, sym b.place ∙ w.1, w.2))
-      (inside_cases h c x.function.class a.subobject b.subobject d.valid d.class (through_apart_whole h c a.base a.subobject a.through) k)
+    (inside_cases h c x.function.class a.subobject b.subobject d.valid d.class (through_apart_whole h c a.base a.subobject a.through) k)
 
 -- the entries of the direct bases are ordered
 pub candidates_order : (h : Classes) (c v : ClassId) (s : Signature) (count : ℕ) (xs : List Entry) → AreCandidates h c v s count xs → IsOrder h xs
@@ -98,9 +98,9 @@ pub has_holder : (h : Classes) (c v : ClassId) (s : Signature) (xs : List Entry)
 has_holder h c v s xs p none are d = ⊎_elim
     (λ e. absurd (none.none p.function (let same : Some c ≡ Some p.function.class = sym (ap class_of e) ∙ d.class in let f : p.function.class ≡ c = cc in f) d.same))
     (λ b.
-      let at = contains_get (bases_of h c) b.0 b.1 in
-      let below = declares_below h c v s b.0 p b.2 d in
-      subst (λ (z : Subobject). HasHolder h c v s xs z) (sym b.2.joined) (are.all at.0 b.0 (overrider b.2.part p.function) (get_within (bases_of h c) at.0 b.0 at.1) at.1 below))
+    let at = contains_get (bases_of h c) b.0 b.1 in
+    let below = declares_below h c v s b.0 p b.2 d in
+    subst (λ (z : Subobject). HasHolder h c v s xs z) (sym b.2.joined) (are.all at.0 b.0 (overrider b.2.part p.function) (get_within (bases_of h c) at.0 b.0 at.1) at.1 below))
     (through_cases h c p.at d.valid)
 
 pub nothing_tells : (h : Classes) (c v : ClassId) (s : Signature) (xs : List Entry) → DeclaresNone h c s → AreCandidates h c v s (length (bases_of h c)) xs → xs ≡ [] → TellsOf h c v s None
@@ -236,16 +236,16 @@ candidates_push h c v s count xs base e listed are tells =
       stand = λ i y at. ⊎_elim (λ a. are.stand i y a) (λ b. subst (λ (z : Entry). StandsFor h c v s z) (sym b.1) stands) (get_pushed xs x i y at);
       all = λ i b p lt at d. ⊎_elim (λ small. holder_more h c v s xs x (join (base_of c b) p.at) (are.all i b p small at d))
           (λ past.
-            let same = same_base h c i count b base at listed (omega arith) in
-            let moved : Declares h base.class v s p = subst (λ (z : Base ClassId). Declares h z.class v s p) same d in
-            subst (λ (z : Base ClassId). HasHolder h c v s (xs ++ x ∷ []) (join (base_of c z) p.at)) (sym same)
-            (record {
-              entry = x;
-              number = length xs;
-              listed = get_last xs x;
-              stands = stands;
-              holds = through_inside h c base sub (join (base_of c base) p.at) t (through_join h c base p.at moved.valid) (tells.greatest.all p moved);
-            }))
+          let same = same_base h c i count b base at listed (omega arith) in
+          let moved : Declares h base.class v s p = subst (λ (z : Base ClassId). Declares h z.class v s p) same d in
+          subst (λ (z : Base ClassId). HasHolder h c v s (xs ++ x ∷ []) (join (base_of c z) p.at)) (sym same)
+          (record {
+            entry = x;
+            number = length xs;
+            listed = get_last xs x;
+            stands = stands;
+            holds = through_inside h c base sub (join (base_of c base) p.at) t (through_join h c base p.at moved.valid) (tells.greatest.all p moved);
+          }))
           (either i count);
     }
 
@@ -272,7 +272,7 @@ above_take h xs start e y count order is ie at holds so =
       above = order.through y e start iy ie is holds so.above;
       none = λ j x lt f k. ⊎_elim
           (λ small. let ix : IsAmong xs x = record { number = j; listed = f } in
-            order.through y e x iy ie ix holds (so.none j x small f (order.through x y e ix iy ie k holds)))
+          order.through y e x iy ie ix holds (so.none j x small f (order.through x y e ix iy ie k holds)))
           (λ past. let same : j ≡ count = omega arith in let moved : slice_get xs j ≡ Some y = ap (slice_get xs) same ∙ at in let one : y ≡ x = cc in inl (ap (λ (z : Entry). z.place) one))
           (either j count);
     }
@@ -296,9 +296,9 @@ refuted b P is f p = let t = is.1 p in cc
 pub next_all : (P : Entry → Type 0) (xs : List Entry) (i : ℕ) (d : Entry) → i < length xs → ((k : ℕ) (x : Entry) → k < i → slice_get xs k ≡ Some x → P x) → P (get_or xs i d) → (k : ℕ) (x : Entry) → k < i + 1 → slice_get xs k ≡ Some x → P x
 next_all P xs i d within so at k x lt e = ⊎_elim (λ small. so k x small e)
     (λ past.
-      let same : k ≡ i = omega arith in
-      let moved : slice_get xs k ≡ Some (get_or xs i d) = ap (slice_get xs) same ∙ slice_get-get_or xs i d within in
-      let one : get_or xs i d ≡ x = cc in subst (λ (z : Entry). P z) one at)
+    let same : k ≡ i = omega arith in
+    let moved : slice_get xs k ≡ Some (get_or xs i d) = ap (slice_get xs) same ∙ slice_get-get_or xs i d within in
+    let one : get_or xs i d ≡ x = cc in subst (λ (z : Entry). P z) one at)
     (either k i)
 
 pub settled_picked : (h : Classes) → IsHierarchy h → (c v : ClassId) (s : Signature) (xs : List Entry) (settled : Settled) → DeclaresNone h c s → AreCandidates h c v s (length (bases_of h c)) xs → HasVirtualBase h c v → IsPicked h xs settled → IsSettled h c v s settled

@@ -28,14 +28,19 @@ spot class part item test = record { class = class; part = part; item = item; te
 -- the parts of a class in their order; the size of the class and its shared places are asked behind them
 abbrev pub limit_part : ℕ
 limit_part = 0
+
 abbrev pub function_part : ℕ
 function_part = 1
+
 abbrev pub overrider_part : ℕ
 overrider_part = 2
+
 abbrev pub member_part : ℕ
 member_part = 3
+
 abbrev pub size_part : ℕ
 size_part = 4
+
 abbrev pub place_part : ℕ
 place_part = 5
 

@@ -13,7 +13,6 @@ ghost use Rattle.cxx_overrider.specs.Tables.{AreTables};
 use crate::entries::{Entry, EntryTable, key_of};
 use crate::places::{Place, lifted};
 use crate::signatures::{Numbering, own_function};
-
 use crate::tables::Tables;
 use crate::virtuals::is_marked;
 use cxx_hierarchy::{ClassId, Hierarchy};

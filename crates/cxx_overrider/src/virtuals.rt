@@ -63,13 +63,7 @@ fn has_marked_base(h: &Hierarchy, rows: &[MarkRow], c: ClassId, n: usize) -> boo
 }
 
 /// Whether the class or a base of it declares a function of the signature with the word `virtual`.
-fn has_virtual(
-    h: &Hierarchy,
-    numbering: &Numbering,
-    rows: &[MarkRow],
-    c: ClassId,
-    n: usize,
-) -> bool
+fn has_virtual(h: &Hierarchy, numbering: &Numbering, rows: &[MarkRow], c: ClassId, n: usize) -> bool
     requires known { c.0 < length h.now }
     requires numbering { IsNumbering h.now numbering.now.rows.items numbering.now.count }
     requires rows { AreMarks h.now numbering.now.rows.items (HasVirtual h.now) rows.now }

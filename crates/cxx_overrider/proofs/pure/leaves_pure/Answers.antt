@@ -26,5 +26,5 @@ returns-in-None c = λ s k.
     let h = c.args.h.now in
     let rows = c.args.numbering.now.rows.items in
     let none = none_declared h rows c.args.numbering.now.count c.args.n c.args.c s c.requires.numbering k
-        (λ (f : FunctionId) class number. c.in-None.ensures f class (ap (λ (r : List (List ℕ)). number_of r f) c.deref.ensures.value ∙ number)) in
+    (λ (f : FunctionId) class number. c.in-None.ensures f class (ap (λ (r : List (List ℕ)). number_of r f) c.deref.ensures.value ∙ number)) in
     pure_below h c.keeps.ensures rows c.args.rows.now c.args.c c.args.n s c.has_marked_part.result c.requires.rows c.requires.size k none c.has_marked_part.ensures

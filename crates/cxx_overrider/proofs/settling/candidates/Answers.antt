@@ -23,13 +23,13 @@ loop-base-preserved c =
     record {
       items = c.loop-base.invariant.items;
       found = λ s tells. elim c.match-below.branch [
-        in-Some+in_ok-push w ↦
-          let grown : w.push.new.self.items ≡ c.loop-base.found.items ++ (record { place = w.lifted.result; function = w.in-Some.entry.function }) ∷ [] = w.in_ok-push.ensures.items in
-          let same : c.match-below.found.items ≡ w.push.new.self.items = ap (λ x. x.items) w.found-is in
-          found_step h c.args.entries.now c.args.c c.args.v c.args.n s i c.loop-base.found.items c.match-below.found.items base w.in-Some.entry w.lifted.result c.key_of.result listed before c.key_of.ensures w.in-Some.ensures w.lifted.ensures (same ∙ grown) tells (c.loop-base.invariant.found s tells)
+        | in-Some+in_ok-push w ↦
+            let grown : w.push.new.self.items ≡ c.loop-base.found.items ++ (record { place = w.lifted.result; function = w.in-Some.entry.function }) ∷ [] = w.in_ok-push.ensures.items in
+            let same : c.match-below.found.items ≡ w.push.new.self.items = ap (λ x. x.items) w.found-is in
+            found_step h c.args.entries.now c.args.c c.args.v c.args.n s i c.loop-base.found.items c.match-below.found.items base w.in-Some.entry w.lifted.result c.key_of.result listed before c.key_of.ensures w.in-Some.ensures w.lifted.ensures (same ∙ grown) tells (c.loop-base.invariant.found s tells)
         | in_default w ↦
-          let same : c.loop-base.found.items ≡ c.match-below.found.items = sym (ap (λ x. x.items) w.found-is) in
-          subst (λ (xs : List Entry). AreCandidates h c.args.c c.args.v s (i + 1) xs) same
-          (missing_step h c.args.entries.now c.args.c c.args.v c.args.n s i c.loop-base.found.items base c.key_of.result listed before c.key_of.ensures (sym w.in_default.is ∙ c.find-below.ensures) tells (c.loop-base.invariant.found s tells))
+            let same : c.loop-base.found.items ≡ c.match-below.found.items = sym (ap (λ x. x.items) w.found-is) in
+            subst (λ (xs : List Entry). AreCandidates h c.args.c c.args.v s (i + 1) xs) same
+            (missing_step h c.args.entries.now c.args.c c.args.v c.args.n s i c.loop-base.found.items base c.key_of.result listed before c.key_of.ensures (sym w.in_default.is ∙ c.find-below.ensures) tells (c.loop-base.invariant.found s tells))
       ];
     }

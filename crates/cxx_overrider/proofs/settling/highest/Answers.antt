@@ -13,19 +13,19 @@ loop-x-preserved c =
     let xs = c.args.xs.now in
     let i = c.loop-x.x-index in
     elim c.if-holds.branch [
-      then-holds w ↦
-        let there : slice_get xs i ≡ Some c.if-holds.best = slice_get-get_or xs i _ c.loop-x-test.true ∙ ap (λ z. Some z) (sym w.best-is) in
-        let held : Holds h c.if-holds.best c.loop-x.best = subst (λ (z : Entry). Holds h z c.loop-x.best) (sym w.best-is) (c.holds.ensures.0 w.if-holds.true) in
-        record {
-          among = record { number = i; listed = there };
-          above = λ o. above_take h xs c.args.start c.loop-x.best c.if-holds.best i o c.requires c.loop-x.invariant.among there held (c.loop-x.invariant.above o);
-        }
+      | then-holds w ↦
+          let there : slice_get xs i ≡ Some c.if-holds.best = slice_get-get_or xs i _ c.loop-x-test.true ∙ ap (λ z. Some z) (sym w.best-is) in
+          let held : Holds h c.if-holds.best c.loop-x.best = subst (λ (z : Entry). Holds h z c.loop-x.best) (sym w.best-is) (c.holds.ensures.0 w.if-holds.true) in
+          record {
+            among = record { number = i; listed = there };
+            above = λ o. above_take h xs c.args.start c.loop-x.best c.if-holds.best i o c.requires c.loop-x.invariant.among there held (c.loop-x.invariant.above o);
+          }
       | else-holds w ↦
-        record {
-          among = subst (λ (z : Entry). IsAmong xs z) (sym w.best-is) c.loop-x.invariant.among;
-          above = λ o. subst (λ (z : Entry). IsAboveSoFar h xs c.args.start (i + 1) z) (sym w.best-is)
-              (above_keep h xs c.args.start c.loop-x.best _ i (slice_get-get_or xs i _ c.loop-x-test.true) (refuted c.holds.result _ c.holds.ensures w.if-holds.false) (c.loop-x.invariant.above o));
-        }
+          record {
+            among = subst (λ (z : Entry). IsAmong xs z) (sym w.best-is) c.loop-x.invariant.among;
+            above = λ o. subst (λ (z : Entry). IsAboveSoFar h xs c.args.start (i + 1) z) (sym w.best-is)
+                (above_keep h xs c.args.start c.loop-x.best _ i (slice_get-get_or xs i _ c.loop-x-test.true) (refuted c.holds.result _ c.holds.ensures w.if-holds.false) (c.loop-x.invariant.above o));
+          }
     ]
 
 pub returns-clause-above : goal.returns-clause-above

@@ -22,6 +22,6 @@ returns-in_ok-found-in-None c = λ s k tells.
     let h = c.args.h.now in
     let rows = c.args.numbering.now.rows.items in
     let none = none_declared h rows c.args.numbering.now.count c.args.n c.args.c s c.requires.numbering k
-        (λ (f : FunctionId) class number. c.in-None.ensures f class (ap (λ (r : List (List ℕ)). number_of r f) c.deref.ensures.value ∙ number)) in
+    (λ (f : FunctionId) class number. c.in-None.ensures f class (ap (λ (r : List (List ℕ)). number_of r f) c.deref.ensures.value ∙ number)) in
     let picked : IsPicked h c.in_ok-found-in-None.found.items c.pick-picked.result = subst (λ (xs : List Entry). IsPicked h xs c.pick-picked.result) c.deref-in-None.ensures.value c.pick-picked.ensures in
     settled_picked h c.keeps.ensures c.args.c c.args.v s c.in_ok-found-in-None.found.items c.pick-picked.result none (c.in_ok-found-in-None.ensures s tells) c.requires.base picked

@@ -22,9 +22,9 @@ returns-then-not-is_marked c =
     let all = t.all_virtuals in
     made_skip h c.args.tables.now.numbering.rows.items c.args.entries.now c.args.c c.args.v c.args.n c.requires.made
     (λ s k has.
-      let marked = (t.virtuals.each c.args.v c.args.n s (omega arith) k).1 has in
-      let is : c.is_marked.result ≡ mark_of c.args.tables.now.virtuals.items c.args.v c.args.n = c.is_marked.ensures ∙ ap (λ (r : List (List Bool)). mark_of r c.args.v c.args.n) c.deref.ensures.value in
-      absurd (apart c.is_marked.result (is ∙ marked) c.if-not-is_marked.true))
+    let marked = (t.virtuals.each c.args.v c.args.n s (omega arith) k).1 has in
+    let is : c.is_marked.result ≡ mark_of c.args.tables.now.virtuals.items c.args.v c.args.n = c.is_marked.ensures ∙ ap (λ (r : List (List Bool)). mark_of r c.args.v c.args.n) c.deref.ensures.value in
+    absurd (apart c.is_marked.result (is ∙ marked) c.if-not-is_marked.true))
   where
     apart : (b : Bool) → b ≡ true → b ≡ false → ⊥
     apart b x y = cc
@@ -35,7 +35,7 @@ returns-in-Nothing c =
     let numbers = c.args.tables.now.numbering.rows.items in
     made_skip h numbers c.args.entries.now c.args.c c.args.v c.args.n c.requires.made
     (λ s k has. subst (λ (x : Settled). IsSettled h c.args.c c.args.v s x) c.in-Nothing.is
-      (c.in_ok-settle.ensures s k (made_tells h numbers c.args.entries.now c.args.c c.args.v c.args.n c.requires.made s k has)))
+    (c.in_ok-settle.ensures s k (made_tells h numbers c.args.entries.now c.args.c c.args.v c.args.n c.requires.made s k has)))
 
 pub returns-in_ok-put-in-One : goal.returns-in_ok-put-in-One
 returns-in_ok-put-in-One c =
@@ -44,7 +44,7 @@ returns-in_ok-put-in-One c =
     let old = c.args.entries.now in
     made_put h numbers old c.args.c c.args.v c.args.n c.requires.made c.put.new.self c.in-One.entry
     (λ s k has. subst (λ (x : Settled). IsSettled h c.args.c c.args.v s x) c.in-One.is
-      (c.in_ok-settle.ensures s k (made_tells h numbers old c.args.c c.args.v c.args.n c.requires.made s k has)))
+    (c.in_ok-settle.ensures s k (made_tells h numbers old c.args.c c.args.v c.args.n c.requires.made s k has)))
     (subst (λ (k : Key). (q : Key) → entry_of c.put.new.self q ≡ (if same_key q k then Some c.in-One.entry else entry_of old q)) c.key_of.ensures c.in_ok-put-in-One.ensures)
 
 pub returns-in-Two : goal.returns-in-Two
@@ -61,5 +61,5 @@ returns-in-Two c =
     let is : c.is_marked.result ≡ mark_of c.args.tables.now.virtuals.items c.args.v c.args.n = c.is_marked.ensures ∙ ap (λ (r : List (List Bool)). mark_of r c.args.v c.args.n) c.deref.ensures.value in
     let has = (t.virtuals.each c.args.v c.args.n s.0 (omega arith) k).0 (sym is ∙ c.if-not-is_marked.false) in
     let settled = subst (λ (x : Settled). IsSettled h c.args.c c.args.v s.0 x) c.in-Two.is
-      (c.in_ok-settle.ensures s.0 k (made_tells h numbers c.args.entries.now c.args.c c.args.v c.args.n c.requires.made s.0 k has)) in
+    (c.in_ok-settle.ensures s.0 k (made_tells h numbers c.args.entries.now c.args.c c.args.v c.args.n c.requires.made s.0 k has)) in
     settled has
