@@ -14,8 +14,9 @@ use Rattle.abi_layout.specs.declared.class_layout.ClassLayout.{ClassLayout}
 use Rattle.abi_layout.specs.Kinds.{IsStatic}
 use Rattle.abi_layout.specs.Laid.{IsLaidFront, HasTooLargeFront, AreSmall}
 use Rattle.abi_layout.proofs.Unique.{row_agrees, front_is_one}
+use Rattle.abi_layout.proofs.SoundLemmas.{rules_are_sound}
 use Rattle.cxxabi_cmd.specs.Verdict.{Spot, spot, count_part, size_part, IsBefore, by_class, by_part, IsTooLarge, Fault, many_parts, large, IsFirstFault, HasNoFault}
-use Rattle.cxxabi_cmd.specs.Replies.{IsFirstPast}
+use Rattle.cxxabi_cmd.specs.Replies.{IsFirstPast, IsLayout}
 
 taken_get : {X : Type 0} (xs : List X) (n i : ℕ) → i < n → slice_get (take n xs) i ≡ slice_get xs i
 taken_get xs zero i below = absurd (omega arith)
@@ -143,3 +144,10 @@ static_none h number rows past all static laid small = record { none = nothing_m
 
 pub dynamic_none : (h : Classes) (number : ℕ) → IsFirstPast h number → length h ≤ number → (IsStatic h → ⊥) → HasNoFault h
 dynamic_none h number past all dynamic = record { none = nothing_met h number past all (λ c lower static big. dynamic static) }
+
+-- and then the layout of the first classes is that of all
+pub layout_of : (h : Classes) (number : ℕ) (rows : List ClassLayout) → IsFirstPast h number → length h ≤ number → IsStatic h → IsLaidFront h number rows → AreSmall rows → IsLayout h rows
+layout_of h number rows past all static laid small =
+    let same : number ≡ length h = (let known = past.known in omega arith) in
+    let whole : IsLaidFront h (length h) rows = subst (λ (n : ℕ). IsLaidFront h n rows) same laid in
+    record { laid = whole; sound = rules_are_sound h rows static whole small }

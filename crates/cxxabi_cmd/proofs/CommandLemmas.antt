@@ -1,22 +1,44 @@
--- Lists of one word.
-use Rattle.std.proofs.Common.{◌≡◌, ℕ, ◌<◌, ◌≤◌, Bool, List, [], ◌∷◌, length, map, ap, sym, ◌∙◌, arith, get_or}
-use Rattle.std.specs.Prelude.{IsTrue, ◌↔◌}
-use Rattle.std.specs.Str.{bytes_eq}
-use Rattle.std.proofs.lemmas.Slice.Eq.{bytes_eq-Decides}
+-- Words and the commands that they ask for.
+use Rattle.std.proofs.Common.{◌≡◌, ℕ, ◌<◌, ◌≤◌, Bool, true, false, Option, Some, None, Result, Ok, Err, List, [], ◌∷◌, length, map, ap, sym, ◌∙◌, refl, subst, arith, get_or, codes}
+use Rattle.std.specs.Prelude.{IfOk, MatchOption}
+use Rattle.foundation.specs.declared.memory.NoMemory.{NoMemory as Want}
+use Rattle.cxxabi_cmd.specs.declared.command.Command.{Command}
+use Rattle.cxxabi_cmd.specs.declared.command.Command.TheVariants.{LayoutOf}
+use Rattle.cxxabi_cmd.specs.Commands.{Says, check, run, layout, layout_of, IsCommand, is_option}
 
 one_item : {X Y : Type 0} (f : X → Y) (xs : List X) (x : X) → 1 ≤ length xs → length xs < 2 → x ≡ get_or xs 0 x → map f xs ≡ f x ∷ []
 one_item f [] x some few e = absurd (omega arith)
 one_item f (y ∷ []) x some few e = ap (λ z. f z ∷ []) (sym e)
 one_item f (y ∷ z ∷ ys) x some few e = absurd (omega arith)
 
--- the one item of a list is a text exactly where the test says so
-pub is_one_word : {X : Type 0} (f : X → List ℕ) (xs : List X) (x : X) (bytes word : List ℕ) (test : Bool) → 1 ≤ length xs → length xs < 2 → x ≡ get_or xs 0 x →
-    bytes ≡ f x → test ≡ bytes_eq bytes word → IsTrue test ↔ (map f xs ≡ word ∷ [])
-is_one_word f xs x bytes word test some few at value eq =
-    let one = one_item f xs x some few at in
-    let tests = bytes_eq-Decides bytes word in
-    (λ yes. one ∙ ap (λ b. b ∷ []) (sym value ∙ tests.0 (sym eq ∙ yes)), λ same. eq ∙ tests.1 (let here : f x ∷ [] ≡ word ∷ [] = sym one ∙ same in value ∙ (cc)))
-
 -- the one item of a list is this text
 pub says_word : {X : Type 0} (f : X → List ℕ) (xs : List X) (x : X) (bytes word : List ℕ) → 1 ≤ length xs → length xs < 2 → x ≡ get_or xs 0 x → bytes ≡ f x → bytes ≡ word → map f xs ≡ word ∷ []
 says_word f xs x bytes word some few at value is = one_item f xs x some few at ∙ ap (λ b. b ∷ []) (sym value ∙ is)
+
+two_items : {X Y : Type 0} (f : X → Y) (xs : List X) (x y : X) → 2 ≤ length xs → length xs < 3 → x ≡ get_or xs 0 x → y ≡ get_or xs 1 y → map f xs ≡ f x ∷ f y ∷ []
+two_items f [] x y some few first second = absurd (omega arith)
+two_items f (a ∷ []) x y some few first second = absurd (omega arith)
+two_items f (a ∷ b ∷ []) x y some few first second = let one : a ≡ x = sym first in let two : b ≡ y = sym second in rw (one, two) refl
+two_items f (a ∷ b ∷ c ∷ xs) x y some few first second = absurd (omega arith)
+
+-- the two items of a list are these texts
+pub says_words : {X : Type 0} (f : X → List ℕ) (xs : List X) (x y : X) (bytes word name : List ℕ) → 2 ≤ length xs → length xs < 3 → x ≡ get_or xs 0 x → y ≡ get_or xs 1 y →
+    bytes ≡ f x → bytes ≡ word → name ≡ f y → map f xs ≡ word ∷ name ∷ []
+says_words f xs x y bytes word name some few first second value is other =
+    two_items f xs x y some few first second ∙ ap (λ w. w ∷ f y ∷ []) (sym value ∙ is) ∙ ap (λ n. word ∷ n ∷ []) (sym other)
+
+option_no_command : (words : List (List ℕ)) (name : List ℕ) (c : Command) → Says words c → words ≡ codes "layout" ∷ name ∷ [] → is_option name ≡ true → ⊥
+option_no_command _ name _ check same option = cc
+option_no_command _ name _ run same option = cc
+option_no_command _ name _ layout same option = cc
+option_no_command _ name _ (layout_of other plain) same option =
+    let one : other ≡ name = cc in
+    let clash : false ≡ true = sym plain ∙ ap is_option one ∙ option in cc
+
+-- what `layout` with a name is
+pub layout_with : (r : Result (Option Command) Want) (words : List (List ℕ)) (name : List ℕ) → words ≡ codes "layout" ∷ name ∷ [] →
+    IfOk r (λ found. MatchOption found (is_option name ≡ true) (λ command. (command ≡ LayoutOf name) × (is_option name ≡ false))) →
+    IfOk r (λ found. MatchOption found (IsCommand words → ⊥) (Says words))
+layout_with (Ok None) words name same option = λ command. option_no_command words name command.0 command.1 same option
+layout_with (Ok (Some command)) words name same is = subst (λ (c : Command). Says words c) (sym is.0) (subst (λ (w : List (List ℕ)). Says w (LayoutOf name)) (sym same) (layout_of name is.1))
+layout_with (Err e) words name same is = is

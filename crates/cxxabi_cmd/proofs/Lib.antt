@@ -3,7 +3,9 @@ pub mod CommandLemmas
 pub mod OutputLemmas
 pub mod AnswerLemmas
 pub mod StaticLemmas
+pub mod CountLemmas
 pub mod ClassFaults
+pub mod Judging
 pub mod Accepting
 pub mod OneFault
 pub mod OneVerdict

@@ -1,6 +1,6 @@
 //! What the words ask for.
 
-ghost use Rattle.std.specs.Prelude.{◌≡◌, IfOk, MatchOption};
+ghost use Rattle.std.specs.Prelude.{◌≡◌, true, false, IfOk, MatchOption};
 ghost use Rattle.cxxabi_cmd.specs.Output.{texts_of};
 ghost use Rattle.cxxabi_cmd.specs.Commands.{Says, IsCommand, is_option};
 

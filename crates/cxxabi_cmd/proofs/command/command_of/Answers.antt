@@ -1,7 +1,7 @@
-use Rattle.std.proofs.Common.{string_bytes, subst, sym, List, ℕ}
-use Rattle.cxxabi_cmd.specs.declared.command.Command.TheVariants.{Check, Run}
-use Rattle.cxxabi_cmd.specs.Commands.{Says, check, run}
-use Rattle.cxxabi_cmd.proofs.CommandLemmas.{says_word}
+use Rattle.std.proofs.Common.{string_bytes, subst, sym, List, ℕ, map, ◌∙◌}
+use Rattle.cxxabi_cmd.specs.declared.command.Command.TheVariants.{Check, Run, Layout}
+use Rattle.cxxabi_cmd.specs.Commands.{Says, check, run, layout}
+use Rattle.cxxabi_cmd.proofs.CommandLemmas.{says_word, says_words, layout_with}
 use Rattle.cxxabi_cmd.proofs.command.command_of.Goals as goal
 
 pub returns-in-check : goal.returns-in-check
@@ -9,3 +9,12 @@ returns-in-check c = subst (λ (w : List (List ℕ)). Says w Check) (sym (says_w
 
 pub returns-in-run : goal.returns-in-run
 returns-in-run c = subst (λ (w : List (List ℕ)). Says w Run) (sym (says_word string_bytes c.args.words.now c.word-item.result c.as_str.result.now _ c.in-len1.len_at_least c.in-len1.len_below c.word-item.is c.as_str.ensures.value c.in-run.is)) run
+
+pub returns-in-layout : goal.returns-in-layout
+returns-in-layout c = subst (λ (w : List (List ℕ)). Says w Layout) (sym (says_word string_bytes c.args.words.now c.word-item.result c.as_str.result.now _ c.in-len1.len_at_least c.in-len1.len_below c.word-item.is c.as_str.ensures.value c.in-layout.is)) layout
+
+pub returns-in-layout-as_str : goal.returns-in-layout-as_str
+returns-in-layout-as_str c = layout_with c.layout_of.result (map string_bytes c.args.words.now) c.as_str-in-layout-as_str.result.now
+    (says_words string_bytes c.args.words.now c.word-item-then-words-lt3.result c.name-item.result c.as_str-in-len2.result.now _ c.as_str-in-layout-as_str.result.now c.in-len2.len_at_least c.in-len2.len_below
+      c.word-item-then-words-lt3.is c.name-item.is c.as_str-in-len2.ensures.value c.in-layout-as_str.is c.as_str-in-layout-as_str.ensures.value)
+    c.layout_of.ensures
