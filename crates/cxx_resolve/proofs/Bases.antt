@@ -11,11 +11,11 @@ use Rattle.cxx_subobject.specs.declared.Root.TheVariants.{Whole, Shared}
 use Rattle.cxx_subobject.specs.declared.Subobject.{Subobject}
 use Rattle.cxx_hierarchy.specs.VirtualBases.{IsDirectBase, HasVirtualBase, direct, further}
 use Rattle.cxx_subobject.specs.Subobjects.{Leads, IsSubobject, whole, shared, subobject, class_of, class_of_path, last_of}
-use Rattle.cxx_subobject.specs.Ordered.{HasOrderedBases, HasNoVirtualBase}
 use Rattle.cxx_resolve.specs.SimpleHierarchy.{HasSimpleClasses, IsSimpleHierarchy}
 
-pub ordered_bases : (h : Classes) → IsHierarchy h → HasOrderedBases h
-ordered_bases h keeps = record { before = keeps.bases; once = keeps.once }
+-- no base is virtual
+pub record HasNoVirtualBase (h : Classes) : Type 0 where
+  pub each : (c : ClassId) (base : Base ClassId) → Contains (bases_of h c) base → base.is_virtual ≡ false
 
 not_virtual : (h : Classes) → HasSimpleClasses h → (c : ClassId) (base : Base ClassId) (o : Option Class) → class_at h c ≡ o → Contains (bases_in o) base → base.is_virtual ≡ false
 not_virtual h simple c base None at (k, lt, e) = absurd (omega arith)

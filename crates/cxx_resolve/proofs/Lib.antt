@@ -1,6 +1,7 @@
 pub mod Bases
 pub mod ClassTests
 pub mod Each
+pub mod FewParts
 pub mod FormCases
 pub mod FormLines
 pub mod Found

@@ -85,14 +85,6 @@ two_of_class h c d list n k lists found rest s u =
     let same : n ≡ (n + 1) + k = lists.once n ((n + 1) + k) s (at_first ∙ ap Some one) (at_second ∙ ap Some other) in
     absurd (omega arith)
 
--- the class of a path stands last in it
-pub last_is : (path : List ClassId) → slice_get path (length path - 1) ≡ class_of_path path
-last_is [] = refl
-last_is (c ∷ []) = refl
-last_is (c ∷ b ∷ path) =
-    let e : length (c ∷ b ∷ path) - 1 ≡ suc (length (b ∷ path) - 1) = omega arith in
-    ap (slice_get (c ∷ b ∷ path)) e ∙ last_is (b ∷ path)
-
 -- what the second search tells
 record IsItem {X : Type 0} (o : Option X) : Type 0 where
   item : X

@@ -18,8 +18,7 @@ use Rattle.cxx_resolve.specs.declared.program.MemberPlace.{MemberPlace}
 use Rattle.cxx_resolve.specs.SimpleHierarchy.{HasSimpleClasses, IsSimpleHierarchy}
 use Rattle.cxx_resolve.specs.Searches.{AreSubobjects, HasMember, IsCovered, IsShortest, goes_first}
 use Rattle.cxx_resolve.specs.Resolves.{IsMemberOf}
-use Rattle.cxx_subobject.specs.Ordered.{HasNoVirtualBase}
-use Rattle.cxx_resolve.proofs.Bases.{plain_bases, no_virtual}
+use Rattle.cxx_resolve.proofs.Bases.{HasNoVirtualBase, plain_bases, no_virtual}
 use Rattle.cxx_resolve.proofs.Each.{no_items}
 use Rattle.cxx_resolve.proofs.Named.{same_number, no_function}
 

@@ -16,11 +16,11 @@ ghost use Rattle.cxx_lookup.specs.UniqueBase.{IsUniqueBase, IsBaseFault};
 ghost use Rattle.cxx_resolve.specs.Resolves.{IsField, IsMemberOf, IsPointerTo};
 ghost use Rattle.cxx_resolve.specs.Answers.{IsRefusal, IsNumberAt, IsLesser, IsPointerAt, HasCommon, HasPointerTo};
 
-use crate::look_up::{base_of, class_of, member_of};
+use crate::look_up::{base_of, member_of};
 use crate::program::{Converted, MemberPlace};
 use crate::variables::Variables;
 use cxx_hierarchy::{ClassId, FieldType, Hierarchy, Member, Name, Rule, Scalar, Stop, ValueType};
-use cxx_subobject::Subobject;
+use cxx_subobject::{Subobject, class_of};
 use std::alloc::Global;
 
 /// The type of a member that is a number, and no array.

@@ -7,8 +7,7 @@ ghost use Rattle.std.specs.Prelude.{◌≡◌, ◌<◌, ◌↔◌, ℕ, Some, Op
 ghost use Rattle.std.specs.Str.{bytes_eq};
 ghost use Rattle.cxx_hierarchy.specs.Classes.{Classes};
 ghost use Rattle.cxx_subobject.specs.declared.Subobject.{Subobject};
-ghost use Rattle.cxx_subobject.specs.Subobjects.{IsSubobject, class_of};
-ghost use Rattle.cxx_subobject.specs.Preorder.{ListsSubobjects};
+ghost use Rattle.cxx_subobject.specs.Subobjects.{IsSubobject};
 ghost use Rattle.cxx_lookup.specs.UniqueBase.{IsUniqueBase};
 ghost use Rattle.cxx_resolve.specs.SimpleHierarchy.{IsSimpleHierarchy};
 ghost use Rattle.cxx_resolve.specs.Searches.{AreSubobjects, member_name, HasMember, IsCovered, IsShortest, goes_first, is_of_class};
@@ -18,16 +17,9 @@ ghost use Rattle.cxx_resolve.specs.declared.program.MemberPlace.{MemberPlace};
 
 use crate::program::MemberPlace;
 use cxx_hierarchy::{ClassId, Hierarchy, Member, Rule, Stop};
-use cxx_subobject::{Subobject, SubobjectList, containment_is_order, contains, subobjects_of};
+use cxx_subobject::{Subobject, class_of, containment_is_order, contains, list_subobjects};
 use foundation::{NoMemory, Sequence};
 use std::alloc::Global;
-
-/// The class of a subobject: the last one of its path.
-pub(crate) fn class_of(s: &Subobject) -> Option<ClassId>
-    ensures { result ≡ class_of s.now }
-{
-    s.path.as_slice().last().copied()
-}
 
 fn copy(alloc: Global, s: &Subobject) -> Result<Subobject, NoMemory>
     ensures { IfOk result (λ copied. copied ≡ s.now) }
@@ -36,19 +28,6 @@ fn copy(alloc: Global, s: &Subobject) -> Result<Subobject, NoMemory>
         root: s.root,
         path: Sequence::from_vec(Vec::from_slice(alloc, s.path.as_slice())?),
     })
-}
-
-/// The subobjects of a class. There are at most 64 of them.
-fn parts_of(alloc: Global, h: &Hierarchy, c: ClassId) -> Result<SubobjectList, NoMemory>
-    requires simple { IsSimpleHierarchy h.now }
-    requires known { c.0 < length h.now }
-    ensures { IfOk result (λ list. ListsSubobjects h.now c list) }
-{
-    h.keeps();
-    match subobjects_of(alloc, h, c) {
-        Ok(list) => Ok(list),
-        Err(_) => Err(NoMemory),
-    }
 }
 
 /// The number of the first member of a name.
@@ -149,7 +128,7 @@ pub(crate) fn member_of(
 {
     h.keeps();
     containment_is_order();
-    let list = parts_of(alloc, h, c)?;
+    let list = list_subobjects(alloc, h, c)?;
     let parts = list.as_slice();
     let Some(best) = shortest(h, c, name, None, parts) else {
         return Err(Stop::Refused(Rule::Syntax, 0));
@@ -193,7 +172,7 @@ pub(crate) fn base_of(
     ensures ok { IfOk result (IsUniqueBase h.now c d) }
     ensures err { IfErr result (IsRefusal ((base : Subobject) → IsUniqueBase h.now c d base → ⊥)) }
 {
-    let list = parts_of(alloc, h, c)?;
+    let list = list_subobjects(alloc, h, c)?;
     let parts = list.as_slice();
     let Some(number) = first_of_class(parts, d) else {
         return Err(Stop::Refused(Rule::Syntax, 0));

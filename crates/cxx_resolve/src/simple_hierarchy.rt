@@ -9,12 +9,13 @@ ghost use Rattle.cxx_hierarchy.specs.declared.records.ValueType.{ValueType};
 ghost use Rattle.cxx_hierarchy.specs.declared.records.FieldType.{FieldType};
 ghost use Rattle.cxx_hierarchy.specs.Classes.{Class, class_at};
 ghost use Rattle.cxx_subobject.specs.Preorder.{preorder};
+ghost use Rattle.cxx_subobject.specs.Parts.{TellsLimits};
 ghost use Rattle.cxx_resolve.specs.SimpleHierarchy.{IsSimpleBase, IsSimpleMember, IsSimpleClass, IsSimpleHierarchy, HasSimpleClasses};
 
 use cxx_hierarchy::{
-    Base, ClassId, ClassRec, Destructor, FieldType, Hierarchy, Member, Scalar, Stop, ValueType,
+    Base, ClassId, ClassRec, Destructor, FieldType, Hierarchy, Member, Scalar, ValueType,
 };
-use cxx_subobject::subobjects_of;
+use cxx_subobject::{PartCounts, list_subobjects};
 use foundation::NoMemory;
 use std::alloc::Global;
 
@@ -116,18 +117,23 @@ fn has_simple_classes(h: &Hierarchy) -> bool
     true
 }
 
-/// Whether a class has at most 64 subobjects.
-fn has_few_subobjects(alloc: Global, h: &Hierarchy, c: ClassId) -> Result<bool, NoMemory>
+/// Whether a class has at most 64 subobjects. They are listed only where the counts tell that there are not many.
+fn has_few_subobjects(
+    alloc: Global,
+    h: &Hierarchy,
+    counts: &PartCounts,
+    c: ClassId,
+) -> Result<bool, NoMemory>
     requires classes { HasSimpleClasses h.now }
+    requires counts { TellsLimits h.now counts.now }
     requires known { c.0 < length h.now }
     ensures { IfOk result (λ few. IsTrue few ↔ (length (preorder h.now c) ≤ 64)) }
 {
-    h.keeps();
-    match subobjects_of(alloc, h, c) {
-        Ok(list) => Ok(list.len() <= SUBOBJECT_LIMIT),
-        Err(Stop::Limit(_)) => Ok(false),
-        Err(Stop::Refused(_, _) | Stop::NoMemory) => Err(NoMemory),
+    if !counts.is_within(c) {
+        return Ok(false);
     }
+    let list = list_subobjects(alloc, h, c)?;
+    Ok(list.len() <= SUBOBJECT_LIMIT)
 }
 
 /// Whether a hierarchy is one that `run` takes: each class has at most 16 direct bases, all public and not virtual and
@@ -141,8 +147,9 @@ pub fn is_simple(alloc: Global, h: &Hierarchy) -> Result<bool, NoMemory>
     if !has_simple_classes(h) {
         return Ok(false);
     }
+    let counts = PartCounts::new(alloc, h)?;
     for n in 0..h.len() {
-        if !has_few_subobjects(alloc, h, ClassId(n))? {
+        if !has_few_subobjects(alloc, h, &counts, ClassId(n))? {
             return Ok(false);
         }
     }

@@ -1,8 +1,6 @@
-use Rattle.cxx_resolve.proofs.Bases.{plain_bases, ordered_bases}
+use Rattle.cxx_resolve.proofs.Each.{never, not_both}
+use Rattle.cxx_resolve.proofs.FewParts.{few_within}
 use Rattle.cxx_resolve.proofs.simple_hierarchy.has_few_subobjects.Goals as goal
 
-pub subobjects_of-requires-clause-ordered : goal.subobjects_of-requires-clause-ordered
-subobjects_of-requires-clause-ordered c = ordered_bases c.args.h.now c.keeps.ensures
-
-pub subobjects_of-requires-clause-plain : goal.subobjects_of-requires-clause-plain
-subobjects_of-requires-clause-plain c = plain_bases c.args.h.now c.requires.classes
+pub returns-then-not-is_within : goal.returns-then-not-is_within
+returns-then-not-is_within c = never (λ few. not_both ((c.is_within.ensures c.args.h.now c.requires.counts).1 (few_within c.args.h.now c.requires.classes c.args.c few)) c.if-not-is_within.true)

@@ -1,8 +1,0 @@
-use Rattle.cxx_resolve.proofs.Bases.{plain_bases, ordered_bases}
-use Rattle.cxx_resolve.proofs.look_up.parts_of.Goals as goal
-
-pub subobjects_of-requires-clause-ordered : goal.subobjects_of-requires-clause-ordered
-subobjects_of-requires-clause-ordered c = ordered_bases c.args.h.now c.keeps.ensures
-
-pub subobjects_of-requires-clause-plain : goal.subobjects_of-requires-clause-plain
-subobjects_of-requires-clause-plain c = plain_bases c.args.h.now c.requires.simple.classes
