@@ -1,13 +1,13 @@
-//! Layouts of small hierarchies, with the places that the ABI gives.
+//! The layout of a small hierarchy, with the places that the ABI gives.
 
 ghost use Rattle.std.specs.Prelude.{All, IfOk};
 ghost use Rattle.cxx_hierarchy.specs.ClassPass.{IsInOrder};
 
-use crate::hierarchy_layout::{lay_out, lay_out_front};
+use crate::hierarchy_layout::lay_out;
 use crate::statics::is_static;
 use cxx_hierarchy::{
-    Base, ClassId, ClassRec, Destructor, FieldType, LimitNo, Member, Name, PartAt, PartKind,
-    RecordList, Scalar, Stop, ValueType, build,
+    Base, ClassId, ClassRec, Destructor, FieldType, Member, Name, PartAt, PartKind, RecordList,
+    Scalar, ValueType, build,
 };
 use foundation::{NoMemory, Sequence};
 use std::alloc::Global;
@@ -118,131 +118,5 @@ fn field_over_an_empty_base(rt: HostRuntime) -> Result<(), Fail> {
     assert_eq!(rt; row.nvsize, 8);
     assert_eq!(rt; row.base_places.as_slice(), [0].as_slice());
     assert_eq!(rt; row.member_places.as_slice(), [1, 4].as_slice());
-    Ok(())
-}
-
-/// `struct E {}; struct E1 : E {}; struct E2 : E {}; struct G : E1, E2 {};`: the second E lies one byte further.
-#[test]
-fn two_empty_bases(rt: HostRuntime) -> Result<(), Fail> {
-    let alloc = rt.alloc();
-    let records = with_class(none(alloc), class(alloc, "E", false)?)?;
-    let records = with_class(records, with_base(alloc, class(alloc, "E1", false)?, "E")?)?;
-    let records = with_class(records, with_base(alloc, class(alloc, "E2", false)?, "E")?)?;
-    let g = with_base(alloc, class(alloc, "G", false)?, "E1")?;
-    let h = build(alloc, &with_class(records, with_base(alloc, g, "E2")?)?)?;
-    assert!(rt; is_static(&h));
-    let layout = lay_out(alloc, &h)?;
-    assert_eq!(rt; layout.len(), 4);
-    let row = layout.layout(ClassId(3));
-    assert_eq!(rt; row.size, 2);
-    assert_eq!(rt; row.dsize, 0);
-    assert_eq!(rt; row.nvsize, 2);
-    assert_eq!(rt; row.base_places.as_slice(), [0, 1].as_slice());
-    Ok(())
-}
-
-/// `struct A { int a; char c; }; struct B : A { char d; };`, where A has a constructor or has none.
-fn derived_char(alloc: Global, has_constructor: bool) -> Result<RecordList, NoMemory>
-    ensures { IfOk result (All IsInOrder) }
-{
-    let a = with_field(
-        alloc,
-        class(alloc, "A", has_constructor)?,
-        number(Scalar::Int),
-        None,
-        "a",
-    )?;
-    let records = with_class(
-        none(alloc),
-        with_field(alloc, a, number(Scalar::Char), None, "c")?,
-    )?;
-    let b = with_base(alloc, class(alloc, "B", false)?, "A")?;
-    with_class(
-        records,
-        with_field(alloc, b, number(Scalar::Char), None, "d")?,
-    )
-}
-
-/// The tail padding of a POD base stays its own.
-#[test]
-fn padding_of_a_pod_base(rt: HostRuntime) -> Result<(), Fail> {
-    let alloc = rt.alloc();
-    let h = build(alloc, &derived_char(alloc, false)?)?;
-    assert!(rt; is_static(&h));
-    let layout = lay_out(alloc, &h)?;
-    assert_eq!(rt; layout.len(), 2);
-    let row = layout.layout(ClassId(1));
-    assert_eq!(rt; row.size, 12);
-    assert_eq!(rt; row.dsize, 9);
-    assert_eq!(rt; row.member_places.as_slice(), [8].as_slice());
-    Ok(())
-}
-
-/// That of another base is used.
-#[test]
-fn padding_of_another_base(rt: HostRuntime) -> Result<(), Fail> {
-    let alloc = rt.alloc();
-    let h = build(alloc, &derived_char(alloc, true)?)?;
-    assert!(rt; is_static(&h));
-    let layout = lay_out(alloc, &h)?;
-    assert_eq!(rt; layout.len(), 2);
-    assert_eq!(rt; layout.layout(ClassId(0)).dsize, 5);
-    let row = layout.layout(ClassId(1));
-    assert_eq!(rt; row.size, 8);
-    assert_eq!(rt; row.dsize, 6);
-    assert_eq!(rt; row.member_places.as_slice(), [5].as_slice());
-    Ok(())
-}
-
-/// `struct A { long a[4096]; }; struct B { A b[15]; long c[N]; };`, of 491,520 bytes and 8 for each of the N.
-fn large(alloc: Global, count: u32) -> Result<RecordList, NoMemory>
-    ensures { IfOk result (All IsInOrder) }
-{
-    let a = with_field(
-        alloc,
-        class(alloc, "A", false)?,
-        number(Scalar::Long),
-        Some(4096),
-        "a",
-    )?;
-    let records = with_class(none(alloc), a)?;
-    let b = with_field(
-        alloc,
-        class(alloc, "B", false)?,
-        FieldType::Object(name(alloc, "A")?),
-        Some(15),
-        "b",
-    )?;
-    with_class(
-        records,
-        with_field(alloc, b, number(Scalar::Long), Some(count), "c")?,
-    )
-}
-
-#[test]
-fn as_large_as_may_be(rt: HostRuntime) -> Result<(), Fail> {
-    let alloc = rt.alloc();
-    let h = build(alloc, &large(alloc, 1060)?)?;
-    assert!(rt; is_static(&h));
-    let layout = lay_out(alloc, &h)?;
-    assert_eq!(rt; layout.len(), 2);
-    assert_eq!(rt; layout.layout(ClassId(1)).size, 500_000);
-    Ok(())
-}
-
-/// The second class is too large, and the first is not.
-#[test]
-fn too_large(rt: HostRuntime) -> Result<(), Fail> {
-    let alloc = rt.alloc();
-    let h = build(alloc, &large(alloc, 1061)?)?;
-    assert!(rt; is_static(&h));
-    let stop = match lay_out(alloc, &h) {
-        Ok(_) => None,
-        Err(stop) => Some(stop),
-    };
-    assert_eq!(rt; stop, Some(Stop::Limit(LimitNo::L6)));
-    assert_eq!(rt; h.len(), 2);
-    let front = lay_out_front(alloc, &h, 1)?;
-    assert_eq!(rt; front.len(), 1);
     Ok(())
 }

@@ -11,7 +11,8 @@ use Rattle.cxx_hierarchy.specs.declared.records.Scalar.TheVariants.{Int}
 use Rattle.cxx_hierarchy.specs.Classes.{Classes}
 use Rattle.cxx_hierarchy.specs.ClassPass.{Record, IsInOrder, NamesEach, is_member, is_function, names_of}
 use Rattle.cxx_hierarchy.specs.Resolved.{resolved, resolved_base, class_of_name}
-use Rattle.cxx_subobject.specs.Subobjects.{IsSubobject, IsDirectBase, whole, whole_of}
+use Rattle.cxx_hierarchy.specs.VirtualBases.{IsDirectBase}
+use Rattle.cxx_subobject.specs.Subobjects.{IsSubobject, whole, whole_of}
 use Rattle.cxx_resolve.specs.Typed.{int, bool, IsTypedProgram, new, write, read, convert, equal, print, IsPointer, IsBase, IsConverted, LeadsToNumber, Types}
 use Rattle.abi_lower.specs.Blocks.{class_id}
 use Rattle.abi_refine.specs.Samples.{sample_base, sample_member, sample_part, x_record, l_record, r_record, t_record, base_records, base_of, converted_to, two_bases_program, part_program}
