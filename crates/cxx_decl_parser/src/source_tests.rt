@@ -185,37 +185,78 @@ fn read(rt: &impl Abort, alloc: Global, text: &[u8]) -> Result<SourceText, Fail>
     Ok(source)
 }
 
+// Two classes, of which the first has parts of each kind, with a variable and `main` between them.
+fn sample(rt: &impl Abort, alloc: Global) -> Result<SourceText, Fail> {
+    read(
+        rt,
+        alloc,
+        b"class A : B, public virtual C { int a[7]; public: A* f(long x) {} virtual void g() = 0; C c; A() : a(0) {} private: virtual ~A() {} int d[4294967296]; }; int main() {} A* p; struct D { D() {} };",
+    )
+}
+
 #[test]
-fn records(rt: HostRuntime) -> Result<(), Fail> {
-    let text =
-        b"class A : B, public virtual C { int a[7]; public: A* f(long x) {} virtual void g() = 0; C c; A() : a(0) {} private: virtual ~A() {} int d[4294967296]; }; int main() {} A* p; struct D { D() {} };";
-    let source = read(&rt, rt.alloc(), text)?;
+fn head_of_a_class(rt: HostRuntime) -> Result<(), Fail> {
+    let source = sample(&rt, rt.alloc())?;
     assert_eq!(rt; source.records.len(), 2);
-    let a = source.records.as_slice().first().ok_or("no class")?;
-    assert_eq!(rt; a.at, 6);
-    assert_eq!(rt; a.name.as_slice(), b"A".as_slice());
-    assert_eq!(rt; a.has_constructor, true);
-    assert_eq!(rt; a.destructor, Destructor::Virtual);
-    let mut bases = a.bases.as_slice().iter();
-    let b = bases.next().ok_or("no base")?;
-    assert_eq!(rt; (b.is_virtual, b.is_public, b.at), (false, false, 10));
-    let c = bases.next().ok_or("no base")?;
-    assert_eq!(rt; (c.is_virtual, c.is_public, c.at), (true, true, 28));
-    let wanted: [(Option<u32>, bool, u32); 3] = [
+    let class = source.records.as_slice().first().ok_or("no class")?;
+    assert_eq!(rt; class.at, 6);
+    assert_eq!(rt; class.name.as_slice(), b"A".as_slice());
+    assert!(rt; class.has_constructor);
+    assert_eq!(rt; class.destructor, Destructor::Virtual);
+    Ok(())
+}
+
+#[test]
+fn bases_of_a_class(rt: HostRuntime) -> Result<(), Fail> {
+    let source = sample(&rt, rt.alloc())?;
+    let class = source.records.as_slice().first().ok_or("no class")?;
+    let wanted = [(false, false, 10), (true, true, 28)];
+    assert_eq!(rt; class.bases.len(), 2);
+    for (base, want) in class.bases.as_slice().iter().zip(wanted.iter()) {
+        assert_eq!(rt; base.is_virtual, want.0);
+        assert_eq!(rt; base.is_public, want.1);
+        assert_eq!(rt; base.at, want.2);
+    }
+    Ok(())
+}
+
+#[test]
+fn members_of_a_class(rt: HostRuntime) -> Result<(), Fail> {
+    let source = sample(&rt, rt.alloc())?;
+    let class = source.records.as_slice().first().ok_or("no class")?;
+    let wanted = [
         (Some(7), false, 36),
         (None, true, 90),
         (Some(4294967295), false, 136),
     ];
-    assert_eq!(rt; a.members.len(), 3);
-    for (member, want) in a.members.as_slice().iter().zip(wanted.iter()) {
-        assert_eq!(rt; (member.count, member.is_public, member.at), *want);
+    assert_eq!(rt; class.members.len(), 3);
+    for (member, want) in class.members.as_slice().iter().zip(wanted.iter()) {
+        assert_eq!(rt; member.count, want.0);
+        assert_eq!(rt; member.is_public, want.1);
+        assert_eq!(rt; member.at, want.2);
     }
-    let functions: [(bool, bool, u32); 2] = [(false, false, 53), (true, true, 79)];
-    assert_eq!(rt; a.functions.len(), 2);
-    for (function, want) in a.functions.as_slice().iter().zip(functions.iter()) {
-        assert_eq!(rt; (function.is_virtual, function.is_pure, function.at), *want);
+    Ok(())
+}
+
+#[test]
+fn functions_of_a_class(rt: HostRuntime) -> Result<(), Fail> {
+    let source = sample(&rt, rt.alloc())?;
+    let class = source.records.as_slice().first().ok_or("no class")?;
+    let wanted = [(false, false, 53), (true, true, 79)];
+    assert_eq!(rt; class.functions.len(), 2);
+    for (function, want) in class.functions.as_slice().iter().zip(wanted.iter()) {
+        assert_eq!(rt; function.is_virtual, want.0);
+        assert_eq!(rt; function.is_pure, want.1);
+        assert_eq!(rt; function.at, want.2);
     }
-    let order: [(PartKind, u32, Option<u32>, u32); 7] = [
+    Ok(())
+}
+
+#[test]
+fn order_of_a_class(rt: HostRuntime) -> Result<(), Fail> {
+    let source = sample(&rt, rt.alloc())?;
+    let class = source.records.as_slice().first().ok_or("no class")?;
+    let wanted = [
         (PartKind::Member, 0, Some(32), 36),
         (PartKind::Function, 0, Some(50), 53),
         (PartKind::Function, 1, Some(74), 79),
@@ -224,23 +265,39 @@ fn records(rt: HostRuntime) -> Result<(), Fail> {
         (PartKind::Destructor, 0, None, 125),
         (PartKind::Member, 2, Some(132), 136),
     ];
-    assert_eq!(rt; a.order.len(), 7);
-    for (part, want) in a.order.as_slice().iter().zip(order.iter()) {
-        assert_eq!(rt; (part.kind, part.number, part.ty_at, part.at), *want);
+    assert_eq!(rt; class.order.len(), 7);
+    for (part, want) in class.order.as_slice().iter().zip(wanted.iter()) {
+        assert_eq!(rt; part.kind, want.0);
+        assert_eq!(rt; part.number, want.1);
+        assert_eq!(rt; part.ty_at, want.2);
+        assert_eq!(rt; part.at, want.3);
     }
-    let owners = [
+    Ok(())
+}
+
+#[test]
+fn bodies_of_a_source(rt: HostRuntime) -> Result<(), Fail> {
+    let source = sample(&rt, rt.alloc())?;
+    let wanted = [
         BodyOwner::Function(0),
         BodyOwner::Constructor,
         BodyOwner::Destructor,
         BodyOwner::Constructor,
     ];
     assert_eq!(rt; source.bodies.len(), 4);
-    for (body, owner) in source.bodies.as_slice().iter().zip(owners.iter()) {
-        assert_eq!(rt; body.owner, *owner);
+    for (body, want) in source.bodies.as_slice().iter().zip(wanted.iter()) {
+        assert_eq!(rt; body.owner, *want);
     }
+    Ok(())
+}
+
+#[test]
+fn main_and_variables(rt: HostRuntime) -> Result<(), Fail> {
+    let source = sample(&rt, rt.alloc())?;
     assert_eq!(rt; source.main_place, 3);
     assert!(rt; source.main.is_some());
-    let p = source.globals.as_slice().first().ok_or("no variable")?;
-    assert_eq!(rt; (p.ty_at, p.at), (168, 171));
+    let variable = source.globals.as_slice().first().ok_or("no variable")?;
+    assert_eq!(rt; variable.ty_at, 168);
+    assert_eq!(rt; variable.at, 171);
     Ok(())
 }
