@@ -12,6 +12,8 @@
 pub mod kinds;
 pub mod nearly_empty;
 pub mod primary_base;
+#[cfg(test)]
+mod tests;
 
 pub use crate::kinds::{is_dynamic, is_empty};
 pub use crate::nearly_empty::is_nearly_empty;
