@@ -1,17 +1,15 @@
 -- Bases of a class, where none is virtual.
-use Rattle.std.proofs.Common.{◌≡◌, ℕ, ◌<◌, ◌≤◌, List, [], ◌∷◌, sym, ◌∙◌, ap, subst, refl, arith, true, false, inl, inr, ◌⊎◌, ⊎_elim}
-use Rattle.std.specs.Prelude.{Option, Some, None, slice_get, Contains, length, get_or}
-use Rattle.std.proofs.lemmas.Option.{slice_get_within}
+use Rattle.std.proofs.Common.{◌≡◌, ◌≤◌, List, [], ◌∷◌, ap, subst, refl, arith, true, false}
+use Rattle.std.specs.Prelude.{Option, Some, None, Contains}
 use Rattle.cxx_hierarchy.specs.declared.records.ClassId.{ClassId}
 use Rattle.cxx_hierarchy.specs.declared.records.Base.{Base}
 use Rattle.cxx_hierarchy.specs.Classes.{Class, Classes, class_at, bases_of, bases_in}
 use Rattle.cxx_hierarchy.specs.Hierarchies.{IsHierarchy}
-use Rattle.cxx_subobject.specs.declared.Root.{Root}
-use Rattle.cxx_subobject.specs.declared.Root.TheVariants.{Whole, Shared}
+use Rattle.cxx_subobject.specs.declared.Root.TheVariants.{Whole}
 use Rattle.cxx_subobject.specs.declared.Subobject.{Subobject}
 use Rattle.cxx_hierarchy.specs.VirtualBases.{IsDirectBase, HasVirtualBase, direct, further}
-use Rattle.cxx_subobject.specs.Subobjects.{Leads, IsSubobject, whole, shared, subobject, class_of, class_of_path, last_of}
-use Rattle.cxx_resolve.specs.SimpleHierarchy.{HasSimpleClasses, IsSimpleHierarchy}
+use Rattle.cxx_subobject.specs.Subobjects.{Leads, IsSubobject, whole, shared, class_of, last_of}
+use Rattle.cxx_resolve.specs.SimpleHierarchy.{HasSimpleClasses}
 
 -- no base is virtual
 pub record HasNoVirtualBase (h : Classes) : Type 0 where

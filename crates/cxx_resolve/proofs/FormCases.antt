@@ -1,11 +1,9 @@
 -- What a statement says, as the reading finds it.
-use Rattle.std.proofs.Common.{◌≡◌, ℕ, ◌+◌, ◌<◌, ◌≤◌, List, [], ◌∷◌, ◌++◌, length, take, get_or, sym, ◌∙◌, ap, subst, refl, arith, Bool, true, false, add-one}
-use Rattle.std.specs.Prelude.{ℤ, Option, Some, None, slice_get, nat_le, if◌then◌else◌}
+use Rattle.std.proofs.Common.{◌≡◌, ℕ, ◌≤◌, List, [], ◌∷◌, sym, ◌∙◌, subst, refl, arith, Bool, true, false}
+use Rattle.std.specs.Prelude.{Option, Some, None, nat_le, if◌then◌else◌}
 use Rattle.std.specs.Str.{bytes_eq}
 use Rattle.std.proofs.lemmas.Slice.Eq.{bytes_eq-Decides}
 use Rattle.std.proofs.lemmas.Bool.Decides.{nat_tests}
-use Rattle.std.proofs.lemmas.Option.{slice_get-get_or}
-use Rattle.std.proofs.Math.Seq.{take-suc}
 use Rattle.cxx_hierarchy.specs.declared.records.Scalar.{Scalar}
 use Rattle.cxx_hierarchy.specs.declared.records.Scalar.TheVariants as scalar
 use Rattle.cxx_hierarchy.specs.declared.records.ValueType.TheVariants.{Number, Pointer}
@@ -13,24 +11,20 @@ use Rattle.cxx_hierarchy.specs.NameTables.{Text}
 use Rattle.cxx_body_parser.specs.declared.tree.Spot.{Spot}
 use Rattle.cxx_body_parser.specs.declared.tree.PointerText.{PointerText}
 use Rattle.cxx_body_parser.specs.declared.tree.PointerText.TheVariants as pointer
-use Rattle.cxx_body_parser.specs.declared.tree.Constant.{Constant}
 use Rattle.cxx_body_parser.specs.declared.tree.Constant.TheVariants as constant
 use Rattle.cxx_body_parser.specs.declared.tree.Operand.{Operand}
 use Rattle.cxx_body_parser.specs.declared.tree.Operand.TheVariants as operand
 use Rattle.cxx_body_parser.specs.declared.tree.PlacePart.{PlacePart}
 use Rattle.cxx_body_parser.specs.declared.tree.PlaceText.{PlaceText}
-use Rattle.cxx_body_parser.specs.declared.tree.BinaryOp.{BinaryOp}
 use Rattle.cxx_body_parser.specs.declared.tree.BinaryOp.TheVariants as binary
 use Rattle.cxx_body_parser.specs.declared.tree.Right.{Right}
 use Rattle.cxx_body_parser.specs.declared.tree.Right.TheVariants as right
 use Rattle.cxx_body_parser.specs.declared.tree.StatementKind.{StatementKind}
 use Rattle.cxx_body_parser.specs.declared.tree.StatementKind as kind
-use Rattle.cxx_body_parser.specs.declared.tree.Statement.{Statement}
 use Rattle.cxx_resolve.specs.declared.simple.Simple.{Simple}
-use Rattle.cxx_resolve.specs.declared.simple.Simple.TheVariants.{New, Write, Read, Convert, Equal, Print}
-use Rattle.cxx_resolve.specs.declared.simple.SimpleLine.{SimpleLine}
-use Rattle.cxx_resolve.specs.Form.{arrow, spelled, IsSimple, new, write, read, convert, equal, print, SayLines, none, next}
-use Rattle.cxx_resolve.specs.Forms.{int_of, name_in, field_in, arrow_in, arrow_of, equal_form, read_form, int_form, compared_form, bool_form, number_form, pointer_form, declared_form, write_value, write_form, print_form, form_of}
+use Rattle.cxx_resolve.specs.declared.simple.Simple.TheVariants.{New}
+use Rattle.cxx_resolve.specs.Form.{arrow, IsSimple, new, write, read, convert, equal, print}
+use Rattle.cxx_resolve.specs.Forms.{field_in, arrow_in, arrow_of, equal_form, read_form, int_form, bool_form, number_form, pointer_form, write_value, write_form, print_form, form_of}
 
 some_is : {X : Type 0} (x y : X) → Some x ≡ Some y → x ≡ y
 some_is x y e = cc

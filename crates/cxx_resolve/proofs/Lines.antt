@@ -1,5 +1,5 @@
 -- When a line resolves to nothing.
-use Rattle.std.proofs.Common.{◌≡◌, ℕ, ℤ, ◌<◌, ◌≤◌, List, [], sym, ◌∙◌, ap, subst, refl, inl, inr, arith, ◌⊎◌, ⊎_elim}
+use Rattle.std.proofs.Common.{◌≡◌, ℕ, ℤ, ◌<◌, List, sym, ◌∙◌, ap, subst, refl, inl, inr, arith, ◌⊎◌, ⊎_elim}
 use Rattle.std.specs.Prelude.{Option, Some, None, slice_get, length, Bool, true, false, is_none, Contains, IsTrue, ◌↔◌}
 use Rattle.std.proofs.lemmas.Option.{slice_get_within, get_or_from_slice_get}
 use Rattle.cxx_hierarchy.specs.Hierarchies.{IsHierarchy}
@@ -11,12 +11,11 @@ use Rattle.cxx_hierarchy.specs.Scalars.{PromotesToInt}
 use Rattle.cxx_hierarchy.specs.Classes.{Classes, class_names, leaf_type}
 use Rattle.cxx_hierarchy.specs.NameTables.{Text}
 use Rattle.cxx_subobject.specs.declared.Subobject.{Subobject}
-use Rattle.cxx_subobject.specs.Subobjects.{class_of}
 use Rattle.cxx_resolve.specs.declared.simple.Simple.TheVariants.{New, Write, Read, Convert, Equal, Print}
 use Rattle.cxx_resolve.specs.declared.program.MemberPlace.{MemberPlace}
 use Rattle.cxx_resolve.specs.declared.program.Converted.{Converted}
 use Rattle.cxx_resolve.specs.declared.program.Statement.{Statement}
-use Rattle.cxx_resolve.specs.Typed.{Types, IsPointer, IsConverted}
+use Rattle.cxx_resolve.specs.Typed.{Types}
 use Rattle.cxx_lookup.specs.UniqueBase.{IsUniqueBase}
 use Rattle.cxx_resolve.specs.Resolves.{Numbering, IsMemberOf, IsField, IsPointerTo, LineResolves, new, write, read, convert, equal, print}
 use Rattle.cxx_resolve.specs.Answers.{IsRefusal, IsNumberAt, IsPointerAt, IsLesser}

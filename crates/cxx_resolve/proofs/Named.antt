@@ -1,5 +1,5 @@
 -- Members of a name that the class of a subobject declares.
-use Rattle.std.proofs.Common.{◌≡◌, ℕ, ◌<◌, ◌≤◌, List, [], ◌∷◌, sym, ◌∙◌, ap, subst, refl, arith, Bool, true, false, nat_lt, inl, inr, ◌⊎◌, get_or}
+use Rattle.std.proofs.Common.{◌≡◌, ℕ, ◌<◌, ◌≤◌, List, [], ◌∷◌, sym, ◌∙◌, ap, refl, arith, Bool, true, false, nat_lt, inl, inr, ◌⊎◌, get_or}
 use Rattle.std.specs.Prelude.{Option, Some, None, slice_get, length, position}
 use Rattle.std.specs.Option.{option_map}
 use Rattle.std.specs.List.{position_or_len}

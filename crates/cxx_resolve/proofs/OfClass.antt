@@ -1,18 +1,18 @@
 -- The one subobject of a class in a list.
-use Rattle.std.proofs.Common.{◌≡◌, ℕ, suc, ◌+◌, ◌-◌, ◌<◌, ◌≤◌, List, [], ◌∷◌, length, take, drop, get_or, sym, ◌∙◌, ap, subst, refl, arith, Bool, true, false, inl, inr, ◌⊎◌, ⊎_elim}
+use Rattle.std.proofs.Common.{◌≡◌, ℕ, ◌+◌, ◌-◌, ◌<◌, ◌≤◌, List, length, take, drop, get_or, sym, ◌∙◌, ap, refl, arith, Bool, true, false, ⊎_elim}
 use Rattle.std.specs.Prelude.{Option, Some, None, slice_get, position, Contains, is_some}
 use Rattle.std.proofs.lemmas.List.{get_or-drop, take_all}
 use Rattle.std.proofs.lemmas.List.Quantifiers.{position-Some}
-use Rattle.std.proofs.lemmas.Option.{slice_get-get_or, slice_get_within, slice_get_past, get_or_from_slice_get}
-use Rattle.std.proofs.lemmas.Bool.{cases_lt, cases_order}
+use Rattle.std.proofs.lemmas.Option.{slice_get-get_or, slice_get_within, get_or_from_slice_get}
+use Rattle.std.proofs.lemmas.Bool.{cases_order}
 use Rattle.std.proofs.lemmas.Bool.Decides.{nat_tests}
 use Rattle.std.proofs.lemmas.List.{length-drop}
 use Rattle.cxx_hierarchy.specs.declared.records.ClassId.{ClassId}
 use Rattle.cxx_hierarchy.specs.Classes.{Classes}
 use Rattle.cxx_subobject.specs.declared.Subobject.{Subobject}
-use Rattle.cxx_subobject.specs.Subobjects.{IsSubobject, class_of, class_of_path}
+use Rattle.cxx_subobject.specs.Subobjects.{class_of}
 use Rattle.cxx_subobject.specs.Preorder.{ListsSubobjects}
-use Rattle.cxx_lookup.specs.UniqueBase.{IsOfClass, IsUniqueBase}
+use Rattle.cxx_lookup.specs.UniqueBase.{IsUniqueBase}
 use Rattle.cxx_resolve.specs.Searches.{is_class, is_of_class}
 use Rattle.cxx_resolve.proofs.Lines.{same_id}
 use Rattle.cxx_resolve.proofs.Named.{none_passes}

@@ -1,6 +1,6 @@
 -- Fields and bases that a pointer's class leads to.
-use Rattle.std.proofs.Common.{◌≡◌, ℕ, ◌<◌, sym, ◌∙◌, ap, subst, refl, ◌⊎◌}
-use Rattle.std.specs.Prelude.{Option, Some, None, slice_get, length}
+use Rattle.std.proofs.Common.{◌≡◌, ℕ, ◌<◌, subst, ◌⊎◌}
+use Rattle.std.specs.Prelude.{None, length}
 use Rattle.cxx_hierarchy.specs.Hierarchies.{IsHierarchy}
 use Rattle.cxx_hierarchy.specs.declared.records.ClassId.{ClassId}
 use Rattle.cxx_hierarchy.specs.declared.records.Scalar.{Scalar}
@@ -13,7 +13,7 @@ use Rattle.cxx_resolve.specs.declared.program.Converted.{Converted}
 use Rattle.cxx_resolve.specs.declared.program.Statement.TheVariants.{Equal as Equals}
 use Rattle.cxx_resolve.specs.SimpleHierarchy.{IsSimpleHierarchy}
 use Rattle.cxx_lookup.specs.UniqueBase.{IsUniqueBase}
-use Rattle.cxx_resolve.specs.Typed.{Types, IsPointer, IsConverted}
+use Rattle.cxx_resolve.specs.Typed.{Types}
 use Rattle.cxx_resolve.specs.Resolves.{Numbering, IsMemberOf, IsField, IsPointerTo, LineResolves, equal}
 use Rattle.cxx_resolve.specs.Answers.{IsNumberAt, IsPointerAt, IsLesser, HasCommon, HasPointerTo}
 use Rattle.cxx_resolve.proofs.Bases.{plain_bases, from_whole}

@@ -1,5 +1,5 @@
 -- The declaration with the shortest path.
-use Rattle.std.proofs.Common.{◌≡◌, ℕ, zero, suc, ◌+◌, ◌<◌, ◌≤◌, List, [], ◌∷◌, ◌++◌, length, take, drop, get_or, ◌-◌, sym, ◌∙◌, ap, subst, refl, arith, inl, inr, ◌⊎◌, ⊎_elim, append-nil, length-append, Bool, true, false, Bor}
+use Rattle.std.proofs.Common.{◌≡◌, ℕ, zero, suc, ◌+◌, ◌≤◌, List, [], ◌∷◌, ◌++◌, length, take, drop, get_or, ◌-◌, sym, ◌∙◌, ap, subst, refl, arith, inl, inr, ◌⊎◌, ⊎_elim, append-nil, length-append, Bool, true, false, Bor}
 use Rattle.std.specs.Prelude.{Option, Some, None, Contains, MatchOption, is_some, option_copied}
 use Rattle.std.proofs.lemmas.Bool.Decides.{nat_tests}
 use Rattle.std.proofs.lemmas.List.{take_all}
@@ -15,8 +15,8 @@ use Rattle.cxx_lookup.specs.Lookup.{place_of, IsFound, IsDeclared, Remains, name
 use Rattle.cxx_lookup.specs.declared.Found.{Found}
 use Rattle.cxx_lookup.specs.declared.Found.TheVariants.{Member, Function}
 use Rattle.cxx_resolve.specs.declared.program.MemberPlace.{MemberPlace}
-use Rattle.cxx_resolve.specs.SimpleHierarchy.{HasSimpleClasses, IsSimpleHierarchy}
-use Rattle.cxx_resolve.specs.Searches.{AreSubobjects, HasMember, IsCovered, IsShortest, goes_first}
+use Rattle.cxx_resolve.specs.SimpleHierarchy.{IsSimpleHierarchy}
+use Rattle.cxx_resolve.specs.Searches.{HasMember, IsCovered, IsShortest, goes_first}
 use Rattle.cxx_resolve.specs.Resolves.{IsMemberOf}
 use Rattle.cxx_resolve.proofs.Bases.{HasNoVirtualBase, plain_bases, no_virtual}
 use Rattle.cxx_resolve.proofs.Each.{no_items}

@@ -1,7 +1,6 @@
 -- The body of a `main` and its program.
-use Rattle.std.proofs.Common.{◌≡◌, ℕ, ◌<◌, ◌≤◌, List, sym, ◌∙◌, ap, subst, refl, arith, Bool, true, false}
-use Rattle.std.specs.Prelude.{ℤ, pos, neg_ℤ, length}
-use Rattle.std.specs.List.{AllByRecursion}
+use Rattle.std.proofs.Common.{◌≡◌, ℕ, ◌<◌, ◌≤◌, List, ap, subst, arith, Bool, true, false}
+use Rattle.std.specs.Prelude.{length}
 use Rattle.std.proofs.lemmas.Int.{ints}
 use Rattle.cxx_hierarchy.specs.declared.records.Scalar.TheVariants.{Int}
 use Rattle.cxx_hierarchy.specs.Scalars.{IsInRange}

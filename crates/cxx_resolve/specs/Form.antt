@@ -7,7 +7,6 @@ use Rattle.cxx_body_parser.specs.declared.tree.Spot.{Spot}
 use Rattle.cxx_body_parser.specs.declared.tree.PointerText.TheVariants as pointer
 use Rattle.cxx_body_parser.specs.declared.tree.Constant.TheVariants as constant
 use Rattle.cxx_body_parser.specs.declared.tree.Operand.TheVariants as operand
-use Rattle.cxx_body_parser.specs.declared.tree.PlacePart.{PlacePart}
 use Rattle.cxx_body_parser.specs.declared.tree.PlaceText.{PlaceText}
 use Rattle.cxx_body_parser.specs.declared.tree.BinaryOp.TheVariants.{Equal as IsEqual}
 use Rattle.cxx_body_parser.specs.declared.tree.Right.TheVariants as right

@@ -1,5 +1,5 @@
 -- What the parts of the reading of a statement answer: what it says, or none where it is not of the form.
-use Rattle.std.specs.Prelude.{◌≡◌, ℕ, ℤ, Bool, nat_le, if◌then◌else◌, List, [], ◌∷◌, Option, Some, None}
+use Rattle.std.specs.Prelude.{ℕ, ℤ, nat_le, if◌then◌else◌, List, [], ◌∷◌, Option, Some, None}
 use Rattle.std.specs.Str.{bytes_eq}
 use Rattle.cxx_hierarchy.specs.declared.records.Scalar.{Scalar}
 use Rattle.cxx_hierarchy.specs.declared.records.Scalar.TheVariants as scalar

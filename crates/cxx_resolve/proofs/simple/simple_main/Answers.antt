@@ -1,5 +1,5 @@
 -- Each statement says its line, or there are no lines.
-use Rattle.std.proofs.Common.{List, arith, refl, sym, ◌∙◌, ap, subst}
+use Rattle.std.proofs.Common.{List, arith, refl, sym, ◌∙◌, subst}
 use Rattle.cxx_body_parser.specs.declared.tree.Statement.{Statement}
 use Rattle.cxx_resolve.specs.Form.{SayLines}
 use Rattle.cxx_resolve.proofs.FormLines.{begin_lines, more_lines, all_lines, no_lines}

@@ -1,4 +1,3 @@
-use Rattle.std.proofs.Common.{sym, get_or}
 use Rattle.std.proofs.lemmas.List.{get_or_default}
 use Rattle.std.proofs.lemmas.List.Elements.{Contains-get_or}
 use Rattle.cxx_resolve.specs.SimpleHierarchy.{IsSimpleBase}

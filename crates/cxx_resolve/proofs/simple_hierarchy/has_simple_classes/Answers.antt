@@ -1,4 +1,4 @@
-use Rattle.std.proofs.Common.{◌<◌, arith, length}
+use Rattle.std.proofs.Common.{arith}
 use Rattle.std.proofs.lemmas.Option.{slice_get_within}
 use Rattle.cxx_resolve.specs.SimpleHierarchy.{HasSimpleClasses}
 use Rattle.cxx_resolve.proofs.Each.{never, always, not_both}

@@ -1,10 +1,9 @@
 -- What the tests tell, put together.
-use Rattle.std.proofs.Common.{◌≡◌, List, [], ◌≤◌, length, subst, sym, arith, ◌∙◌}
+use Rattle.std.proofs.Common.{List, subst, sym, arith}
 use Rattle.std.specs.Prelude.{Contains}
 use Rattle.cxx_hierarchy.specs.declared.records.ClassId.{ClassId}
 use Rattle.cxx_hierarchy.specs.declared.records.Base.{Base}
 use Rattle.cxx_hierarchy.specs.declared.records.Member.{Member}
-use Rattle.cxx_resolve.specs.SimpleHierarchy.{IsSimpleClass}
 use Rattle.cxx_resolve.proofs.Each.{no_items}
 use Rattle.cxx_resolve.proofs.simple_hierarchy.is_simple_class.Goals as goal
 
