@@ -6,6 +6,7 @@ pub mod StaticLemmas
 pub mod CountLemmas
 pub mod ClassFaults
 pub mod Judging
+pub mod LayoutLemmas
 pub mod Accepting
 pub mod OneFault
 pub mod OneVerdict

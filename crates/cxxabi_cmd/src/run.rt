@@ -5,7 +5,7 @@ ghost use Rattle.std.specs.Option.{option_map};
 ghost use Rattle.byte_machine.specs.MachineState.{code_of, state_of};
 ghost use Rattle.cxxabi_cmd.specs.Streams.{Rose, IsPartOf};
 ghost use Rattle.cxxabi_cmd.specs.Commands.{Says, IsCommand};
-ghost use Rattle.cxxabi_cmd.specs.Output.{texts_of, Tells, Output, Answer, Answers, BreaksOff, IsAnswered, IsSilent};
+ghost use Rattle.cxxabi_cmd.specs.Output.{texts_of, Tells, Output, Answer, Answers, BreaksOff, IsAnswered, IsSilent, line_alone, status_of_stop};
 ghost use Rattle.cxxabi_cmd.specs.Replies.{answer_of, machine_of};
 ghost use Rattle.cxxabi_cmd.specs.Handed.{HandsOut};
 
