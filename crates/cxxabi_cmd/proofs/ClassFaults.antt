@@ -150,4 +150,4 @@ pub layout_of : (h : Classes) (number : ℕ) (rows : List ClassLayout) → IsFir
 layout_of h number rows past all static laid small =
     let same : number ≡ length h = (let known = past.known in omega arith) in
     let whole : IsLaidFront h (length h) rows = subst (λ (n : ℕ). IsLaidFront h n rows) same laid in
-    record { laid = whole; sound = rules_are_sound h rows static whole small }
+    record { static = static; laid = whole; sound = rules_are_sound h rows static whole small }

@@ -1,6 +1,7 @@
 pub mod StreamLemmas
 pub mod CommandLemmas
 pub mod OutputLemmas
+pub mod ReplyLemmas
 pub mod AnswerLemmas
 pub mod StaticLemmas
 pub mod CountLemmas

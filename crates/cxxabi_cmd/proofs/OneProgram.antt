@@ -91,24 +91,24 @@ twin_right None (Some c) a same is = absurd same
 twin_right (Some c) None a same is = absurd same
 twin_right (Some c) (Some b) a same is = record { tree = b; is = refl; same = let one : c ≡ a = cc in subst (λ (d : BodyTree). SameBody d b) one same }
 
--- both have a main or none has
+-- both have a main or empty has
 pub main_missing_left : (m n : Option BodyTree) (b : BodyTree) → SameMain m n → m ≡ None → n ≡ Some b → ⊥
-main_missing_left None None b same none is = cc
-main_missing_left None (Some c) b same none is = same
-main_missing_left (Some a) n b same none is = cc
+main_missing_left None None b same empty is = cc
+main_missing_left None (Some c) b same empty is = same
+main_missing_left (Some a) n b same empty is = cc
 
 pub main_missing_right : (m n : Option BodyTree) (a : BodyTree) → SameMain m n → n ≡ None → m ≡ Some a → ⊥
-main_missing_right None None a same none is = cc
-main_missing_right (Some c) None a same none is = same
-main_missing_right m (Some b) a same none is = cc
+main_missing_right None None a same empty is = cc
+main_missing_right (Some c) None a same empty is = same
+main_missing_right m (Some b) a same empty is = cc
 
 no_bodies_left : (xs ys : List Body) → SameBodies xs ys → ys ≡ [] → xs ≡ []
-no_bodies_left _ _ no_bodies none = refl
-no_bodies_left _ _ (more_bodies class owner inits tree rest) none = absurd (cc)
+no_bodies_left _ _ no_bodies empty = refl
+no_bodies_left _ _ (more_bodies class owner inits tree rest) empty = absurd (cc)
 
 no_bodies_right : (xs ys : List Body) → SameBodies xs ys → xs ≡ [] → ys ≡ []
-no_bodies_right _ _ no_bodies none = refl
-no_bodies_right _ _ (more_bodies class owner inits tree rest) none = absurd (cc)
+no_bodies_right _ _ no_bodies empty = refl
+no_bodies_right _ _ (more_bodies class owner inits tree rest) empty = absurd (cc)
 
 pub program_left : (s t : SourceText) (h : Classes) (p : SimpleProgram) → SameSource s t → IsProgram t h p → IsProgram s h p
 program_left s t h p same is =

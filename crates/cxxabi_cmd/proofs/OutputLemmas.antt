@@ -1,17 +1,20 @@
 -- How an output is put together.
 use Rattle.std.proofs.Common.{◌≡◌, ℕ, zero, suc, ◌<◌, ◌≤◌, ◌⊎◌, ⊎_elim, Option, Some, None, Result, Ok, Err, List, [], ◌∷◌, ◌++◌, take, length, refl, sym, ap, subst, arith}
-use Rattle.std.specs.Prelude.{IfSome, IfOk}
+use Rattle.std.specs.Prelude.{IfSome, IfOk, MatchOption}
 use Rattle.std.proofs.lemmas.List.{length-take}
 use Rattle.foundation.specs.declared.memory.NoMemory.{NoMemory as Want}
 use Rattle.cxx_hierarchy.specs.declared.stop.LimitNo.TheVariants.{L1}
-use Rattle.cxxabi_cmd.specs.declared.run.Reply.{Reply}
+use Rattle.cxxabi_cmd.specs.declared.reply.Reply.{Reply}
+use Rattle.cxxabi_cmd.specs.declared.command.Command.{Command}
+use Rattle.cxxabi_cmd.specs.declared.command.Command.TheVariants.{Run}
 use Rattle.cxxabi_cmd.specs.declared.status.Status.{Status}
 use Rattle.cxxabi_cmd.specs.declared.status.Status.TheVariants.{Usage, Limit, WriteFault}
 use Rattle.cxxabi_cmd.specs.Streams.{IsPartOf}
-use Rattle.cxxabi_cmd.specs.Output.{IsCommand, Output, usage, too_long, Answer, line_alone, Answers, BreaksOff, IsAnswered}
+use Rattle.cxxabi_cmd.specs.Commands.{Says, IsCommand}
+use Rattle.cxxabi_cmd.specs.Output.{Output, usage, too_long, Answer, line_alone, Answers, BreaksOff, IsAnswered}
 use Rattle.byte_code.specs.declared.code.Code.{Code}
 use Rattle.byte_machine.specs.Turn.{State}
-use Rattle.cxxabi_cmd.specs.Handed.{Hands, HandsOut}
+use Rattle.cxxabi_cmd.specs.Handed.{HandsOut}
 use Rattle.cxxabi_cmd.specs.Replies.{answer_of, machine_of}
 
 -- a front that is shorter than was asked for is the whole
@@ -25,18 +28,18 @@ whole_read (suc n) (a ∷ bytes) (b ∷ all) same short =
     rw (head, whole_read n bytes all tail (omega arith)) refl
 
 -- more than the limit was read
-pub limit_output : (r : Result Reply Want) (bytes : List ℕ) → IfOk r (λ reply. answer_of reply ≡ line_alone (Limit L1)) → 262144 < length bytes →
-    IfOk r (λ reply. (words : List (List ℕ)) (all : List ℕ) → IsCommand words → bytes ≡ take 262145 all → Output words all (answer_of reply))
-limit_output (Ok reply) bytes alone long =
-    λ words all command same. subst (λ a. Output words all a) (sym alone) (too_long command (let size : length bytes ≡ length (take 262145 all) = ap length same in omega (arith, size, length-take 262145 all)))
-limit_output (Err e) bytes alone long = alone
+pub limit_output : (r : Result Reply Want) (bytes : List ℕ) (command : Command) → IfOk r (λ reply. answer_of reply ≡ line_alone (Limit L1)) → 262144 < length bytes →
+    IfOk r (λ reply. (words : List (List ℕ)) (all : List ℕ) → Says words command → bytes ≡ take 262145 all → Output words all (answer_of reply))
+limit_output (Ok reply) bytes command alone long =
+    λ words all says same. subst (λ a. Output words all a) (sym alone) (too_long (command, says) (let size : length bytes ≡ length (take 262145 all) = ap length same in omega (arith, size, length-take 262145 all)))
+limit_output (Err e) bytes command alone long = alone
 
 -- all was read
-pub read_output : (r : Result Reply Want) (bytes : List ℕ) → IfOk r (λ reply. (words : List (List ℕ)) → IsCommand words → Output words bytes (answer_of reply)) → length bytes ≤ 262144 →
-    IfOk r (λ reply. (words : List (List ℕ)) (all : List ℕ) → IsCommand words → bytes ≡ take 262145 all → Output words all (answer_of reply))
-read_output (Ok reply) bytes output short =
-    λ words all command same. subst (λ b. Output words b (answer_of reply)) (whole_read 262145 bytes all same (omega arith)) (output words command)
-read_output (Err e) bytes output short = output
+pub read_output : (r : Result Reply Want) (bytes : List ℕ) (command : Command) → IfOk r (λ reply. (words : List (List ℕ)) → Says words command → Output words bytes (answer_of reply)) → length bytes ≤ 262144 →
+    IfOk r (λ reply. (words : List (List ℕ)) (all : List ℕ) → Says words command → bytes ≡ take 262145 all → Output words all (answer_of reply))
+read_output (Ok reply) bytes command output short =
+    λ words all says same. subst (λ b. Output words b (answer_of reply)) (whole_read 262145 bytes all same (omega arith)) (output words says)
+read_output (Err e) bytes command output short = output
 
 -- the words are no command
 pub usage_output : (words : List (List ℕ)) (bytes : List ℕ) (reply : Reply) → answer_of reply ≡ line_alone Usage → (IsCommand words → ⊥) → Output words bytes (answer_of reply)
@@ -56,27 +59,31 @@ broken_off words bytes before after answer written output is part =
     record { answer = answer; output = output; part = subst (λ (t : List ℕ). IfSome before (λ taken. IsPartOf taken t after)) is part }
 
 -- no machine for a text that is too long
-pub limit_machine : (r : Result Reply Want) (bytes : List ℕ) → IfOk r (λ reply. machine_of reply ≡ None) → 262144 < length bytes →
-    IfOk r (λ reply. (words : List (List ℕ)) (all : List ℕ) → IsCommand words → bytes ≡ take 262145 all → HandsOut words all (machine_of reply))
-limit_machine (Ok reply) bytes none long =
-    λ words all command same. subst (λ (m : Option (Code × State)). HandsOut words all m) (sym none) (λ command short. absurd (let size : length bytes ≡ length (take 262145 all) = ap length same in omega (arith, size, length-take 262145 all)))
-limit_machine (Err e) bytes none long = none
-
-hands_out : (words : List (List ℕ)) (text : List ℕ) (m : Option (Code × State)) → IsCommand words → Hands text m → HandsOut words text m
-hands_out words text None command hands = λ again short. hands
-hands_out words text (Some m) command hands = (command, hands)
+pub limit_machine : (r : Result Reply Want) (bytes : List ℕ) (command : Command) → IfOk r (λ reply. machine_of reply ≡ None) → 262144 < length bytes →
+    IfOk r (λ reply. (words : List (List ℕ)) (all : List ℕ) → Says words command → bytes ≡ take 262145 all → HandsOut words all (machine_of reply))
+limit_machine (Ok reply) bytes command none long =
+    λ words all says same. subst (λ (m : Option (Code × State)). HandsOut words all m) (sym none)
+      (λ h rows program has. absurd (let short = has.short in let size : length bytes ≡ length (take 262145 all) = ap length same in omega (arith, size, length-take 262145 all)))
+limit_machine (Err e) bytes command none long = none
 
 -- the machine for a text that was read whole
-pub read_machine : (r : Result Reply Want) (bytes : List ℕ) → IfOk r (λ reply. Hands bytes (machine_of reply)) → length bytes ≤ 262144 →
-    IfOk r (λ reply. (words : List (List ℕ)) (all : List ℕ) → IsCommand words → bytes ≡ take 262145 all → HandsOut words all (machine_of reply))
-read_machine (Ok reply) bytes hands short =
-    λ words all command same. subst (λ (b : List ℕ). HandsOut words b (machine_of reply)) (whole_read 262145 bytes all same (omega arith)) (hands_out words bytes (machine_of reply) command hands)
-read_machine (Err e) bytes hands short = hands
+pub read_machine : (r : Result Reply Want) (bytes : List ℕ) (command : Command) → IfOk r (λ reply. (words : List (List ℕ)) → Says words command → HandsOut words bytes (machine_of reply)) → length bytes ≤ 262144 →
+    IfOk r (λ reply. (words : List (List ℕ)) (all : List ℕ) → Says words command → bytes ≡ take 262145 all → HandsOut words all (machine_of reply))
+read_machine (Ok reply) bytes command hands short =
+    λ words all says same. subst (λ (b : List ℕ). HandsOut words b (machine_of reply)) (whole_read 262145 bytes all same (omega arith)) (hands words says)
+read_machine (Err e) bytes command hands short = hands
 
 -- no machine where the words are no command
 pub usage_machine : (words : List (List ℕ)) (bytes : List ℕ) (reply : Reply) → machine_of reply ≡ None → (IsCommand words → ⊥) → HandsOut words bytes (machine_of reply)
-usage_machine words bytes reply none no_command = subst (λ (m : Option (Code × State)). HandsOut words bytes m) (sym none) (λ command. absurd (no_command command))
+usage_machine words bytes reply none no_command = subst (λ (m : Option (Code × State)). HandsOut words bytes m) (sym none) (λ h rows program has. no_command (Run, has.asked))
 
 -- what was read is what the source told
 pub told_bytes : (remaining : Option (List ℕ)) (text bytes : List ℕ) → IfSome remaining (λ all. text ≡ take 262145 all) → remaining ≡ Some bytes → text ≡ take 262145 bytes
 told_bytes remaining text bytes read told = subst (λ (o : Option (List ℕ)). IfSome o (λ all. text ≡ take 262145 all)) told read
+
+-- the command that was found, and that none was
+pub no_command : {X : Type 0} (found : Option X) (P : Type 0) (Q : X → Type 0) → MatchOption found P Q → found ≡ None → P
+no_command found P Q is same = subst (λ o. MatchOption o P Q) same is
+
+pub the_command : {X : Type 0} (found : Option X) (x : X) (P : Type 0) (Q : X → Type 0) → MatchOption found P Q → found ≡ Some x → Q x
+the_command found x P Q is same = subst (λ o. MatchOption o P Q) same is

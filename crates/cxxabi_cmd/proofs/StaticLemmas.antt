@@ -25,4 +25,4 @@ static_class h keeps c class at is = record {
 
 -- the classes of a program are static
 pub simple_static : (h : Classes) → IsHierarchy h → IsSimpleHierarchy h → IsStatic h
-simple_static h keeps is = record { each = λ c class at. static_class h keeps c class at (is.each c class at) }
+simple_static h keeps is = record { each = λ c class at. static_class h keeps c class at (is.classes.each c class at) }

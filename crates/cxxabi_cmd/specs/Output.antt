@@ -88,8 +88,8 @@ first_classes (suc n) = first_classes n ++ numbered n ∷ []
 
 -- the classes whose layout a command asks for
 pub data AsksFor (h : Classes) : Command → List ClassId → Type 0 where
-  all : AsksFor h Layout (first_classes (length h))
-  one : (name : List ℕ) (c : ClassId) → slice_get (class_names h) c.0 ≡ Some name → AsksFor h (LayoutOf name) (c ∷ [])
+  all_classes : AsksFor h Layout (first_classes (length h))
+  one_class : (name : List ℕ) (c : ClassId) → slice_get (class_names h) c.0 ≡ Some name → AsksFor h (LayoutOf name) (c ∷ [])
 
 -- the layouts of classes, one after the other
 abbrev pub layouts_text : Classes → List ClassLayout → List ClassId → List ℕ
@@ -103,6 +103,12 @@ pub record IsProgram (source : SourceText) (h : Classes) (program : SimpleProgra
   pub main : source.main ≡ Some tree
   pub resolves : MainResolves h tree program
 
+-- what is answered to the layout of these classes
+pub data LaysOut (h : Classes) (classes : List ClassId) : Answer → Type 0 where
+  dynamic : (IsStatic h → ⊥) → LaysOut h classes (line_alone (Refused Syntax 0))
+  whole : (rows : List ClassLayout) → IsStatic h → IsLaid h rows → length (layouts_text h rows classes) ≤ 16777216 → LaysOut h classes (text_answer (layouts_text h rows classes))
+  too_much : (rows : List ClassLayout) → IsStatic h → IsLaid h rows → 16777216 < length (layouts_text h rows classes) → LaysOut h classes (line_alone (Limit L9))
+
 -- what a command answers to an accepted source of so many bytes
 pub data Yields (size : ℕ) (source : SourceText) (h : Classes) : Command → Answer → Type 0 where
   counted : Yields size source h Check (count_answer h)
@@ -112,11 +118,7 @@ pub data Yields (size : ℕ) (source : SourceText) (h : Classes) : Command → A
   ran : (program : SimpleProgram) (rows : List ClassLayout) → IsProgram source h program → IsLaid h rows →
       Yields size source h Run (run_answer h rows (run_by h rows program))
   unknown_class : (name : List ℕ) → (Contains (class_names h) name → ⊥) → Yields size source h (LayoutOf name) (line_alone (Refused UnknownName size))
-  dynamic : (command : Command) (classes : List ClassId) → AsksFor h command classes → (IsStatic h → ⊥) → Yields size source h command (line_alone (Refused Syntax 0))
-  laid_out : (command : Command) (classes : List ClassId) (rows : List ClassLayout) → AsksFor h command classes → IsLaid h rows → length (layouts_text h rows classes) ≤ 16777216 →
-      Yields size source h command (text_answer (layouts_text h rows classes))
-  too_much : (command : Command) (classes : List ClassId) (rows : List ClassLayout) → AsksFor h command classes → IsLaid h rows → 16777216 < length (layouts_text h rows classes) →
-      Yields size source h command (line_alone (Limit L9))
+  laid_out : (command : Command) (classes : List ClassId) (answer : Answer) → AsksFor h command classes → LaysOut h classes answer → Yields size source h command answer
 
 -- what is answered to words and the bytes of a source
 pub data Output (words : List (List ℕ)) (bytes : List ℕ) : Answer → Type 0 where

@@ -29,6 +29,7 @@ machine_of reply = option_map (λ m. (code_of m, state_of m)) reply.machine
 
 -- the layout of the classes, where none is dynamic
 pub record IsLayout (h : Classes) (rows : List ClassLayout) : Type 0 where
+  pub static : IsStatic h
   pub laid : IsLaid h rows
   pub sound : IsSound h (places_of h rows)
 

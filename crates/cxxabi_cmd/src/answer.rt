@@ -2,7 +2,7 @@
 
 ghost use Rattle.std.specs.Prelude.{◌≡◌, ℕ, Some, None, List, IfOk, MatchOption};
 ghost use Rattle.std.specs.Option.{option_map};
-ghost use Rattle.cxx_hierarchy.specs.declared.stop.Rule.{Rule};
+ghost use Rattle.cxx_hierarchy.specs.declared.stop.Stop.{Stop};
 ghost use Rattle.cxx_resolve.specs.declared.program.SimpleProgram.{SimpleProgram};
 ghost use Rattle.cxx_resolve.specs.Typed.{IsTypedProgram};
 ghost use Rattle.path_model.specs.Rules.{undefined_no};
@@ -25,7 +25,6 @@ use abi_layout::AbiLayout;
 use abi_refine::{End, Execution, execute};
 use cxx_decl_parser::SourceText;
 use cxx_hierarchy::{Hierarchy, Rule, Stop};
-use cxx_resolve::laws::typed;
 use cxx_resolve::{SimpleProgram, resolve_main};
 use foundation::NoMemory;
 use path_model::Undefined;
@@ -87,6 +86,16 @@ fn run_program(
     })
 }
 
+// No program, or want of memory.
+fn none_by(stop: Stop) -> Result<Option<SimpleProgram>, NoMemory>
+    ensures { IfOk result (λ found. (found ≡ None) × (stop ≡ Stop.NoMemory → ⊥)) }
+{
+    match stop {
+        Stop::NoMemory => Err(NoMemory),
+        Stop::Refused(_, _) | Stop::Limit(_) => Ok(None),
+    }
+}
+
 // The program of a source that has a main, or None where it is not of the form that is run.
 fn program_of(
     alloc: Global,
@@ -103,8 +112,7 @@ fn program_of(
     }
     match resolve_main(alloc, h, tree) {
         Ok(program) => Ok(Some(program)),
-        Err(Stop::NoMemory) => Err(NoMemory),
-        Err(_) => Ok(None),
+        Err(stop) => none_by(stop),
     }
 }
 
@@ -114,6 +122,7 @@ fn run_main(alloc: Global, size: u32, accepted: &Accepted) -> Result<Reply, NoMe
     ensures yields { IfOk result (λ reply. Yields size accepted.now.source accepted.now.hierarchy Command.Run (answer_of reply)) }
     ensures machine { IfOk result (λ reply. HandsBy Command.Run accepted.now.source accepted.now.hierarchy (machine_of reply)) }
 {
+    accepted.hierarchy.keeps();
     if accepted.source.main.is_none() {
         return line_alone(alloc, Status::Refused(Rule::UnknownName, size));
     }
