@@ -11,8 +11,6 @@
 #![tactic(auto)]
 
 mod answer;
-#[cfg(test)]
-mod check_tests;
 pub mod command;
 mod layout_answer;
 pub mod reading;
