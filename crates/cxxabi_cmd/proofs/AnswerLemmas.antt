@@ -47,9 +47,9 @@ pub no_program : (r : Result (Option SimpleProgram) Want) (source : SourceText) 
     IsRefusal ((program : SimpleProgram) → MainResolves h tree program → ⊥) e → IfOk r (λ found. MatchOption found ((program : SimpleProgram) → IsProgram source h program → ⊥) (IsProgram source h))
 no_program (Ok found) source h tree e main none either =
     subst (λ (f : Option SimpleProgram). MatchOption f ((program : SimpleProgram) → IsProgram source h program → ⊥) (IsProgram source h)) (sym none.0)
-      (⊎_elim (λ memory. absurd (none.1 memory))
-      (λ refused. λ program is. let one : is.tree ≡ tree = (let same : Some is.tree ≡ Some tree = sym is.main ∙ main in cc) in refused.1 program (subst (λ (t : BodyTree). MainResolves h t program) one is.resolves))
-      either)
+    (⊎_elim (λ memory. absurd (none.1 memory))
+    (λ refused. λ program is. let one : is.tree ≡ tree = (let same : Some is.tree ≡ Some tree = sym is.main ∙ main in cc) in refused.1 program (subst (λ (t : BodyTree). MainResolves h t program) one is.resolves))
+    either)
 no_program (Err w) source h tree e main none either = none
 
 -- an answer that was made

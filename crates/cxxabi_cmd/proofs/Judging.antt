@@ -50,4 +50,4 @@ pub all_passed : (text : List ℕ) (tokens : List Token) (bad : Option ℕ) (sou
     (faults_of source.records ≡ []) × (h ≡ resolved source.records) → HasNoFault h → Verdict text (Accepts source h)
 all_passed text tokens bad source h cover reads passes none =
     subst (λ (k : Classes). Verdict text (Accepts source k)) (sym passes.1)
-      (accepted source (source_of text tokens bad source cover reads) passes.0 (subst (λ (k : Classes). HasNoFault k) passes.1 none))
+    (accepted source (source_of text tokens bad source cover reads) passes.0 (subst (λ (k : Classes). HasNoFault k) passes.1 none))

@@ -63,7 +63,7 @@ pub limit_machine : (r : Result Reply Want) (bytes : List ℕ) (command : Comman
     IfOk r (λ reply. (words : List (List ℕ)) (all : List ℕ) → Says words command → bytes ≡ take 262145 all → HandsOut words all (machine_of reply))
 limit_machine (Ok reply) bytes command none long =
     λ words all says same. subst (λ (m : Option (Code × State)). HandsOut words all m) (sym none)
-      (λ h rows program has. absurd (let short = has.short in let size : length bytes ≡ length (take 262145 all) = ap length same in omega (arith, size, length-take 262145 all)))
+    (λ h rows program has. absurd (let short = has.short in let size : length bytes ≡ length (take 262145 all) = ap length same in omega (arith, size, length-take 262145 all)))
 limit_machine (Err e) bytes command none long = none
 
 -- the machine for a text that was read whole

@@ -7,4 +7,4 @@ use Rattle.cxxabi_cmd.proofs.answer.answer.Goals as goal
 pub returns-in-Check-clause-yields : goal.returns-in-Check-clause-yields
 returns-in-Check-clause-yields c =
     yields c.class_count.result c.args.size c.args.accepted.now.source c.args.accepted.now.hierarchy c.args.command.now (count_answer c.args.accepted.now.hierarchy) c.class_count.ensures.answer
-      (subst (λ (d : Command). Yields c.args.size c.args.accepted.now.source c.args.accepted.now.hierarchy d (count_answer c.args.accepted.now.hierarchy)) (sym c.in-Check.is) counted)
+    (subst (λ (d : Command). Yields c.args.size c.args.accepted.now.source c.args.accepted.now.hierarchy d (count_answer c.args.accepted.now.hierarchy)) (sym c.in-Check.is) counted)

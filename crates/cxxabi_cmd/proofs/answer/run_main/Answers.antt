@@ -12,18 +12,18 @@ use Rattle.cxxabi_cmd.proofs.answer.run_main.Goals as goal
 pub returns-then-is_none-clause-yields : goal.returns-then-is_none-clause-yields
 returns-then-is_none-clause-yields c =
     yields c.line_alone.result c.args.size c.args.accepted.now.source c.args.accepted.now.hierarchy Run (line_alone (Refused UnknownName c.args.size)) c.line_alone.ensures.answer
-      (no_main (is_missing c.args.accepted.now.source.main c.is_none.result c.is_none.ensures c.if-is_none.true))
+    (no_main (is_missing c.args.accepted.now.source.main c.is_none.result c.is_none.ensures c.if-is_none.true))
 
 pub returns-in_default-clause-yields : goal.returns-in_default-clause-yields
 returns-in_default-clause-yields c =
     let there = is_there c.args.accepted.now.source.main c.is_none.result c.is_none.ensures c.if-is_none.false in
     yields c.line_alone-in_default.result c.args.size c.args.accepted.now.source c.args.accepted.now.hierarchy Run (line_alone (Refused Syntax 0)) c.line_alone-in_default.ensures.answer
-      (not_taken there.tree there.is (not_program c.args.accepted.now.source c.args.accepted.now.hierarchy c.in_ok-program.field-0 c.in_ok-program.ensures c.in_default.is))
+    (not_taken there.tree there.is (not_program c.args.accepted.now.source c.args.accepted.now.hierarchy c.in_ok-program.field-0 c.in_ok-program.ensures c.in_default.is))
 
 pub returns-in_default-clause-machine : goal.returns-in_default-clause-machine
 returns-in_default-clause-machine c =
     hands_none c.line_alone-in_default.result Run c.args.accepted.now.source c.args.accepted.now.hierarchy c.line_alone-in_default.ensures.machine
-      (λ asked program rows is laid. not_program c.args.accepted.now.source c.args.accepted.now.hierarchy c.in_ok-program.field-0 c.in_ok-program.ensures c.in_default.is program is)
+    (λ asked program rows is laid. not_program c.args.accepted.now.source c.args.accepted.now.hierarchy c.in_ok-program.field-0 c.in_ok-program.ensures c.in_default.is program is)
 
 pub returns-in_default-layout-clause-yields : goal.returns-in_default-layout-clause-yields
 returns-in_default-layout-clause-yields c =
@@ -45,7 +45,7 @@ returns-clause-yields c =
     let is = the_program c.args.accepted.now.source c.args.accepted.now.hierarchy c.in_ok-program.field-0 c.in-Some.program c.in_ok-program.ensures c.in-Some.is in
     let layout = the_layout c.args.accepted.now.hierarchy c.args.accepted.now.layout c.in-Some-layout.layout c.requires c.in-Some-layout.is in
     yields c.run_program.result c.args.size c.args.accepted.now.source c.args.accepted.now.hierarchy Run (run_answer c.args.accepted.now.hierarchy c.in-Some-layout.layout (run_by c.args.accepted.now.hierarchy c.in-Some-layout.layout c.in-Some.program)) c.run_program.ensures.answer
-      (ran c.in-Some.program c.in-Some-layout.layout is layout.laid)
+    (ran c.in-Some.program c.in-Some-layout.layout is layout.laid)
 
 pub returns-clause-machine : goal.returns-clause-machine
 returns-clause-machine c =

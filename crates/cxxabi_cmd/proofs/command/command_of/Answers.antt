@@ -16,5 +16,5 @@ returns-in-layout c = subst (λ (w : List (List ℕ)). Says w Layout) (sym (says
 pub returns-in-layout-as_str : goal.returns-in-layout-as_str
 returns-in-layout-as_str c = layout_with c.layout_of.result (map string_bytes c.args.words.now) c.as_str-in-layout-as_str.result.now
     (says_words string_bytes c.args.words.now c.word-item-then-words-lt3.result c.name-item.result c.as_str-in-len2.result.now _ c.as_str-in-layout-as_str.result.now c.in-len2.len_at_least c.in-len2.len_below
-      c.word-item-then-words-lt3.is c.name-item.is c.as_str-in-len2.ensures.value c.in-layout-as_str.is c.as_str-in-layout-as_str.ensures.value)
+    c.word-item-then-words-lt3.is c.name-item.is c.as_str-in-len2.ensures.value c.in-layout-as_str.is c.as_str-in-layout-as_str.ensures.value)
     c.layout_of.ensures

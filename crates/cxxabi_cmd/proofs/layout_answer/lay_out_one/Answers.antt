@@ -15,7 +15,7 @@ returns-in_default-clause-yields c =
 pub returns-in_default-layout-clause-yields : goal.returns-in_default-layout-clause-yields
 returns-in_default-layout-clause-yields c =
     yields c.line_alone-in_default-layout.result c.args.size c.args.accepted.now.source c.args.accepted.now.hierarchy (LayoutOf c.args.name.now) (line_alone (Refused Syntax 0)) c.line_alone-in_default-layout.ensures.answer
-      (laid_out (LayoutOf c.args.name.now) (c.in-Some.class ∷ []) (line_alone (Refused Syntax 0)) (one_class c.args.name.now c.in-Some.class c.in-Some.ensures) (dynamic (no_layout c.args.accepted.now.hierarchy c.args.accepted.now.layout c.requires c.in_default-layout.is)))
+    (laid_out (LayoutOf c.args.name.now) (c.in-Some.class ∷ []) (line_alone (Refused Syntax 0)) (one_class c.args.name.now c.in-Some.class c.in-Some.ensures) (dynamic (no_layout c.args.accepted.now.hierarchy c.args.accepted.now.layout c.requires c.in_default-layout.is)))
 
 pub append_class-requires-clause-known : goal.append_class-requires-clause-known
 append_class-requires-clause-known c = named_below c.args.accepted.now.hierarchy c.in-Some.class.0 c.args.name.now c.in-Some.ensures
@@ -29,4 +29,4 @@ append_class-requires-clause-laid c =
 pub returns-clause-yields : goal.returns-clause-yields
 returns-clause-yields c =
     replied_one c.reply_of.result c.in_ok-within.within c.args.size c.args.accepted.now.source c.args.accepted.now.hierarchy (LayoutOf c.args.name.now) c.in-Some.class c.in-Some-layout.layout c.new-text.result.items c.append_class.new.text.items (one_class c.args.name.now c.in-Some.class c.in-Some.ensures)
-      (the_layout c.args.accepted.now.hierarchy c.args.accepted.now.layout c.in-Some-layout.layout c.requires c.in-Some-layout.is) c.new-text.ensures.items c.in_ok-within.ensures.text c.in_ok-within.ensures.within c.in_ok-within.ensures.past c.reply_of.ensures.text c.reply_of.ensures.past
+    (the_layout c.args.accepted.now.hierarchy c.args.accepted.now.layout c.in-Some-layout.layout c.requires c.in-Some-layout.is) c.new-text.ensures.items c.in_ok-within.ensures.text c.in_ok-within.ensures.within c.in_ok-within.ensures.past c.reply_of.ensures.text c.reply_of.ensures.past
