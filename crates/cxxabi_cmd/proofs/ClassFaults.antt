@@ -6,7 +6,7 @@ use Rattle.std.proofs.lemmas.List.{length-take-le}
 use Rattle.std.proofs.lemmas.Option.{slice_get_within}
 use Rattle.cxx_hierarchy.specs.declared.records.ClassId.{ClassId}
 use Rattle.cxx_hierarchy.specs.declared.stop.Stop.{Stop}
-use Rattle.cxx_hierarchy.specs.declared.stop.Stop.TheVariants.{Limit}
+use Rattle.cxx_hierarchy.specs.declared.stop.Stop.TheVariants.{Limit, NoMemory}
 use Rattle.cxx_hierarchy.specs.declared.stop.LimitNo.TheVariants.{L5, L6}
 use Rattle.cxx_hierarchy.specs.Classes.{Class, Classes, class_at}
 use Rattle.cxx_subobject.specs.Parts.{IsWithinLimits}
@@ -15,7 +15,9 @@ use Rattle.abi_layout.specs.Kinds.{IsStatic}
 use Rattle.abi_layout.specs.Laid.{IsLaidFront, HasTooLargeFront, AreSmall}
 use Rattle.abi_layout.proofs.Unique.{row_agrees, front_is_one}
 use Rattle.abi_layout.proofs.SoundLemmas.{rules_are_sound}
-use Rattle.cxxabi_cmd.specs.Verdict.{Spot, spot, count_part, size_part, IsBefore, by_class, by_part, IsTooLarge, Fault, many_parts, large, IsFirstFault, HasNoFault}
+use Rattle.cxx_overrider.specs.Faults.{Spot, spot, limit_part, size_part, IsBefore, by_class, by_part, by_item, by_test, Fault as MeaningFault, too_large, IsFirstFault as IsFirstMeaning, HasNoFault as HasNoMeaning, StopsAtFault}
+use Rattle.cxxabi_cmd.specs.Verdict.{IsTooLarge, Fault, of_meaning, large, IsFirstFault, HasNoFault}
+use Rattle.cxxabi_cmd.proofs.MeaningFaults.{IsCount, meaning_is_count}
 use Rattle.cxxabi_cmd.specs.Replies.{IsFirstPast, IsLayout}
 
 taken_get : {X : Type 0} (xs : List X) (n i : ℕ) → i < n → slice_get (take n xs) i ≡ slice_get xs i
@@ -80,14 +82,35 @@ least (r ∷ rows) number row there big =
 abbrev pub numbered : ℕ → ClassId
 numbered n = record { 0 = n }
 
+-- of the spots of two classes, one for the counts and one for the sizes of a class, what comes first
+counts_before : (c d : ClassId) → IsBefore (spot c limit_part 0 0) (spot d size_part 0 0) → c.0 ≤ d.0
+counts_before c d (by_class _ _ lower) = omega arith
+counts_before c d (by_part _ _ same lower) = let e : c.0 ≡ d.0 = ap (λ (x : ClassId). x.0) same in omega arith
+counts_before c d (by_item _ _ same part lower) = absurd (omega arith)
+counts_before c d (by_test _ _ same part item lower) = absurd (omega arith)
+
+counts_first_of : (c d : ClassId) → IsBefore (spot c limit_part 0 0) (spot d limit_part 0 0) → c.0 < d.0
+counts_first_of c d (by_class _ _ lower) = lower
+counts_first_of c d (by_part _ _ same lower) = absurd (omega arith)
+counts_first_of c d (by_item _ _ same part lower) = absurd (omega arith)
+counts_first_of c d (by_test _ _ same part item lower) = absurd (omega arith)
+
+sizes_before : (c d : ClassId) (part : ℕ) → part ≤ size_part → IsBefore (spot c size_part 0 0) (spot d part 0 0) → c.0 < d.0
+sizes_before c d part low (by_class _ _ lower) = lower
+sizes_before c d part low (by_part _ _ same lower) = absurd (omega arith)
+sizes_before c d part low (by_item _ _ same equal lower) = absurd (omega arith)
+sizes_before c d part low (by_test _ _ same equal item lower) = absurd (omega arith)
+
 -- before the size of a class within the counts, nothing is met where the rows before are small
 nothing_before : (h : Classes) (count n : ℕ) (rows : List ClassLayout) → IsStatic h → IsLaidFront h count rows → count ≤ length h → n < count → ((c : ClassId) → c.0 < count → IsWithinLimits h c) →
-    ((k : ℕ) (r : ClassLayout) → k < n → slice_get rows k ≡ Some r → r.size ≤ 500000) → (before : Spot) (other : Stop) → Fault h before other → IsBefore before (spot (numbered n) size_part) → ⊥
-nothing_before h count n rows static laid known below within small _ _ (many_parts c there many) (by_class lower) = many (within c (omega arith))
-nothing_before h count n rows static laid known below within small _ _ (many_parts c there many) (by_part same lower) = many (within c (let e : c.0 ≡ n = ap (λ (x : ClassId). x.0) same in omega arith))
-nothing_before h count n rows static laid known below within small _ _ (large c there static' big) (by_class lower) =
+    ((k : ℕ) (r : ClassLayout) → k < n → slice_get rows k ≡ Some r → r.size ≤ 500000) → (before : Spot) (other : Stop) → Fault h before other → IsBefore before (spot (numbered n) size_part 0 0) → ⊥
+nothing_before h count n rows static laid known below within small _ _ (of_meaning at stop fault) before =
+    let is = meaning_is_count h at stop static fault in
+    let lower = counts_before is.class (numbered n) (subst (λ (s : Spot). IsBefore s (spot (numbered n) size_part 0 0)) is.spot_is before) in
+    is.many (within is.class (omega arith))
+nothing_before h count n rows static laid known below within small _ _ (large c there static' big) before =
+    let lower = sizes_before c (numbered n) size_part (omega arith) before in
     not_large h count c rows static laid known (omega arith) (λ row at. small c.0 row lower at) big
-nothing_before h count n rows static laid known below within small _ _ (large c there static' big) (by_part same lower) = absurd (omega arith)
 
 -- a size of the first classes passes the limit
 pub large_first : (h : Classes) (number : ℕ) → IsStatic h → IsFirstPast h number → HasTooLargeFront h number → IsFirstFault h (Limit L6)
@@ -98,7 +121,7 @@ large_first h number static past big =
     let known = past.known in
     let below : found.number < number = omega arith in
     record {
-      at = spot (numbered found.number) size_part;
+      at = spot (numbered found.number) size_part 0 0;
       fault = large (numbered found.number) (omega arith) static (record {
         rows = take (found.number + 1) big.rows;
         laid = taken_front h number (found.number + 1) big.rows static big.laid (omega arith);
@@ -110,40 +133,53 @@ large_first h number static past big =
     }
 
 -- nothing is met before the counts of a class, where the classes before it are within the counts and not too large
-counts_first : (h : Classes) (number : ℕ) → IsFirstPast h number → ((c : ClassId) → c.0 < number → IsStatic h → IsTooLarge h c → ⊥) → (before : Spot) (other : Stop) → Fault h before other →
-    IsBefore before (spot (numbered number) count_part) → ⊥
-counts_first h number past none _ _ (many_parts c there many) (by_class lower) = many (past.before c lower)
-counts_first h number past none _ _ (many_parts c there many) (by_part same lower) = absurd (omega arith)
-counts_first h number past none _ _ (large c there static big) (by_class lower) = none c lower static big
-counts_first h number past none _ _ (large c there static big) (by_part same lower) = absurd (omega arith)
+counts_first : (h : Classes) (number : ℕ) → IsStatic h → IsFirstPast h number → ((c : ClassId) → c.0 < number → IsTooLarge h c → ⊥) → (before : Spot) (other : Stop) → Fault h before other →
+    IsBefore before (spot (numbered number) limit_part 0 0) → ⊥
+counts_first h number static past small _ _ (of_meaning at stop fault) before =
+    let is = meaning_is_count h at stop static fault in
+    let lower = counts_first_of is.class (numbered number) (subst (λ (s : Spot). IsBefore s (spot (numbered number) limit_part 0 0)) is.spot_is before) in
+    is.many (past.before is.class lower)
+counts_first h number static past small _ _ (large c there static' big) before = small c (sizes_before c (numbered number) limit_part (omega arith) before) big
 
-many_first : (h : Classes) (number : ℕ) → IsFirstPast h number → number < length h → ((c : ClassId) → c.0 < number → IsStatic h → IsTooLarge h c → ⊥) → IsFirstFault h (Limit L5)
-many_first h number past below none = record {
-  at = spot (numbered number) count_part;
-  fault = many_parts (numbered number) below (past.past (numbered number) refl below);
-  first = counts_first h number past none;
+none_large : (h : Classes) (number : ℕ) (rows : List ClassLayout) → IsFirstPast h number → IsStatic h → IsLaidFront h number rows → AreSmall rows → (c : ClassId) → c.0 < number → IsTooLarge h c → ⊥
+none_large h number rows past static laid small c below big = not_large h number c rows static laid past.known below (λ row at. small.each c.0 row at) big
+
+-- a count passes its limit, in a source without dynamic classes whose layout up to there is known
+pub static_first : (h : Classes) (number : ℕ) (rows : List ClassLayout) → IsFirstPast h number → number < length h → IsStatic h → IsLaidFront h number rows → AreSmall rows → IsFirstFault h (Limit L5)
+static_first h number rows past below static laid small = record {
+  at = spot (numbered number) limit_part 0 0;
+  fault = of_meaning (spot (numbered number) limit_part 0 0) (Limit L5) (too_large (numbered number) below (past.past (numbered number) refl below));
+  first = counts_first h number static past (none_large h number rows past static laid small);
 }
 
-none_large : (h : Classes) (number : ℕ) (rows : List ClassLayout) → IsFirstPast h number → IsStatic h → IsLaidFront h number rows → AreSmall rows → (c : ClassId) → c.0 < number → IsStatic h → IsTooLarge h c → ⊥
-none_large h number rows past static laid small c below static' big = not_large h number c rows static laid past.known below (λ row at. small.each c.0 row at) big
-
--- a count passes its limit, in a source whose layout up to there is known
-pub static_first : (h : Classes) (number : ℕ) (rows : List ClassLayout) → IsFirstPast h number → number < length h → IsStatic h → IsLaidFront h number rows → AreSmall rows → IsFirstFault h (Limit L5)
-static_first h number rows past below static laid small = many_first h number past below (none_large h number rows past static laid small)
-
--- or in one with a dynamic class
-pub dynamic_first : (h : Classes) (number : ℕ) → IsFirstPast h number → number < length h → (IsStatic h → ⊥) → IsFirstFault h (Limit L5)
-dynamic_first h number past below dynamic = many_first h number past below (λ c lower static big. dynamic static)
-
-nothing_met : (h : Classes) (number : ℕ) → IsFirstPast h number → length h ≤ number → ((c : ClassId) → c.0 < number → IsStatic h → IsTooLarge h c → ⊥) → (at : Spot) (stop : Stop) → Fault h at stop → ⊥
-nothing_met h number past all none _ _ (many_parts c there many) = many (past.before c (omega arith))
-nothing_met h number past all none _ _ (large c there static big) = none c (omega arith) static big
+nothing_met : (h : Classes) (number : ℕ) → IsStatic h → IsFirstPast h number → length h ≤ number → ((c : ClassId) → c.0 < number → IsTooLarge h c → ⊥) → (at : Spot) (stop : Stop) → Fault h at stop → ⊥
+nothing_met h number static past all small _ _ (of_meaning at stop fault) =
+    let is = meaning_is_count h at stop static fault in
+    let known = is.known in
+    is.many (past.before is.class (omega arith))
+nothing_met h number static past all small _ _ (large c there static' big) = small c (omega arith) big
 
 pub static_none : (h : Classes) (number : ℕ) (rows : List ClassLayout) → IsFirstPast h number → length h ≤ number → IsStatic h → IsLaidFront h number rows → AreSmall rows → HasNoFault h
-static_none h number rows past all static laid small = record { none = nothing_met h number past all (none_large h number rows past static laid small) }
+static_none h number rows past all static laid small = record { none = nothing_met h number static past all (none_large h number rows past static laid small) }
 
-pub dynamic_none : (h : Classes) (number : ℕ) → IsFirstPast h number → length h ≤ number → (IsStatic h → ⊥) → HasNoFault h
-dynamic_none h number past all dynamic = record { none = nothing_met h number past all (λ c lower static big. dynamic static) }
+-- with a dynamic class the faults are those of the class-meaning pass
+meaning_before : (h : Classes) (c : ClassId) (stop : Stop) → (IsStatic h → ⊥) → (first : IsFirstMeaning h c stop) → (before : Spot) (other : Stop) → Fault h before other → IsBefore before (spot c first.part first.item first.test) → ⊥
+meaning_before h c stop dynamic first _ _ (of_meaning at other fault) before = first.first at other fault before
+meaning_before h c stop dynamic first _ _ (large d there static big) before = dynamic static
+
+pub dynamic_first : (h : Classes) (stop : Stop) → (IsStatic h → ⊥) → StopsAtFault h stop → (stop ≡ NoMemory) ⊎ IsFirstFault h stop
+dynamic_first h stop dynamic stops = ⊎_elim (λ memory. inl memory) (λ found. inr (record {
+  at = spot found.0 found.1.part found.1.item found.1.test;
+  fault = of_meaning (spot found.0 found.1.part found.1.item found.1.test) stop found.1.fault;
+  first = meaning_before h found.0 stop dynamic found.1;
+})) stops
+
+meaning_met : (h : Classes) → (IsStatic h → ⊥) → HasNoMeaning h → (at : Spot) (stop : Stop) → Fault h at stop → ⊥
+meaning_met h dynamic fine _ _ (of_meaning at stop fault) = fine.none at stop fault
+meaning_met h dynamic fine _ _ (large c there static big) = dynamic static
+
+pub dynamic_none : (h : Classes) → (IsStatic h → ⊥) → HasNoMeaning h → HasNoFault h
+dynamic_none h dynamic fine = record { none = meaning_met h dynamic fine }
 
 -- and then the layout of the first classes is that of all
 pub layout_of : (h : Classes) (number : ℕ) (rows : List ClassLayout) → IsFirstPast h number → length h ≤ number → IsStatic h → IsLaidFront h number rows → AreSmall rows → IsLayout h rows

@@ -5,6 +5,7 @@ pub mod ReplyLemmas
 pub mod AnswerLemmas
 pub mod StaticLemmas
 pub mod CountLemmas
+pub mod MeaningFaults
 pub mod ClassFaults
 pub mod Judging
 pub mod LayoutLemmas

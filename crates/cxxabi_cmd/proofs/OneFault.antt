@@ -4,32 +4,57 @@ use Rattle.std.proofs.lemmas.Bool.{cases_order}
 use Rattle.cxx_hierarchy.specs.declared.records.ClassId.{ClassId}
 use Rattle.cxx_hierarchy.specs.declared.stop.Stop.{Stop}
 use Rattle.cxx_hierarchy.specs.Classes.{Classes}
-use Rattle.cxxabi_cmd.specs.Verdict.{Spot, spot, IsBefore, by_class, by_part, Fault, many_parts, large, IsFirstFault, HasNoFault}
+use Rattle.cxx_overrider.specs.Faults.{Spot, spot, size_part, IsBefore, by_class, by_part, by_item, by_test, Fault as MeaningFault}
+use Rattle.cxxabi_cmd.specs.Verdict.{Fault, of_meaning, large, IsFirstFault, HasNoFault}
+use Rattle.cxxabi_cmd.proofs.MeaningFaults.{one_stop, part_below}
 
 same_number : (a b : ClassId) → a.0 ≡ b.0 → a ≡ b
 same_number a b same = ap (λ (n : ℕ). let c : ClassId = record { 0 = n } in c) same
 
-same_spot : (a b : Spot) → a.class ≡ b.class → a.part ≡ b.part → a ≡ b
-same_spot a b class part = ap (λ (c : ClassId). spot c a.part) class ∙ ap (λ (n : ℕ). spot b.class n) part
+same_spot : (a b : Spot) → a.class ≡ b.class → a.part ≡ b.part → a.item ≡ b.item → a.test ≡ b.test → a ≡ b
+same_spot a b class part item test =
+    ap (λ (c : ClassId). spot c a.part a.item a.test) class
+    ∙ (ap (λ (n : ℕ). spot b.class n a.item a.test) part
+    ∙ (ap (λ (n : ℕ). spot b.class b.part n a.test) item
+    ∙ ap (λ (n : ℕ). spot b.class b.part b.item n) test))
 
-by_parts : (a b : Spot) → a.class ≡ b.class → IsBefore a b ⊎ ((a ≡ b) ⊎ IsBefore b a)
+-- one comes first, or they are one
+abbrev Ordered : Spot → Spot → Type 0
+Ordered a b = IsBefore a b ⊎ ((a ≡ b) ⊎ IsBefore b a)
+
+by_tests : (a b : Spot) → a.class ≡ b.class → a.part ≡ b.part → a.item ≡ b.item → Ordered a b
+by_tests a b class part item =
+    ⊎_elim (λ same. inr (inl (same_spot a b class part item same)))
+    (λ differ. ⊎_elim (λ lower. inl (by_test a b class part item lower)) (λ higher. inr (inr (by_test b a (sym class) (sym part) (sym item) higher))) differ)
+    (cases_order a.test b.test)
+
+by_items : (a b : Spot) → a.class ≡ b.class → a.part ≡ b.part → Ordered a b
+by_items a b class part =
+    ⊎_elim (λ same. by_tests a b class part same)
+    (λ differ. ⊎_elim (λ lower. inl (by_item a b class part lower)) (λ higher. inr (inr (by_item b a (sym class) (sym part) higher))) differ)
+    (cases_order a.item b.item)
+
+by_parts : (a b : Spot) → a.class ≡ b.class → Ordered a b
 by_parts a b class =
-    ⊎_elim (λ same. inr (inl (same_spot a b class same)))
-    (λ differ. ⊎_elim (λ lower. inl (by_part class lower)) (λ higher. inr (inr (by_part (sym class) higher))) differ)
+    ⊎_elim (λ same. by_items a b class same)
+    (λ differ. ⊎_elim (λ lower. inl (by_part a b class lower)) (λ higher. inr (inr (by_part b a (sym class) higher))) differ)
     (cases_order a.part b.part)
 
 -- of two spots one is asked first, or they are one
-in_order : (a b : Spot) → IsBefore a b ⊎ ((a ≡ b) ⊎ IsBefore b a)
+in_order : (a b : Spot) → Ordered a b
 in_order a b =
     ⊎_elim (λ same. by_parts a b (same_number a.class b.class same))
-    (λ differ. ⊎_elim (λ lower. inl (by_class lower)) (λ higher. inr (inr (by_class higher))) differ)
+    (λ differ. ⊎_elim (λ lower. inl (by_class a b lower)) (λ higher. inr (inr (by_class b a higher))) differ)
     (cases_order a.class.0 b.class.0)
+
+apart : (h : Classes) (at : Spot) (stop : Stop) (c : ClassId) → MeaningFault h at stop → at ≡ spot c size_part 0 0 → ⊥
+apart h at stop c fault same = let below = part_below h at stop fault in let part : at.part ≡ size_part = ap (λ (s : Spot). s.part) same in omega arith
 
 -- one condition is asked at a spot
 fault_same : (h : Classes) (a b : Spot) (d e : Stop) → Fault h a d → Fault h b e → a ≡ b → d ≡ e
-fault_same h _ _ _ _ (many_parts c known many) (many_parts c' known' many') same = refl
-fault_same h _ _ _ _ (many_parts c known many) (large c' known' static is) same = absurd (let clash : ◌≡◌ {A = ℕ} 0 1 = ap (λ (s : Spot). s.part) same in omega arith)
-fault_same h _ _ _ _ (large c known static is) (many_parts c' known' many) same = absurd (let clash : ◌≡◌ {A = ℕ} 1 0 = ap (λ (s : Spot). s.part) same in omega arith)
+fault_same h _ _ _ _ (of_meaning a d one) (of_meaning b e other) same = one_stop h a b d e one other same
+fault_same h _ _ _ _ (of_meaning a d one) (large c known static is) same = absurd (apart h a d c one same)
+fault_same h _ _ _ _ (large c known static is) (of_meaning b e other) same = absurd (apart h b e c other (sym same))
 fault_same h _ _ _ _ (large c known static is) (large c' known' static' is') same = refl
 
 -- the first fault is one

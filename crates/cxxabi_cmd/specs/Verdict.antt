@@ -9,13 +9,13 @@ use Rattle.cxx_grammar.specs.Fault.{State, FrontIs, Fault as Event}
 use Rattle.cxx_hierarchy.specs.declared.records.ClassId.{ClassId}
 use Rattle.cxx_hierarchy.specs.declared.stop.Stop.{Stop}
 use Rattle.cxx_hierarchy.specs.declared.stop.Stop.TheVariants.{Limit}
-use Rattle.cxx_hierarchy.specs.declared.stop.LimitNo.TheVariants.{L5, L6}
+use Rattle.cxx_hierarchy.specs.declared.stop.LimitNo.TheVariants.{L6}
 use Rattle.cxx_hierarchy.specs.Classes.{Classes}
 use Rattle.cxx_hierarchy.specs.ClassPass.{faults_of, first_of}
 use Rattle.cxx_hierarchy.specs.Resolved.{resolved}
 use Rattle.cxx_decl_parser.specs.declared.source_text.SourceText.{SourceText}
 use Rattle.cxx_decl_parser.specs.Sources.{SourceReads}
-use Rattle.cxx_subobject.specs.Parts.{IsWithinLimits}
+use Rattle.cxx_overrider.specs.Faults.{Spot, spot, size_part, IsBefore, Fault as MeaningFault}
 use Rattle.abi_layout.specs.declared.class_layout.ClassLayout.{ClassLayout}
 use Rattle.abi_layout.specs.Kinds.{IsStatic}
 use Rattle.abi_layout.specs.Laid.{IsLaidFront}
@@ -45,26 +45,6 @@ pub record StopsText (text : List ℕ) (stop : Stop) : Type 0 where
   pub sorts : AreLexemes text all
   pub event : Event source_form at_start all stop
 
--- where in the pass over the classes a condition is asked: class by class, in a class part by part
-pub record Spot : Type 0 where
-  pub class : ClassId
-  pub part : ℕ
-
--- the parts of a class in their order: the counts of its subobjects and parts, and its size
-abbrev pub count_part : ℕ
-count_part = 0
-
-abbrev pub size_part : ℕ
-size_part = 1
-
-abbrev pub spot : ClassId → ℕ → Spot
-spot class part = record { class = class; part = part }
-
--- one spot is asked before the other
-pub data IsBefore (a b : Spot) : Type 0 where
-  by_class : a.class.0 < b.class.0 → IsBefore a b
-  by_part : a.class ≡ b.class → a.part < b.part → IsBefore a b
-
 -- by the rules of layout the class has a size above 500,000 bytes
 pub record IsTooLarge (h : Classes) (c : ClassId) : Type 0 where
   pub rows : List ClassLayout
@@ -73,10 +53,11 @@ pub record IsTooLarge (h : Classes) (c : ClassId) : Type 0 where
   pub there : slice_get rows c.0 ≡ Some row
   pub large : 500000 < row.size
 
--- the condition asked at the spot stops the source. Sizes are asked of sources without a dynamic class
+-- the condition asked at the spot stops the source: one of the class-meaning pass, or the size of a class. Sizes are asked of
+-- sources without a dynamic class
 pub data Fault (h : Classes) : Spot → Stop → Type 0 where
-  many_parts : (c : ClassId) → c.0 < length h → (IsWithinLimits h c → ⊥) → Fault h (spot c count_part) (Limit L5)
-  large : (c : ClassId) → c.0 < length h → IsStatic h → IsTooLarge h c → Fault h (spot c size_part) (Limit L6)
+  of_meaning : (at : Spot) (stop : Stop) → MeaningFault h at stop → Fault h at stop
+  large : (c : ClassId) → c.0 < length h → IsStatic h → IsTooLarge h c → Fault h (spot c size_part 0 0) (Limit L6)
 
 -- a fault, and none is met before it
 pub record IsFirstFault (h : Classes) (stop : Stop) : Type 0 where

@@ -3,12 +3,14 @@
 ghost use Rattle.std.specs.Prelude.{◌≡◌, ◌≤◌, ◌<◌, ◌⊎◌, ℕ, IfOk, IfErr, OnOk, MatchOption, length};
 ghost use Rattle.cxx_hierarchy.specs.declared.records.ClassId.{ClassId};
 ghost use Rattle.cxx_subobject.specs.Parts.{IsWithinLimits};
+ghost use Rattle.abi_layout.specs.Kinds.{IsStatic};
 ghost use Rattle.cxxabi_cmd.specs.Verdict.{Verdict, Stops, Accepts, IsFirstFault, HasNoFault};
-ghost use Rattle.cxxabi_cmd.specs.Replies.{IsLayoutOf, IsFirstPast};
+ghost use Rattle.cxxabi_cmd.specs.Replies.{IsLayout, IsLayoutOf, IsFirstPast};
 
 use abi_layout::{AbiLayout, is_static, lay_out_front};
 use cxx_decl_parser::{SourceText, parse_source};
 use cxx_hierarchy::{ClassId, Hierarchy, LimitNo, Stop, build};
+use cxx_overrider::check_overriders;
 use cxx_subobject::PartCounts;
 use cxx_text::tokens;
 use foundation::NoMemory;
@@ -35,26 +37,32 @@ fn first_past(alloc: Global, h: &Hierarchy) -> Result<u32, NoMemory>
     Ok(h.len())
 }
 
-// Makes the pass over the classes: their counts, and their sizes where no class is dynamic.
+// Makes the pass over classes none of which is dynamic: their counts and sizes.
+fn check_static(alloc: Global, h: &Hierarchy) -> Result<AbiLayout, Stop>
+    requires { IsStatic h.now }
+    ensures none { OnOk result (HasNoFault h.now) }
+    ensures layout { IfOk result (IsLayout h.now) }
+    ensures err { IfErr result (λ stop. (stop ≡ Stop.NoMemory) ⊎ IsFirstFault h.now stop) }
+{
+    let within = first_past(alloc, h)?;
+    let layout = lay_out_front(alloc, h, within)?;
+    if within < h.len() {
+        return Err(Stop::Limit(LimitNo::L5));
+    }
+    Ok(layout)
+}
+
+// Makes the pass over the classes: their meanings, and their sizes where no class is dynamic.
 fn check_classes(alloc: Global, h: &Hierarchy) -> Result<Option<AbiLayout>, Stop>
     ensures none { OnOk result (HasNoFault h.now) }
     ensures layout { IfOk result (IsLayoutOf h.now) }
     ensures err { IfErr result (λ stop. (stop ≡ Stop.NoMemory) ⊎ IsFirstFault h.now stop) }
 {
-    let within = first_past(alloc, h)?;
-    if !is_static(h) {
-        return if within < h.len() {
-            Err(Stop::Limit(LimitNo::L5))
-        } else {
-            Ok(None)
-        };
+    if is_static(h) {
+        return Ok(Some(check_static(alloc, h)?));
     }
-    let layout = lay_out_front(alloc, h, within)?;
-    if within < h.len() {
-        Err(Stop::Limit(LimitNo::L5))
-    } else {
-        Ok(Some(layout))
-    }
+    let _overriders = check_overriders(alloc, h)?;
+    Ok(None)
 }
 
 // Makes the passes over the bytes of a source.
