@@ -22,6 +22,8 @@ pub mod source;
 pub mod sources;
 pub mod status;
 #[cfg(test)]
+mod check_tests;
+#[cfg(test)]
 mod tests;
 mod verdict;
 pub mod writing;
