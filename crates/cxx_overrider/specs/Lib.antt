@@ -7,6 +7,7 @@ pub mod Numbers
 pub mod Kinds
 pub mod Marks
 pub mod Pure
+pub mod Within
 pub mod Entries
 pub mod EntryTables
 pub mod Settling

@@ -18,6 +18,7 @@ pub mod settling;
 pub mod signatures;
 pub mod tables;
 pub mod virtuals;
+pub mod within;
 
 use cxx_hierarchy::ClassId;
 use cxx_subobject::Subobject;
