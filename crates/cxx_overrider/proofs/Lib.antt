@@ -7,3 +7,4 @@ pub mod PureLemmas
 pub mod SettlingLemmas
 pub mod Made
 pub mod Finals
+pub mod CovarianceLemmas
