@@ -9,3 +9,4 @@ pub mod SettlingLemmas
 pub mod Made
 pub mod Finals
 pub mod OneFinal
+pub mod CovarianceLemmas
