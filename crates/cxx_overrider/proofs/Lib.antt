@@ -10,3 +10,5 @@ pub mod Made
 pub mod Finals
 pub mod OneFinal
 pub mod CovarianceLemmas
+pub mod Candidates
+pub mod AbstractLemmas

@@ -12,3 +12,4 @@ pub mod Entries
 pub mod EntryTables
 pub mod Settling
 pub mod Tables
+pub mod Abstract

@@ -10,6 +10,7 @@
 //! and for each virtual base of a class what overrides its functions, from those of the direct bases (`settling`).
 #![tactic(auto)]
 
+pub mod abstracts;
 pub mod covariance;
 pub mod entries;
 pub mod kinds;

@@ -15,7 +15,7 @@ use foundation::{NoMemory, Sequence};
 use std::alloc::Global;
 
 /// Whether the declaration ends in `= 0`.
-fn is_pure(h: &Hierarchy, f: FunctionId) -> bool
+pub fn is_pure(h: &Hierarchy, f: FunctionId) -> bool
     requires { f.class.0 < length h.now }
     ensures { result ≡ is_pure h.now f }
 {

@@ -167,7 +167,7 @@ fn settle_number(
 }
 
 /// The numbers of the virtual functions that the non-virtual part of a class declares.
-fn numbers_within(tables: &Tables, v: ClassId) -> &[usize]
+pub fn numbers_within(tables: &Tables, v: ClassId) -> &[usize]
     requires { v.0 < length tables.now.within.items }
     ensures { result.now ≡ row_of tables.now.within.items v }
 {
