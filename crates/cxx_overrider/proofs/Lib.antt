@@ -4,6 +4,11 @@ pub mod Numbering
 pub mod KindLemmas
 pub mod MarkLemmas
 pub mod PureLemmas
+pub mod WithinLemmas
 pub mod SettlingLemmas
 pub mod Made
 pub mod Finals
+pub mod OneFinal
+pub mod CovarianceLemmas
+pub mod Candidates
+pub mod AbstractLemmas

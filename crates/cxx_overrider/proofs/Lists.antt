@@ -1,6 +1,7 @@
 -- Items of lists that grow at their end.
-use Rattle.std.proofs.Common.{◌≡◌, ℕ, zero, suc, ◌+◌, ◌<◌, ◌⊎◌, inl, inr, ⊎_elim, Some, List, [], ◌∷◌, ◌++◌, length, get_or, ◌≤◌, refl, ap, subst, arith}
+use Rattle.std.proofs.Common.{◌≡◌, ℕ, zero, suc, ◌<◌, ◌⊎◌, inl, inr, ⊎_elim, Bool, true, false, Some, List, [], ◌∷◌, ◌++◌, length, get_or, ◌≤◌, refl, ap, subst, arith}
 use Rattle.std.specs.List.{slice_get, Contains}
+use Rattle.std.specs.Bool.{MatchBool}
 use Rattle.std.proofs.lemmas.Option.{slice_get-get_or}
 
 pub get_front : {X : Type 0} (xs ys : List X) (i : ℕ) (x : X) → slice_get xs i ≡ Some x → slice_get (xs ++ ys) i ≡ Some x
@@ -66,3 +67,12 @@ get_contains (y ∷ xs) (suc k) x e = let r = get_contains xs k x e in let lt = 
 
 pub get_at : {X : Type 0} (xs ys : List X) (i : ℕ) (d : X) → xs ≡ ys → i < length xs → slice_get ys i ≡ Some (get_or xs i d)
 get_at {X} xs ys i d e lt = subst (λ (zs : List X). slice_get zs i ≡ Some (get_or xs i d)) e (slice_get-get_or xs i d lt)
+
+-- the side of a flag that is known
+pub match_true : (b : Bool) (P Q : Type 0) → b ≡ true → MatchBool b P Q → P
+match_true true P Q e k = k
+match_true false P Q e k = cc
+
+pub match_false : (b : Bool) (P Q : Type 0) → b ≡ false → MatchBool b P Q → Q
+match_false true P Q e k = cc
+match_false false P Q e k = k

@@ -1,6 +1,7 @@
 -- The table of overriders as it grows, key by key.
-use Rattle.std.proofs.Common.{◌≡◌, ℕ, ◌+◌, ◌<◌, ◌≤◌, ◌⊎◌, inl, inr, ⊎_elim, Bool, true, false, cond, Option, Some, None, List, refl, ap, subst, sym, ◌∙◌, arith}
+use Rattle.std.proofs.Common.{◌≡◌, ℕ, ◌+◌, ◌<◌, ◌≤◌, ◌⊎◌, inl, inr, ⊎_elim, Bool, true, false, Option, Some, None, List, length, refl, subst, sym, ◌∙◌, arith}
 use Rattle.std.specs.Prelude.{nat_eq, ◌&&◌, if◌then◌else◌}
+use Rattle.std.specs.List.{slice_get}
 use Rattle.std.proofs.lemmas.Bool.{eqb-true, eq-eqb}
 use Rattle.cxx_hierarchy.specs.declared.records.ClassId.{ClassId}
 use Rattle.cxx_hierarchy.specs.Classes.{Classes}
@@ -10,12 +11,12 @@ use Rattle.cxx_overrider.specs.declared.entries.Entry.{Entry}
 use Rattle.cxx_overrider.specs.declared.entries.Key.{Key}
 use Rattle.cxx_overrider.specs.declared.entries.EntryTable.{EntryTable}
 use Rattle.cxx_overrider.specs.Functions.{Signature}
-use Rattle.cxx_overrider.specs.Overriding.{HasVirtual}
-use Rattle.cxx_overrider.specs.Numbers.{IsNumbering, IsNumberOf}
-use Rattle.cxx_overrider.specs.Entries.{Declares, Tells, TellsOf}
+use Rattle.cxx_overrider.specs.Within.{HasVirtualWithin, AreWithin}
+use Rattle.cxx_overrider.specs.Numbers.{row_of, IsNumbering, IsNumberOf}
+use Rattle.cxx_overrider.specs.Entries.{Tells, TellsOf}
 use Rattle.cxx_overrider.specs.EntryTables.{same_key, entry_of}
 use Rattle.cxx_overrider.specs.Settling.{TellsBefore, IsDone, IsMade, key}
-use Rattle.cxx_overrider.proofs.Lists.{either}
+use Rattle.cxx_overrider.proofs.Lists.{get_within, either}
 use Rattle.cxx_overrider.proofs.Paths.{same_id, part_virtual, virtual_below}
 
 same_parts : (a b c d e f : ℕ) → (nat_eq a b && (nat_eq c d && nat_eq e f)) ≡ true → (a ≡ b) × (c ≡ d) × (e ≡ f)
@@ -57,22 +58,22 @@ tells_moved : (h : Classes) (b c w v : ClassId) (s : Signature) (o : Option Entr
 tells_moved h b c w v s o eb ew t = subst (λ (x : ClassId). TellsOf h x w s o) (sym (same_id b c eb)) (subst (λ (y : ClassId). TellsOf h c y s o) (sym (same_id w v ew)) t)
 
 module _ (h : Classes) (numbers : List (List ℕ)) (table : EntryTable) (c v : ClassId) (n : ℕ) (made : IsMade h numbers table c.0 v.0 n) where
-  pub made_tells : (s : Signature) → IsNumberOf h numbers n s → HasVirtual h v s → TellsBefore h table c v n s
+  pub made_tells : (s : Signature) → IsNumberOf h numbers n s → HasVirtualWithin h v s → TellsBefore h table c v n s
   made_tells s k has = record { each = λ b lt. made.told b v n s (inl lt) k has }
 
-  pub made_skip : ((s : Signature) → IsNumberOf h numbers n s → HasVirtual h v s → TellsOf h c v s None) → IsMade h numbers table c.0 v.0 (n + 1)
+  pub made_skip : ((s : Signature) → IsNumberOf h numbers n s → HasVirtualWithin h v s → TellsOf h c v s None) → IsMade h numbers table c.0 v.0 (n + 1)
   made_skip none = record {
     told = λ b w m s d k has. ⊎_elim (λ old. made.told b w m s old k has)
         (λ new.
         let v_same = same_id w v new.1 in
         let kn : IsNumberOf h numbers n s = subst (λ (i : ℕ). IsNumberOf h numbers i s) new.2 k in
-        let t = tells_moved h b c w v s None new.0 new.1 (none s kn (subst (λ (x : ClassId). HasVirtual h x s) v_same has)) in
+        let t = tells_moved h b c w v s None new.0 new.1 (none s kn (subst (λ (x : ClassId). HasVirtualWithin h x s) v_same has)) in
         subst (λ (o : Option Entry). TellsOf h b w s o) (sym (made.fresh (key b w m) (not_done c.0 v.0 n (key b w m) new.0 new.1 new.2))) t)
         (done_cases c.0 v.0 n (key b w m) d);
     fresh = λ q not. made.fresh q (λ d. not (done_more c.0 v.0 n q d));
   }
 
-  pub made_put : (after : EntryTable) (e : Entry) → ((s : Signature) → IsNumberOf h numbers n s → HasVirtual h v s → Tells h c v s e) → ((q : Key) → entry_of after q ≡ (if same_key q (key c v n) then Some e else entry_of table q)) → IsMade h numbers after c.0 v.0 (n + 1)
+  pub made_put : (after : EntryTable) (e : Entry) → ((s : Signature) → IsNumberOf h numbers n s → HasVirtualWithin h v s → Tells h c v s e) → ((q : Key) → entry_of after q ≡ (if same_key q (key c v n) then Some e else entry_of table q)) → IsMade h numbers after c.0 v.0 (n + 1)
   made_put after e tells put = record {
     told = λ b w m s d k has. ⊎_elim
         (λ old.
@@ -81,7 +82,7 @@ module _ (h : Classes) (numbers : List (List ℕ)) (table : EntryTable) (c v : C
         (λ new.
         let v_same = same_id w v new.1 in
         let kn : IsNumberOf h numbers n s = subst (λ (i : ℕ). IsNumberOf h numbers i s) new.2 k in
-        let t = tells_moved h b c w v s (Some e) new.0 new.1 (tells s kn (subst (λ (x : ClassId). HasVirtual h x s) v_same has)) in
+        let t = tells_moved h b c w v s (Some e) new.0 new.1 (tells s kn (subst (λ (x : ClassId). HasVirtualWithin h x s) v_same has)) in
         let one : same_key (key b w m) (key c v n) ≡ true = rw (eq-eqb b.0 c.0 new.0, eq-eqb w.0 v.0 new.1, eq-eqb m n new.2) refl in
         subst (λ (o : Option Entry). TellsOf h b w s o) (sym (put_same (same_key (key b w m) (key c v n)) e (entry_of table (key b w m)) (entry_of after (key b w m)) (put (key b w m)) one)) t)
         (done_cases c.0 v.0 n (key b w m) d);
@@ -89,6 +90,62 @@ module _ (h : Classes) (numbers : List (List ℕ)) (table : EntryTable) (c v : C
         let apart : same_key q (key c v n) ≡ true → ⊥ = λ t. let p = same_parts q.class c.0 q.root v.0 q.number n t in not (inr (inr (p.0, p.1, (let z = p.2 in omega arith)))) in
         put_other (same_key q (key c v n)) e (entry_of table q) (entry_of after q) (put q) apart ∙ made.fresh q (λ d. not (done_more c.0 v.0 n q d));
   }
+
+-- no number in between has a virtual function in the virtual base itself
+pub made_jump : (h : Classes) (numbers : List (List ℕ)) (table : EntryTable) (c : ℕ) (v : ClassId) (n m : ℕ) → n ≤ m → ((i : ℕ) (s : Signature) → n ≤ i → i < m → IsNumberOf h numbers i s → HasVirtualWithin h v s → ⊥) → IsMade h numbers table c v.0 n → IsMade h numbers table c v.0 m
+made_jump h numbers table c v n m le none made = record {
+  told = λ b w i s d k has. ⊎_elim (λ a. made.told b w i s (inl a) k has)
+      (λ r. ⊎_elim (λ a. made.told b w i s (inr (inl a)) k has)
+      (λ a. ⊎_elim (λ small. made.told b w i s (inr (inr (a.0, a.1, small))) k has)
+      (λ ge. absurd (none i s ge a.2 k (subst (λ (x : ClassId). HasVirtualWithin h x s) (same_id w v a.1) has)))
+      (either i n)) r)
+      d;
+  fresh = λ q not. made.fresh q (λ d. not (⊎_elim (λ a. inl a) (λ r. ⊎_elim (λ a. inr (inl a)) (λ a. let lt = a.2 in inr (inr (a.0, a.1, omega arith))) r) d));
+}
+
+-- a number behind the items of a list before a place, and not behind those from there on
+pub record IsBetween (list : List ℕ) (place n : ℕ) : Type 0 where
+  pub after : (i m : ℕ) → i < place → slice_get list i ≡ Some m → m < n
+  pub until : (i m : ℕ) → place ≤ i → slice_get list i ≡ Some m → n ≤ m
+
+-- the table is made up to each such number
+pub record IsMadeTo (h : Classes) (numbers : List (List ℕ)) (table : EntryTable) (c v : ℕ) (list : List ℕ) (place : ℕ) : Type 0 where
+  pub made : (n : ℕ) → IsBetween list place n → IsMade h numbers table c v n
+
+module _ (h : Classes) (numbers : List (List ℕ)) (count : ℕ) (lists : List (List ℕ)) (v : ClassId) (is : AreWithin h numbers count lists) (known : v.0 < length lists) where
+  pub made_to_start : (table : EntryTable) (c : ℕ) → IsMade h numbers table c v.0 0 → IsMadeTo h numbers table c v.0 (row_of lists v) 0
+  made_to_start table c made = record {
+    made = λ n b. made_jump h numbers table c v 0 n (omega arith) (λ i s ge lt k w. let r = is.listed v i s known k w in let past = b.until r.0 i (omega arith) r.1 in omega arith) made;
+  }
+
+  pub between_here : (place n : ℕ) → slice_get (row_of lists v) place ≡ Some n → IsBetween (row_of lists v) place n
+  between_here place n at = record {
+    after = λ i m lt e. is.ordered v i place m n known lt e at;
+    until = λ i m le e. ⊎_elim (λ lt. let past = is.ordered v place i n m known lt at e in omega arith)
+        (λ ge. let here : i ≡ place = omega arith in let moved : slice_get (row_of lists v) place ≡ Some m = subst (λ (x : ℕ). slice_get (row_of lists v) x ≡ Some m) here e in let same : n ≡ m = cc in omega arith)
+        (either place i);
+  }
+
+  pub made_to_next : (table : EntryTable) (c place n : ℕ) → slice_get (row_of lists v) place ≡ Some n → IsMade h numbers table c v.0 (n + 1) → IsMadeTo h numbers table c v.0 (row_of lists v) (place + 1)
+  made_to_next table c place n at made = record {
+    made = λ m b.
+        let lt = b.after place n (omega arith) at in
+        made_jump h numbers table c v (n + 1) m (omega arith)
+        (λ i s ge below k w.
+        let r = is.listed v i s known k w in
+        ⊎_elim (λ before. let small = (between_here place n at).after r.0 i before r.1 in omega arith)
+        (λ from. ⊎_elim (λ past. let up = b.until r.0 i (omega arith) r.1 in omega arith)
+        (λ here. let one : r.0 ≡ place = omega arith in let moved : slice_get (row_of lists v) place ≡ Some i = subst (λ (x : ℕ). slice_get (row_of lists v) x ≡ Some i) one r.1 in let same : n ≡ i = cc in omega arith)
+        (either place r.0))
+        (either r.0 place))
+        made;
+  }
+
+  pub made_to_end : (table : EntryTable) (c place : ℕ) → length (row_of lists v) ≤ place → IsMadeTo h numbers table c v.0 (row_of lists v) place → IsMade h numbers table c v.0 count
+  made_to_end table c place all to = to.made count (record {
+    after = λ i m lt e. is.few v i m known e;
+    until = λ i m le e. let lt = get_within (row_of lists v) i m e in absurd (omega arith);
+  })
 
 -- the numbers of one virtual base are through
 pub made_end : (h : Classes) (numbers : List (List ℕ)) (table : EntryTable) (c v count : ℕ) → IsNumbering h numbers count → IsMade h numbers table c v count → IsMade h numbers table c (v + 1) 0

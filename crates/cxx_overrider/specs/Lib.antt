@@ -7,7 +7,9 @@ pub mod Numbers
 pub mod Kinds
 pub mod Marks
 pub mod Pure
+pub mod Within
 pub mod Entries
 pub mod EntryTables
 pub mod Settling
 pub mod Tables
+pub mod Abstract

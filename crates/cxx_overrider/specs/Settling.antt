@@ -1,5 +1,5 @@
 -- How the overriders of a virtual base's functions in a class come from those in its direct bases.
-use Rattle.std.specs.Prelude.{◌≡◌, ◌<◌, ◌⊎◌, ℕ, Option, Some, None, List, [], Contains, slice_get}
+use Rattle.std.specs.Prelude.{◌≡◌, ◌<◌, ◌⊎◌, ℕ, Some, None, List, [], Contains, slice_get}
 use Rattle.cxx_hierarchy.specs.declared.records.ClassId.{ClassId}
 use Rattle.cxx_hierarchy.specs.declared.records.Base.{Base}
 use Rattle.cxx_hierarchy.specs.Classes.{Classes, bases_of}
@@ -17,6 +17,7 @@ use Rattle.cxx_overrider.specs.declared.settling.Settled.TheVariants.{Nothing, O
 use Rattle.cxx_overrider.specs.Functions.{Signature}
 use Rattle.cxx_overrider.specs.Overriding.{HasVirtual, HasTwoFinalOverriders}
 use Rattle.cxx_overrider.specs.Numbers.{IsNumberOf}
+use Rattle.cxx_overrider.specs.Within.{HasVirtualWithin}
 use Rattle.cxx_overrider.specs.Places.{place_of, base_of, IsThrough}
 use Rattle.cxx_overrider.specs.Entries.{Declares, IsGreatest, Tells, TellsOf}
 use Rattle.cxx_overrider.specs.EntryTables.{entry_of}
@@ -95,7 +96,7 @@ pub record TellsBefore (h : Classes) (table : EntryTable) (c v : ClassId) (n : �
 abbrev pub IsDone : (c v n : ℕ) → Key → Type 0
 IsDone c v n q = (q.class < c) ⊎ (((q.class ≡ c) × (q.root < v)) ⊎ ((q.class ≡ c) × (q.root ≡ v) × (q.number < n)))
 
--- the table is made up to there
+-- the table is made up to there: it tells of the virtual functions that lie in the virtual bases themselves
 pub record IsMade (h : Classes) (numbers : List (List ℕ)) (table : EntryTable) (c v n : ℕ) : Type 0 where
-  pub told : (b w : ClassId) (m : ℕ) (signature : Signature) → IsDone c v n (key b w m) → IsNumberOf h numbers m signature → HasVirtual h w signature → TellsOf h b w signature (entry_of table (key b w m))
+  pub told : (b w : ClassId) (m : ℕ) (signature : Signature) → IsDone c v n (key b w m) → IsNumberOf h numbers m signature → HasVirtualWithin h w signature → TellsOf h b w signature (entry_of table (key b w m))
   pub fresh : (q : Key) → (IsDone c v n q → ⊥) → entry_of table q ≡ None

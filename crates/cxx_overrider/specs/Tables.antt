@@ -7,6 +7,7 @@ use Rattle.cxx_overrider.specs.Numbers.{IsNumbering}
 use Rattle.cxx_overrider.specs.Kinds.{AreKinds}
 use Rattle.cxx_overrider.specs.Marks.{AreMarks}
 use Rattle.cxx_overrider.specs.Pure.{LeavesPure}
+use Rattle.cxx_overrider.specs.Within.{AreWithin}
 
 -- the tables are those of the hierarchy
 pub record AreTables (h : Classes) (tables : Tables) : Type 0 where
@@ -17,3 +18,5 @@ pub record AreTables (h : Classes) (tables : Tables) : Type 0 where
   pub all_virtuals : length tables.virtuals.items ≡ length h
   pub pure : AreMarks h tables.numbering.rows.items (LeavesPure h) tables.pure.items
   pub all_pure : length tables.pure.items ≡ length h
+  pub within : AreWithin h tables.numbering.rows.items tables.numbering.count tables.within.items
+  pub all_within : length tables.within.items ≡ length h

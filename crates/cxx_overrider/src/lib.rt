@@ -10,6 +10,8 @@
 //! and for each virtual base of a class what overrides its functions, from those of the direct bases (`settling`).
 #![tactic(auto)]
 
+pub mod abstracts;
+pub mod covariance;
 pub mod entries;
 pub mod kinds;
 pub mod places;
@@ -18,6 +20,7 @@ pub mod settling;
 pub mod signatures;
 pub mod tables;
 pub mod virtuals;
+pub mod within;
 
 use cxx_hierarchy::ClassId;
 use cxx_subobject::Subobject;

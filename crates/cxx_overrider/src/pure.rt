@@ -15,7 +15,7 @@ use foundation::{NoMemory, Sequence};
 use std::alloc::Global;
 
 /// Whether the declaration ends in `= 0`.
-fn is_pure(h: &Hierarchy, f: FunctionId) -> bool
+pub fn is_pure(h: &Hierarchy, f: FunctionId) -> bool
     requires { f.class.0 < length h.now }
     ensures { result ≡ is_pure h.now f }
 {
@@ -26,7 +26,7 @@ fn is_pure(h: &Hierarchy, f: FunctionId) -> bool
 }
 
 /// Whether a direct non-virtual base has the mark.
-fn has_marked_part(h: &Hierarchy, rows: &[MarkRow], c: ClassId, n: usize) -> bool
+pub fn has_marked_part(h: &Hierarchy, rows: &[MarkRow], c: ClassId, n: usize) -> bool
     requires { c.0 < length h.now }
     ensures { IsTrue result ↔ HasMarkedPart h.now rows.now c n }
 {

@@ -6,7 +6,8 @@ ghost use Rattle.cxx_hierarchy.specs.VirtualBases.{HasVirtualBase};
 ghost use Rattle.cxx_overrider.specs.declared.entries.Entry.{Entry};
 ghost use Rattle.cxx_overrider.specs.Functions.{Signature};
 ghost use Rattle.cxx_overrider.specs.Overriding.{HasTwoFinalOverriders};
-ghost use Rattle.cxx_overrider.specs.Numbers.{IsNumbering, IsNumberOf};
+ghost use Rattle.cxx_overrider.specs.Numbers.{row_of, IsNumbering, IsNumberOf};
+ghost use Rattle.cxx_overrider.specs.Within.{HasVirtualWithin};
 ghost use Rattle.cxx_overrider.specs.Settling.{Holds, AreCandidates, IsAmong, IsOrder, IsAbove, IsPicked, IsSettled, TellsBefore, IsMade};
 ghost use Rattle.cxx_overrider.specs.Tables.{AreTables};
 
@@ -14,7 +15,6 @@ use crate::entries::{Entry, EntryTable, key_of};
 use crate::places::{Place, lifted};
 use crate::signatures::{Numbering, own_function};
 use crate::tables::Tables;
-use crate::virtuals::is_marked;
 use cxx_hierarchy::{ClassId, Hierarchy};
 use foundation::NoMemory;
 use std::alloc::Global;
@@ -138,7 +138,7 @@ fn settle(
     }
 }
 
-/// Puts down what overrides the functions of one signature, if they are virtual, and tells whether it is one.
+/// Puts down what overrides the virtual functions of one signature, and tells whether it is one.
 fn settle_number(
     alloc: Global,
     h: &Hierarchy,
@@ -152,13 +152,10 @@ fn settle_number(
     requires base { HasVirtualBase h.now c v }
     requires tables { AreTables h.now tables.now }
     requires number { n < tables.now.numbering.count }
+    requires within { (s : Signature) → IsNumberOf h.now tables.now.numbering.rows.items n s → HasVirtualWithin h.now v s }
     requires made { IsMade h.now tables.now.numbering.rows.items entries.old c.0 v.0 n }
     ensures { IfOk result (λ is_one. MatchBool is_one (IsMade h.now tables.now.numbering.rows.items entries.new c.0 v.0 (n + 1)) (HasTwoFinalOverriders h.now c)) }
 {
-    h.keeps();
-    if !is_marked(&tables.virtuals, v, n) {
-        return Ok(true);
-    }
     match settle(alloc, h, &tables.numbering, entries, c, v, n)? {
         Settled::Nothing => Ok(true),
         Settled::One(entry) => {
@@ -167,6 +164,14 @@ fn settle_number(
         }
         Settled::Two(_, _) => Ok(false),
     }
+}
+
+/// The numbers of the virtual functions that the non-virtual part of a class declares.
+pub fn numbers_within(tables: &Tables, v: ClassId) -> &[usize]
+    requires { v.0 < length tables.now.within.items }
+    ensures { result.now ≡ row_of tables.now.within.items v }
+{
+    tables.within[v.0 as usize].as_slice()
 }
 
 /// Puts down what overrides the virtual functions of a virtual base, and tells whether each has one overrider.
@@ -184,8 +189,9 @@ fn settle_base(
     requires made { IsMade h.now tables.now.numbering.rows.items entries.old c.0 v.0 0 }
     ensures { IfOk result (λ is_one. MatchBool is_one (IsMade h.now tables.now.numbering.rows.items entries.new c.0 (v.0 + 1) 0) (HasTwoFinalOverriders h.now c)) }
 {
-    for n in 0..tables.numbering.count {
-        if !settle_number(alloc, h, tables, entries, c, v, n)? {
+    h.keeps();
+    for n in numbers_within(tables, v) {
+        if !settle_number(alloc, h, tables, entries, c, v, *n)? {
             return Ok(false);
         }
     }
@@ -213,7 +219,8 @@ fn settle_if_base(
     }
 }
 
-/// The same for all virtual bases of a class.
+/// Puts down what overrides the virtual functions of the virtual bases of a class, and tells whether each virtual
+/// function of its subobjects has one final overrider (ISO C++03 10.3 p2, p10).
 pub fn settle_class(
     alloc: Global,
     h: &Hierarchy,
@@ -224,7 +231,8 @@ pub fn settle_class(
     requires known { c.0 < length h.now }
     requires tables { AreTables h.now tables.now }
     requires made { IsMade h.now tables.now.numbering.rows.items entries.old c.0 0 0 }
-    ensures { IfOk result (λ is_one. MatchBool is_one (IsMade h.now tables.now.numbering.rows.items entries.new (c.0 + 1) 0 0) (HasTwoFinalOverriders h.now c)) }
+    ensures made { IfOk result (λ is_one. IsTrue is_one → IsMade h.now tables.now.numbering.rows.items entries.new (c.0 + 1) 0 0) }
+    ensures one { IfOk result (λ is_one. MatchBool is_one (HasTwoFinalOverriders h.now c → ⊥) (HasTwoFinalOverriders h.now c)) }
 {
     h.keeps();
     for number in 0..c.0 {

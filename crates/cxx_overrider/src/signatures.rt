@@ -25,7 +25,8 @@ pub fn declaration<'a>(h: &'a Hierarchy, f: FunctionId) -> Option<&'a Function<C
     h.class(f.class).functions.as_slice().get(f.index as usize)
 }
 
-fn is_same_type(a: &ValueType<ClassId>, b: &ValueType<ClassId>) -> bool
+/// Whether two types are one.
+pub fn is_same_type(a: &ValueType<ClassId>, b: &ValueType<ClassId>) -> bool
     ensures { IsTrue result ↔ (a.now ≡ b.now) }
 {
     match a {

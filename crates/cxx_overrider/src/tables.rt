@@ -5,20 +5,22 @@ ghost use Rattle.cxx_overrider.specs.Tables.{AreTables};
 
 use crate::kinds::{KindRow, kind_rows};
 use crate::pure::pure_rows;
-use crate::signatures::{Numbering, number_signatures};
+use crate::signatures::{NumberRow, Numbering, number_signatures};
 use crate::virtuals::{MarkRow, virtual_rows};
+use crate::within::within_lists;
 use cxx_hierarchy::Hierarchy;
 use foundation::NoMemory;
 use std::alloc::Global;
 
-/// The numbers of the signatures, which classes are bases of which, and which signatures are virtual, and left
-/// pure, in each class.
+/// The numbers of the signatures, which classes are bases of which, which signatures are virtual, and left pure, in
+/// each class, and of which its non-virtual part declares a virtual function.
 #[derive(Drop)]
 pub struct Tables {
     pub numbering: Numbering,
     pub kinds: Vec<KindRow>,
     pub virtuals: Vec<MarkRow>,
     pub pure: Vec<MarkRow>,
+    pub within: Vec<NumberRow>,
 }
 
 /// The tables of a hierarchy.
@@ -31,10 +33,12 @@ pub fn tables_of(alloc: Global, h: &Hierarchy) -> Result<Tables, NoMemory>
     let kinds = kind_rows(alloc, h)?;
     let virtuals = virtual_rows(alloc, h, &numbering)?;
     let pure = pure_rows(alloc, h, &numbering, &virtuals)?;
+    let within = within_lists(alloc, h, &numbering, &virtuals)?;
     Ok(Tables {
         numbering,
         kinds,
         virtuals,
         pure,
+        within,
     })
 }

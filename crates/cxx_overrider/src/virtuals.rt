@@ -50,7 +50,7 @@ fn says_own_virtual(h: &Hierarchy, numbering: &Numbering, c: ClassId, n: usize) 
 }
 
 /// Whether a direct base has the mark.
-fn has_marked_base(h: &Hierarchy, rows: &[MarkRow], c: ClassId, n: usize) -> bool
+pub fn has_marked_base(h: &Hierarchy, rows: &[MarkRow], c: ClassId, n: usize) -> bool
     requires { c.0 < length h.now }
     ensures { IsTrue result ↔ HasMarkedBase h.now rows.now c n }
 {

@@ -1,0 +1,10 @@
+use Rattle.std.proofs.Common.{◌<◌, ℕ}
+use Rattle.cxx_subobject.specs.declared.Root.TheVariants.{Whole}
+use Rattle.cxx_overrider.specs.Functions.{Signature}
+use Rattle.cxx_overrider.specs.Numbers.{IsNumberOf}
+use Rattle.cxx_overrider.specs.Abstract.{HasPureAt}
+use Rattle.cxx_overrider.proofs.abstracts.has_pure_whole.Given as goal
+
+-- no signature so far
+abbrev pub invariant-loop-n : goal.invariant-loop-n
+invariant-loop-n l = (m : ℕ) (s : Signature) → m < l.n → IsNumberOf l.h l.tables.numbering.rows.items m s → HasPureAt l.h l.fn.c Whole s → ⊥

@@ -1,0 +1,10 @@
+use Rattle.std.proofs.Common.{◌<◌}
+use Rattle.cxx_hierarchy.specs.declared.records.ClassId.{ClassId}
+use Rattle.cxx_subobject.specs.declared.Root.TheVariants.{Shared}
+use Rattle.cxx_overrider.specs.Functions.{Signature}
+use Rattle.cxx_overrider.specs.Abstract.{HasPureAt}
+use Rattle.cxx_overrider.proofs.abstracts.is_abstract_class.Given as goal
+
+-- no virtual base so far
+abbrev pub invariant-loop-number : goal.invariant-loop-number
+invariant-loop-number l = (v : ClassId) (s : Signature) → v.0 < l.number → HasPureAt l.h l.fn.c (Shared v) s → ⊥

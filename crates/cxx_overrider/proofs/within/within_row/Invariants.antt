@@ -1,0 +1,7 @@
+use Rattle.std.proofs.Common.{◌≡◌, length}
+use Rattle.cxx_overrider.specs.Within.{HasVirtualWithin}
+use Rattle.cxx_overrider.specs.Marks.{MarksEach}
+use Rattle.cxx_overrider.proofs.within.within_row.Given as goal
+
+abbrev pub invariant-loop-n : goal.invariant-loop-n
+invariant-loop-n l = record { size : length l.row ≡ l.n; marks : MarksEach l.h l.numbering.rows.items (HasVirtualWithin l.h l.fn.c) l.row }

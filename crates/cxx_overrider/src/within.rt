@@ -1,0 +1,142 @@
+//! Which virtual functions the non-virtual part of a class declares, by the numbers of their signatures.
+
+ghost use Rattle.std.specs.Prelude.{◌≡◌, ◌<◌, ◌↔◌, [], IsTrue, IfOk, length, slice_index_or};
+ghost use Rattle.cxx_hierarchy.specs.declared.records.ClassId.{ClassId};
+ghost use Rattle.cxx_overrider.specs.Functions.{Signature};
+ghost use Rattle.cxx_overrider.specs.Overriding.{HasVirtual};
+ghost use Rattle.cxx_overrider.specs.Numbers.{IsNumbering, IsNumberOf};
+ghost use Rattle.cxx_overrider.specs.Marks.{AreMarks, IsMarkRow};
+ghost use Rattle.cxx_overrider.specs.Within.{HasVirtualWithin, ListsMarked, AreListed, AreWithin};
+
+use crate::pure::has_marked_part;
+use crate::signatures::{NumberRow, Numbering, own_function};
+use crate::virtuals::{MarkRow, is_marked};
+use cxx_hierarchy::{ClassId, Hierarchy};
+use foundation::{NoMemory, Sequence};
+use std::alloc::Global;
+
+/// Whether the non-virtual part of a class declares a virtual function of the signature.
+fn has_virtual_within(
+    h: &Hierarchy,
+    numbering: &Numbering,
+    virtuals: &[MarkRow],
+    rows: &[MarkRow],
+    c: ClassId,
+    n: usize,
+) -> bool
+    requires known { c.0 < length h.now }
+    requires numbering { IsNumbering h.now numbering.now.rows.items numbering.now.count }
+    requires virtuals { AreMarks h.now numbering.now.rows.items (HasVirtual h.now) virtuals.now }
+    requires all { length virtuals.now ≡ length h.now }
+    requires rows { AreMarks h.now numbering.now.rows.items (HasVirtualWithin h.now) rows.now }
+    requires size { length rows.now ≡ c.0 }
+    ensures { (s : Signature) → IsNumberOf h.now numbering.now.rows.items n s → (IsTrue result ↔ HasVirtualWithin h.now c s) }
+{
+    h.keeps();
+    if has_marked_part(h, rows, c, n) {
+        return true;
+    }
+    match own_function(&numbering.rows, c, n) {
+        Some(_) => is_marked(virtuals, c, n),
+        None => false,
+    }
+}
+
+fn within_row(
+    alloc: Global,
+    h: &Hierarchy,
+    numbering: &Numbering,
+    virtuals: &[MarkRow],
+    rows: &[MarkRow],
+    c: ClassId,
+) -> Result<MarkRow, NoMemory>
+    requires known { c.0 < length h.now }
+    requires numbering { IsNumbering h.now numbering.now.rows.items numbering.now.count }
+    requires virtuals { AreMarks h.now numbering.now.rows.items (HasVirtual h.now) virtuals.now }
+    requires all { length virtuals.now ≡ length h.now }
+    requires rows { AreMarks h.now numbering.now.rows.items (HasVirtualWithin h.now) rows.now }
+    requires size { length rows.now ≡ c.0 }
+    ensures { IfOk result (IsMarkRow h.now numbering.now.rows.items numbering.now.count (HasVirtualWithin h.now c)) }
+{
+    let mut row = Sequence::new(alloc);
+    for n in 0..numbering.count {
+        row.push(has_virtual_within(h, numbering, virtuals, rows, c, n))?;
+    }
+    Ok(row)
+}
+
+/// For each class the signatures of which its non-virtual part declares a virtual function.
+fn within_rows(
+    alloc: Global,
+    h: &Hierarchy,
+    numbering: &Numbering,
+    virtuals: &[MarkRow],
+) -> Result<Vec<MarkRow>, NoMemory>
+    requires numbering { IsNumbering h.now numbering.now.rows.items numbering.now.count }
+    requires virtuals { AreMarks h.now numbering.now.rows.items (HasVirtual h.now) virtuals.now }
+    requires all { length virtuals.now ≡ length h.now }
+    ensures marks { IfOk result (λ rows. AreMarks h.now numbering.now.rows.items (HasVirtualWithin h.now) rows.items) }
+    ensures size { IfOk result (λ rows. length rows.items ≡ length h.now) }
+{
+    let mut rows = Vec::new(alloc);
+    for number in 0..h.len() {
+        let row = within_row(alloc, h, numbering, virtuals, &rows, ClassId(number))?;
+        rows.push(row)?;
+    }
+    Ok(rows)
+}
+
+/// The numbers below a bound that the row of a class marks, in their order.
+fn numbers_marked(
+    alloc: Global,
+    rows: &[MarkRow],
+    c: ClassId,
+    bound: usize,
+) -> Result<NumberRow, NoMemory>
+    ensures { IfOk result (ListsMarked (slice_index_or rows.now c.0 []) bound) }
+{
+    let mut list = Sequence::new(alloc);
+    for n in 0..bound {
+        if is_marked(rows, c, n) {
+            list.push(n)?;
+        }
+    }
+    Ok(list)
+}
+
+/// The same for all rows.
+fn number_lists(
+    alloc: Global,
+    rows: &[MarkRow],
+    classes: u32,
+    bound: usize,
+) -> Result<Vec<NumberRow>, NoMemory>
+    ensures lists { IfOk result (λ lists. AreListed rows.now bound lists.items) }
+    ensures size { IfOk result (λ lists. length lists.items ≡ classes) }
+{
+    let mut lists = Vec::new(alloc);
+    for number in 0..classes {
+        let list = numbers_marked(alloc, rows, ClassId(number), bound)?;
+        lists.push(list)?;
+    }
+    Ok(lists)
+}
+
+/// For each class the numbers, in their order, of the signatures of which its non-virtual part declares a virtual
+/// function.
+pub fn within_lists(
+    alloc: Global,
+    h: &Hierarchy,
+    numbering: &Numbering,
+    virtuals: &[MarkRow],
+) -> Result<Vec<NumberRow>, NoMemory>
+    requires numbering { IsNumbering h.now numbering.now.rows.items numbering.now.count }
+    requires virtuals { AreMarks h.now numbering.now.rows.items (HasVirtual h.now) virtuals.now }
+    requires all { length virtuals.now ≡ length h.now }
+    ensures lists { IfOk result (λ lists. AreWithin h.now numbering.now.rows.items numbering.now.count lists.items) }
+    ensures size { IfOk result (λ lists. length lists.items ≡ length h.now) }
+{
+    let rows = within_rows(alloc, h, numbering, virtuals)?;
+    let lists = number_lists(alloc, &rows, h.len(), numbering.count)?;
+    Ok(lists)
+}
