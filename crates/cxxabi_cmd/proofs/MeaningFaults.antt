@@ -68,31 +68,31 @@ meaning_is_count h _ _ static (ambiguous c i f there has) = absurd (no_virtual h
 meaning_is_count h _ _ static (two_overriders c class there has) = absurd (no_virtual h has.function static has.of_class.is_virtual)
 meaning_is_count h _ _ static (abstract_member c d i m there is has) = absurd (no_virtual h has.function static has.of_class.is_virtual)
 
-rule_at : ℕ → Rule
+abbrev rule_at : ℕ → Rule
 rule_at zero = ReturnMismatch
 rule_at (suc zero) = IncompleteClass
 rule_at (suc (suc n)) = AmbiguousCovariant
 
-function_stop : ℕ → Option (Function ClassId) → Option Stop
+abbrev function_stop : ℕ → Option (Function ClassId) → Option Stop
 function_stop test None = None
 function_stop test (Some f) = Some (Refused (rule_at test) f.at)
 
-class_stop : Option Class → Option Stop
+abbrev class_stop : Option Class → Option Stop
 class_stop None = None
 class_stop (Some class) = Some (Refused TwoFinalOverriders class.at)
 
-member_stop : Option (Member ClassId) → Option Stop
+abbrev member_stop : Option (Member ClassId) → Option Stop
 member_stop None = None
 member_stop (Some m) = Some (Refused Abstract m.at)
 
-part_stop : Classes → ClassId → ℕ → ℕ → ℕ → Option Stop
+abbrev part_stop : Classes → ClassId → ℕ → ℕ → ℕ → Option Stop
 part_stop h c zero item test = Some (Limit L5)
 part_stop h c (suc zero) item test = function_stop test (slice_get (functions_of h c) item)
 part_stop h c (suc (suc zero)) item test = class_stop (class_at h c)
 part_stop h c (suc (suc (suc part))) item test = member_stop (slice_get (members_of h c) item)
 
 -- the stop that a spot can have
-stop_at : Classes → Spot → Option Stop
+abbrev stop_at : Classes → Spot → Option Stop
 stop_at h at = part_stop h at.class at.part at.item at.test
 
 stop_is : (h : Classes) (at : Spot) (stop : Stop) → MeaningFault h at stop → stop_at h at ≡ Some stop
