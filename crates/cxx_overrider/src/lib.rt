@@ -13,6 +13,7 @@
 pub mod abstracts;
 pub mod covariance;
 pub mod entries;
+pub mod keys;
 pub mod kinds;
 pub mod places;
 pub mod pure;
