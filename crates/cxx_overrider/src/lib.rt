@@ -19,6 +19,8 @@ pub mod places;
 pub mod pure;
 pub mod settling;
 pub mod signatures;
+#[cfg(test)]
+mod table_tests;
 pub mod tables;
 pub mod virtuals;
 pub mod within;
