@@ -12,3 +12,4 @@ pub mod OneFinal
 pub mod CovarianceLemmas
 pub mod Candidates
 pub mod AbstractLemmas
+pub mod KeyLemmas

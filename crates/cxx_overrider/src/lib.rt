@@ -13,11 +13,14 @@
 pub mod abstracts;
 pub mod covariance;
 pub mod entries;
+pub mod keys;
 pub mod kinds;
 pub mod places;
 pub mod pure;
 pub mod settling;
 pub mod signatures;
+#[cfg(test)]
+mod table_tests;
 pub mod tables;
 pub mod virtuals;
 pub mod within;
