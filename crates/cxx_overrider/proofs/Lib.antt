@@ -12,3 +12,5 @@ pub mod OneFinal
 pub mod CovarianceLemmas
 pub mod Candidates
 pub mod AbstractLemmas
+pub mod PassLemmas
+pub mod FinalLemmas
