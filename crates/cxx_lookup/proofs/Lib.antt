@@ -1,0 +1,5 @@
+pub mod Listing
+pub mod Named
+pub mod Gathered
+pub mod Highest
+pub mod OfClass
