@@ -3,3 +3,4 @@ pub mod Named
 pub mod Gathered
 pub mod Highest
 pub mod OfClass
+pub mod TestRecords

@@ -13,6 +13,8 @@
 pub mod base_lookup;
 mod declarations;
 pub mod member_lookup;
+#[cfg(test)]
+mod tests;
 
 pub use crate::base_lookup::unique_base;
 pub use crate::member_lookup::lookup;

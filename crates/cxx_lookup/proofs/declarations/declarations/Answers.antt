@@ -24,11 +24,11 @@ loop-s-preserved c =
     let valid = lists.valid s (i, c.loop-s-test.true, sym c.s-item.is) in
     let more : List Found → Type 0 = λ list. AreGathered h c.args.c c.args.name.now parts (i + 1) list in
     elim c.match-branch-3.branch [
-      in-Some+in_ok-push w ↦ subst (λ (v : Vec Found Global). more v.items) (sym w.list-is) (subst more (sym w.in_ok-push.ensures.items)
-      (one_more h c.keeps.ensures c.args.c c.args.name.now parts i c.loop-s.list.items s w.in-Some.found c.loop-s-test.true c.s-item.is valid
-      (MatchOption-at_some ((f : Found) → IsDeclaredAt h s c.args.name.now f → ⊥) (IsDeclaredAt h s c.args.name.now) w.in-Some.found w.in-Some.is c.in_ok-found.ensures) c.loop-s.invariant))
+      | in-Some+in_ok-push w ↦ subst (λ (v : Vec Found Global). more v.items) (sym w.list-is) (subst more (sym w.in_ok-push.ensures.items)
+          (one_more h c.keeps.ensures c.args.c c.args.name.now parts i c.loop-s.list.items s w.in-Some.found c.loop-s-test.true c.s-item.is valid
+          (MatchOption-at_some ((f : Found) → IsDeclaredAt h s c.args.name.now f → ⊥) (IsDeclaredAt h s c.args.name.now) w.in-Some.found w.in-Some.is c.in_ok-found.ensures) c.loop-s.invariant))
       | in_default w ↦ subst (λ (v : Vec Found Global). more v.items) (sym w.list-is) (none_more h c.args.c c.args.name.now parts i c.loop-s.list.items s c.loop-s-test.true c.s-item.is
-      (MatchOption-at_none _ (IsDeclaredAt h s c.args.name.now) w.in_default.is c.in_ok-found.ensures) c.loop-s.invariant)
+          (MatchOption-at_none _ (IsDeclaredAt h s c.args.name.now) w.in_default.is c.in_ok-found.ensures) c.loop-s.invariant)
     ]
 
 pub returns : goal.returns

@@ -26,7 +26,7 @@ loop-number-preserved c =
     let order : IsOrder h = record { itself = c.containment_is_order.ensures.itself h; through = c.containment_is_order.ensures.through h; back = λ s t. c.containment_is_order.ensures.back h s t c.keeps.ensures } in
     let step : Option ℕ → Type 0 = λ best. IsBest h hider list (i + 1) best in
     elim c.if-goes_over.branch [
-      then-goes_over w ↦ subst step (sym w.best-is) (taken h order hider list i x c.loop-number.best c.loop-number-test.true c.index-list-number.is (λ hidden. not_both (c.is_hidden.ensures.1 hidden) c.if-is_hidden.false) (c.goes_over.ensures.0 w.if-goes_over.true) c.loop-number.invariant)
+      | then-goes_over w ↦ subst step (sym w.best-is) (taken h order hider list i x c.loop-number.best c.loop-number-test.true c.index-list-number.is (λ hidden. not_both (c.is_hidden.ensures.1 hidden) c.if-is_hidden.false) (c.goes_over.ensures.0 w.if-goes_over.true) c.loop-number.invariant)
       | else-goes_over w ↦ subst step (sym w.best-is) (kept h hider list i x c.loop-number.best c.loop-number-test.true c.index-list-number.is (λ over. not_both (c.goes_over.ensures.1 over) w.if-goes_over.false) c.loop-number.invariant)
     ]
 
