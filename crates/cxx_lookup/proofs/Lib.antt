@@ -1,0 +1,6 @@
+pub mod Listing
+pub mod Named
+pub mod Gathered
+pub mod Highest
+pub mod OfClass
+pub mod TestRecords

@@ -10,7 +10,16 @@
 //! exactly whether there is none or more than one.
 #![tactic(auto)]
 
+pub mod base_lookup;
+mod declarations;
+pub mod member_lookup;
+#[cfg(test)]
+mod tests;
+
+pub use crate::base_lookup::unique_base;
+pub use crate::member_lookup::lookup;
 use cxx_subobject::Subobject;
+use foundation::NoMemory;
 use thiserror::Error;
 
 /// What a name finds: a data member or a function, by its subobject and its number among the members or the
@@ -19,6 +28,20 @@ use thiserror::Error;
 pub enum Found {
     Member(Subobject, u32),
     Function(Subobject, u32),
+}
+
+impl Found {
+    ghost use Rattle.std.specs.Prelude.{◌≡◌};
+    ghost use Rattle.cxx_lookup.specs.Lookup.{place_of};
+
+    /// The subobject whose class has the declaration.
+    pub fn place(&self) -> &Subobject
+        ensures { result.now ≡ place_of self.now }
+    {
+        match self {
+            Found::Member(place, _) | Found::Function(place, _) => place,
+        }
+    }
 }
 
 /// Why a name finds no one declaration.
@@ -41,4 +64,26 @@ pub enum BaseFault {
     NotBase,
     #[error("out of memory")]
     NoMemory,
+}
+
+impl From<NoMemory> for LookupFault {
+    ghost use Rattle.std.specs.Prelude.{◌≡◌};
+    ghost use Rattle.cxx_lookup.specs.declared.LookupFault.{LookupFault};
+
+    ghost from_gives = { λ _ fault. fault ≡ LookupFault.NoMemory };
+
+    fn from(_error: NoMemory) -> LookupFault {
+        LookupFault::NoMemory
+    }
+}
+
+impl From<NoMemory> for BaseFault {
+    ghost use Rattle.std.specs.Prelude.{◌≡◌};
+    ghost use Rattle.cxx_lookup.specs.declared.BaseFault.{BaseFault};
+
+    ghost from_gives = { λ _ fault. fault ≡ BaseFault.NoMemory };
+
+    fn from(_error: NoMemory) -> BaseFault {
+        BaseFault::NoMemory
+    }
 }

@@ -1,5 +1,5 @@
 -- What holds of each element of a list, by a walk over it.
-use Rattle.std.proofs.Common.{◌≡◌, ℕ, ◌+◌, ◌<◌, ◌≤◌, ⊎_elim, Bool, true, false, Some, List, [], ◌∷◌, length, get_or, refl, subst, sym, ◌∙◌, arith}
+use Rattle.std.proofs.Common.{◌≡◌, ℕ, zero, suc, ◌+◌, ◌<◌, ◌≤◌, ⊎_elim, Bool, true, false, Some, List, [], ◌∷◌, length, get_or, refl, subst, sym, ◌∙◌, arith}
 use Rattle.std.specs.Prelude.{IsTrue}
 use Rattle.std.specs.List.{slice_get, Contains}
 use Rattle.std.proofs.lemmas.Bool.{cases_order}
@@ -38,3 +38,9 @@ not_both t f = let e : true ≡ false = sym t ∙ f in cc
 pub no_items : {X : Type 0} (xs : List X) → length xs ≤ 0 → xs ≡ []
 no_items [] few = refl
 no_items (x ∷ xs) few = absurd (omega arith)
+
+pub behind : {X : Type 0} (x : X) (xs : List X) (y : X) → Contains xs y → Contains (x ∷ xs) y
+behind x xs y (k, within, e) = (suc k, omega arith, e)
+
+pub is_first : {X : Type 0} (x : X) (xs : List X) → Contains (x ∷ xs) x
+is_first x xs = (zero, omega arith, refl)

@@ -10,7 +10,7 @@ use Rattle.cxx_subobject.specs.Subobjects.{class_of}
 use Rattle.cxx_subobject.specs.Preorder.{preorder}
 use Rattle.cxx_subobject.specs.Parts.{elements_of, parts_in, member_parts, parts_within, parts_of, IsWithinLimits}
 use Rattle.cxx_resolve.specs.SimpleHierarchy.{HasSimpleClasses, IsSimpleMember}
-use Rattle.cxx_resolve.proofs.ShortPaths.{is_first, behind}
+use Rattle.cxx_resolve.proofs.Each.{is_first, behind}
 
 -- sums of ones, and of terms of at most 65
 sum_ones : {X : Type 0} (f : X → ℕ) (xs : List X) → ((x : X) → Contains xs x → f x ≡ 1) → sum_by f xs ≡ length xs

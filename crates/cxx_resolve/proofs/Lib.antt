@@ -5,11 +5,9 @@ pub mod FewParts
 pub mod FormCases
 pub mod FormLines
 pub mod Found
-pub mod Named
-pub mod OfClass
+pub mod Knowing
 pub mod Lines
 pub mod Programs
 pub mod Reached
-pub mod ShortPaths
 pub mod SoFar
 pub mod Whole

@@ -5,5 +5,5 @@ pub mod SimpleHierarchy
 pub mod Resolves
 pub mod Answers
 pub mod Main
-pub mod Searches
 pub mod Laws
+pub mod Known

@@ -1,6 +1,6 @@
 //! Fields and bases of the class that a pointer points to.
 
-ghost use Rattle.std.specs.Prelude.{◌≡◌, ◌<◌, ℕ, Some, IfOk, IfErr, MatchOption, length};
+ghost use Rattle.std.specs.Prelude.{◌≡◌, ◌<◌, ℕ, Some, IfOk, IfErr, OnOk, MatchOption, length};
 ghost use Rattle.cxx_hierarchy.specs.Classes.{Classes, value_type_in};
 ghost use Rattle.cxx_hierarchy.specs.NameTables.{Text, number_in};
 ghost use Rattle.cxx_hierarchy.specs.declared.records.ClassId.{ClassId};
@@ -14,8 +14,10 @@ ghost use Rattle.cxx_resolve.specs.SimpleHierarchy.{IsSimpleHierarchy};
 ghost use Rattle.cxx_lookup.specs.Lookup.{IsFound, IsLookupFault};
 ghost use Rattle.cxx_lookup.specs.UniqueBase.{IsUniqueBase, IsBaseFault};
 ghost use Rattle.cxx_resolve.specs.Resolves.{IsField, IsMemberOf, IsPointerTo};
+ghost use Rattle.cxx_resolve.specs.Known.{Knows};
 ghost use Rattle.cxx_resolve.specs.Answers.{IsRefusal, IsNumberAt, IsLesser, IsPointerAt, HasCommon, HasPointerTo};
 
+use crate::known::Known;
 use crate::look_up::{base_of, member_of};
 use crate::program::{Converted, MemberPlace};
 use crate::variables::Variables;
@@ -55,13 +57,16 @@ fn number_at(h: &Hierarchy, place: &MemberPlace) -> Option<(ClassId, Scalar)>
 pub(crate) fn field_of(
     alloc: Global,
     h: &Hierarchy,
+    known: &mut Known,
     variables: &Variables,
     pointer: &Name,
     field: &Name,
 ) -> Result<(u32, MemberPlace, Scalar), Stop>
     requires simple { IsSimpleHierarchy h.now }
+    requires knows { Knows h.now known.old }
     ensures ok { IfOk result (λ r. IsField h.now (number_in variables.now.table) variables.now.types pointer.now field.now r.0 r.1 r.2) }
     ensures err { IfErr result (IsRefusal ((p : ℕ) (place : MemberPlace) (t : Scalar) → IsField h.now (number_in variables.now.table) variables.now.types pointer.now field.now p place t → ⊥)) }
+    ensures knows { OnOk result (Knows h.now known.new) }
 {
     let Some((number, class)) = variables.pointer(pointer) else {
         return Err(Stop::Refused(Rule::Syntax, 0));
@@ -69,7 +74,7 @@ pub(crate) fn field_of(
     if class.0 >= h.len() {
         return Err(Stop::Refused(Rule::Syntax, 0));
     }
-    let place = member_of(alloc, h, class, field.as_slice())?;
+    let place = member_of(alloc, h, known, class, field.as_slice())?;
     let Some((_declares, scalar)) = number_at(h, &place) else {
         return Err(Stop::Refused(Rule::Syntax, 0));
     };
@@ -80,13 +85,16 @@ pub(crate) fn field_of(
 pub(crate) fn pointer_to(
     alloc: Global,
     h: &Hierarchy,
+    known: &mut Known,
     variables: &Variables,
     pointer: &Name,
     target: ClassId,
 ) -> Result<Converted, Stop>
     requires simple { IsSimpleHierarchy h.now }
+    requires knows { Knows h.now known.old }
     ensures ok { IfOk result (λ from. HasPointerTo h.now (number_in variables.now.table) variables.now.types pointer.now from target) }
     ensures err { IfErr result (IsRefusal ((from : Converted) (c : ClassId) → IsPointerTo h.now (number_in variables.now.table) variables.now.types pointer.now from c target → ⊥)) }
+    ensures knows { OnOk result (Knows h.now known.new) }
 {
     let Some((number, class)) = variables.pointer(pointer) else {
         return Err(Stop::Refused(Rule::Syntax, 0));
@@ -94,7 +102,7 @@ pub(crate) fn pointer_to(
     if class.0 >= h.len() {
         return Err(Stop::Refused(Rule::Syntax, 0));
     }
-    let base = base_of(alloc, h, class, target)?;
+    let base = base_of(alloc, h, known, class, target)?;
     Ok(Converted {
         pointer: number,
         base,

@@ -12,6 +12,7 @@
 #![tactic(auto)]
 
 mod fields;
+mod known;
 pub mod laws;
 mod look_up;
 pub mod main_body;

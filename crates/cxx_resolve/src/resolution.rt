@@ -1,6 +1,6 @@
 //! From the names of a `main` to numbers.
 
-ghost use Rattle.std.specs.Prelude.{◌≡◌, ◌↔◌, IsTrue, IfOk, IfErr};
+ghost use Rattle.std.specs.Prelude.{◌≡◌, ◌↔◌, IsTrue, IfOk, IfErr, OnOk};
 ghost use Rattle.cxx_hierarchy.specs.Scalars.{PromotesToInt};
 ghost use Rattle.cxx_hierarchy.specs.Classes.{Classes};
 ghost use Rattle.cxx_hierarchy.specs.NameTables.{number_in};
@@ -10,8 +10,10 @@ ghost use Rattle.cxx_resolve.specs.declared.program.SimpleProgram.{SimpleProgram
 ghost use Rattle.cxx_resolve.specs.SimpleHierarchy.{IsSimpleHierarchy};
 ghost use Rattle.cxx_resolve.specs.Resolves.{LineResolves, Resolves};
 ghost use Rattle.cxx_resolve.specs.Answers.{IsRefusal, Declares};
+ghost use Rattle.cxx_resolve.specs.Known.{Knows};
 
 use crate::fields::{common_class, field_of, pointer_to};
+use crate::known::Known;
 use crate::program::{SimpleProgram, Statement, TypedLine};
 use crate::simple::{Simple, SimpleLines};
 use crate::variables::Variables;
@@ -58,17 +60,20 @@ fn resolve_new(
 fn resolve_write(
     alloc: Global,
     h: &Hierarchy,
+    known: &mut Known,
     variables: &Variables,
     pointer: &Name,
     field: &Name,
     value: i64,
 ) -> Result<Statement, Stop>
-    requires { IsSimpleHierarchy h.now }
+    requires simple { IsSimpleHierarchy h.now }
+    requires knows { Knows h.now known.old }
     ensures ok { IfOk result (LineResolves h.now (number_in variables.now.table) variables.now.types (Write pointer.now field.now value)) }
     ensures declares { IfOk result (λ s. Declares variables.now.table variables.now.types (Write pointer.now field.now value) s variables.now.table variables.now.types) }
     ensures err { IfErr result (IsRefusal ((s : Statement) → LineResolves h.now (number_in variables.now.table) variables.now.types (Write pointer.now field.now value) s → ⊥)) }
+    ensures knows { OnOk result (Knows h.now known.new) }
 {
-    let (number, place, _) = field_of(alloc, h, variables, pointer, field)?;
+    let (number, place, _) = field_of(alloc, h, known, variables, pointer, field)?;
     Ok(Statement::Write {
         pointer: number,
         place,
@@ -79,18 +84,21 @@ fn resolve_write(
 fn resolve_read(
     alloc: Global,
     h: &Hierarchy,
+    known: &mut Known,
     variables: &mut Variables,
     variable: &Name,
     pointer: &Name,
     field: &Name,
 ) -> Result<Statement, Stop>
-    requires { IsSimpleHierarchy h.now }
+    requires simple { IsSimpleHierarchy h.now }
+    requires knows { Knows h.now known.old }
     ensures ok { IfOk result (LineResolves h.now (number_in variables.old.table) variables.old.types (Read variable.now pointer.now field.now)) }
     ensures declares { IfOk result (λ s. Declares variables.old.table variables.old.types (Read variable.now pointer.now field.now) s variables.new.table variables.new.types) }
     ensures err { IfErr result (IsRefusal ((s : Statement) → LineResolves h.now (number_in variables.old.table) variables.old.types (Read variable.now pointer.now field.now) s → ⊥)) }
+    ensures knows { OnOk result (Knows h.now known.new) }
 {
     h.keeps();
-    let (from, place, scalar) = field_of(alloc, h, variables, pointer, field)?;
+    let (from, place, scalar) = field_of(alloc, h, known, variables, pointer, field)?;
     if !promotes_to_int(scalar) {
         return Err(Stop::Refused(Rule::Syntax, 0));
     }
@@ -109,21 +117,24 @@ fn resolve_read(
 fn resolve_convert(
     alloc: Global,
     h: &Hierarchy,
+    known: &mut Known,
     variables: &mut Variables,
     class: &Name,
     variable: &Name,
     pointer: &Name,
 ) -> Result<Statement, Stop>
-    requires { IsSimpleHierarchy h.now }
+    requires simple { IsSimpleHierarchy h.now }
+    requires knows { Knows h.now known.old }
     ensures ok { IfOk result (LineResolves h.now (number_in variables.old.table) variables.old.types (Convert class.now variable.now pointer.now)) }
     ensures declares { IfOk result (λ s. Declares variables.old.table variables.old.types (Convert class.now variable.now pointer.now) s variables.new.table variables.new.types) }
     ensures err { IfErr result (IsRefusal ((s : Statement) → LineResolves h.now (number_in variables.old.table) variables.old.types (Convert class.now variable.now pointer.now) s → ⊥)) }
+    ensures knows { OnOk result (Knows h.now known.new) }
 {
     h.keeps();
     let Some(target) = h.find(class.as_slice()) else {
         return Err(Stop::Refused(Rule::Syntax, 0));
     };
-    let from = pointer_to(alloc, h, variables, pointer, target)?;
+    let from = pointer_to(alloc, h, known, variables, pointer, target)?;
     if !variables.is_free(variable) {
         return Err(Stop::Refused(Rule::Syntax, 0));
     }
@@ -138,22 +149,25 @@ fn resolve_convert(
 fn resolve_equal(
     alloc: Global,
     h: &Hierarchy,
+    known: &mut Known,
     variables: &mut Variables,
     variable: &Name,
     left: &Name,
     right: &Name,
 ) -> Result<Statement, Stop>
-    requires { IsSimpleHierarchy h.now }
+    requires simple { IsSimpleHierarchy h.now }
+    requires knows { Knows h.now known.old }
     ensures ok { IfOk result (LineResolves h.now (number_in variables.old.table) variables.old.types (Equal variable.now left.now right.now)) }
     ensures declares { IfOk result (λ s. Declares variables.old.table variables.old.types (Equal variable.now left.now right.now) s variables.new.table variables.new.types) }
     ensures err { IfErr result (IsRefusal ((s : Statement) → LineResolves h.now (number_in variables.old.table) variables.old.types (Equal variable.now left.now right.now) s → ⊥)) }
+    ensures knows { OnOk result (Knows h.now known.new) }
 {
     h.keeps();
     let Some(target) = common_class(variables, left, right) else {
         return Err(Stop::Refused(Rule::Syntax, 0));
     };
-    let first = pointer_to(alloc, h, variables, left, target)?;
-    let second = pointer_to(alloc, h, variables, right, target)?;
+    let first = pointer_to(alloc, h, known, variables, left, target)?;
+    let second = pointer_to(alloc, h, known, variables, right, target)?;
     if !variables.is_free(variable) {
         return Err(Stop::Refused(Rule::Syntax, 0));
     }
@@ -180,27 +194,30 @@ fn resolve_print(variables: &Variables, variable: &Name) -> Result<Statement, St
 fn resolve_line(
     alloc: Global,
     h: &Hierarchy,
+    known: &mut Known,
     variables: &mut Variables,
     what: &Simple,
 ) -> Result<Statement, Stop>
-    requires { IsSimpleHierarchy h.now }
+    requires simple { IsSimpleHierarchy h.now }
+    requires knows { Knows h.now known.old }
     ensures ok { IfOk result (LineResolves h.now (number_in variables.old.table) variables.old.types what.now) }
     ensures declares { IfOk result (λ s. Declares variables.old.table variables.old.types what.now s variables.new.table variables.new.types) }
     ensures err { IfErr result (IsRefusal ((s : Statement) → LineResolves h.now (number_in variables.old.table) variables.old.types what.now s → ⊥)) }
+    ensures knows { OnOk result (Knows h.now known.new) }
 {
     match what {
         Simple::New(class, variable) => resolve_new(alloc, h, variables, class, variable),
         Simple::Write(pointer, field, value) => {
-            resolve_write(alloc, h, variables, pointer, field, *value)
+            resolve_write(alloc, h, known, variables, pointer, field, *value)
         }
         Simple::Read(variable, pointer, field) => {
-            resolve_read(alloc, h, variables, variable, pointer, field)
+            resolve_read(alloc, h, known, variables, variable, pointer, field)
         }
         Simple::Convert(class, variable, pointer) => {
-            resolve_convert(alloc, h, variables, class, variable, pointer)
+            resolve_convert(alloc, h, known, variables, class, variable, pointer)
         }
         Simple::Equal(variable, left, right) => {
-            resolve_equal(alloc, h, variables, variable, left, right)
+            resolve_equal(alloc, h, known, variables, variable, left, right)
         }
         Simple::Print(variable) => resolve_print(variables, variable),
     }
@@ -220,10 +237,11 @@ pub(crate) fn resolve_simple(
     ensures err { IfErr result (IsRefusal ((program : SimpleProgram) → Resolves h.now main.now program → ⊥)) }
 {
     h.keeps();
+    let mut known = Known::new(alloc);
     let mut variables = Variables::new(alloc);
     let mut lines = Sequence::new(alloc);
     for line in main.as_slice() {
-        let what = resolve_line(alloc, h, &mut variables, &line.what)?;
+        let what = resolve_line(alloc, h, &mut known, &mut variables, &line.what)?;
         lines.push(TypedLine {
             what,
             line: line.line,

@@ -1,5 +1,9 @@
+use Rattle.cxx_resolve.specs.Known.{Knows}
 use Rattle.cxx_resolve.proofs.SoFar.{SoFar}
 use Rattle.cxx_resolve.proofs.resolution.resolve_simple.Given as goal
 
 abbrev pub invariant-loop-line : goal.invariant-loop-line
-invariant-loop-line l = SoFar l.h l.line-items l.line-index l.variables.table l.variables.types l.lines
+invariant-loop-line l = record {
+  far : SoFar l.h l.line-items l.line-index l.variables.table l.variables.types l.lines;
+  knows : Knows l.h l.known;
+}
