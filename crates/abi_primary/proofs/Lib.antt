@@ -1,3 +1,4 @@
 pub mod Nth
 pub mod KindLemmas
 pub mod PrimaryLemmas
+pub mod HolderLemmas

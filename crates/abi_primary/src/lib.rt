@@ -9,12 +9,14 @@
 //! on: each answer is its definition, by what is known of the classes before.
 #![tactic(auto)]
 
+pub mod hierarchy_bases;
 pub mod kinds;
 pub mod nearly_empty;
 pub mod primary_base;
 #[cfg(test)]
 mod tests;
 
+pub use crate::hierarchy_bases::holder_of;
 pub use crate::kinds::{is_dynamic, is_empty};
 pub use crate::nearly_empty::is_nearly_empty;
 pub use crate::primary_base::{holder_among, primary_among};

@@ -3,11 +3,14 @@
 ghost use Rattle.std.specs.Prelude.{All, IfOk};
 ghost use Rattle.cxx_hierarchy.specs.ClassPass.{IsInOrder};
 
-use crate::{Primary, holder_among, is_dynamic, is_empty, is_nearly_empty, primary_among};
+use crate::hierarchy_bases::primary;
+use crate::{
+    Primary, holder_among, holder_of, is_dynamic, is_empty, is_nearly_empty, primary_among,
+};
 use cxx_hierarchy::{
     Base, ClassId, ClassRec, Destructor, Hierarchy, Name, RecordList, Stop, build,
 };
-use cxx_subobject::list_subobjects;
+use cxx_subobject::{Root, list_subobjects};
 use foundation::{NoMemory, Sequence};
 use std::alloc::Global;
 use std::test::Fail;
@@ -16,11 +19,12 @@ fn name(alloc: Global, text: &str) -> Result<Name, NoMemory> {
     Ok(Sequence::from_vec(Vec::from_slice(alloc, text.as_bytes())?))
 }
 
-/// A class with virtual bases of these names.
+/// A class with bases of these names, all of them virtual or none.
 fn class(
     alloc: Global,
     text: &str,
     names: &[&str],
+    is_virtual: bool,
     destructor: Destructor,
 ) -> Result<ClassRec<Name>, NoMemory>
     ensures { IfOk result IsInOrder }
@@ -29,7 +33,7 @@ fn class(
     for base in names {
         bases.push(Base {
             class: name(alloc, base)?,
-            is_virtual: true,
+            is_virtual,
             is_public: true,
             at: 0,
         })?;
@@ -59,9 +63,9 @@ fn with(records: RecordList, class: ClassRec<Name>) -> Result<RecordList, NoMemo
 
 /// `struct A { virtual ~A(); }; struct B : virtual A {};`
 fn shared(alloc: Global) -> Result<Hierarchy, Stop> {
-    let first = class(alloc, "A", &[], Destructor::Virtual)?;
+    let first = class(alloc, "A", &[], false, Destructor::Virtual)?;
     let records = with(Sequence::new(alloc), first)?;
-    let second = class(alloc, "B", &["A"], Destructor::Implicit)?;
+    let second = class(alloc, "B", &["A"], true, Destructor::Implicit)?;
     build(alloc, &with(records, second)?)
 }
 
@@ -78,5 +82,32 @@ fn shares_a_pointer(rt: HostRuntime) -> Result<(), Fail> {
     assert_eq!(rt; primary, Primary::Virtual(ClassId(0)));
     let holder = holder_among(&[Primary::None, primary], ClassId(0), list.as_slice());
     assert_eq!(rt; holder, Some(0));
+    Ok(())
+}
+
+/// `struct A { virtual ~A(); }; struct B : virtual A {}; struct C : virtual A {}; struct D : B, C {};`
+fn diamond(alloc: Global) -> Result<Hierarchy, Stop> {
+    let a = class(alloc, "A", &[], false, Destructor::Virtual)?;
+    let b = class(alloc, "B", &["A"], true, Destructor::Implicit)?;
+    let c = class(alloc, "C", &["A"], true, Destructor::Implicit)?;
+    let d = class(alloc, "D", &["B", "C"], false, Destructor::Implicit)?;
+    let records = with(with(Sequence::new(alloc), a)?, b)?;
+    build(alloc, &with(with(records, c)?, d)?)
+}
+
+#[test]
+fn first_of_a_diamond_holds(rt: HostRuntime) -> Result<(), Fail> {
+    let alloc = rt.alloc();
+    let h = diamond(alloc)?;
+    assert_eq!(rt; h.len(), 4);
+    let shared = Primary::Virtual(ClassId(0));
+    let earlier = [Primary::None, shared, shared];
+    let whole = primary(alloc, &h, ClassId(3), &[true, true, true], &earlier)?;
+    assert_eq!(rt; whole, Primary::Direct(ClassId(1)));
+    let primaries = [Primary::None, shared, shared, whole];
+    let holder = holder_of(alloc, &h, ClassId(3), &primaries, ClassId(0))?.ok_or("holder")?;
+    assert_eq!(rt; holder.root, Root::Whole);
+    assert_eq!(rt; holder.path.as_slice(), [ClassId(3), ClassId(1)].as_slice());
+    assert!(rt; holder_of(alloc, &h, ClassId(3), &primaries, ClassId(1))?.is_none());
     Ok(())
 }

@@ -1,4 +1,4 @@
-use Rattle.std.proofs.Common.{◌≡◌, Option, Some, None, ap, sym, ◌∙◌}
+use Rattle.std.proofs.Common.{Option, None, ap, sym, ◌∙◌}
 use Rattle.std.specs.List.{find}
 use Rattle.cxx_subobject.specs.declared.Subobject.{Subobject}
 use Rattle.abi_primary.specs.PrimaryBase.{is_nearly_base, is_free_base, as_primary, choice}
