@@ -13,3 +13,5 @@ pub mod CovarianceLemmas
 pub mod Candidates
 pub mod AbstractLemmas
 pub mod KeyLemmas
+pub mod PassLemmas
+pub mod FinalLemmas

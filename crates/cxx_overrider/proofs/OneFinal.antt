@@ -1,5 +1,5 @@
 -- A class of which the table is made has one final overrider of each virtual function.
-use Rattle.std.proofs.Common.{◌≡◌, ℕ, ◌+◌, ◌⊎◌, inl, inr, ⊎_elim, Option, Some, None, List, [], ◌∷◌, ◌++◌, refl, ap, subst, sym, ◌∙◌, arith}
+use Rattle.std.proofs.Common.{◌≡◌, ℕ, ◌<◌, ◌+◌, ◌⊎◌, inl, inr, ⊎_elim, Option, Some, None, List, [], ◌∷◌, ◌++◌, refl, ap, subst, sym, ◌∙◌, arith}
 use Rattle.cxx_hierarchy.specs.declared.records.ClassId.{ClassId}
 use Rattle.cxx_hierarchy.specs.Classes.{Classes}
 use Rattle.cxx_hierarchy.specs.VirtualBases.{HasVirtualBase}
@@ -121,24 +121,24 @@ shared_same h c v path sig (Some e) a b t valid la lb = sym (left_greatest h c v
 pub record HasEntry (h : Classes) (c v : ClassId) (table : EntryTable) (sig : Signature) (n : ℕ) : Type 0 where
   pub tells : TellsOf h c v sig (entry_of table (key c v n))
 
-pub table_tells : (h : Classes) (tables : Tables) (table : EntryTable) (c v : ClassId) (path : List ClassId) (f : FunctionId) (sig : Signature) (n : ℕ) → AreTables h tables → IsMade h tables.numbering.rows.items table (c.0 + 1) 0 0 → IsVirtualIn h c (subobject (Shared v) (v ∷ path)) f → Leads h v path → signature_of h f ≡ Some sig → IsNumberOf h tables.numbering.rows.items n sig → HasEntry h c v table sig n
-table_tells h tables table c v path f sig n are made is l e k =
+pub table_tells : (h : Classes) (tables : Tables) (table : EntryTable) (c v : ClassId) (path : List ClassId) (f : FunctionId) (sig : Signature) (n bound : ℕ) → c.0 < bound → AreTables h tables → IsMade h tables.numbering.rows.items table bound 0 0 → IsVirtualIn h c (subobject (Shared v) (v ∷ path)) f → Leads h v path → signature_of h f ≡ Some sig → IsNumberOf h tables.numbering.rows.items n sig → HasEntry h c v table sig n
+table_tells h tables table c v path f sig n bound lt are made is l e k =
     let class = is.class in
     let last : last_of v path ≡ f.class = cc in
     let w : HasVirtualWithin h v sig = record { path = path; leads = l; function = f; class = last; same = e; is_virtual = is.is_virtual } in
-    record { tells = made.told c v n sig (inl (omega arith)) k w }
+    record { tells = made.told c v n sig (inl lt) k w }
 
 pub number_there : (h : Classes) (tables : Tables) (f : FunctionId) (sig : Signature) → AreTables h tables → signature_of h f ≡ Some sig → (n : ℕ) × IsNumberOf h tables.numbering.rows.items n sig
 number_there h tables f sig are e = let r = are.numbering.numbered f sig e in (r.0, record { function = f; number = r.1; is = e })
 
-left_same : (h : Classes) (tables : Tables) (table : EntryTable) (c : ClassId) (s : Subobject) (f : FunctionId) (sig : Signature) (a b : Overrider) → AreTables h tables → IsMade h tables.numbering.rows.items table (c.0 + 1) 0 0 → IsSubobject h c s → IsVirtualIn h c s f → signature_of h f ≡ Some sig → IsLeft h c s sig a → IsLeft h c s sig b → a ≡ b
-left_same h tables table c _ f sig a b are made (whole path l) is e la lb =
+left_same : (h : Classes) (tables : Tables) (table : EntryTable) (c : ClassId) (s : Subobject) (f : FunctionId) (sig : Signature) (a b : Overrider) (bound : ℕ) → c.0 < bound → AreTables h tables → IsMade h tables.numbering.rows.items table bound 0 0 → IsSubobject h c s → IsVirtualIn h c s f → signature_of h f ≡ Some sig → IsLeft h c s sig a → IsLeft h c s sig b → a ≡ b
+left_same h tables table c _ f sig a b bound lt are made (whole path l) is e la lb =
     on_path_same h c (subobject Whole (c ∷ path)) sig a b la lb (whole_on_path h c (c ∷ path) sig a la.candidate) (whole_on_path h c (c ∷ path) sig b lb.candidate)
-left_same h tables table c _ f sig a b are made (shared v path has l) is e la lb =
+left_same h tables table c _ f sig a b bound lt are made (shared v path has l) is e la lb =
     let k = number_there h tables f sig are e in
-    let t = table_tells h tables table c v path f sig k.0 are made is l e k.1 in
+    let t = table_tells h tables table c v path f sig k.0 bound lt are made is l e k.1 in
     shared_same h c v (v ∷ path) sig (entry_of table (key c v k.0)) a b t.tells (shared v path has l) la lb
 
-pub one_final : (h : Classes) (tables : Tables) (table : EntryTable) (c : ClassId) → AreTables h tables → IsMade h tables.numbering.rows.items table (c.0 + 1) 0 0 → HasTwoFinalOverriders h c → ⊥
-one_final h tables table c are made two =
-    two.differ (left_same h tables table c two.subobject two.function two.signature two.one two.other are made two.of_class.valid two.of_class two.is two.one_left two.other_left)
+pub one_final : (h : Classes) (tables : Tables) (table : EntryTable) (c : ClassId) (bound : ℕ) → c.0 < bound → AreTables h tables → IsMade h tables.numbering.rows.items table bound 0 0 → HasTwoFinalOverriders h c → ⊥
+one_final h tables table c bound lt are made two =
+    two.differ (left_same h tables table c two.subobject two.function two.signature two.one two.other bound lt are made two.of_class.valid two.of_class two.is two.one_left two.other_left)

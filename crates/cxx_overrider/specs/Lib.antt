@@ -14,3 +14,6 @@ pub mod EntryTables
 pub mod Settling
 pub mod Tables
 pub mod Abstract
+pub mod Finals
+pub mod Pass
+pub mod Overriders

@@ -5,9 +5,11 @@
 //! This crate owns these definitions, over subobjects as paths, and the class-meaning pass that refuses the
 //! hierarchies in which a final overrider is not unique, a return type does not fit, or a member is abstract.
 //!
-//! So far it has what the pass stands on, proved: the signatures of all functions by numbers, how often each class
-//! is a base of another, which functions are virtual, which pure functions the non-virtual part of a class leaves,
-//! and for each virtual base of a class what overrides its functions, from those of the direct bases (`settling`).
+//! The layer above may rely on: `check_overriders` gives the tables of a hierarchy that no condition refuses, and else
+//! the first fault in the order of `specs/Faults.antt`; `Overriders` then has the final overrider of each virtual
+//! function in each subobject, and tells which functions are virtual and which classes abstract. The tables are made
+//! once: signatures by numbers, how often each class is a base of another, and for each virtual base of a class what
+//! overrides its functions, from those of the direct bases (`settling`).
 #![tactic(auto)]
 
 pub mod abstracts;
@@ -15,6 +17,8 @@ pub mod covariance;
 pub mod entries;
 pub mod keys;
 pub mod kinds;
+pub mod overriding;
+pub mod pass;
 pub mod places;
 pub mod pure;
 pub mod settling;
@@ -25,6 +29,7 @@ pub mod tables;
 pub mod virtuals;
 pub mod within;
 
+pub use crate::pass::{Overriders, check_overriders};
 use cxx_hierarchy::ClassId;
 use cxx_subobject::Subobject;
 

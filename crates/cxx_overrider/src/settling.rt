@@ -1,6 +1,6 @@
 //! Finds for each virtual base of a class the final overriders of its functions, from those of the direct bases.
 
-ghost use Rattle.std.specs.Prelude.{◌≡◌, ◌<◌, ◌+◌, ◌↔◌, IsTrue, IfOk, MatchOption, MatchBool, MatchResult, length};
+ghost use Rattle.std.specs.Prelude.{◌≡◌, ◌<◌, ◌+◌, ◌↔◌, IsTrue, IfOk, MatchOption, MatchBool, length};
 ghost use Rattle.cxx_hierarchy.specs.Classes.{bases_of};
 ghost use Rattle.cxx_hierarchy.specs.VirtualBases.{HasVirtualBase};
 ghost use Rattle.cxx_overrider.specs.declared.entries.Entry.{Entry};
@@ -242,26 +242,4 @@ pub fn settle_class(
         }
     }
     Ok(true)
-}
-
-/// What overrides the functions of the virtual bases of all classes, or a class of which some virtual function
-/// has two final overriders.
-///
-/// Errors: want of memory.
-pub fn settle_classes(
-    alloc: Global,
-    h: &Hierarchy,
-    tables: &Tables,
-) -> Result<Result<EntryTable, ClassId>, NoMemory>
-    requires { AreTables h.now tables.now }
-    ensures { IfOk result (λ r. MatchResult r (λ table. IsMade h.now tables.now.numbering.rows.items table (length h.now) 0 0) (HasTwoFinalOverriders h.now)) }
-{
-    let mut entries = EntryTable::new(alloc);
-    for number in 0..h.len() {
-        let c = ClassId(number);
-        if !settle_class(alloc, h, tables, &mut entries, c)? {
-            return Ok(Err(c));
-        }
-    }
-    Ok(Ok(entries))
 }

@@ -13,4 +13,4 @@ returns c =
     let made : IsMade h numbers c.loop-number.entries (c.args.c.0 + 1) 0 0 =
     made_class h c.keeps.ensures numbers c.loop-number.entries c.args.c
     (subst (λ (n : ℕ). IsMade h numbers c.loop-number.entries c.args.c.0 n 0) all c.loop-number.invariant) in
-    record { made = λ t. made; one = one_final h c.args.tables.now c.loop-number.entries c.args.c c.requires.tables made }
+    record { made = λ t. made; one = one_final h c.args.tables.now c.loop-number.entries c.args.c (c.args.c.0 + 1) (omega arith) c.requires.tables made }

@@ -1,0 +1,51 @@
+use Rattle.std.proofs.Common.{◌≡◌, ◌≤◌, ◌+◌, ◌++◌, ◌∷◌, [], ◌<◌, ℕ, Bool, List, length, refl, ap, sym, subst, ◌∙◌, arith, length-append}
+use Rattle.cxx_hierarchy.specs.declared.records.ClassId.{ClassId}
+use Rattle.cxx_overrider.specs.Pass.{TellsAbstract}
+use Rattle.cxx_overrider.specs.Settling.{IsMade}
+use Rattle.cxx_overrider.proofs.Made.{made_start}
+use Rattle.cxx_overrider.proofs.PassLemmas.{fine_start, fine_end, no_abstracts, abstracts_more}
+use Rattle.cxx_overrider.proofs.pass.check_overriders.Goals as goal
+
+pub loop-number-init : goal.loop-number-init
+loop-number-init c =
+    let h = c.args.h.now in
+    record {
+      made = made_start h c.in_ok-tables.tables.numbering.rows.items c.new-entries.result c.new-entries.ensures;
+      size = ap length c.new-abstracts.ensures.items;
+      abstracts = subst (λ (x : List Bool). TellsAbstract h x) (sym c.new-abstracts.ensures.items) (no_abstracts h);
+      fine = fine_start h (record { 0 = 0 }) refl;
+    }
+
+pub loop-number-preserved : goal.loop-number-preserved
+loop-number-preserved c =
+    let h = c.args.h.now in
+    let d : ClassId = record { 0 = c.loop-number.number } in
+    let list = c.loop-number.abstracts.items in
+    let e : c.push.new.self.items ≡ list ++ c.is_abstract_class-is_abstract.result ∷ [] = c.in_ok-push.ensures.items in
+    record {
+      made = c.in_ok-check_finals.ensures.made;
+      size = let n = c.loop-number.invariant.size in omega (arith, ap length e, length-append {A = Bool});
+      abstracts = subst (λ (x : List Bool). TellsAbstract h x) (sym e) (abstracts_more h list d c.is_abstract_class-is_abstract.result c.loop-number.invariant.abstracts c.loop-number.invariant.size c.is_abstract_class-is_abstract.ensures);
+      fine = c.in_ok-check_members.ensures.fine;
+    }
+
+pub returns-clause-ok : goal.returns-clause-ok
+returns-clause-ok c =
+    let h = c.args.h.now in
+    let last = c.loop-number.auto.number-end in
+    let size = c.len-number-end.ensures in
+    let all : c.loop-number.number ≡ length h = let f = c.loop-number-test.false in omega arith in
+    record {
+      tables = c.in_ok-tables.ensures;
+      made = subst (λ (n : ℕ). IsMade h c.in_ok-tables.tables.numbering.rows.items c.loop-number.entries n 0 0) all c.loop-number.invariant.made;
+      abstracts = c.loop-number.invariant.abstracts;
+      all_abstracts = c.loop-number.invariant.size ∙ all;
+    }
+
+pub returns-clause-fine : goal.returns-clause-fine
+returns-clause-fine c =
+    let h = c.args.h.now in
+    let last = c.loop-number.auto.number-end in
+    let size = c.len-number-end.ensures in
+    let all : length h ≤ c.loop-number.number = let f = c.loop-number-test.false in omega arith in
+    fine_end h (record { 0 = c.loop-number.number }) all c.loop-number.invariant.fine

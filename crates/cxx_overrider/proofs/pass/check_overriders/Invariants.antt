@@ -1,0 +1,15 @@
+use Rattle.std.proofs.Common.{◌≡◌, length}
+use Rattle.cxx_hierarchy.specs.declared.records.ClassId.{ClassId}
+use Rattle.cxx_overrider.specs.Faults.{spot, limit_part}
+use Rattle.cxx_overrider.specs.Settling.{IsMade}
+use Rattle.cxx_overrider.specs.Pass.{IsFineTo, TellsAbstract}
+use Rattle.cxx_overrider.proofs.pass.check_overriders.Given as goal
+
+-- the classes so far are fine, and the tables tell of them
+abbrev pub invariant-loop-number : goal.invariant-loop-number
+invariant-loop-number l = record {
+  made : IsMade l.h l.tables.numbering.rows.items l.entries l.number 0 0;
+  size : length l.abstracts.items ≡ l.number;
+  abstracts : TellsAbstract l.h l.abstracts.items;
+  fine : IsFineTo l.h (spot (record { 0 = l.number }) limit_part 0 0);
+}

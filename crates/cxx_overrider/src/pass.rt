@@ -1,0 +1,207 @@
+//! The class-meaning pass: refuses the hierarchies whose classes are too large, in which a return does not fit, a
+//! final overrider is not unique, or a member object is abstract, and keeps the tables that tell of the others.
+
+ghost use Rattle.std.specs.Prelude.{◌≡◌, ◌<◌, ◌+◌, ◌↔◌, IsTrue, Some, IfOk, IfErr, OnOk, length, slice_index_or, false};
+ghost use Rattle.cxx_hierarchy.specs.declared.records.ClassId.{ClassId};
+ghost use Rattle.cxx_hierarchy.specs.Classes.{Classes};
+ghost use Rattle.cxx_subobject.specs.Subobjects.{IsSubobject, class_of};
+ghost use Rattle.cxx_subobject.specs.Parts.{TellsLimits};
+ghost use Rattle.cxx_overrider.specs.Overriding.{IsVirtual, IsFinalOverrider, IsAbstract};
+ghost use Rattle.cxx_overrider.specs.Faults.{HasNoFault, StopsAtFault, spot, limit_part, function_part, overrider_part, member_part};
+ghost use Rattle.cxx_overrider.specs.Settling.{IsMade};
+ghost use Rattle.cxx_overrider.specs.Tables.{AreTables};
+ghost use Rattle.cxx_overrider.specs.Pass.{TellsAbstract, IsFineTo, is_abstract_object, class_after};
+ghost use Rattle.cxx_overrider.specs.Overriders.{AreOverriders};
+
+use crate::abstracts::is_abstract_class;
+use crate::covariance::return_fault;
+use crate::entries::EntryTable;
+use crate::overriding::final_overrider;
+use crate::settling::settle_class;
+use crate::signatures::number_of;
+use crate::tables::{Tables, tables_of};
+use crate::virtuals::is_marked;
+use crate::{FunctionId, Overrider};
+use cxx_hierarchy::{ClassId, FieldType, Hierarchy, LimitNo, Member, Rule, Stop};
+use cxx_subobject::{PartCounts, Subobject};
+use foundation::NoMemory;
+use std::alloc::Global;
+
+/// What the pass keeps of a hierarchy without a fault: its tables, what overrides the functions of virtual bases,
+/// and which classes are abstract.
+#[derive(Drop)]
+pub struct Overriders {
+    alloc: Global,
+    tables: Tables,
+    entries: EntryTable,
+    abstracts: Vec<bool>,
+}
+
+impl Overriders {
+    /// The final overrider of a virtual function in a subobject of a class (ISO C++03 10.3 p2).
+    ///
+    /// Errors: want of memory.
+    pub fn final_overrider(
+        &self,
+        h: &Hierarchy,
+        c: ClassId,
+        s: &Subobject,
+        f: FunctionId,
+    ) -> Result<Overrider, NoMemory>
+        requires overriders { AreOverriders h.now self.now }
+        requires known { c.0 < length h.now }
+        requires subobject { IsSubobject h.now c s.now }
+        requires of_class { class_of s.now ≡ Some f.class }
+        requires is_virtual { IsVirtual h.now f }
+        ensures { IfOk result (IsFinalOverrider h.now c s.now f) }
+    {
+        final_overrider(self.alloc, h, &self.tables, &self.entries, c, s, f)
+    }
+
+    /// Whether a function is virtual: declared so, or in a class that has a virtual function of its signature from
+    /// a base (ISO C++03 10.3 p2). It takes no memory.
+    pub fn is_virtual(&self, f: FunctionId) -> bool
+        ensures { (h : Classes) → AreOverriders h self.now → IsTrue result ↔ IsVirtual h f }
+    {
+        match number_of(&self.tables.numbering.rows, f) {
+            Some(n) => is_marked(&self.tables.virtuals, f.class, n),
+            None => false,
+        }
+    }
+
+    /// Whether a class is abstract (ISO C++03 10.4). It takes no memory.
+    pub fn is_abstract(&self, c: ClassId) -> bool
+        ensures { (h : Classes) → AreOverriders h self.now → c.0 < length h → IsTrue result ↔ IsAbstract h c }
+    {
+        is_marked_abstract(&self.abstracts, c)
+    }
+}
+
+/// Refuses a class with too many subobjects or parts.
+fn check_limits(h: &Hierarchy, counts: &PartCounts, c: ClassId) -> Result<(), Stop>
+    requires known { c.0 < length h.now }
+    requires counts { TellsLimits h.now counts.now }
+    requires fine { IsFineTo h.now (spot c limit_part 0 0) }
+    ensures fine { OnOk result (IsFineTo h.now (spot c function_part 0 0)) }
+    ensures err { IfErr result (StopsAtFault h.now) }
+{
+    h.keeps();
+    if !counts.is_within(c) {
+        return Err(Stop::Limit(LimitNo::L5));
+    }
+    Ok(())
+}
+
+/// Refuses a class with a function whose return does not fit those that it overrides.
+fn check_returns(h: &Hierarchy, tables: &Tables, c: ClassId) -> Result<(), Stop>
+    requires known { c.0 < length h.now }
+    requires tables { AreTables h.now tables.now }
+    requires fine { IsFineTo h.now (spot c function_part 0 0) }
+    ensures fine { OnOk result (IsFineTo h.now (spot c overrider_part 0 0)) }
+    ensures err { IfErr result (StopsAtFault h.now) }
+{
+    h.keeps();
+    let functions = h.class(c).functions.as_slice();
+    for (index, function) in functions.iter().enumerate() {
+        let f = FunctionId {
+            class: c,
+            index: index as u32,
+        };
+        match return_fault(h, tables, f) {
+            Some(rule) => return Err(Stop::Refused(rule, function.at)),
+            None => {}
+        }
+    }
+    Ok(())
+}
+
+/// Refuses a class with two final overriders of a virtual function.
+fn check_finals(
+    alloc: Global,
+    h: &Hierarchy,
+    tables: &Tables,
+    entries: &mut EntryTable,
+    c: ClassId,
+) -> Result<(), Stop>
+    requires known { c.0 < length h.now }
+    requires tables { AreTables h.now tables.now }
+    requires made { IsMade h.now tables.now.numbering.rows.items entries.old c.0 0 0 }
+    requires fine { IsFineTo h.now (spot c overrider_part 0 0) }
+    ensures made { OnOk result (IsMade h.now tables.now.numbering.rows.items entries.new (c.0 + 1) 0 0) }
+    ensures fine { OnOk result (IsFineTo h.now (spot c member_part 0 0)) }
+    ensures err { IfErr result (StopsAtFault h.now) }
+{
+    let class = h.class(c);
+    let is_one = settle_class(alloc, h, tables, entries, c)?;
+    if !is_one {
+        return Err(Stop::Refused(Rule::TwoFinalOverriders, class.at));
+    }
+    Ok(())
+}
+
+/// Whether a class is marked as abstract.
+fn is_marked_abstract(abstracts: &[bool], d: ClassId) -> bool
+    ensures { result ≡ slice_index_or abstracts.now d.0 false }
+{
+    abstracts.get(d.0 as usize).copied().unwrap_or(false)
+}
+
+/// Whether a member is an object of an abstract class, or an array of such.
+fn is_abstract_member(abstracts: &[bool], member: &Member<ClassId>) -> bool
+    ensures { result ≡ is_abstract_object abstracts.now member.now.ty }
+{
+    match member.ty {
+        FieldType::Value(_) => false,
+        FieldType::Object(d) => is_marked_abstract(abstracts, d),
+    }
+}
+
+/// Refuses a class with a member object of an abstract class (ISO C++03 10.4 p3).
+fn check_members(h: &Hierarchy, abstracts: &[bool], c: ClassId) -> Result<(), Stop>
+    requires known { c.0 < length h.now }
+    requires abstracts { TellsAbstract h.now abstracts.now }
+    requires size { length abstracts.now ≡ c.0 }
+    requires fine { IsFineTo h.now (spot c member_part 0 0) }
+    ensures fine { OnOk result (IsFineTo h.now (spot (class_after c) limit_part 0 0)) }
+    ensures err { IfErr result (StopsAtFault h.now) }
+{
+    h.keeps();
+    let members = h.class(c).members.as_slice();
+    for member in members {
+        if is_abstract_member(abstracts, member) {
+            return Err(Stop::Refused(Rule::Abstract, member.at));
+        }
+    }
+    Ok(())
+}
+
+/// Checks the classes of a hierarchy in their order: in each its size, the returns of its functions in their order,
+/// that each virtual function has one final overrider in each subobject, and its member objects in their order.
+///
+/// Errors: the first condition that is not met, as a refusal at a byte or as the limit; want of memory.
+pub fn check_overriders(alloc: Global, h: &Hierarchy) -> Result<Overriders, Stop>
+    ensures ok { IfOk result (AreOverriders h.now) }
+    ensures fine { OnOk result (HasNoFault h.now) }
+    ensures err { IfErr result (StopsAtFault h.now) }
+{
+    h.keeps();
+    let counts = PartCounts::new(alloc, h)?;
+    let tables = tables_of(alloc, h)?;
+    let mut entries = EntryTable::new(alloc);
+    let mut abstracts = Vec::new(alloc);
+    for number in 0..h.len() {
+        let c = ClassId(number);
+        check_limits(h, &counts, c)?;
+        check_returns(h, &tables, c)?;
+        check_finals(alloc, h, &tables, &mut entries, c)?;
+        check_members(h, &abstracts, c)?;
+        let is_abstract = is_abstract_class(h, &tables, &entries, c);
+        abstracts.push(is_abstract)?;
+    }
+    Ok(Overriders {
+        alloc,
+        tables,
+        entries,
+        abstracts,
+    })
+}
