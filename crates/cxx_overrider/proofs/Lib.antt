@@ -12,5 +12,6 @@ pub mod OneFinal
 pub mod CovarianceLemmas
 pub mod Candidates
 pub mod AbstractLemmas
+pub mod KeyLemmas
 pub mod PassLemmas
 pub mod FinalLemmas

@@ -4,6 +4,7 @@ pub mod Covariance
 pub mod Faults
 pub mod Places
 pub mod Numbers
+pub mod Keys
 pub mod Kinds
 pub mod Marks
 pub mod Pure

@@ -11,7 +11,7 @@ ghost use Rattle.cxx_overrider.specs.Covariance.{pointer_to, IsCovariant, IsAmbi
 
 use crate::FunctionId;
 use crate::kinds::{BaseKind, KindRow, kind_of};
-use crate::signatures::{declaration, is_same_type, number_of, own_function};
+use crate::signatures::{declaration, number_of, own_function};
 use crate::tables::Tables;
 use crate::virtuals::{has_marked_base, is_marked};
 use cxx_hierarchy::{ClassId, Hierarchy, ReturnType, Rule, ValueType};
@@ -46,6 +46,21 @@ fn pointee(t: &ReturnType<ClassId>) -> Option<ClassId>
         ReturnType::Value(value) => match value {
             ValueType::Number(_) => None,
             ValueType::Pointer(class) => Some(*class),
+        },
+    }
+}
+
+fn is_same_type(a: &ValueType<ClassId>, b: &ValueType<ClassId>) -> bool
+    ensures { IsTrue result ↔ (a.now ≡ b.now) }
+{
+    match a {
+        ValueType::Number(a) => match b {
+            ValueType::Number(b) => *a == *b,
+            ValueType::Pointer(_) => false,
+        },
+        ValueType::Pointer(a) => match b {
+            ValueType::Number(_) => false,
+            ValueType::Pointer(b) => *a == *b,
         },
     }
 }

@@ -15,6 +15,7 @@
 pub mod abstracts;
 pub mod covariance;
 pub mod entries;
+pub mod keys;
 pub mod kinds;
 pub mod overriding;
 pub mod pass;
@@ -22,6 +23,8 @@ pub mod places;
 pub mod pure;
 pub mod settling;
 pub mod signatures;
+#[cfg(test)]
+mod table_tests;
 pub mod tables;
 #[cfg(test)]
 mod tests;

@@ -10,6 +10,7 @@ loop-index-preserved c =
     let size = ap length e in
     record {
       firsts = c.in_ok-number_function.ensures.firsts;
+      keyed = c.in_ok-number_function.ensures.keyed;
       kept = λ g n k. c.in_ok-number_function.ensures.kept g n (c.loop-index.invariant.kept g n k);
       size = let n = c.loop-index.invariant.size in omega (arith, size, length-append {A = ℕ});
       each = subst (λ (x : List ℕ). HasFirsts c.args.h.now new c.args.c x) (sym e)

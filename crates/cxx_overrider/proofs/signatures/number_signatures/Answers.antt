@@ -10,6 +10,7 @@ loop-number-preserved c =
     let e : c.push.new.self.items ≡ c.loop-number.rows.items ++ c.in_ok-row.row ∷ [] = c.in_ok-push.ensures.items in
     record {
       firsts = c.in_ok-row.ensures.firsts;
+      keyed = c.in_ok-row.ensures.keyed;
       size = let n = c.loop-number.invariant.size in omega (arith, ap length e, length-append {A = List ℕ});
       rows = subst (λ (x : List (List ℕ)). HasRows c.args.h.now new x) (sym e)
           (rows_more c.args.h.now old new c.loop-number.rows.items c.loop-number.number c.in_ok-row.row c.loop-number.invariant.rows c.in_ok-row.ensures.kept c.loop-number.invariant.size c.in_ok-row.ensures.row);

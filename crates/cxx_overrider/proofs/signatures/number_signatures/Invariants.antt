@@ -1,12 +1,14 @@
 use Rattle.std.proofs.Common.{◌≡◌, ℕ, Some, List, length}
 use Rattle.std.specs.List.{slice_get}
 use Rattle.cxx_overrider.specs.Numbers.{AreFirst}
+use Rattle.cxx_overrider.specs.Keys.{AreKeyed}
 use Rattle.cxx_overrider.proofs.Numbering.{HasRows}
 use Rattle.cxx_overrider.proofs.signatures.number_signatures.Given as goal
 
 abbrev pub invariant-loop-number : goal.invariant-loop-number
 invariant-loop-number l = record {
   firsts : AreFirst l.h l.firsts.items;
+  keyed : AreKeyed l.h l.keys l.firsts.items;
   size : length l.rows.items ≡ l.number;
   rows : HasRows l.h l.firsts.items l.rows.items;
 }

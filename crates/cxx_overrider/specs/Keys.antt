@@ -1,0 +1,51 @@
+-- Signatures as lists of bytes, to be looked up in a table.
+use Rattle.std.specs.Prelude.{◌≡◌, ℕ, ◌+◌, ◌/◌, ◌%◌, Some, List, [], ◌∷◌, ◌++◌, length, slice_get}
+use Rattle.cxx_hierarchy.specs.declared.names.NameTable.{NameTable}
+use Rattle.cxx_hierarchy.specs.declared.records.ClassId.{ClassId}
+use Rattle.cxx_hierarchy.specs.declared.records.Scalar.{Scalar}
+use Rattle.cxx_hierarchy.specs.declared.records.Scalar.TheVariants.{Bool as TheBool, Char, SChar, UChar, Short, UShort, Int, UInt, Long, ULong, LongLong, ULongLong}
+use Rattle.cxx_hierarchy.specs.declared.records.ValueType.{ValueType}
+use Rattle.cxx_hierarchy.specs.declared.records.ValueType.TheVariants.{Number, Pointer}
+use Rattle.cxx_hierarchy.specs.Classes.{Classes}
+use Rattle.cxx_hierarchy.specs.NameTables.{Text, Numbers}
+use Rattle.cxx_overrider.specs.declared.FunctionId.{FunctionId}
+use Rattle.cxx_overrider.specs.Functions.{Signature, named, destructor, signature_of}
+
+abbrev pub scalar_code : Scalar → ℕ
+scalar_code TheBool = 0
+scalar_code Char = 1
+scalar_code SChar = 2
+scalar_code UChar = 3
+scalar_code Short = 4
+scalar_code UShort = 5
+scalar_code Int = 6
+scalar_code UInt = 7
+scalar_code Long = 8
+scalar_code ULong = 9
+scalar_code LongLong = 10
+scalar_code ULongLong = 11
+
+-- a type is two bytes: 0 and the number of a number type, or the number of a class, 256 above
+abbrev pub first_code : ValueType ClassId → ℕ
+first_code (Number scalar) = 0
+first_code (Pointer c) = c.0 / 256 + 1
+
+abbrev pub second_code : ValueType ClassId → ℕ
+second_code (Number scalar) = scalar_code scalar
+second_code (Pointer c) = c.0 % 256
+
+abbrev pub type_codes : List (ValueType ClassId) → List ℕ
+type_codes [] = []
+type_codes (t ∷ ts) = first_code t ∷ second_code t ∷ type_codes ts
+
+-- the number of the parameters and one, their types, and the name; nothing for a destructor
+abbrev pub signature_key : Signature → List ℕ
+signature_key (named name types) = (length types + 1) ∷ (type_codes types ++ name)
+signature_key destructor = []
+
+-- the table numbers the signatures of the functions by their places
+pub record AreKeyed (h : Classes) (table : NameTable) (firsts : List FunctionId) : Type 0 where
+  pub keys : List Text
+  pub numbers : Numbers table keys
+  pub size : length keys ≡ length firsts
+  pub each : (i : ℕ) (f : FunctionId) (s : Signature) → slice_get firsts i ≡ Some f → signature_of h f ≡ Some s → slice_get keys i ≡ Some (signature_key s)
