@@ -1,5 +1,5 @@
 -- Abstract classes, by the roots of their subobjects (ISO C++03 10.4).
-use Rattle.std.specs.Prelude.{◌≡◌, ◌↔◌, ◌<◌, Bool, true, false, Some, List, length, slice_index_or}
+use Rattle.std.specs.Prelude.{◌≡◌, true, Some}
 use Rattle.cxx_hierarchy.specs.declared.records.ClassId.{ClassId}
 use Rattle.cxx_hierarchy.specs.Classes.{Classes}
 use Rattle.cxx_subobject.specs.declared.Root.{Root}
@@ -7,7 +7,7 @@ use Rattle.cxx_subobject.specs.declared.Subobject.{Subobject}
 use Rattle.cxx_overrider.specs.declared.FunctionId.{FunctionId}
 use Rattle.cxx_overrider.specs.declared.Overrider.{Overrider}
 use Rattle.cxx_overrider.specs.Functions.{Signature, signature_of, is_pure}
-use Rattle.cxx_overrider.specs.Overriding.{IsVirtualIn, IsFinalOverrider, IsAbstract}
+use Rattle.cxx_overrider.specs.Overriding.{IsVirtualIn, IsFinalOverrider}
 
 -- the final overrider of some virtual function of the signature, in a subobject with this root, is pure
 pub record HasPureAt (h : Classes) (c : ClassId) (root : Root) (signature : Signature) : Type 0 where
@@ -19,8 +19,3 @@ pub record HasPureAt (h : Classes) (c : ClassId) (root : Root) (signature : Sign
   pub overrider : Overrider
   pub final : IsFinalOverrider h c subobject function overrider
   pub pure : is_pure h overrider.function ≡ true
-
--- the list says of each class whether it is abstract
-pub record AreAbstract (h : Classes) (list : List Bool) : Type 0 where
-  pub size : length list ≡ length h
-  pub each : (c : ClassId) → c.0 < length h → (slice_index_or list c.0 false ≡ true) ↔ IsAbstract h c

@@ -26,6 +26,8 @@ pub mod signatures;
 #[cfg(test)]
 mod table_tests;
 pub mod tables;
+#[cfg(test)]
+mod tests;
 pub mod virtuals;
 pub mod within;
 

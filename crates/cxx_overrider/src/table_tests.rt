@@ -4,9 +4,8 @@ ghost use Rattle.std.specs.Prelude.{◌<◌, All, IfOk, length};
 ghost use Rattle.cxx_hierarchy.specs.ClassPass.{IsInOrder};
 
 use crate::FunctionId;
-use crate::abstracts::is_abstract_class;
 use crate::covariance::return_fault;
-use crate::settling::settle_classes;
+use crate::pass::check_overriders;
 use crate::signatures::number_of;
 use crate::tables::tables_of;
 use cxx_hierarchy::{
@@ -189,25 +188,18 @@ fn dominated(alloc: Global, has_left: bool) -> Result<Hierarchy, Stop> {
     build(alloc, &records)
 }
 
-/// Whether D, the fourth and last class, is abstract; None where its overriders are not unique.
-fn is_abstract(alloc: Global, has_left: bool) -> Result<Option<bool>, Stop> {
+/// Whether D, the fourth class, is abstract.
+fn is_abstract(alloc: Global, has_left: bool) -> Result<bool, Stop> {
     let h = dominated(alloc, has_left)?;
-    let tables = tables_of(alloc, &h)?;
-    let c = ClassId(3);
-    if h.len() != c.0 + 1 {
-        return Ok(None);
-    }
-    match settle_classes(alloc, &h, &tables)? {
-        Ok(entries) => Ok(Some(is_abstract_class(&h, &tables, &entries, c))),
-        Err(_) => Ok(None),
-    }
+    let overriders = check_overriders(alloc, &h)?;
+    Ok(overriders.is_abstract(ClassId(3)))
 }
 
 #[test]
 fn dominance_overrides(rt: HostRuntime) -> Result<(), Fail> {
     let alloc = rt.alloc();
-    assert_eq!(rt; is_abstract(alloc, true)?, Some(false));
-    assert_eq!(rt; is_abstract(alloc, false)?, Some(true));
+    assert_eq!(rt; is_abstract(alloc, true)?, false);
+    assert_eq!(rt; is_abstract(alloc, false)?, true);
     Ok(())
 }
 
