@@ -11,6 +11,8 @@
 #![tactic(auto)]
 
 mod answer;
+#[cfg(test)]
+mod check_tests;
 pub mod command;
 mod layout_answer;
 pub mod reading;
@@ -21,8 +23,6 @@ pub mod sinks;
 pub mod source;
 pub mod sources;
 pub mod status;
-#[cfg(test)]
-mod check_tests;
 #[cfg(test)]
 mod tests;
 mod verdict;
