@@ -1,5 +1,5 @@
 -- The declarations of a name, gathered from one subobject after the other.
-use Rattle.std.proofs.Common.{◌≡◌, ℕ, ◌+◌, ◌<◌, ◌≤◌, ⊎_elim, List, [], ◌∷◌, ◌++◌, length, sym, subst, ◌∙◌, arith, refl}
+use Rattle.std.proofs.Common.{◌≡◌, ℕ, ◌+◌, ◌<◌, ◌≤◌, ⊎_elim, List, [], ◌∷◌, ◌++◌, length, sym, subst, arith, refl}
 use Rattle.std.specs.Prelude.{Some, Contains, slice_get, get_or}
 use Rattle.std.proofs.lemmas.List.Elements.{Contains-append_left, Contains-push, Contains-push_cases}
 use Rattle.std.proofs.lemmas.Option.{slice_get_within, slice_get_read}
@@ -12,7 +12,7 @@ use Rattle.cxx_subobject.specs.Preorder.{ListsSubobjects}
 use Rattle.cxx_lookup.specs.declared.Found.{Found}
 use Rattle.cxx_lookup.specs.Lookup.{place_of, IsDeclared}
 use Rattle.cxx_lookup.specs.Searches.{IsDeclaredAt, AreDeclarations}
-use Rattle.cxx_lookup.proofs.Listing.{contained, at_place, before_or_here}
+use Rattle.cxx_lookup.proofs.Listing.{at_place, before_or_here}
 use Rattle.cxx_lookup.proofs.Named.{one_declaration}
 
 -- the list has the declarations in the first i parts, and nothing else

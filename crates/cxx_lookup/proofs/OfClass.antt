@@ -1,6 +1,6 @@
 -- The one subobject of a class in a list.
-use Rattle.std.proofs.Common.{◌≡◌, ℕ, ◌+◌, ◌-◌, ◌<◌, ◌≤◌, List, length, take, drop, get_or, sym, ◌∙◌, ap, subst, refl, arith, Bool, true, false, ⊎_elim}
-use Rattle.std.specs.Prelude.{Option, Some, None, slice_get, position, Contains, is_some}
+use Rattle.std.proofs.Common.{◌≡◌, ℕ, ◌+◌, ◌-◌, ◌<◌, ◌≤◌, List, length, take, drop, get_or, sym, ◌∙◌, ap, refl, arith, Bool, true, false, ⊎_elim}
+use Rattle.std.specs.Prelude.{Option, Some, None, slice_get, position, is_some}
 use Rattle.std.proofs.lemmas.List.{get_or-drop, take_all, length-drop}
 use Rattle.std.proofs.lemmas.List.Quantifiers.{position-Some}
 use Rattle.std.proofs.lemmas.Option.{slice_get-get_or, slice_get_within, get_or_from_slice_get}

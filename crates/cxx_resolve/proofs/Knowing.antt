@@ -1,5 +1,5 @@
 -- What is known stays so when more is kept.
-use Rattle.std.proofs.Common.{◌≡◌, ℕ, Bool, true, false, List, sym, ap, subst, ◌∙◌, refl, arith}
+use Rattle.std.proofs.Common.{◌≡◌, ℕ, Bool, true, false, sym, ap, subst, ◌∙◌, refl, arith}
 use Rattle.std.specs.Prelude.{Option, Some, None, IfSome, if◌then◌else◌, nat_eq, ◌&&◌}
 use Rattle.std.specs.Borrow.{Bor}
 use Rattle.std.specs.Option.{option_copied}
@@ -13,7 +13,6 @@ use Rattle.cxx_lookup.specs.UniqueBase.{IsUniqueBase}
 use Rattle.cxx_resolve.specs.declared.known.Pair.{Pair}
 use Rattle.cxx_resolve.specs.declared.known.KnownMember.{KnownMember}
 use Rattle.cxx_resolve.specs.declared.known.Known.{Known}
-use Rattle.cxx_resolve.specs.declared.program.MemberPlace.{MemberPlace}
 use Rattle.cxx_resolve.specs.Resolves.{IsMemberOf}
 use Rattle.cxx_resolve.specs.Known.{key_of, same_pair, member_at, base_at, Knows}
 use Rattle.cxx_resolve.proofs.Lines.{same_id}

@@ -19,7 +19,7 @@ use Rattle.cxx_resolve.specs.declared.program.Statement.TheVariants.{New as Make
 use Rattle.cxx_resolve.specs.declared.program.TypedLine.{TypedLine}
 use Rattle.cxx_resolve.specs.declared.program.SimpleProgram.{SimpleProgram}
 use Rattle.cxx_resolve.specs.Typed as typed
-use Rattle.cxx_resolve.specs.Typed.{Types, int, bool, IsPointer, IsConverted, IsBase, LeadsToNumber, IsTyped, IsTypedProgram}
+use Rattle.cxx_resolve.specs.Typed.{Types, int, bool, IsPointer, IsConverted, IsTyped, IsTypedProgram}
 use Rattle.cxx_resolve.specs.Resolves.{Numbering, IsPointerTo, LineResolves, new, write, read, convert, equal, print, LinesResolve, done, more, Resolves, name_declared, pointer_to, type_declared, IsSmallWrite, HasSmallNumbers}
 use Rattle.cxx_resolve.specs.Answers.{IsLesser}
 use Rattle.cxx_resolve.proofs.Lines.{same_field, same_converted, same_pointer, pointer_at, is_lesser, one_lesser}

@@ -1,5 +1,5 @@
 -- The first of the class, and whether another follows.
-use Rattle.std.proofs.Common.{◌≡◌, ◌∙◌, sym, ap, subst, List, Some, None, length, take, drop, ◌+◌, ◌-◌}
+use Rattle.std.proofs.Common.{◌∙◌, sym, ap, subst, List, length, take, drop, ◌+◌, ◌-◌}
 use Rattle.std.specs.Prelude.{position}
 use Rattle.cxx_subobject.specs.declared.Subobject.{Subobject}
 use Rattle.cxx_subobject.specs.Preorder.{ListsSubobjects}

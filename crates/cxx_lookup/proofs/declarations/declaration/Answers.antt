@@ -1,5 +1,5 @@
 -- The first member or function of the name in the subobject's class, or none.
-use Rattle.std.proofs.Common.{◌≡◌, sym, ◌∙◌}
+use Rattle.std.proofs.Common.{sym}
 use Rattle.cxx_lookup.proofs.Named.{member_here, function_here, declared_nowhere}
 use Rattle.cxx_lookup.proofs.declarations.declaration.Goals as goal
 

@@ -1,9 +1,6 @@
 -- Each subobject's declaration is put behind those before it.
-use Rattle.std.proofs.Common.{◌≡◌, ◌+◌, sym, subst, List, ap, ◌∙◌, Vec, Global}
-use Rattle.std.specs.Prelude.{MatchOption, Option}
+use Rattle.std.proofs.Common.{◌+◌, sym, subst, List, Vec, Global}
 use Rattle.std.proofs.lemmas.Option.{MatchOption-at_some, MatchOption-at_none}
-use Rattle.cxx_subobject.specs.declared.Subobject.{Subobject}
-use Rattle.cxx_subobject.specs.Subobjects.{IsSubobject}
 use Rattle.cxx_subobject.specs.Preorder.{ListsSubobjects}
 use Rattle.cxx_lookup.specs.declared.Found.{Found}
 use Rattle.cxx_lookup.specs.Searches.{IsDeclaredAt}

@@ -1,5 +1,5 @@
 -- The highest declaration, and whether one is left that it does not hide.
-use Rattle.std.proofs.Common.{◌≡◌, ◌<◌, sym, subst, List, length, arith, None}
+use Rattle.std.proofs.Common.{subst, List, length, arith, None}
 use Rattle.std.specs.Prelude.{slice_get}
 use Rattle.std.proofs.lemmas.Option.{slice_get_within}
 use Rattle.cxx_lookup.specs.declared.Found.{Found}
