@@ -20,3 +20,8 @@ pub mod Arranged
 pub mod Locate
 pub mod Decode
 pub mod SoundLemmas
+pub mod HoldingLemmas
+pub mod SceneLemmas
+pub mod BroughtLemmas
+pub mod PlacedLemmas
+pub mod RepeatLemmas

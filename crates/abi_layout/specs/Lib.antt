@@ -5,3 +5,9 @@ pub mod Kinds
 pub mod Laid
 pub mod Alignments
 pub mod Known
+pub mod Holding
+pub mod Brought
+pub mod PlacedBases
+pub mod Repeats
+pub mod DynamicLaid
+pub mod Scenes

@@ -10,14 +10,19 @@
 //! in their complete object and of members in their class, in bytes.
 #![tactic(auto)]
 
+mod brought;
 pub mod class_layout;
 pub mod component;
+pub mod dynamic_bases;
 pub mod hierarchy_layout;
+pub mod holding;
 pub mod known;
 mod member;
 pub mod places;
 pub mod placing;
+mod repeats;
 mod rows;
+pub mod scene;
 pub mod soundness;
 pub mod statics;
 #[cfg(test)]
