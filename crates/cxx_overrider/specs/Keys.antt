@@ -27,11 +27,11 @@ scalar_code ULongLong = 11
 
 -- a type is two bytes: 0 and the number of a number type, or the number of a class, 256 above
 abbrev pub first_code : ValueType ClassId → ℕ
-first_code (Number scalar) = 0
+first_code (Number _) = 0
 first_code (Pointer c) = c.0 / 256 + 1
 
 abbrev pub second_code : ValueType ClassId → ℕ
-second_code (Number scalar) = scalar_code scalar
+second_code (Number kind) = scalar_code kind
 second_code (Pointer c) = c.0 % 256
 
 abbrev pub type_codes : List (ValueType ClassId) → List ℕ
