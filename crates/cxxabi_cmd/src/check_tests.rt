@@ -115,7 +115,7 @@ const SOURCES: [&str; 15] = [
     "struct A { A ( ) { } virtual ~ A ( ) { } } ; A * q ; unsigned z ; int main ( ) { }",
     "int main ( ) { int x ; int y = 1 ; y = x ; y = - 2 ; bool b = true ; y = 1 + 2 ; y = x - y ; y = x * 2 ; b = x < y ; b = x <= y ; b = x == y ; b = x != y ; b = ! b ; print ( y ) ; }",
     "struct A { int x ; int n [ 2 ] ; } ; struct B { A a ; A c [ 2 ] ; } ; int main ( ) { B * p = new B ; p -> a . x = 1 ; p -> c [ 1 ] . n [ 0 ] = 2 ; int y = p -> c [ 0 ] . x ; A * q = & p -> a ; * q = * q ; delete p ; }",
-    "struct A { int f ( int a , int b ) { return this -> g ( ) ; } int g ( ) { return 3 ; } } ; int main ( ) { A * p = new A ; p -> f ( 1 , - 2 ) ; int y = p -> A :: g ( ) ; p -> A :: f ( y , 4 ) ; }",
+    "struct A { int f ( int a , int b ) { int r = this -> g ( ) ; return r ; } int g ( ) { return 3 ; } } ; int main ( ) { A * p = new A ; p -> f ( 1 , - 2 ) ; int y = p -> A :: g ( ) ; p -> A :: f ( y , 4 ) ; }",
     "struct A { virtual void f ( ) { } } ; int main ( ) { A * p = new A ; A * q = static_cast < A * > ( p ) ; p = dynamic_cast < A * > ( q ) ; q = ( A * ) p ; bool b = typeid ( * q ) == typeid ( A ) ; print ( typeid ( * q ) ) ; print ( dynamic_cast < void * > ( q ) ) ; dump ( p ) ; }",
     "struct A { int x ; void f ( ) { this -> x = 1 ; if ( 1 ) { } if ( true ) { } else { int y = 2 ; } while ( 0 ) { } * this = * this ; } } ;",
 ];
