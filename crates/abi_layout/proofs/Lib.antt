@@ -25,3 +25,4 @@ pub mod SceneLemmas
 pub mod BroughtLemmas
 pub mod PlacedLemmas
 pub mod RepeatLemmas
+pub mod ArrangeLemmas

@@ -11,3 +11,4 @@ pub mod PlacedBases
 pub mod Repeats
 pub mod DynamicLaid
 pub mod Scenes
+pub mod Arrangements

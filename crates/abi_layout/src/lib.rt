@@ -10,6 +10,7 @@
 //! in their complete object and of members in their class, in bytes.
 #![tactic(auto)]
 
+pub mod arrangement;
 mod brought;
 pub mod class_layout;
 pub mod component;

@@ -227,7 +227,7 @@ fn empty_placing(alloc: Global) -> Placing
 }
 
 /// Before the first component is placed: the class itself is at 0.
-fn first_placing(alloc: Global, c: ClassId) -> Result<Placing, NoMemory>
+pub(crate) fn first_placing(alloc: Global, c: ClassId) -> Result<Placing, NoMemory>
     ensures stage { IfOk result (λ placing. placing.stage ≡ first_stage c) }
     ensures placing { IfOk result IsPlacing }
 {
