@@ -50,6 +50,17 @@ pub record IsWithin (row : ClassLayout) (brought : List Part) : Type 0 where
 pub record AreAllWithin (rows : List ClassLayout) (known : List Known) : Type 0 where
   pub each : (number : ℕ) (row : ClassLayout) (k : Known) → slice_get rows number ≡ Some row → slice_get known number ≡ Some k → IsWithin row k.parts
 
+-- a row within the limit of sizes, and class subobjects that lie within the size of an object
+pub record IsSized (row : ClassLayout) (brought : List Part) : Type 0 where
+  pub align : IsAlignment row.align
+  pub nvalign : IsAlignment row.nvalign
+  pub nvsize : row.nvsize ≤ row.size
+  pub size : row.size ≤ 500000
+  pub parts : AreWithin row.size brought
+
+pub record AreAllSized (rows : List ClassLayout) (known : List Known) : Type 0 where
+  pub each : (number : ℕ) (row : ClassLayout) (k : Known) → slice_get rows number ≡ Some row → slice_get known number ≡ Some k → IsSized row k.parts
+
 -- a type whose class, if it is one, is laid out
 abbrev pub IsEarlierType : ℕ → FieldType ClassId → Type 0
 IsEarlierType count (Value type) = Unit {0}
