@@ -26,3 +26,4 @@ pub mod BroughtLemmas
 pub mod PlacedLemmas
 pub mod RepeatLemmas
 pub mod ArrangeLemmas
+pub mod SceneFits

@@ -1,5 +1,5 @@
 -- A class whose components are placed, and its row (Itanium C++ ABI 2.4).
-use Rattle.std.specs.Prelude.{◌≡◌, ℕ, ◌<◌, ◌≤◌, Bool, if◌then◌else◌, List}
+use Rattle.std.specs.Prelude.{◌≡◌, ℕ, ◌<◌, ◌≤◌, Bool, if◌then◌else◌, ◌⊎◌, List, map}
 use Rattle.abi_emptybase.specs.declared.Part.{Part}
 use Rattle.abi_layout.specs.declared.component.Component.{Component}
 use Rattle.abi_layout.specs.declared.component.Stage.{Stage}
@@ -9,6 +9,14 @@ use Rattle.abi_layout.specs.declared.arrangement.Arrangement.{Arrangement}
 use Rattle.abi_layout.specs.Laid.{after_all}
 use Rattle.abi_layout.specs.Alignments.{IsAlignment, AreWithin}
 use Rattle.abi_layout.specs.DynamicLaid.{IsLayoutBy}
+use Rattle.cxx_hierarchy.specs.declared.records.ClassId.{ClassId}
+use Rattle.cxx_hierarchy.specs.Classes.{Classes}
+use Rattle.abi_primary.specs.declared.Primary.{Primary as BasePrimary}
+use Rattle.abi_layout.specs.declared.known.Known.{Known}
+use Rattle.abi_layout.specs.declared.dynamic_bases.PlacedBase.{PlacedBase}
+use Rattle.abi_layout.specs.Known.{empties_in, parts_in}
+use Rattle.abi_layout.specs.PlacedBases.{placed_component}
+use Rattle.abi_layout.specs.Repeats.{SomeRepeats}
 
 -- the stage behind a virtual pointer, if there is one, with these class subobjects
 abbrev pub stage_with : Bool → List Part → Stage
@@ -35,3 +43,15 @@ pub record IsWithinLimit (a : Arrangement) : Type 0 where
 -- each row that is the layout by these components passes the limit of sizes
 pub record IsTooLargeBy (first : Stage) (fronts members frees : List Component) (is_pod : Bool) : Type 0 where
   pub large : (front_places free_places : List ℕ) (row : ClassLayout) → IsLayoutBy first fronts members frees front_places free_places is_pod row → 500000 < row.size
+
+-- the class is within the limit of sizes, and some base of it brings one pair of class and place twice, so that no place
+-- helps
+pub record IsShared (first : Stage) (fronts members frees : List Component) (is_pod : Bool) : Type 0 where
+  pub arrangement : Arrangement
+  pub arranged : IsArranged first fronts members frees is_pod arrangement
+  pub small : arrangement.size ≤ 500000
+  pub repeats : SomeRepeats fronts ⊎ SomeRepeats frees
+
+-- what placed bases are to their class, by what is known of the classes before it
+abbrev pub components_by : Classes → List ClassLayout → List Known → List BasePrimary → ClassId → List PlacedBase → List Component
+components_by h rows known primaries c bases = map (placed_component (empties_in known) h rows primaries (parts_in known) c) bases
