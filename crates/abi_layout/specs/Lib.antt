@@ -12,3 +12,4 @@ pub mod Repeats
 pub mod DynamicLaid
 pub mod Scenes
 pub mod Arrangements
+pub mod OwnPlaces

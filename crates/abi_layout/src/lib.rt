@@ -11,6 +11,7 @@
 #![tactic(auto)]
 
 pub mod arrangement;
+mod base_places;
 mod brought;
 pub mod class_layout;
 pub mod component;
