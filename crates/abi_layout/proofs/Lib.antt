@@ -27,3 +27,4 @@ pub mod PlacedLemmas
 pub mod RepeatLemmas
 pub mod ArrangeLemmas
 pub mod SceneFits
+pub mod SettledLemmas

@@ -13,3 +13,4 @@ pub mod DynamicLaid
 pub mod Scenes
 pub mod Arrangements
 pub mod OwnPlaces
+pub mod Settled

@@ -30,6 +30,7 @@ pub mod soundness;
 pub mod statics;
 #[cfg(test)]
 mod tests;
+mod virtual_places;
 
 pub use crate::class_layout::{AbiLayout, ClassLayout, PlaceList, Primary};
 pub use crate::hierarchy_layout::{lay_out, lay_out_front, one_layout, some_layout};
