@@ -28,3 +28,4 @@ pub mod RepeatLemmas
 pub mod ArrangeLemmas
 pub mod SceneFits
 pub mod SettledLemmas
+pub mod OpenLemmas

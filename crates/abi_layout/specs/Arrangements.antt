@@ -39,6 +39,7 @@ pub record IsWithinLimit (a : Arrangement) : Type 0 where
   pub nvsize : a.nvsize ≤ a.size
   pub size : a.size ≤ 500000
   pub parts : AreWithin a.size a.parts
+  pub members : AreWithin a.nvsize a.member_parts
 
 -- each row that is the layout by these components passes the limit of sizes
 pub record IsTooLargeBy (first : Stage) (fronts members frees : List Component) (is_pod : Bool) : Type 0 where

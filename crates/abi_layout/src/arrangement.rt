@@ -2,21 +2,22 @@
 
 ghost use Rattle.std.specs.Prelude.{◌≡◌, ◌≤◌, ◌⊎◌, IfOk, IfErr, max, if◌then◌else◌};
 ghost use Rattle.cxx_hierarchy.specs.declared.stop.LimitNo.{LimitNo};
-ghost use Rattle.abi_layout.specs.Laid.{IsNext};
+ghost use Rattle.abi_layout.specs.Laid.{IsNext, parts_at};
 ghost use Rattle.abi_layout.specs.Alignments.{IsAlignment, IsPlacing, AreFit};
 ghost use Rattle.abi_layout.specs.DynamicLaid.{start_stage};
 ghost use Rattle.abi_layout.specs.Arrangements.{stage_with, IsArranged, IsWithinLimit, IsTooLargeBy};
 
 use crate::class_layout::PlaceList;
-use crate::component::{Component, PartList, Stage};
+use crate::component::{Component, PartList, Stage, push_placed};
 use crate::placing::{Placing, place_all, round_up};
 use crate::rows::first_placing;
 use cxx_hierarchy::{ClassId, Stop};
-use foundation::NoMemory;
+use foundation::{NoMemory, Sequence};
 use std::alloc::Global;
 
 /// A class whose components are placed: the sizes and alignments of its row, in bytes; the places of the bases before
-/// the members, of the members, and of the virtual bases behind them; and all class subobjects, by their places.
+/// the members, of the members, and of the virtual bases behind them; all class subobjects, by their places; and those
+/// in the members alone.
 #[derive(Drop)]
 pub struct Arrangement {
     pub size: u32,
@@ -28,6 +29,7 @@ pub struct Arrangement {
     pub member_places: PlaceList,
     pub free_places: PlaceList,
     pub parts: PartList,
+    pub member_parts: PartList,
 }
 
 /// The stage behind a virtual pointer, if there is one, with the class subobjects of a stage.
@@ -102,6 +104,7 @@ pub(crate) fn arrange(
     requires members { AreFit members.now }
     requires frees { AreFit frees.now }
     ensures arranged { IfOk result (λ a. IsArranged (start_stage c has_pointer) fronts.now members.now frees.now is_pod a) }
+    ensures members { IfOk result (λ a. a.member_parts ≡ parts_at members.now a.member_places) }
     ensures within { IfOk result IsWithinLimit }
     ensures limit { IfErr result (λ e. (e ≡ Stop.NoMemory) ⊎ ((e ≡ Stop.Limit LimitNo.L6) × IsTooLargeBy (start_stage c has_pointer) fronts.now members.now frees.now is_pod)) }
 {
@@ -114,6 +117,8 @@ pub(crate) fn arrange(
     let size = whole_size(&placing.stage);
     let dsize = size_of_kind(is_pod, size, placing.stage.dsize);
     let nvsize = size_of_kind(is_pod, size, end);
+    let mut member_parts = Sequence::new(alloc);
+    push_placed(&mut member_parts, members, member_places.as_slice())?;
     let Placing { stage, table: _ } = placing;
     Ok(Arrangement {
         size,
@@ -125,5 +130,6 @@ pub(crate) fn arrange(
         member_places,
         free_places,
         parts: stage.parts,
+        member_parts,
     })
 }

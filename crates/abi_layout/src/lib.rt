@@ -16,7 +16,7 @@ mod brought;
 pub mod class_layout;
 pub mod component;
 pub mod dynamic_bases;
-mod dynamic_rows;
+pub mod dynamic_rows;
 pub mod hierarchy_layout;
 pub mod holding;
 pub mod known;

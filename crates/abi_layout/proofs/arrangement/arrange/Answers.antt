@@ -1,10 +1,12 @@
-use Rattle.std.proofs.Common.{◌∙◌, inl, inr, ⊎_elim, ap, subst}
+use Rattle.std.proofs.Common.{◌≡◌, ℕ, ◌≤◌, ◌++◌, List, sym, arith, ◌∙◌, inl, inr, ⊎_elim, ap, subst}
 use Rattle.std.proofs.lemmas.Result.{err_from_is_err_and}
 use Rattle.abi_layout.specs.declared.component.Stage.{Stage}
-use Rattle.abi_layout.specs.Laid.{ArePlaced, after_all}
+use Rattle.std.specs.Prelude.{All}
+use Rattle.abi_emptybase.specs.declared.Part.{Part}
+use Rattle.abi_layout.specs.Laid.{ArePlaced, after_all, parts_at}
 use Rattle.abi_layout.specs.Alignments.{IsPastLimit}
 use Rattle.abi_layout.specs.DynamicLaid.{start_stage}
-use Rattle.abi_layout.proofs.ArrangeLemmas.{fronts_past, members_past_by, frees_past, arranged_within}
+use Rattle.abi_layout.proofs.ArrangeLemmas.{fronts_past, members_past_by, frees_past, placed_little, arranged_within}
 use Rattle.abi_layout.proofs.arrangement.arrange.Goals as goal
 
 pub returns-in_err-front_places-clause-limit : goal.returns-in_err-front_places-clause-limit
@@ -50,8 +52,18 @@ returns-in_err-free_places-clause-limit c =
     ))
     c.in_err-free_places.ensures.limit)
 
+pub push_placed-requires-clause-places : goal.push_placed-requires-clause-places
+push_placed-requires-clause-places c =
+    let small = c.in_ok-member_places.ensures.placing.size in
+    let is : c.place_all-2.new.placing.stage.size ≡ (after_all c.place_all.new.placing.stage c.args.members.now c.in_ok-member_places.member_places).size = ap (λ (s : Stage). s.size) c.in_ok-member_places.ensures.after in
+    subst (λ (ps : List ℕ). All (λ (p : ℕ). p ≤ 500000) ps) (sym c.as_slice.ensures) (placed_little c.place_all.new.placing.stage c.args.members.now c.in_ok-member_places.member_places c.in_ok-member_places.ensures.placed (omega arith))
+
 pub returns-clause-within : goal.returns-clause-within
 returns-clause-within c =
-    arranged_within c.place_all-2.new.placing c.place_all-3.new.placing c.args.frees.now c.args.is_pod c.in_ok-front_places.front_places c.in_ok-member_places.member_places c.in_ok-free_places.free_places
-    c.whole_size-size.result c.size_of_kind-dsize.result c.size_of_kind-nvsize.result
+    let places = c.in_ok-member_places.member_places in
+    let members = c.args.members.now in
+    let are : c.push_placed.new.list ≡ parts_at members places = c.in_ok-push_placed.ensures ∙ (ap (λ (xs : List Part). xs ++ parts_at members c.as_slice.result.now) c.new-member_parts.ensures ∙ ap (λ (ps : List ℕ). parts_at members ps) c.as_slice.ensures) in
+    arranged_within c.place_all.new.placing c.place_all-2.new.placing c.place_all-3.new.placing members c.args.frees.now c.args.is_pod c.in_ok-front_places.front_places places c.in_ok-free_places.free_places
+    c.whole_size-size.result c.size_of_kind-dsize.result c.size_of_kind-nvsize.result c.push_placed.new.list
+    c.requires.members c.in_ok-member_places.ensures.placed c.in_ok-member_places.ensures.after are
     c.in_ok-member_places.ensures.placing c.in_ok-free_places.ensures.placing c.in_ok-free_places.ensures.after c.whole_size-size.ensures c.size_of_kind-nvsize.ensures
