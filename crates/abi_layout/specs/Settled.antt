@@ -1,5 +1,5 @@
 -- The places of the virtual bases that subobjects hold.
-use Rattle.std.specs.Prelude.{◌≡◌, ℕ, ◌+◌, ◌<◌, ◌≤◌, Option, Some, None, List, [], ◌∷◌, length, get_or, slice_get, slice_set}
+use Rattle.std.specs.Prelude.{◌≡◌, ℕ, ◌+◌, ◌<◌, ◌≤◌, Option, Some, None, List, [], ◌∷◌, map, replicate, length, get_or, slice_get, slice_set}
 use Rattle.cxx_hierarchy.specs.declared.records.ClassId.{ClassId}
 use Rattle.cxx_hierarchy.specs.Classes.{Classes}
 use Rattle.cxx_subobject.specs.declared.Root.{Root}
@@ -7,6 +7,8 @@ use Rattle.cxx_subobject.specs.declared.Root.TheVariants.{Whole, Shared}
 use Rattle.cxx_subobject.specs.declared.Subobject.{Subobject}
 use Rattle.cxx_subobject.specs.Subobjects.{Leads}
 use Rattle.abi_layout.specs.declared.class_layout.ClassLayout.{ClassLayout}
+use Rattle.abi_layout.specs.declared.dynamic_bases.PlacedBase.{PlacedBase}
+use Rattle.abi_layout.specs.declared.dynamic_bases.PlacedBase.TheVariants.{Own, SharedBase}
 use Rattle.abi_layout.specs.Laid.{nvsize_in}
 use Rattle.abi_layout.specs.DynamicLaid.{place_from}
 
@@ -50,3 +52,23 @@ pub record AreSettled (h : Classes) (rows : List ClassLayout) (list : List Subob
   pub held : (v : ℕ) (t : Subobject) → v < length old → held_at list (get_or holders v None) ≡ Some t → get_or new v 0 ≡ place_by h rows new t
   pub kept : (v : ℕ) → held_at list (get_or holders v None) ≡ None → get_or new v 0 ≡ get_or old v 0
   pub room : HasRoom rows new
+
+-- the table with the places of virtual bases that no subobject holds
+abbrev pub with_free : List ℕ → PlacedBase → ℕ → List ℕ
+with_free table (Own b) place = table
+with_free table (SharedBase v) place = slice_set table v.0 place
+
+abbrev pub with_frees : List ℕ → List PlacedBase → List ℕ → List ℕ
+with_frees table [] places = table
+with_frees table (base ∷ free) [] = table
+with_frees table (base ∷ free) (place ∷ places) = with_frees (with_free table base place) free places
+
+-- where no virtual base lies yet but those that no subobject holds
+abbrev pub free_table : ℕ → List PlacedBase → List ℕ → List ℕ
+free_table count free places = with_frees (replicate count 0) free places
+
+-- the places of the virtual bases, by a table in which those that are held lie where their holders do
+pub record AreVirtualPlaces (h : Classes) (rows : List ClassLayout) (list : List Subobject) (holders : List (Option ℕ)) (old : List ℕ) (virtuals : List ClassId) (places : List ℕ) : Type 0 where
+  pub table : List ℕ
+  pub settled : AreSettled h rows list holders old table
+  pub are : places ≡ map (λ (v : ClassId). get_or table v.0 0) virtuals

@@ -1,16 +1,20 @@
 //! The places of the virtual bases of a class (Itanium C++ ABI 2.4).
 
-ghost use Rattle.std.specs.Prelude.{◌≡◌, ◌+◌, ◌<◌, ◌≤◌, ◌^◌, None, get_or, length};
+ghost use Rattle.std.specs.Prelude.{◌≡◌, ◌+◌, ◌<◌, ◌≤◌, ◌^◌, None, IfOk, get_or, length, map};
+ghost use Rattle.cxx_hierarchy.specs.declared.records.ClassId.{ClassId};
 ghost use Rattle.cxx_subobject.specs.Subobjects.{Leads};
 ghost use Rattle.abi_layout.specs.Places.{place_along};
 ghost use Rattle.abi_layout.specs.DynamicLaid.{place_from};
-ghost use Rattle.abi_layout.specs.Settled.{root_by, place_by, IsPath, held_at, with_place, HasRoom, CanSettle, AreSettled};
+ghost use Rattle.abi_layout.specs.Settled.{root_by, place_by, IsPath, held_at, with_place, HasRoom, CanSettle, AreSettled, with_free, with_frees, free_table, AreVirtualPlaces};
 
 use crate::brought::base_place;
-use crate::class_layout::ClassLayout;
+use crate::class_layout::{ClassLayout, PlaceList};
+use crate::dynamic_bases::PlacedBase;
 use crate::scene::holder;
 use cxx_hierarchy::{ClassId, Hierarchy};
 use cxx_subobject::{Root, Subobject};
+use foundation::{NoMemory, Sequence};
+use std::alloc::Global;
 
 /// The sum of the places along a path of direct non-virtual bases, in bytes.
 fn path_place(h: &Hierarchy, rows: &[ClassLayout], d: ClassId, path: &[ClassId]) -> u32
@@ -114,4 +118,65 @@ pub(crate) fn settle(
     for i in 0..count {
         settle_one(h, rows, list, holders, ClassId(count - 1 - i), table);
     }
+}
+
+/// Puts the place of a virtual base that no subobject holds into the table.
+fn put_free(base: PlacedBase, place: u32, table: &mut [u32])
+    ensures { table.new ≡ with_free table.old base place }
+{
+    if let PlacedBase::SharedBase(v) = base {
+        let number = v.0 as usize;
+        if number < table.len() {
+            table[number] = place;
+        }
+    }
+}
+
+fn put_frees(free: &[PlacedBase], places: &[u32], table: &mut [u32])
+    ensures { table.new ≡ with_frees table.old free.now places.now }
+{
+    if let Some((base, free)) = free.split_first() {
+        if let Some((place, places)) = places.split_first() {
+            put_free(*base, *place, table);
+            put_frees(free, places, table);
+        }
+    }
+}
+
+/// The places of classes by the table.
+fn table_places(alloc: Global, table: &[u32], virtuals: &[ClassId]) -> Result<PlaceList, NoMemory>
+    ensures { IfOk result (λ places. places ≡ map (λ (v : ClassId). get_or table.now v.0 0) virtuals.now) }
+{
+    let mut places = Sequence::new(alloc);
+    for v in virtuals {
+        places.push(table_place(table, *v))?;
+    }
+    Ok(places)
+}
+
+/// The places of the virtual bases of a class, where its row has the places of its direct bases: those that no
+/// subobject holds are placed, and each other one lies where its holder does.
+///
+/// Errors: want of memory.
+pub(crate) fn virtual_places(
+    alloc: Global,
+    h: &Hierarchy,
+    rows: &[ClassLayout],
+    list: &[Subobject],
+    holders: &[Option<usize>],
+    count: u32,
+    virtuals: &[ClassId],
+    free: &[PlacedBase],
+    free_places: &[u32],
+) -> Result<PlaceList, NoMemory>
+    requires rows { length rows.now ≤ length h.now }
+    requires can { CanSettle h.now rows.now list.now holders.now }
+    requires room { HasRoom rows.now (free_table count free.now free_places.now) }
+    ensures { IfOk result (λ places. AreVirtualPlaces h.now rows.now list.now holders.now (free_table count free.now free_places.now) virtuals.now places) }
+{
+    let mut table = vec![in alloc; 0; count as usize]?;
+    put_frees(free, free_places, &mut table);
+    settle(h, rows, list, holders, count, &mut table);
+    let places = table_places(alloc, &table, virtuals)?;
+    Ok(places)
 }
