@@ -29,3 +29,4 @@ pub mod ArrangeLemmas
 pub mod SceneFits
 pub mod SettledLemmas
 pub mod OpenLemmas
+pub mod CanSettleLemmas
