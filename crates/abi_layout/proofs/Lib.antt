@@ -30,3 +30,4 @@ pub mod SceneFits
 pub mod SettledLemmas
 pub mod OpenLemmas
 pub mod CanSettleLemmas
+pub mod NestedLemmas
