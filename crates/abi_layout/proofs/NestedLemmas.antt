@@ -1,10 +1,10 @@
 -- Each class ends, without its virtual bases, behind its non-virtual bases and its primary base.
-use Rattle.std.proofs.Common.{◌≡◌, ℕ, zero, suc, ◌+◌, ◌<◌, ◌≤◌, ⊎_elim, Bool, true, false, Option, Some, None, List, [], ◌∷◌, ◌++◌, map, length, refl, ap, subst, sym, ◌∙◌, arith}
+use Rattle.std.proofs.Common.{◌≡◌, ℕ, zero, suc, ◌+◌, ◌<◌, ◌≤◌, ⊎_elim, inl, inr, Bool, true, false, Option, Some, None, List, [], ◌∷◌, ◌++◌, map, length, refl, ap, subst, sym, ◌∙◌, arith}
 use Rattle.std.specs.Prelude.{Contains, filter, position, nat_eq, not, ◌&&◌, ◌||◌, if◌then◌else◌}
 use Rattle.std.specs.Option.{option_map}
 use Rattle.std.specs.List.{slice_get, list_any}
 use Rattle.std.proofs.lemmas.Bool.{eqb-true, cases_order}
-use Rattle.std.proofs.lemmas.Option.{slice_get-map}
+use Rattle.std.proofs.lemmas.Option.{slice_get-map, slice_get_read}
 use Rattle.std.proofs.lemmas.List.Folds.{list_any-append}
 use Rattle.cxx_hierarchy.specs.declared.records.ClassId.{ClassId}
 use Rattle.cxx_hierarchy.specs.declared.records.Base.{Base}
@@ -22,6 +22,15 @@ use Rattle.abi_layout.specs.Laid.{nvsize_in, ArePlaced, after, after_all}
 use Rattle.abi_layout.specs.Known.{empties_in, parts_in, AreAllSized}
 use Rattle.abi_layout.specs.PlacedBases.{class_of_placed, first_base, is_first_base, is_other_base, front_bases, placed_component}
 use Rattle.abi_layout.specs.OwnPlaces.{is_own, own_place, own_places}
+use Rattle.abi_emptybase.specs.declared.Part.{Part}
+use Rattle.cxx_hierarchy.specs.Hierarchies.{IsHierarchy}
+use Rattle.cxx_subobject.specs.declared.Subobject.{Subobject}
+use Rattle.abi_layout.specs.Holding.{virtual_primary}
+use Rattle.abi_layout.specs.Scenes.{IsScene}
+use Rattle.abi_layout.specs.Arrangements.{components_by}
+use Rattle.abi_layout.proofs.Stages.{Has}
+use Rattle.abi_layout.proofs.Locate.{first_that, position_is}
+use Rattle.abi_layout.proofs.CanSettleLemmas.{AreNested}
 use Rattle.abi_layout.proofs.Lists.{number}
 use Rattle.abi_layout.proofs.Parts.{split}
 use Rattle.abi_layout.proofs.PlacingLemmas.{size_grows}
@@ -55,6 +64,16 @@ takes_enough h rows known ps c b sized lt_rows lt_known base own =
         rw e.row_is e.sized.nvsize
 
     by_kind : (x : Bool) → nvsize_in (slice_get rows (class_of_placed base).0) ≤ (if x then size_in (slice_get rows (class_of_placed base).0) else nvsize_in (slice_get rows (class_of_placed base).0))
+    by_kind true = least
+    by_kind false = omega arith
+
+shared_takes : (h : Classes) (rows : List ClassLayout) (known : List Known) (ps : List Primary) (c v : ClassId) → AreAllSized rows known → v.0 < length rows → v.0 < length known → nvsize_in (slice_get rows v.0) ≤ (placed_component (empties_in known) h rows ps (parts_in known) c (SharedBase v)).takes
+shared_takes h rows known ps c v sized lt_rows lt_known = by_kind (empties_in known v)
+  where
+    least : nvsize_in (slice_get rows v.0) ≤ size_in (slice_get rows v.0)
+    least = let e = sized_of rows known v sized lt_rows lt_known in rw e.row_is e.sized.nvsize
+
+    by_kind : (x : Bool) → nvsize_in (slice_get rows v.0) ≤ (if x then size_in (slice_get rows v.0) else nvsize_in (slice_get rows v.0))
     by_kind true = least
     by_kind false = omega arith
 
@@ -95,3 +114,135 @@ front_has primary bases i base there way =
     (λ t _. or_left (list_any (is_own base.class) (first_base primary)) (list_any (is_own base.class) rest) (first_has primary base t))
     (λ f _. or_right (list_any (is_own base.class) (first_base primary)) (list_any (is_own base.class) rest)
     (other_has primary bases i base there (ap (λ x. not x && not (is_first_base primary base)) way ∙ ap not f))) refl
+
+has_plain : (bases : List (Base ClassId)) (i : ℕ) (base : Base ClassId) → slice_get bases i ≡ Some base → is_plain_base base ≡ true → Has (filter is_plain_base bases) base
+has_plain [] i base e plain = cc
+has_plain (x ∷ bases) zero base e plain =
+    let same : x ≡ base = cc in
+    subst (λ o. Has (if o then x ∷ filter is_plain_base bases else filter is_plain_base bases) base) (sym (ap is_plain_base same ∙ plain)) (inl same)
+has_plain (x ∷ bases) (suc i) base e plain =
+    let rest = has_plain bases i base e plain in
+    split (is_plain_base x) (λ o. Has (if o then x ∷ filter is_plain_base bases else filter is_plain_base bases) base) (λ t. inr rest) (λ f. rest)
+
+-- the place of a direct base by those of the bases before the members
+pub base_place_own : (h : Classes) (rows : List ClassLayout) (c : ClassId) (class : Class) (row : ClassLayout) (fs : List PlacedBase) (ps : List ℕ) → class_at h c ≡ Some class → slice_get rows c.0 ≡ Some row → row.base_places ≡ own_places fs ps class.bases
+    → (i : ℕ) (base : Base ClassId) → slice_get class.bases i ≡ Some base → base.is_virtual ≡ false → base_place h rows c base.class ≡ own_place fs ps base.class
+base_place_own h rows c class row fs ps e there are i base listed way =
+    let p : Base ClassId → Bool = λ x. nat_eq x.class.0 base.class.0 in
+    let plain = filter is_plain_base class.bases in
+    let first = first_that p plain base (has_plain class.bases i base listed (ap not way)) (eq_self base.class.0) in
+    let same : first.item.class.0 ≡ base.class.0 = eqb-true first.item.class.0 base.class.0 first.passes in
+    ap (λ (o : Option Class). place_at (places_of_bases (slice_get rows c.0)) (position p (filter is_plain_base (bases_in o)))) e
+    ∙ (ap (λ (o : Option ClassLayout). place_at (places_of_bases o) (position p plain)) there
+    ∙ (ap (λ places. place_at places (position p plain)) are
+    ∙ (ap (place_at (own_places fs ps class.bases)) (position_is p plain first)
+    ∙ (ap number_in (slice_get-map (λ (x : Base ClassId). own_place fs ps x.class) plain first.index ∙ ap (option_map (λ (x : Base ClassId). own_place fs ps x.class)) first.there)
+    ∙ ap (λ n. own_place fs ps (number n)) same))))
+
+get_front : {X : Type 0} (xs ys : List X) (i : ℕ) → i < length xs → slice_get (xs ++ ys) i ≡ slice_get xs i
+get_front [] ys i lt = absurd (omega arith)
+get_front (x ∷ xs) ys zero lt = refl
+get_front (x ∷ xs) ys (suc i) lt = get_front xs ys i (omega arith)
+
+get_last : {X : Type 0} (xs : List X) (x : X) (i : ℕ) → i ≡ length xs → slice_get (xs ++ x ∷ []) i ≡ Some x
+get_last [] x i e = rw e refl
+get_last (y ∷ xs) x zero e = absurd (omega arith)
+get_last (y ∷ xs) x (suc i) e = get_last xs x i (omega arith)
+
+first_within : (f : PlacedBase → Component) (stage : Stage) (x : PlacedBase) (bs : List PlacedBase) (places : List ℕ) → ArePlaced stage (map f (x ∷ bs)) places → (f x).takes ≤ (after_all stage (map f (x ∷ bs)) places).size
+first_within f stage x bs [] placed = absurd placed
+first_within f stage x bs (p ∷ places) placed = let g = size_grows (after stage (f x) p) (map f bs) places in omega arith
+
+-- with one class more, whose bases are placed
+pub nested_more : (h : Classes) (c : ClassId) (class : Class) (rows : List ClassLayout) (known : List Known) (members : List (List Part)) (ps : List Primary) (list : List Subobject) (holders : List (Option ℕ)) (row : ClassLayout) (primary : Primary) (first : Stage) (places : List ℕ)
+    → IsHierarchy h → IsScene h c rows known members ps list holders → AreAllSized rows known → class_at h c ≡ Some class
+    → row.base_places ≡ own_places (front_bases primary class.bases) places class.bases → ArePlaced first (components_by h rows known ps c (front_bases primary class.bases)) places
+    → (after_all first (components_by h rows known ps c (front_bases primary class.bases)) places).size ≤ row.nvsize → row.nvsize ≤ 500000 → ((v : ClassId) → virtual_primary ps c ≡ Some v → primary ≡ Virtual v)
+    → AreNested h (c.0 + 1) (rows ++ row ∷ []) ps
+nested_more h c class rows known members ps list holders row primary first places keeps scene sized e are placed ends small primary_is = record {
+  by_bases = λ d base lt has way. ⊎_elim
+      (λ same. here d base same has way)
+      (λ o. ⊎_elim (λ l. before d base l has way) (λ g. absurd (omega arith)) o)
+      (cases_order d.0 c.0);
+  by_primary = λ d v lt p. ⊎_elim
+      (λ same. primary_here d v same p)
+      (λ o. ⊎_elim (λ l. primary_before d v l p) (λ g. absurd (omega arith)) o)
+      (cases_order d.0 c.0);
+  small = λ n. small_at n;
+}
+  where
+    f : PlacedBase → Component
+    f = placed_component (empties_in known) h rows ps (parts_in known) c
+
+    old : (n : ℕ) → n < c.0 → slice_get (rows ++ row ∷ []) n ≡ slice_get rows n
+    old n lt = let each = scene.row_each in get_front rows (row ∷ []) n (omega arith)
+
+    new : slice_get (rows ++ row ∷ []) c.0 ≡ Some row
+    new = let each = scene.row_each in get_last rows row c.0 (sym each)
+
+    before : (d : ClassId) (base : Base ClassId) → d.0 < c.0 → Contains (bases_of h d) base → base.is_virtual ≡ false → base_place h (rows ++ row ∷ []) d base.class + nvsize_in (slice_get (rows ++ row ∷ []) base.class.0) ≤ nvsize_in (slice_get (rows ++ row ∷ []) d.0)
+    before d base lt has way =
+        let falls = keeps.bases d base has in
+        rw (old d.0 lt, old base.class.0 (omega arith)) (scene.inside.by_bases d base lt has way)
+
+    here : (d : ClassId) (base : Base ClassId) → d.0 ≡ c.0 → Contains (bases_of h d) base → base.is_virtual ≡ false → base_place h (rows ++ row ∷ []) d base.class + nvsize_in (slice_get (rows ++ row ∷ []) base.class.0) ≤ nvsize_in (slice_get (rows ++ row ∷ []) d.0)
+    here d base same has way =
+        let is : d ≡ c = ap number same in
+        subst (λ (x : ClassId). base_place h (rows ++ row ∷ []) x base.class + nvsize_in (slice_get (rows ++ row ∷ []) base.class.0) ≤ nvsize_in (slice_get (rows ++ row ∷ []) x.0)) (sym is)
+        (own base (subst (λ (x : ClassId). Contains (bases_of h x) base) is has) way)
+      where
+        own : (base : Base ClassId) → Contains (bases_of h c) base → base.is_virtual ≡ false → base_place h (rows ++ row ∷ []) c base.class + nvsize_in (slice_get (rows ++ row ∷ []) base.class.0) ≤ nvsize_in (slice_get (rows ++ row ∷ []) c.0)
+        own base has way =
+            let falls = keeps.bases c base has in
+            let row_each = scene.row_each in
+            let known_each = scene.known_each in
+            let listed : Contains class.bases base = subst (λ (o : Option Class). Contains (bases_in o) base) e has in
+            let at = slice_get_read class.bases (length class.bases) listed.0 base refl listed.1 (sym listed.2) in
+            let place = base_place_own h (rows ++ row ∷ []) c class row (front_bases primary class.bases) places e new are listed.0 base at way in
+            let size = own_within f first (front_bases primary class.bases) places base.class (nvsize_in (slice_get rows base.class.0)) (takes_enough h rows known ps c base.class sized (omega arith) (omega arith)) (front_has primary class.bases listed.0 base at way) placed in
+            let n : nvsize_in (slice_get (rows ++ row ∷ []) base.class.0) ≡ nvsize_in (slice_get rows base.class.0) = ap nvsize_in (old base.class.0 falls) in
+            let m : nvsize_in (slice_get (rows ++ row ∷ []) c.0) ≡ row.nvsize = ap nvsize_in new in
+            omega arith
+
+    primary_before : (d v : ClassId) → d.0 < c.0 → virtual_primary ps d ≡ Some v → nvsize_in (slice_get (rows ++ row ∷ []) v.0) ≤ nvsize_in (slice_get (rows ++ row ∷ []) d.0)
+    primary_before d v lt p =
+        let falls = scene.before.falls d v p in
+        rw (old d.0 lt, old v.0 (omega arith)) (scene.inside.by_primary d v lt p)
+
+    primary_here : (d v : ClassId) → d.0 ≡ c.0 → virtual_primary ps d ≡ Some v → nvsize_in (slice_get (rows ++ row ∷ []) v.0) ≤ nvsize_in (slice_get (rows ++ row ∷ []) d.0)
+    primary_here d v same p =
+        let is : d ≡ c = ap number same in
+        let falls = scene.before.falls d v p in
+        let row_each = scene.row_each in
+        let known_each = scene.known_each in
+        let virtual = primary_is v (subst (λ (x : ClassId). virtual_primary ps x ≡ Some v) is p) in
+        let rest = map (λ (x : Base ClassId). Own x.class) (filter (is_other_base primary) class.bases) in
+        let fronts : front_bases primary class.bases ≡ SharedBase v ∷ rest = ap (λ (q : Primary). first_base q ++ rest) virtual in
+        let fits : (f (SharedBase v)).takes ≤ (after_all first (map f (front_bases primary class.bases)) places).size =
+        subst (λ (bs : List PlacedBase). (f (SharedBase v)).takes ≤ (after_all first (map f bs) places).size) (sym fronts) (first_within f first (SharedBase v) rest places (subst (λ (bs : List PlacedBase). ArePlaced first (map f bs) places) fronts placed)) in
+        let takes = shared_takes h rows known ps c v sized (omega arith) (omega arith) in
+        let n : nvsize_in (slice_get (rows ++ row ∷ []) v.0) ≡ nvsize_in (slice_get rows v.0) = ap nvsize_in (old v.0 (omega arith)) in
+        let m : nvsize_in (slice_get (rows ++ row ∷ []) d.0) ≡ row.nvsize = ap (λ k. nvsize_in (slice_get (rows ++ row ∷ []) k)) same ∙ ap nvsize_in new in
+        omega arith
+
+    past_rows : (xs : List ClassLayout) (n : ℕ) → length xs ≤ n → nvsize_in (slice_get xs n) ≡ 0
+    past_rows [] n le = refl
+    past_rows (x ∷ xs) zero le = absurd (omega arith)
+    past_rows (x ∷ xs) (suc n) le = past_rows xs n (omega arith)
+
+    length_more : (xs : List ClassLayout) → length (xs ++ row ∷ []) ≡ length xs + 1
+    length_more [] = refl
+    length_more (x ∷ xs) = let r = length_more xs in omega arith
+
+    small_at : (n : ℕ) → nvsize_in (slice_get (rows ++ row ∷ []) n) ≤ 500000
+    small_at n = ⊎_elim
+        (λ same. let is : nvsize_in (slice_get (rows ++ row ∷ []) n) ≡ row.nvsize = ap nvsize_in (ap (slice_get (rows ++ row ∷ [])) same ∙ new) in omega arith)
+        (λ o. ⊎_elim
+        (λ l. let row_each = scene.row_each in let known_each = scene.known_each in
+        let k = sized_of rows known (number n) sized (omega arith) (omega arith) in
+        let a = k.sized.nvsize in let b = k.sized.size in
+        let is : nvsize_in (slice_get (rows ++ row ∷ []) n) ≡ k.row.nvsize = ap nvsize_in (old n l ∙ k.row_is) in
+        omega arith)
+        (λ g. let row_each = scene.row_each in let more = length_more rows in let z = past_rows (rows ++ row ∷ []) n (omega arith) in omega arith)
+        o)
+        (cases_order n c.0)
