@@ -31,3 +31,4 @@ pub mod SettledLemmas
 pub mod OpenLemmas
 pub mod CanSettleLemmas
 pub mod NestedLemmas
+pub mod RoomLemmas
