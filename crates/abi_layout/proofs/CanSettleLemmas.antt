@@ -1,5 +1,5 @@
 -- Where classes end within those that have them, the virtual bases that are held can be settled.
-use Rattle.std.proofs.Common.{◌≡◌, ℕ, zero, suc, ◌+◌, ◌<◌, ◌≤◌, ⊎_elim, Bool, true, false, Option, Some, None, List, [], ◌∷◌, length, get_or, refl, ap, subst, sym, ◌∙◌, arith}
+use Rattle.std.proofs.Common.{◌≡◌, ℕ, zero, suc, ◌+◌, ◌<◌, ◌≤◌, ⊎_elim, true, false, Option, Some, None, List, [], ◌∷◌, length, get_or, refl, ap, subst, sym, ◌∙◌, arith}
 use Rattle.std.specs.Prelude.{Contains}
 use Rattle.std.specs.List.{slice_get}
 use Rattle.std.proofs.lemmas.Bool.{eqb-true, cases_order}
@@ -8,19 +8,17 @@ use Rattle.cxx_hierarchy.specs.declared.records.ClassId.{ClassId}
 use Rattle.cxx_hierarchy.specs.declared.records.Base.{Base}
 use Rattle.cxx_hierarchy.specs.Classes.{Classes, bases_of}
 use Rattle.cxx_hierarchy.specs.Hierarchies.{IsHierarchy}
-use Rattle.cxx_subobject.specs.declared.Root.{Root}
 use Rattle.cxx_subobject.specs.declared.Root.TheVariants.{Whole, Shared}
 use Rattle.cxx_subobject.specs.declared.Subobject.{Subobject}
-use Rattle.cxx_subobject.specs.Subobjects.{IsSubobject, whole, shared, Leads, class_of, last_of}
+use Rattle.cxx_subobject.specs.Subobjects.{IsSubobject, whole, shared, Leads, last_of}
 use Rattle.cxx_subobject.specs.Preorder.{preorder, ListsSubobjects}
 use Rattle.cxx_subobject.proofs.TreeLemmas.{preorder_lists}
 use Rattle.abi_primary.specs.declared.Primary.{Primary}
-use Rattle.abi_primary.specs.PrimaryBase.{has_primary}
 use Rattle.abi_primary.proofs.HolderLemmas.{held}
 use Rattle.abi_layout.specs.declared.class_layout.ClassLayout.{ClassLayout}
 use Rattle.abi_layout.specs.Places.{base_place, place_along}
 use Rattle.abi_layout.specs.Laid.{nvsize_in}
-use Rattle.abi_layout.specs.Holding.{virtual_primary, shared_primary, primary_in_class, AreHolders}
+use Rattle.abi_layout.specs.Holding.{virtual_primary, shared_primary, AreHolders}
 use Rattle.abi_layout.specs.Scenes.{AreBefore}
 use Rattle.abi_layout.specs.Settled.{place_by, IsPath, held_at, HasRoom, CanSettle}
 use Rattle.abi_layout.proofs.Lists.{number}

@@ -246,3 +246,18 @@ nested_more h c class rows known members ps list holders row primary first place
         (λ g. let row_each = scene.row_each in let more = length_more rows in let z = past_rows (rows ++ row ∷ []) n (omega arith) in omega arith)
         o)
         (cases_order n c.0)
+
+-- among placed bases of which one alone is the direct one of a class, its place is the one at its number
+pub own_place_at : (bs : List PlacedBase) (places : List ℕ) (i : ℕ) (b : ClassId) (p : ℕ) → ((j k : ℕ) (x y : PlacedBase) → slice_get bs j ≡ Some x → slice_get bs k ≡ Some y → is_own b x ≡ true → is_own b y ≡ true → j ≡ k)
+    → slice_get bs i ≡ Some (Own b) → slice_get places i ≡ Some p → own_place bs places b ≡ p
+own_place_at [] places i b p once e there = let f : None ≡ Some (Own b) = e in cc
+own_place_at (x ∷ bs) [] i b p once e there = let f : None ≡ Some p = there in cc
+own_place_at (x ∷ bs) (q ∷ places) zero b p once e there =
+    let same : x ≡ Own b = cc in
+    let own : is_own b x ≡ true = ap (is_own b) same ∙ eq_self b.0 in
+    let is : q ≡ p = cc in
+    ap (λ o. if o then q else own_place bs places b) own ∙ is
+own_place_at (x ∷ bs) (q ∷ places) (suc i) b p once e there =
+    split (is_own b x) (λ o. is_own b x ≡ o → (if o then q else own_place bs places b) ≡ p)
+    (λ t _. let f : zero ≡ suc i = once zero (suc i) x (Own b) refl e t (eq_self b.0) in absurd (omega arith))
+    (λ f _. own_place_at bs places i b p (λ j k y z a c own other. let s : suc j ≡ suc k = once (suc j) (suc k) y z a c own other in omega arith) e there) refl
