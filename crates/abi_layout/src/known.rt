@@ -20,6 +20,7 @@ pub struct Known {
     pub is_empty: bool,
     pub is_pod: bool,
     pub parts: PartList,
+    pub member_parts: PartList,
 }
 
 /// A class that is laid out.
