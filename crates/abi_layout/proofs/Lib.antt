@@ -20,3 +20,4 @@ pub mod Arranged
 pub mod Locate
 pub mod Decode
 pub mod SoundLemmas
+pub mod HoldingLemmas

@@ -5,3 +5,6 @@ pub mod Kinds
 pub mod Laid
 pub mod Alignments
 pub mod Known
+pub mod Holding
+pub mod Brought
+pub mod DynamicLaid

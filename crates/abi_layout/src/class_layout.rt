@@ -2,13 +2,20 @@
 
 ghost use Rattle.std.specs.Prelude.{◌≡◌, ◌<◌, Some, length, slice_get};
 
-pub use abi_primary::Primary;
 use cxx_hierarchy::ClassId;
 use foundation::Sequence;
 use std::marker::Model;
 
 /// Places in bytes.
 pub type PlaceList = Sequence<u32>;
+
+/// The primary base of a class: the base whose virtual pointer it shares (Itanium C++ ABI 2.4).
+#[derive(Clone, Copy, Debug, PartialEq, Eq)]
+pub enum Primary {
+    None,
+    Direct(ClassId),
+    Virtual(ClassId),
+}
 
 /// The layout of one class. All numbers are bytes.
 ///

@@ -20,7 +20,6 @@ pub struct Known {
     pub is_empty: bool,
     pub is_pod: bool,
     pub parts: PartList,
-    pub member_parts: PartList,
 }
 
 /// A class that is laid out.

@@ -11,25 +11,21 @@
 #![tactic(auto)]
 
 pub mod class_layout;
-mod brought;
 pub mod component;
-pub mod dynamic_layout;
-mod dynamic_rows;
+pub mod dynamic_bases;
 pub mod hierarchy_layout;
-mod holders;
+pub mod holding;
 pub mod known;
 mod member;
 pub mod places;
 pub mod placing;
 mod rows;
-mod scene;
 pub mod soundness;
 pub mod statics;
 #[cfg(test)]
 mod tests;
 
 pub use crate::class_layout::{AbiLayout, ClassLayout, PlaceList, Primary};
-pub use crate::dynamic_layout::lay_out_first;
 pub use crate::hierarchy_layout::{lay_out, lay_out_front, one_layout, some_layout};
 pub use crate::soundness::laid_is_sound;
 pub use crate::statics::is_static;

@@ -7,7 +7,7 @@ ghost use Rattle.cxx_subobject.specs.Subobjects.{IsSubobject, tail_of};
 ghost use Rattle.abi_layout.specs.Places.{base_place, is_plain_base, number_in, place_along, places_of};
 ghost use Rattle.abi_layout.specs.Sound.{IsSound};
 
-use crate::class_layout::{AbiLayout, ClassLayout};
+use crate::class_layout::AbiLayout;
 use cxx_hierarchy::{Base, ClassId, Hierarchy};
 use cxx_subobject::Subobject;
 
@@ -39,19 +39,6 @@ fn classes_below(path: &[ClassId]) -> &[ClassId]
         [_, below @ ..] => below,
         [] => path,
     }
-}
-
-/// The place of a direct non-virtual base, by the places of the non-virtual bases of its class.
-pub(crate) fn place_in(h: &Hierarchy, places: &[u32], c: ClassId, b: ClassId) -> u32 {
-    match number_of_base(h.class(c).bases.as_slice(), b) {
-        Some(n) => place_at(places, n),
-        None => 0,
-    }
-}
-
-/// The place of a direct non-virtual base in a class with this row.
-pub(crate) fn place_of_base(h: &Hierarchy, row: &ClassLayout, c: ClassId, b: ClassId) -> u32 {
-    place_in(h, row.base_places.as_slice(), c, b)
 }
 
 impl AbiLayout {

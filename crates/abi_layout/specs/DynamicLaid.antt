@@ -1,0 +1,200 @@
+-- Which layout the rules of the ABI give to any hierarchy (Itanium C++ ABI 2.4, and 2.2 for a class that is POD).
+use Rattle.std.specs.Prelude.{◌≡◌, ℕ, zero, suc, ◌+◌, ◌<◌, ◌↔◌, IsTrue, Bool, true, false, not, ◌&&◌, ◌==◌, nat_eq, if◌then◌else◌, max, Option, Some, None, List, [], ◌∷◌, ◌++◌, map, filter, length, take, get_or, slice_get, position, Contains}
+use Rattle.std.specs.List.{list_any}
+use Rattle.cxx_hierarchy.specs.declared.records.ClassId.{ClassId}
+use Rattle.cxx_hierarchy.specs.declared.records.Base.{Base}
+use Rattle.cxx_hierarchy.specs.Classes.{Class, Classes, class_at, bases_of, members_of}
+use Rattle.cxx_subobject.specs.declared.Root.{Root}
+use Rattle.cxx_subobject.specs.declared.Root.TheVariants.{Whole, Shared}
+use Rattle.cxx_subobject.specs.declared.Subobject.{Subobject}
+use Rattle.cxx_subobject.specs.Subobjects.{subobject, shared_base, class_of}
+use Rattle.cxx_subobject.specs.Preorder.{preorder}
+use Rattle.abi_emptybase.specs.declared.Part.{Part}
+use Rattle.abi_primary.specs.declared.Primary.{Primary}
+use Rattle.abi_primary.specs.declared.Primary.TheVariants.{None as NoPrimary, Direct, Virtual}
+use Rattle.abi_primary.specs.Kinds.{IsDynamic}
+use Rattle.abi_primary.specs.NearlyEmpty.{IsNearlyEmpty}
+use Rattle.abi_primary.specs.PrimaryBase.{IsPrimary}
+use Rattle.abi_primary.specs.Holder.{holder_of}
+use Rattle.abi_layout.specs.declared.component.Component.{Component}
+use Rattle.abi_layout.specs.declared.component.Stage.{Stage}
+use Rattle.abi_layout.specs.declared.class_layout.Primary.{Primary as RowPrimary}
+use Rattle.abi_layout.specs.declared.class_layout.Primary.TheVariants.{None as NoRowPrimary, Direct as RowDirect, Virtual as RowVirtual}
+use Rattle.abi_layout.specs.declared.class_layout.ClassLayout.{ClassLayout}
+use Rattle.abi_layout.specs.declared.dynamic_bases.PlacedBase.{PlacedBase}
+use Rattle.abi_layout.specs.declared.dynamic_bases.PlacedBase.TheVariants.{Own, SharedBase}
+use Rattle.abi_layout.specs.Kinds.{is_empty, is_pod}
+use Rattle.abi_layout.specs.Places.{number_in, place_at, place_along, bases_in, members_in, is_plain_base, base_place, size_in, nvalign_in}
+use Rattle.abi_layout.specs.Laid.{IsNext, ArePlaced, after_all, part_at, parts_at, nvsize_in, member_component}
+use Rattle.abi_layout.specs.Holding.{virtual_bases}
+use Rattle.abi_layout.specs.Brought.{brought_by}
+
+abbrev pub virtuals_in : Option ClassLayout → List ℕ
+virtuals_in None = []
+virtuals_in (Some row) = row.virtual_places
+
+-- the place of a virtual base in an object of class c
+abbrev pub virtual_place : Classes → List ClassLayout → ClassId → ClassId → ℕ
+virtual_place h rows c v = place_at (virtuals_in (slice_get rows c.0)) (position (λ (w : ClassId). nat_eq w.0 v.0) (virtual_bases h c))
+
+abbrev pub place_from : Classes → List ClassLayout → List ClassId → ℕ
+place_from h rows [] = 0
+place_from h rows (d ∷ path) = place_along h rows d path
+
+abbrev pub root_place : Classes → List ClassLayout → ClassId → Root → ℕ
+root_place h rows c Whole = 0
+root_place h rows c (Shared v) = virtual_place h rows c v
+
+-- the place of a subobject in an object of class c: where its root lies, and the places along its path
+abbrev pub place_of : Classes → List ClassLayout → ClassId → Subobject → ℕ
+place_of h rows c s = root_place h rows c s.root + place_from h rows s.path
+
+-- the class of a base that is placed in its class, and the subobject that it is
+abbrev pub class_of_placed : PlacedBase → ClassId
+class_of_placed (Own b) = b
+class_of_placed (SharedBase v) = v
+
+abbrev pub subobject_of : ClassId → PlacedBase → Subobject
+subobject_of c (Own b) = subobject Whole (c ∷ b ∷ [])
+subobject_of c (SharedBase v) = shared_base v
+
+abbrev pub first_base : Primary → List PlacedBase
+first_base NoPrimary = []
+first_base (Direct b) = Own b ∷ []
+first_base (Virtual v) = SharedBase v ∷ []
+
+abbrev pub is_first_base : Primary → Base ClassId → Bool
+is_first_base NoPrimary base = false
+is_first_base (Direct b) base = nat_eq b.0 base.class.0
+is_first_base (Virtual v) base = false
+
+-- the bases that are placed before the members: the primary base, then the other direct non-virtual ones in the order of
+-- the class head
+abbrev pub front_bases : Primary → List (Base ClassId) → List PlacedBase
+front_bases primary bases = first_base primary ++ map (λ (base : Base ClassId). Own base.class) (filter (λ base. not base.is_virtual && not (is_first_base primary base)) bases)
+
+abbrev pub is_free : Option Subobject → Bool
+is_free None = true
+is_free (Some holder) = false
+
+-- those that are placed behind the members: the virtual bases in preorder that no subobject holds
+abbrev pub free_bases : Classes → List Primary → ClassId → List PlacedBase
+free_bases h primaries c = map (λ v. SharedBase v) (filter (λ v. is_free (holder_of h primaries c v)) (virtual_bases h c))
+
+-- what a placed base is to its class c, where `parts` tells the class subobjects of a complete object
+abbrev pub placed_component : Classes → List ClassLayout → List Primary → (ClassId → List Part) → ClassId → PlacedBase → Component
+placed_component h rows primaries parts c base = let b = class_of_placed base in record {
+  is_empty = is_empty h b;
+  align = nvalign_in (slice_get rows b.0);
+  takes = if is_empty h b then size_in (slice_get rows b.0) else nvsize_in (slice_get rows b.0);
+  parts = brought_by h rows primaries parts c (subobject_of c base) b;
+}
+
+abbrev pub placed_place : Classes → List ClassLayout → ClassId → PlacedBase → ℕ
+placed_place h rows c base = place_of h rows c (subobject_of c base)
+
+abbrev pub primary_of : List Primary → ClassId → Primary
+primary_of primaries c = get_or primaries c.0 NoPrimary
+
+abbrev pub fronts : List Primary → ClassId → Class → List PlacedBase
+fronts primaries c class = front_bases (primary_of primaries c) class.bases
+
+-- the components of a class: bases before the members, members, and virtual bases behind them
+abbrev pub front_components : Classes → List ClassLayout → List Primary → (ClassId → List Part) → ClassId → Class → List Component
+front_components h rows primaries parts c class = map (placed_component h rows primaries parts c) (fronts primaries c class)
+
+abbrev pub free_components : Classes → List ClassLayout → List Primary → (ClassId → List Part) → ClassId → List Component
+free_components h rows primaries parts c = map (placed_component h rows primaries parts c) (free_bases h primaries c)
+
+abbrev pub object_parts_in : Classes → List ClassLayout → List Primary → (ClassId → List Part) → ClassId → Option Class → List Part
+object_parts_in h rows primaries parts c None = []
+object_parts_in h rows primaries parts c (Some class) =
+    part_at c 0
+    ∷ (parts_at (front_components h rows primaries parts c class) (map (placed_place h rows c) (fronts primaries c class))
+    ++ (parts_at (map (member_component rows parts) class.members) (members_in (slice_get rows c.0))
+    ++ parts_at (free_components h rows primaries parts c) (map (placed_place h rows c) (free_bases h primaries c))))
+
+-- the class subobjects of a complete object of class c, with their places: itself, and what its components bring. Each
+-- step goes down to a class of a smaller number
+abbrev pub object_parts_within : Classes → List ClassLayout → List Primary → ℕ → ClassId → List Part
+object_parts_within h rows primaries zero c = []
+object_parts_within h rows primaries (suc steps) c = object_parts_in h rows primaries (object_parts_within h rows primaries steps) c (class_at h c)
+
+abbrev pub object_parts : Classes → List ClassLayout → List Primary → ClassId → List Part
+object_parts h rows primaries c = object_parts_within h rows primaries (c.0 + 1) c
+
+-- before the first component: the class itself is at 0, and so is its own virtual pointer, if it has one
+abbrev pub start_stage : ClassId → Bool → Stage
+start_stage c has_pointer = record { dsize = if has_pointer then 8 else 0; size = if has_pointer then 8 else 0; align = if has_pointer then 8 else 1; parts = part_at c 0 ∷ [] }
+
+-- the layout of class c by its components: they lie one after the other, and the size is the least multiple of the
+-- alignment that they fit in and that is not 0. Without the virtual bases that no subobject holds, the class ends where
+-- its last member ends; a POD class keeps its tail padding
+pub record IsLayoutBy (first : Stage) (fronts members frees : List Component) (front_places free_places : List ℕ) (is_pod : Bool) (row : ClassLayout) : Type 0 where
+  pub fronts_placed : ArePlaced first fronts front_places
+  pub members_placed : ArePlaced (after_all first fronts front_places) members row.member_places
+  pub frees_placed : ArePlaced (after_all (after_all first fronts front_places) members row.member_places) frees free_places
+  pub nvalign : row.nvalign ≡ (after_all (after_all first fronts front_places) members row.member_places).align
+  pub nvsize : row.nvsize ≡ (if is_pod then row.size else (after_all (after_all first fronts front_places) members row.member_places).size)
+  pub align : row.align ≡ (after_all (after_all (after_all first fronts front_places) members row.member_places) frees free_places).align
+  pub size : IsNext (max 1 (after_all (after_all (after_all first fronts front_places) members row.member_places) frees free_places).size) row.align row.size
+  pub dsize : row.dsize ≡ (if is_pod then row.size else (after_all (after_all (after_all first fronts front_places) members row.member_places) frees free_places).dsize)
+
+abbrev pub row_primary : Primary → RowPrimary
+row_primary NoPrimary = NoRowPrimary
+row_primary (Direct b) = RowDirect b
+row_primary (Virtual v) = RowVirtual v
+
+-- the row is the layout of the class, by the rows and the primary bases of the classes up to it
+pub record IsDynamicRow (h : Classes) (rows : List ClassLayout) (nearly : List Bool) (primaries : List Primary) (c : ClassId) (class : Class) (row : ClassLayout) : Type 0 where
+  pub is_primary : IsPrimary h nearly (take c.0 primaries) c (primary_of primaries c)
+  pub primary : row.primary ≡ row_primary (primary_of primaries c)
+  pub has_pointer : Bool
+  pub pointer : IsTrue has_pointer ↔ (IsDynamic h c × (primary_of primaries c ≡ NoPrimary))
+  pub placed : IsLayoutBy (start_stage c has_pointer) (front_components h rows primaries (object_parts h rows primaries) c class) (map (member_component rows (object_parts h rows primaries)) class.members) (free_components h rows primaries (object_parts h rows primaries) c)
+      (map (placed_place h rows c) (fronts primaries c class)) (map (placed_place h rows c) (free_bases h primaries c)) (is_pod h c) row
+  -- a place for each direct non-virtual base and each virtual base; one that is held lies at its holder
+  pub each_base : length row.base_places ≡ length (filter is_plain_base class.bases)
+  pub each_virtual : length row.virtual_places ≡ length (virtual_bases h c)
+  pub held : (v : ClassId) (holder : Subobject) → Contains (virtual_bases h c) v → holder_of h primaries c v ≡ Some holder → virtual_place h rows c v ≡ place_of h rows c holder
+
+abbrev pub is_whole : Root → Bool
+is_whole Whole = true
+is_whole (Shared v) = false
+
+abbrev pub is_empty_in : Classes → Option ClassId → Bool
+is_empty_in h None = false
+is_empty_in h (Some d) = is_empty h d
+
+-- an empty base of c that lies in no virtual base lies elsewhere than at its start
+abbrev pub is_shifted : Classes → List ClassLayout → ClassId → Bool
+is_shifted h rows c = list_any (λ (s : Subobject). is_whole s.root && (is_empty_in h (class_of s) && not (place_of h rows c s == 0))) (preorder h c)
+
+-- the list tells which of the first `count` classes are nearly empty
+pub record TellsNearly (h : Classes) (rows : List ClassLayout) (count : ℕ) (nearly : List Bool) : Type 0 where
+  pub one_each : length nearly ≡ count
+  pub each : (c : ClassId) → c.0 < count → IsTrue (get_or nearly c.0 false) ↔ IsNearlyEmpty h nearly (is_shifted h rows c) c
+
+-- the rows are the layout of the first `count` classes, whichever they are
+pub record IsFrontLaid (h : Classes) (count : ℕ) (rows : List ClassLayout) : Type 0 where
+  pub one_each : length rows ≡ count
+  pub nearly : List Bool
+  pub tells : TellsNearly h rows count nearly
+  pub primaries : List Primary
+  pub primary_each : length primaries ≡ count
+  pub row : (c : ClassId) (class : Class) (row : ClassLayout) → class_at h c ≡ Some class → slice_get rows c.0 ≡ Some row → IsDynamicRow h rows nearly primaries c class row
+
+-- some part stands twice in the list
+pub record HasRepeat (parts : List Part) : Type 0 where
+  pub first : ℕ
+  pub second : ℕ
+  pub part : Part
+  pub ordered : first < second
+  pub at_first : slice_get parts first ≡ Some part
+  pub at_second : slice_get parts second ≡ Some part
+
+-- a base of class c brings one pair of class and place twice, so that no place helps
+pub record BringsTwice (h : Classes) (rows : List ClassLayout) (primaries : List Primary) (c : ClassId) (class : Class) : Type 0 where
+  pub base : PlacedBase
+  pub placed : Contains (fronts primaries c class ++ free_bases h primaries c) base
+  pub repeated : HasRepeat (brought_by h rows primaries (object_parts h rows primaries) c (subobject_of c base) (class_of_placed base))
