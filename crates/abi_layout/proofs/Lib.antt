@@ -21,3 +21,5 @@ pub mod Locate
 pub mod Decode
 pub mod SoundLemmas
 pub mod HoldingLemmas
+pub mod SceneLemmas
+pub mod BroughtLemmas

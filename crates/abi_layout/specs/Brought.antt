@@ -1,5 +1,5 @@
 -- What a base brings where it is placed: class subobjects, by their places from its start (Itanium C++ ABI 2.4).
-use Rattle.std.specs.Prelude.{◌≡◌, ℕ, zero, suc, ◌+◌, Option, Some, None, List, [], ◌∷◌, ◌++◌, map, filter, slice_get}
+use Rattle.std.specs.Prelude.{ℕ, zero, suc, ◌+◌, if◌then◌else◌, Option, Some, None, List, [], ◌∷◌, ◌++◌, map, slice_get}
 use Rattle.std.specs.List.{flat_map}
 use Rattle.cxx_hierarchy.specs.declared.records.ClassId.{ClassId}
 use Rattle.cxx_hierarchy.specs.declared.records.Base.{Base}
@@ -10,7 +10,7 @@ use Rattle.abi_emptybase.specs.declared.Part.{Part}
 use Rattle.abi_emptybase.specs.Table.{moved}
 use Rattle.abi_primary.specs.declared.Primary.{Primary}
 use Rattle.abi_layout.specs.declared.class_layout.ClassLayout.{ClassLayout}
-use Rattle.abi_layout.specs.Places.{members_in, is_plain_base, base_place}
+use Rattle.abi_layout.specs.Places.{members_in, base_place}
 use Rattle.abi_layout.specs.Laid.{part_at, parts_at, member_component}
 use Rattle.abi_layout.specs.Holding.{held_base}
 
@@ -18,9 +18,14 @@ use Rattle.abi_layout.specs.Holding.{held_base}
 abbrev pub member_parts : Classes → List ClassLayout → (ClassId → List Part) → ClassId → List Part
 member_parts h rows parts d = parts_at (map (member_component rows parts) (members_of h d)) (members_in (slice_get rows d.0))
 
-abbrev pub parts_if : (ClassId → List Part) → Option ClassId → List Part
-parts_if parts None = []
-parts_if parts (Some v) = parts v
+-- what s brings by a direct base of its class d, where `next` tells what a subobject of a class before brings: nothing by
+-- a virtual one
+abbrev pub base_brings : Classes → List ClassLayout → (Subobject → ClassId → List Part) → Subobject → ClassId → Base ClassId → List Part
+base_brings h rows next s d base = if base.is_virtual then [] else map (moved (base_place h rows d base.class)) (next (base_subobject s base) base.class)
+
+abbrev pub shared_brings : (Subobject → ClassId → List Part) → Option ClassId → List Part
+shared_brings next None = []
+shared_brings next (Some v) = next (shared_base v) v
 
 -- what the subobject s, of class d, of an object of class c brings: itself, the objects in its members, its non-virtual
 -- bases with what they bring, and the virtual base that it holds with what that brings. Each step goes to a class of a
@@ -29,8 +34,8 @@ abbrev pub brought : Classes → List ClassLayout → List Primary → (ClassId 
 brought h rows primaries parts c zero s d = []
 brought h rows primaries parts c (suc steps) s d =
     (part_at d 0 ∷ member_parts h rows parts d)
-    ++ (flat_map (λ (base : Base ClassId). map (moved (base_place h rows d base.class)) (brought h rows primaries parts c steps (base_subobject s base) base.class)) (filter is_plain_base (bases_of h d))
-    ++ parts_if (λ v. brought h rows primaries parts c steps (shared_base v) v) (held_base h primaries c s d))
+    ++ (flat_map (base_brings h rows (brought h rows primaries parts c steps) s d) (bases_of h d)
+    ++ shared_brings (brought h rows primaries parts c steps) (held_base h primaries c s d))
 
 abbrev pub brought_by : Classes → List ClassLayout → List Primary → (ClassId → List Part) → ClassId → Subobject → ClassId → List Part
 brought_by h rows primaries parts c s d = brought h rows primaries parts c (d.0 + 1) s d

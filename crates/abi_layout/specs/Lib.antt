@@ -8,3 +8,4 @@ pub mod Known
 pub mod Holding
 pub mod Brought
 pub mod DynamicLaid
+pub mod Scenes

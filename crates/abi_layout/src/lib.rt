@@ -10,6 +10,7 @@
 //! in their complete object and of members in their class, in bytes.
 #![tactic(auto)]
 
+mod brought;
 pub mod class_layout;
 pub mod component;
 pub mod dynamic_bases;
@@ -20,6 +21,7 @@ mod member;
 pub mod places;
 pub mod placing;
 mod rows;
+pub mod scene;
 pub mod soundness;
 pub mod statics;
 #[cfg(test)]

@@ -4,7 +4,7 @@ ghost use Rattle.std.specs.Prelude.{◌≡◌, ◌<◌, ◌^◌, filter, length,
 ghost use Rattle.cxx_hierarchy.specs.declared.records.Base.{Base};
 ghost use Rattle.cxx_hierarchy.specs.declared.records.ClassId.{ClassId};
 ghost use Rattle.cxx_subobject.specs.Subobjects.{IsSubobject, tail_of};
-ghost use Rattle.abi_layout.specs.Places.{base_place, is_plain_base, number_in, place_along, places_of};
+ghost use Rattle.abi_layout.specs.Places.{base_place, is_plain_base, number_in, place_along, place_at, places_of};
 ghost use Rattle.abi_layout.specs.Sound.{IsSound};
 
 use crate::class_layout::AbiLayout;
@@ -12,7 +12,7 @@ use cxx_hierarchy::{Base, ClassId, Hierarchy};
 use cxx_subobject::Subobject;
 
 /// The number of the first non-virtual base of class `b`, among the non-virtual bases.
-fn number_of_base(bases: &[Base<ClassId>], b: ClassId) -> Option<usize>
+pub(crate) fn number_of_base(bases: &[Base<ClassId>], b: ClassId) -> Option<usize>
     ensures { result ≡ position (λ (base : Base ClassId). nat_eq base.class.0 b.0) (filter is_plain_base bases.now) }
 {
     bases
@@ -27,6 +27,16 @@ fn place_at(places: &[u32], n: usize) -> u32
 {
     match places.get(n) {
         Some(place) => *place,
+        None => 0,
+    }
+}
+
+/// The place of a number, if there is one, 0 otherwise.
+pub(crate) fn place_of_number(places: &[u32], number: Option<usize>) -> u32
+    ensures { result ≡ place_at places.now number }
+{
+    match number {
+        Some(n) => place_at(places, n),
         None => 0,
     }
 }

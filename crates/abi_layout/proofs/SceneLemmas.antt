@@ -1,0 +1,37 @@
+-- Lemmas on what is known while a class is laid out.
+use Rattle.std.proofs.Common.{◌≡◌, ℕ, zero, suc, ◌+◌, ◌<◌, ◌≤◌, Bool, true, false, cond, ltb, Option, Some, None, List, [], ◌∷◌, ◌++◌, map, length, get_or, refl, ap, subst, sym, ◌∙◌, arith}
+use Rattle.std.specs.Prelude.{position, if◌then◌else◌}
+use Rattle.std.specs.List.{Contains, slice_get, position_or_len, find, flat_map}
+use Rattle.std.proofs.lemmas.Bool.{ltb-true}
+use Rattle.cxx_hierarchy.specs.declared.records.ClassId.{ClassId}
+use Rattle.cxx_hierarchy.specs.Classes.{Classes}
+use Rattle.cxx_subobject.specs.declared.Subobject.{Subobject}
+use Rattle.cxx_subobject.specs.Subobjects.{same_subobject}
+use Rattle.cxx_subobject.specs.Preorder.{preorder}
+use Rattle.abi_primary.specs.declared.Primary.{Primary}
+use Rattle.abi_primary.specs.PrimaryBase.{has_primary}
+use Rattle.abi_primary.specs.Holder.{holder_of}
+use Rattle.abi_primary.proofs.PrimaryLemmas.{found, not_found}
+use Rattle.abi_layout.specs.Holding.{is_holder, holds_base, kept_if, held_base, virtual_primary, AreHolders}
+use Rattle.abi_layout.proofs.Parts.{split}
+
+pub position_below : {X : Type 0} (p : X → Bool) (xs : List X) (n : ℕ) → position p xs ≡ Some n → n < length xs
+position_below {X} p xs n e = split (ltb (position_or_len p xs) (length xs)) (λ b. cond b (Some (position_or_len p xs)) None ≡ Some n → n < length xs)
+    (λ t at. let lt = ltb-true (position_or_len p xs) (length xs) t in let same : position_or_len p xs ≡ n = cc in omega arith)
+    (λ f at. let no_place : None ≡ Some n = at in cc) e
+
+-- the number of a holder is below the length of the list
+pub holder_below : (ps : List Primary) (list : List Subobject) (count : ℕ) (holders : List (Option ℕ)) (v : ClassId) (n : ℕ) → AreHolders ps list count holders → v.0 < count → get_or holders v.0 None ≡ Some n → n < length list
+holder_below ps list count holders v n are lt e = position_below (has_primary ps v) list n (sym (are.first v lt) ∙ e)
+
+pub holder_is : (h : Classes) (ps : List Primary) (c : ClassId) (list : List Subobject) (count : ℕ) (holders : List (Option ℕ)) (v : ClassId) (n : ℕ) (t : Subobject) → list ≡ preorder h c → AreHolders ps list count holders → v.0 < count → get_or holders v.0 None ≡ Some n → t ≡ get_or list n t → holder_of h ps c v ≡ Some t
+holder_is h ps c list count holders v n t same are lt e is = subst (λ xs. find (has_primary ps v) xs ≡ Some t) same (found (has_primary ps v) list n t (sym (are.first v lt) ∙ e) is)
+
+pub holds_by : (h : Classes) (ps : List Primary) (c : ClassId) (list : List Subobject) (count : ℕ) (holders : List (Option ℕ)) (v : ClassId) (n : ℕ) (t s : Subobject) → list ≡ preorder h c → AreHolders ps list count holders → v.0 < count → get_or holders v.0 None ≡ Some n → t ≡ get_or list n t → same_subobject t s ≡ holds_base h ps c s v
+holds_by h ps c list count holders v n t s same are lt e is = sym (ap (λ o. is_holder o s) (holder_is h ps c list count holders v n t same are lt e is))
+
+pub holder_is_none : (h : Classes) (ps : List Primary) (c : ClassId) (list : List Subobject) (count : ℕ) (holders : List (Option ℕ)) (v : ClassId) → list ≡ preorder h c → AreHolders ps list count holders → v.0 < count → get_or holders v.0 None ≡ None → holder_of h ps c v ≡ None
+holder_is_none h ps c list count holders v same are lt e = subst (λ xs. find (has_primary ps v) xs ≡ None) same (not_found (has_primary ps v) list (sym (are.first v lt) ∙ e))
+
+pub held_when : (h : Classes) (ps : List Primary) (c : ClassId) (s : Subobject) (d v : ClassId) (b : Bool) → virtual_primary ps d ≡ Some v → holds_base h ps c s v ≡ b → held_base h ps c s d ≡ (if b then Some v else None)
+held_when h ps c s d v b e t = ap (kept_if (holds_base h ps c s)) e ∙ ap (λ x. if x then Some v else None) t

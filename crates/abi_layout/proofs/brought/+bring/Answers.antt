@@ -1,0 +1,61 @@
+use Rattle.std.proofs.Common.{◌≡◌, ◌+◌, ◌++◌, ◌∷◌, ◌≤◌, List, map, ap, subst, sym, ◌∙◌, refl, arith, length, take}
+use Rattle.std.specs.List.{flat_map, slice_get}
+use Rattle.std.proofs.lemmas.Option.{slice_get_read}
+use Rattle.cxx_hierarchy.specs.declared.records.ClassId.{ClassId}
+use Rattle.cxx_hierarchy.specs.declared.records.Base.{Base}
+use Rattle.cxx_hierarchy.specs.Classes.{bases_in, bases_of}
+use Rattle.abi_emptybase.specs.declared.Part.{Part}
+use Rattle.abi_layout.specs.Laid.{part_at, nvsize_in}
+use Rattle.abi_layout.specs.Alignments.{AreWithin}
+use Rattle.abi_layout.specs.Known.{parts_in}
+use Rattle.abi_layout.specs.Holding.{held_base}
+use Rattle.abi_layout.specs.Brought.{member_parts, base_brings, shared_brings, brought_by}
+use Rattle.abi_layout.proofs.Parts.{within_fits}
+use Rattle.abi_layout.proofs.BroughtLemmas.{brought_is, begun, finished, base_brought, take_whole}
+use Rattle.abi_layout.proofs.brought.+bring.Goals as goal
+
+pub bring-push_moved-requires : goal.bring-push_moved-requires
+bring-push_moved-requires t c =
+    let x = c.args.scene.now in
+    let own = c.index-scene-d.result in
+    let count = c.requires.scene.member_each in
+    let before = c.requires.before in
+    let there = slice_get_read x.members.now (length x.members.now) c.args.d.0 own refl (omega arith) c.index-scene-d.is in
+    let within = c.requires.scene.inside.by_members c.args.d own there in
+    let fits = c.requires.fits in
+    within_fits (nvsize_in (slice_get x.rows.now c.args.d.0)) c.args.at c.as_slice.result.now (omega arith) (subst (λ (ps : List Part). AreWithin (nvsize_in (slice_get x.rows.now c.args.d.0)) ps) (sym (c.as_slice.ensures ∙ sym c.index-scene-d.is)) within)
+
+pub bring-loop-base-init : goal.bring-loop-base-init
+bring-loop-base-init t c =
+    let x = c.args.scene.now in
+    let own = c.index-scene-d.result in
+    let count = c.requires.scene.member_each in
+    let before = c.requires.before in
+    let there = slice_get_read x.members.now (length x.members.now) c.args.d.0 own refl (omega arith) c.index-scene-d.is in
+    begun c.args.at c.args.d c.args.parts.now c.push.new.self c.push_moved.new.list c.as_slice.result.now (member_parts x.h.now x.rows.now (parts_in x.known.now) c.args.d)
+    c.in_ok-push.ensures.ok c.in_ok-push_moved.ensures (c.as_slice.ensures ∙ (sym c.index-scene-d.is ∙ c.requires.scene.brings c.args.d own there))
+
+pub bring_base-bring-requires : goal.bring_base-bring-requires
+bring_base-bring-requires t c =
+    let falls = c.keeps.ensures.bases c.args.d c.args.base.now c.requires.base in
+    let before = c.requires.before in
+    let inside = c.requires.scene.inside.by_bases c.args.d c.args.base.now c.requires.before c.requires.base c.if-base.false in
+    let place = c.base_place-place.ensures in
+    let fits = c.requires.fits in
+    (omega arith, (c.requires.scene, (omega arith, omega arith)))
+
+pub bring_base-returns : goal.bring_base-returns
+bring_base-returns t c =
+    let x = c.args.scene.now in
+    base_brought x.h.now x.rows.now (brought_by x.h.now x.rows.now x.primaries.now (parts_in x.known.now) x.c) c.args.s.now c.in_ok-inner.inner c.args.d c.args.base.now c.args.at c.base_place-place.result c.args.parts.now c.bring.new.parts
+    c.if-base.false c.in_ok-inner.ensures c.base_place-place.ensures c.in_ok-bring.ensures
+
+pub bring-returns : goal.bring-returns
+bring-returns t c =
+    let x = c.args.scene.now in
+    let by = brought_by x.h.now x.rows.now x.primaries.now (parts_in x.known.now) x.c in
+    let items = c.as_slice-base-items.result.now in
+    let bases : items ≡ bases_of x.h.now c.args.d = c.as_slice-base-items.ensures ∙ sym (ap bases_in c.class.ensures) in
+    finished c.args.at c.args.parts.now c.loop-base.parts c.bring_shared.new.parts (part_at c.args.d 0 ∷ member_parts x.h.now x.rows.now (parts_in x.known.now) c.args.d) (flat_map (base_brings x.h.now x.rows.now by c.args.s.now c.args.d) (take c.loop-base.base-index items)) (flat_map (base_brings x.h.now x.rows.now by c.args.s.now c.args.d) (bases_of x.h.now c.args.d))
+    (shared_brings by (held_base x.h.now x.primaries.now x.c c.args.s.now c.args.d)) (by c.args.s.now c.args.d)
+    c.loop-base.invariant c.in_ok-bring_shared.ensures (ap (flat_map (base_brings x.h.now x.rows.now by c.args.s.now c.args.d)) (take_whole items c.loop-base.base-index c.loop-base-test.false ∙ bases)) (brought_is x.h.now x.rows.now x.primaries.now (parts_in x.known.now) x.c c.keeps.ensures c.requires.scene.before c.args.s.now c.args.d)

@@ -1,0 +1,126 @@
+//! What a base brings where it is placed (Itanium C++ ABI 2.4).
+
+ghost use Rattle.std.specs.Prelude.{◌≡◌, ◌+◌, ◌<◌, ◌≤◌, ◌++◌, ◌∷◌, [], false, Contains, IfOk, OnOk, map, length, slice_get};
+ghost use Rattle.cxx_hierarchy.specs.Classes.{bases_of};
+ghost use Rattle.cxx_subobject.specs.Subobjects.{shared_base};
+ghost use Rattle.abi_emptybase.specs.Table.{moved};
+ghost use Rattle.abi_layout.specs.Places.{base_place};
+ghost use Rattle.abi_layout.specs.Laid.{nvsize_in};
+ghost use Rattle.abi_layout.specs.Known.{parts_in};
+ghost use Rattle.abi_layout.specs.Holding.{held_base};
+ghost use Rattle.abi_layout.specs.Brought.{base_brings, shared_brings, brought_by};
+ghost use Rattle.abi_layout.specs.Scenes.{IsScene};
+
+use crate::class_layout::ClassLayout;
+use crate::component::{PartList, push_moved};
+use crate::places::{number_of_base, place_of_number};
+use crate::scene::{Scene, held_base};
+use abi_emptybase::Part;
+use cxx_hierarchy::{Base, ClassId, Hierarchy};
+use cxx_subobject::{Root, Subobject, subobject_below};
+use foundation::{NoMemory, Sequence};
+use std::alloc::Global;
+
+/// The subobject that a virtual base is.
+pub(crate) fn shared_base(alloc: Global, v: ClassId) -> Result<Subobject, NoMemory>
+    ensures { IfOk result (λ s. s ≡ shared_base v) }
+{
+    let mut path = Sequence::new(alloc);
+    path.push(v)?;
+    Ok(Subobject {
+        root: Root::Shared(v),
+        path,
+    })
+}
+
+/// The place of a direct non-virtual base in its class.
+pub(crate) fn base_place(h: &Hierarchy, rows: &[ClassLayout], d: ClassId, b: ClassId) -> u32
+    requires class { d.0 < length h.now }
+    requires row { d.0 < length rows.now }
+    ensures { result ≡ base_place h.now rows.now d b }
+{
+    let number = number_of_base(h.class(d).bases.as_slice(), b);
+    place_of_number(rows[d.0 as usize].base_places.as_slice(), number)
+}
+
+/// Puts behind the others what a subobject of class `d` brings by a direct base, this many bytes further.
+#[cycle(bring)]
+fn bring_base(
+    alloc: Global,
+    scene: &Scene,
+    s: &Subobject,
+    d: ClassId,
+    base: &Base<ClassId>,
+    at: u32,
+    parts: &mut PartList,
+) -> Result<(), NoMemory>
+    requires scene { IsScene scene.now.h.now scene.now.c scene.now.rows.now scene.now.known.now scene.now.members.now scene.now.primaries.now scene.now.list.now scene.now.holders.now }
+    requires before { d.0 < scene.now.c.0 }
+    requires base { Contains (bases_of scene.now.h.now d) base.now }
+    requires fits { at + nvsize_in (slice_get scene.now.rows.now d.0) ≤ 1000000 }
+    ensures { OnOk result (parts.new ≡ parts.old ++ map (moved at) (base_brings scene.now.h.now scene.now.rows.now (brought_by scene.now.h.now scene.now.rows.now scene.now.primaries.now (parts_in scene.now.known.now) scene.now.c) s.now d base.now)) }
+{
+    scene.h.keeps();
+    if base.is_virtual {
+        return Ok(());
+    }
+    let inner = subobject_below(alloc, s, &[base.class])?;
+    let place = base_place(scene.h, scene.rows, d, base.class);
+    bring(alloc, scene, &inner, base.class, at + place, parts)?;
+    Ok(())
+}
+
+/// Puts behind the others what a subobject of class `d` brings by a virtual base that it holds, this many bytes
+/// further.
+#[cycle(bring)]
+fn bring_shared(
+    alloc: Global,
+    scene: &Scene,
+    s: &Subobject,
+    d: ClassId,
+    at: u32,
+    parts: &mut PartList,
+) -> Result<(), NoMemory>
+    requires scene { IsScene scene.now.h.now scene.now.c scene.now.rows.now scene.now.known.now scene.now.members.now scene.now.primaries.now scene.now.list.now scene.now.holders.now }
+    requires before { d.0 < scene.now.c.0 }
+    requires fits { at + nvsize_in (slice_get scene.now.rows.now d.0) ≤ 1000000 }
+    ensures { OnOk result (parts.new ≡ parts.old ++ map (moved at) (shared_brings (brought_by scene.now.h.now scene.now.rows.now scene.now.primaries.now (parts_in scene.now.known.now) scene.now.c) (held_base scene.now.h.now scene.now.primaries.now scene.now.c s.now d))) }
+{
+    match held_base(scene, s, d) {
+        Some(v) => {
+            let inner = shared_base(alloc, v)?;
+            bring(alloc, scene, &inner, v, at, parts)?;
+            Ok(())
+        }
+        None => Ok(()),
+    }
+}
+
+/// Puts behind the others what the subobject `s` of class `d` brings, this many bytes further: itself, the objects in
+/// its members, its non-virtual bases with what they bring, and a virtual base that it holds, with what that brings.
+#[cycle(bring)]
+pub(crate) fn bring(
+    alloc: Global,
+    scene: &Scene,
+    s: &Subobject,
+    d: ClassId,
+    at: u32,
+    parts: &mut PartList,
+) -> Result<(), NoMemory>
+    requires scene { IsScene scene.now.h.now scene.now.c scene.now.rows.now scene.now.known.now scene.now.members.now scene.now.primaries.now scene.now.list.now scene.now.holders.now }
+    requires before { d.0 < scene.now.c.0 }
+    requires fits { at + nvsize_in (slice_get scene.now.rows.now d.0) ≤ 1000000 }
+    ensures { OnOk result (parts.new ≡ parts.old ++ map (moved at) (brought_by scene.now.h.now scene.now.rows.now scene.now.primaries.now (parts_in scene.now.known.now) scene.now.c s.now d)) }
+{
+    scene.h.keeps();
+    parts.push(Part {
+        class: d.0,
+        place: at,
+    })?;
+    push_moved(parts, scene.members[d.0 as usize].as_slice(), at)?;
+    for base in scene.h.class(d).bases.as_slice() {
+        bring_base(alloc, scene, s, d, base, at, parts)?;
+    }
+    bring_shared(alloc, scene, s, d, at, parts)?;
+    Ok(())
+}
