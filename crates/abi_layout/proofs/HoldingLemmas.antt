@@ -40,7 +40,7 @@ abbrev IsFirstOf : {X : Type 0} → (X → Bool) → List X → ℕ → Option �
 IsFirstOf {X} p xs n None = (k : ℕ) (d : X) → k < n → p (get_or xs k d) ≡ false
 IsFirstOf {X} p xs n (Some m) = (m < n) × ((d : X) → p (get_or xs m d) ≡ true) × ((k : ℕ) (d : X) → k < m → p (get_or xs k d) ≡ false)
 
-any_default : {X : Type 0} (xs : List X) (i : ℕ) (d e : X) → i < length xs → get_or xs i d ≡ get_or xs i e
+pub any_default : {X : Type 0} (xs : List X) (i : ℕ) (d e : X) → i < length xs → get_or xs i d ≡ get_or xs i e
 any_default [] i d e lt = absurd (omega arith)
 any_default (x ∷ xs) zero d e lt = refl
 any_default (x ∷ xs) (suc i) d e lt = any_default xs i d e (omega arith)

@@ -23,3 +23,5 @@ pub mod SoundLemmas
 pub mod HoldingLemmas
 pub mod SceneLemmas
 pub mod BroughtLemmas
+pub mod PlacedLemmas
+pub mod RepeatLemmas

@@ -28,6 +28,8 @@ use Rattle.abi_layout.specs.Places.{number_in, place_at, place_along, bases_in, 
 use Rattle.abi_layout.specs.Laid.{IsNext, ArePlaced, after_all, part_at, parts_at, nvsize_in, member_component}
 use Rattle.abi_layout.specs.Holding.{virtual_bases}
 use Rattle.abi_layout.specs.Brought.{brought_by}
+use Rattle.abi_layout.specs.Repeats.{HasRepeat}
+use Rattle.abi_layout.specs.PlacedBases.{class_of_placed, subobject_of, front_bases, free_bases, placed_component}
 
 abbrev pub virtuals_in : Option ClassLayout → List ℕ
 virtuals_in None = []
@@ -49,47 +51,6 @@ root_place h rows c (Shared v) = virtual_place h rows c v
 abbrev pub place_of : Classes → List ClassLayout → ClassId → Subobject → ℕ
 place_of h rows c s = root_place h rows c s.root + place_from h rows s.path
 
--- the class of a base that is placed in its class, and the subobject that it is
-abbrev pub class_of_placed : PlacedBase → ClassId
-class_of_placed (Own b) = b
-class_of_placed (SharedBase v) = v
-
-abbrev pub subobject_of : ClassId → PlacedBase → Subobject
-subobject_of c (Own b) = subobject Whole (c ∷ b ∷ [])
-subobject_of c (SharedBase v) = shared_base v
-
-abbrev pub first_base : Primary → List PlacedBase
-first_base NoPrimary = []
-first_base (Direct b) = Own b ∷ []
-first_base (Virtual v) = SharedBase v ∷ []
-
-abbrev pub is_first_base : Primary → Base ClassId → Bool
-is_first_base NoPrimary base = false
-is_first_base (Direct b) base = nat_eq b.0 base.class.0
-is_first_base (Virtual v) base = false
-
--- the bases that are placed before the members: the primary base, then the other direct non-virtual ones in the order of
--- the class head
-abbrev pub front_bases : Primary → List (Base ClassId) → List PlacedBase
-front_bases primary bases = first_base primary ++ map (λ (base : Base ClassId). Own base.class) (filter (λ base. not base.is_virtual && not (is_first_base primary base)) bases)
-
-abbrev pub is_free : Option Subobject → Bool
-is_free None = true
-is_free (Some holder) = false
-
--- those that are placed behind the members: the virtual bases in preorder that no subobject holds
-abbrev pub free_bases : Classes → List Primary → ClassId → List PlacedBase
-free_bases h primaries c = map (λ v. SharedBase v) (filter (λ v. is_free (holder_of h primaries c v)) (virtual_bases h c))
-
--- what a placed base is to its class c, where `parts` tells the class subobjects of a complete object
-abbrev pub placed_component : Classes → List ClassLayout → List Primary → (ClassId → List Part) → ClassId → PlacedBase → Component
-placed_component h rows primaries parts c base = let b = class_of_placed base in record {
-  is_empty = is_empty h b;
-  align = nvalign_in (slice_get rows b.0);
-  takes = if is_empty h b then size_in (slice_get rows b.0) else nvsize_in (slice_get rows b.0);
-  parts = brought_by h rows primaries parts c (subobject_of c base) b;
-}
-
 abbrev pub placed_place : Classes → List ClassLayout → ClassId → PlacedBase → ℕ
 placed_place h rows c base = place_of h rows c (subobject_of c base)
 
@@ -101,10 +62,10 @@ fronts primaries c class = front_bases (primary_of primaries c) class.bases
 
 -- the components of a class: bases before the members, members, and virtual bases behind them
 abbrev pub front_components : Classes → List ClassLayout → List Primary → (ClassId → List Part) → ClassId → Class → List Component
-front_components h rows primaries parts c class = map (placed_component h rows primaries parts c) (fronts primaries c class)
+front_components h rows primaries parts c class = map (placed_component (is_empty h) h rows primaries parts c) (fronts primaries c class)
 
 abbrev pub free_components : Classes → List ClassLayout → List Primary → (ClassId → List Part) → ClassId → List Component
-free_components h rows primaries parts c = map (placed_component h rows primaries parts c) (free_bases h primaries c)
+free_components h rows primaries parts c = map (placed_component (is_empty h) h rows primaries parts c) (free_bases h primaries c)
 
 abbrev pub object_parts_in : Classes → List ClassLayout → List Primary → (ClassId → List Part) → ClassId → Option Class → List Part
 object_parts_in h rows primaries parts c None = []
@@ -183,15 +144,6 @@ pub record IsFrontLaid (h : Classes) (count : ℕ) (rows : List ClassLayout) : T
   pub primaries : List Primary
   pub primary_each : length primaries ≡ count
   pub row : (c : ClassId) (class : Class) (row : ClassLayout) → class_at h c ≡ Some class → slice_get rows c.0 ≡ Some row → IsDynamicRow h rows nearly primaries c class row
-
--- some part stands twice in the list
-pub record HasRepeat (parts : List Part) : Type 0 where
-  pub first : ℕ
-  pub second : ℕ
-  pub part : Part
-  pub ordered : first < second
-  pub at_first : slice_get parts first ≡ Some part
-  pub at_second : slice_get parts second ≡ Some part
 
 -- a base of class c brings one pair of class and place twice, so that no place helps
 pub record BringsTwice (h : Classes) (rows : List ClassLayout) (primaries : List Primary) (c : ClassId) (class : Class) : Type 0 where

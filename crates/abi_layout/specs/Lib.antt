@@ -7,5 +7,7 @@ pub mod Alignments
 pub mod Known
 pub mod Holding
 pub mod Brought
+pub mod PlacedBases
+pub mod Repeats
 pub mod DynamicLaid
 pub mod Scenes

@@ -20,6 +20,7 @@ pub mod known;
 mod member;
 pub mod places;
 pub mod placing;
+mod repeats;
 mod rows;
 pub mod scene;
 pub mod soundness;

@@ -1,0 +1,12 @@
+-- Lists in which some class subobject of one class lies twice at one place.
+use Rattle.std.specs.Prelude.{◌≡◌, ℕ, ◌<◌, Some, List, slice_get}
+use Rattle.abi_emptybase.specs.declared.Part.{Part}
+
+-- some part stands twice in the list
+pub record HasRepeat (parts : List Part) : Type 0 where
+  pub first : ℕ
+  pub second : ℕ
+  pub part : Part
+  pub ordered : first < second
+  pub at_first : slice_get parts first ≡ Some part
+  pub at_second : slice_get parts second ≡ Some part
