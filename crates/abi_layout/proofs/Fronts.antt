@@ -1,8 +1,7 @@
 -- Layouts of the first classes, one class after the other.
 use Rattle.std.proofs.Common.{◌≡◌, ℕ, zero, suc, ◌+◌, ◌-◌, ◌<◌, ◌≤◌, ◌⊎◌, inl, inr, ⊎_elim, Bool, true, false, Option, Some, None, List, [], ◌∷◌, ◌++◌, map, length, refl, ap, subst, sym, ◌∙◌, arith}
 use Rattle.std.specs.Prelude.{filter, if◌then◌else◌}
-use Rattle.std.specs.List.{slice_get, Contains}
-use Rattle.std.proofs.lemmas.Bool.{cases_order}
+use Rattle.std.specs.List.{slice_get}
 use Rattle.std.proofs.lemmas.Option.{slice_get_within}
 use Rattle.cxx_hierarchy.specs.declared.records.ClassId.{ClassId}
 use Rattle.cxx_hierarchy.specs.declared.records.Base.{Base}
@@ -12,7 +11,6 @@ use Rattle.cxx_hierarchy.specs.declared.records.FieldType.TheVariants.{Value, Ob
 use Rattle.cxx_hierarchy.specs.Classes.{Class, Classes, class_at}
 use Rattle.abi_emptybase.specs.declared.Part.{Part}
 use Rattle.abi_layout.specs.declared.component.Component.{Component}
-use Rattle.abi_layout.specs.declared.component.Stage.{Stage}
 use Rattle.abi_layout.specs.declared.known.Known.{Known}
 use Rattle.abi_layout.specs.declared.known.LaidClass.{LaidClass}
 use Rattle.abi_layout.specs.declared.class_layout.ClassLayout.{ClassLayout}

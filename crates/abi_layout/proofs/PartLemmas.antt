@@ -1,5 +1,5 @@
 -- What the rules say of a class depends on the classes before it alone.
-use Rattle.std.proofs.Common.{◌≡◌, ℕ, zero, suc, ◌+◌, ◌*◌, ◌<◌, ◌≤◌, Bool, true, false, Option, Some, None, List, [], ◌∷◌, ◌++◌, map, length, refl, ap, subst, sym, ◌∙◌, arith, append_assoc}
+use Rattle.std.proofs.Common.{◌≡◌, ℕ, zero, suc, ◌+◌, ◌*◌, ◌<◌, ◌≤◌, Bool, true, false, Option, Some, None, List, [], ◌∷◌, ◌++◌, map, length, refl, ap, sym, ◌∙◌, arith, append_assoc}
 use Rattle.std.specs.Prelude.{filter, not, ◌&&◌, ◌==◌, if◌then◌else◌}
 use Rattle.std.specs.List.{slice_get, Contains, list_all}
 use Rattle.std.proofs.lemmas.List.{append-nil}
@@ -15,8 +15,8 @@ use Rattle.abi_layout.specs.declared.component.Component.{Component}
 use Rattle.abi_layout.specs.declared.component.Stage.{Stage}
 use Rattle.abi_layout.specs.declared.class_layout.ClassLayout.{ClassLayout}
 use Rattle.abi_layout.specs.Places.{is_plain_base, size_in, align_in, nvalign_in, bases_in, members_in}
-use Rattle.abi_layout.specs.Kinds.{Kind, in_class, is_kind_in, is_kind, empty_kind, pod_kind, has_virtual_function, is_implicit, is_pod_type, is_empty, is_pod, IsStatic}
-use Rattle.abi_layout.specs.Laid.{copies, count_of, nvsize_in, size_of_type, align_of_type, parts_of_type, base_component, member_component, base_components, member_components, part_at, parts_at, parts_in_class, parts_below, parts_of, ArePlaced, after, after_all}
+use Rattle.abi_layout.specs.Kinds.{Kind, in_class, is_kind_in, is_kind, empty_kind, pod_kind, has_virtual_function, is_implicit, is_pod_type, is_empty, IsStatic}
+use Rattle.abi_layout.specs.Laid.{copies, count_of, nvsize_in, size_of_type, align_of_type, parts_of_type, base_component, member_component, base_components, member_components, part_at, parts_at, parts_in_class, parts_below, parts_of, after, after_all}
 use Rattle.abi_layout.specs.Known.{IsEarlierType, AreEarlier}
 use Rattle.abi_layout.proofs.Lists.{has_here, has_later}
 

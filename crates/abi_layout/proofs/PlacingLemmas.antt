@@ -1,6 +1,6 @@
 -- Lemmas on components placed one after the other.
 use Rattle.std.proofs.Common.{◌≡◌, ℕ, zero, suc, ◌+◌, ◌*◌, ◌<◌, ◌≤◌, ⊎_elim, Bool, true, false, Some, List, [], ◌∷◌, ◌++◌, map, length, drop, refl, ap, subst, sym, ◌∙◌, arith, append_assoc}
-use Rattle.std.specs.Prelude.{max, if◌then◌else◌, not}
+use Rattle.std.specs.Prelude.{max, if◌then◌else◌}
 use Rattle.std.specs.List.{slice_get}
 use Rattle.std.proofs.lemmas.Bool.{cases_order}
 use Rattle.std.proofs.lemmas.List.{append-nil}
@@ -11,7 +11,7 @@ use Rattle.abi_layout.specs.declared.component.Component.{Component}
 use Rattle.abi_layout.specs.declared.component.Stage.{Stage}
 use Rattle.abi_layout.specs.Sound.{Divides}
 use Rattle.abi_layout.specs.Laid.{IsNext, IsCandidate, at_start, behind, IsPlace, after, ArePlaced, after_all}
-use Rattle.abi_layout.specs.Alignments.{IsAlignment, byte, two_bytes, four_bytes, eight_bytes, AreWithin, IsFit, AreFit, HasTable, with_parts, IsPlacing, HasNoPlace, IsPastLimit}
+use Rattle.abi_layout.specs.Alignments.{IsAlignment, byte, two_bytes, four_bytes, eight_bytes, AreWithin, IsFit, AreFit, HasTable, with_parts, IsPlacing, IsPastLimit}
 use Rattle.abi_layout.specs.declared.placing.Placing.{Placing}
 use Rattle.abi_layout.proofs.Parts.{opposed, within_further, within_moved, within_both}
 

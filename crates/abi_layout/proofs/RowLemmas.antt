@@ -1,5 +1,5 @@
 -- Lemmas on the components of a class, and on its row.
-use Rattle.std.proofs.Common.{◌≡◌, ℕ, zero, suc, ◌+◌, ◌*◌, ◌<◌, ◌≤◌, ◌⊎◌, inl, inr, ⊎_elim, Bool, true, false, Option, Some, None, List, [], ◌∷◌, ◌++◌, map, take, length, get_or, refl, ap, subst, sym, ◌∙◌, arith}
+use Rattle.std.proofs.Common.{◌≡◌, ℕ, zero, suc, ◌+◌, ◌*◌, ◌<◌, ◌≤◌, Bool, true, false, Some, List, [], ◌∷◌, ◌++◌, map, take, length, get_or, refl, ap, subst, sym, ◌∙◌, arith}
 use Rattle.std.specs.Prelude.{if◌then◌else◌, max, filter}
 use Rattle.std.specs.Option.{option_map}
 use Rattle.std.proofs.lemmas.List.{take_more, map-append}
@@ -28,7 +28,7 @@ use Rattle.abi_layout.specs.Places.{size_of_value, is_plain_base}
 use Rattle.abi_layout.specs.Kinds.{empty_kind, pod_kind}
 use Rattle.abi_layout.specs.Laid.{IsNext, ArePlaced, after, after_all, copies, count_of, size_of_type, align_of_type, parts_of_type, base_component, member_component, first_stage, bases_stage, last_stage, IsLayoutOf}
 use Rattle.abi_layout.specs.Alignments.{IsAlignment, byte, two_bytes, four_bytes, eight_bytes, AreWithin, IsFit, AreFit, AreLittle, IsPastLimit}
-use Rattle.abi_layout.specs.Known.{is_empty_in, parts_known, empties_in, pods_in, parts_in, IsWithin, AreAllWithin, IsEarlierType, bases_by, members_by, IsRowOf, HasLarge, IsRowBy, IsLaidClass, IsTooLarge}
+use Rattle.abi_layout.specs.Known.{empties_in, pods_in, parts_in, IsWithin, AreAllWithin, IsEarlierType, bases_by, members_by, IsRowOf, HasLarge, IsLaidClass, IsTooLarge}
 use Rattle.abi_layout.proofs.Lists.{get_within, has_here, has_later}
 use Rattle.abi_layout.proofs.Parts.{within_further, within_moved, within_both}
 use Rattle.abi_layout.proofs.PlacingLemmas.{size_grows, places_are_one, next_within}

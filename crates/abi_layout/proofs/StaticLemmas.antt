@@ -1,18 +1,16 @@
 -- Classes that are not dynamic.
-use Rattle.std.proofs.Common.{◌≡◌, ℕ, zero, suc, ◌+◌, ◌<◌, ◌≤◌, ⊎_elim, Bool, true, false, Option, Some, None, List, [], ◌∷◌, refl, ap, subst, sym, ◌∙◌, arith}
-use Rattle.std.specs.Prelude.{not, ◌&&◌, ◌||◌, nat_lt, IsSome}
+use Rattle.std.proofs.Common.{◌≡◌, ℕ, zero, suc, ◌+◌, ◌<◌, ⊎_elim, Bool, true, false, Option, Some, None, List, [], ◌∷◌, refl, ap, subst, sym, ◌∙◌, arith}
+use Rattle.std.specs.Prelude.{not, ◌&&◌, nat_lt}
 use Rattle.std.specs.List.{slice_get, Contains, list_all, list_any}
 use Rattle.std.proofs.lemmas.Bool.{cases_order}
 use Rattle.cxx_hierarchy.specs.declared.records.ClassId.{ClassId}
 use Rattle.cxx_hierarchy.specs.declared.records.Base.{Base}
 use Rattle.cxx_hierarchy.specs.declared.records.Member.{Member}
-use Rattle.cxx_hierarchy.specs.declared.records.Function.{Function}
 use Rattle.cxx_hierarchy.specs.declared.records.FieldType.{FieldType}
 use Rattle.cxx_hierarchy.specs.declared.records.FieldType.TheVariants.{Value, Object}
-use Rattle.cxx_hierarchy.specs.Classes.{Class, Classes, class_at, leaf_type_in, value_type_in}
-use Rattle.abi_layout.specs.Kinds.{has_virtual_function, is_virtual_destructor, is_static_base, is_static_type, has_elements, is_static_member, is_static_class, IsStaticClass, IsStatic}
+use Rattle.cxx_hierarchy.specs.Classes.{Class, Classes, class_at}
+use Rattle.abi_layout.specs.Kinds.{has_virtual_function, is_static_base, is_static_type, has_elements, is_static_member, is_static_class, IsStaticClass}
 use Rattle.abi_layout.proofs.Lists.{number, has_here, has_later}
-use Rattle.abi_layout.proofs.Parts.{opposed}
 
 both : (a b : Bool) → (a && b) ≡ true → (a ≡ true) × (b ≡ true)
 both true b e = (refl, e)

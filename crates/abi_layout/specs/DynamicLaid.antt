@@ -2,12 +2,11 @@
 use Rattle.std.specs.Prelude.{◌≡◌, ℕ, zero, suc, ◌+◌, ◌<◌, ◌↔◌, IsTrue, Bool, true, false, not, ◌&&◌, ◌==◌, nat_eq, if◌then◌else◌, max, Option, Some, None, List, [], ◌∷◌, ◌++◌, map, filter, length, take, get_or, slice_get, position, Contains}
 use Rattle.std.specs.List.{list_any}
 use Rattle.cxx_hierarchy.specs.declared.records.ClassId.{ClassId}
-use Rattle.cxx_hierarchy.specs.declared.records.Base.{Base}
-use Rattle.cxx_hierarchy.specs.Classes.{Class, Classes, class_at, bases_of, members_of}
+use Rattle.cxx_hierarchy.specs.Classes.{Class, Classes, class_at}
 use Rattle.cxx_subobject.specs.declared.Root.{Root}
 use Rattle.cxx_subobject.specs.declared.Root.TheVariants.{Whole, Shared}
 use Rattle.cxx_subobject.specs.declared.Subobject.{Subobject}
-use Rattle.cxx_subobject.specs.Subobjects.{subobject, shared_base, class_of}
+use Rattle.cxx_subobject.specs.Subobjects.{class_of}
 use Rattle.cxx_subobject.specs.Preorder.{preorder}
 use Rattle.abi_emptybase.specs.declared.Part.{Part}
 use Rattle.abi_primary.specs.declared.Primary.{Primary}
@@ -22,10 +21,9 @@ use Rattle.abi_layout.specs.declared.class_layout.Primary.{Primary as RowPrimary
 use Rattle.abi_layout.specs.declared.class_layout.Primary.TheVariants.{None as NoRowPrimary, Direct as RowDirect, Virtual as RowVirtual}
 use Rattle.abi_layout.specs.declared.class_layout.ClassLayout.{ClassLayout}
 use Rattle.abi_layout.specs.declared.dynamic_bases.PlacedBase.{PlacedBase}
-use Rattle.abi_layout.specs.declared.dynamic_bases.PlacedBase.TheVariants.{Own, SharedBase}
 use Rattle.abi_layout.specs.Kinds.{is_empty, is_pod}
-use Rattle.abi_layout.specs.Places.{number_in, place_at, place_along, bases_in, members_in, is_plain_base, base_place, size_in, nvalign_in}
-use Rattle.abi_layout.specs.Laid.{IsNext, ArePlaced, after_all, part_at, parts_at, nvsize_in, member_component}
+use Rattle.abi_layout.specs.Places.{place_at, place_along, members_in, is_plain_base}
+use Rattle.abi_layout.specs.Laid.{IsNext, ArePlaced, after_all, part_at, parts_at, member_component}
 use Rattle.abi_layout.specs.Holding.{virtual_bases}
 use Rattle.abi_layout.specs.Brought.{brought_by}
 use Rattle.abi_layout.specs.Repeats.{HasRepeat}

@@ -17,13 +17,7 @@ fn shared_class(s: &Subobject) -> Option<ClassId>
 {
     match s.root {
         Root::Whole => None,
-        Root::Shared(v) => {
-            if s.path.len() == 1 {
-                Some(v)
-            } else {
-                None
-            }
-        }
+        Root::Shared(v) => { if s.path.len() == 1 { Some(v) } else { None } }
     }
 }
 

@@ -94,13 +94,7 @@ pub(crate) fn held_base(scene: &Scene, s: &Subobject, d: ClassId) -> Option<Clas
     ensures { result ≡ held_base scene.now.h.now scene.now.primaries.now scene.now.c s.now d }
 {
     match virtual_primary(scene.primaries, d) {
-        Some(v) => {
-            if holds(scene, s, v) {
-                Some(v)
-            } else {
-                None
-            }
-        }
+        Some(v) => { if holds(scene, s, v) { Some(v) } else { None } }
         None => None,
     }
 }

@@ -1,8 +1,6 @@
-use Rattle.std.proofs.Common.{◌≡◌, ◌+◌, ◌++◌, ◌∷◌, ◌≤◌, List, map, ap, subst, sym, ◌∙◌, refl, arith, length, take}
+use Rattle.std.proofs.Common.{◌≡◌, ◌∷◌, List, ap, subst, sym, ◌∙◌, refl, arith, length, take}
 use Rattle.std.specs.List.{flat_map, slice_get}
 use Rattle.std.proofs.lemmas.Option.{slice_get_read}
-use Rattle.cxx_hierarchy.specs.declared.records.ClassId.{ClassId}
-use Rattle.cxx_hierarchy.specs.declared.records.Base.{Base}
 use Rattle.cxx_hierarchy.specs.Classes.{bases_in, bases_of}
 use Rattle.abi_emptybase.specs.declared.Part.{Part}
 use Rattle.abi_layout.specs.Laid.{part_at, nvsize_in}

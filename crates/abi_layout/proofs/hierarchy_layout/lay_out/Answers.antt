@@ -1,4 +1,4 @@
-use Rattle.std.proofs.Common.{List, subst}
+use Rattle.std.proofs.Common.{subst}
 use Rattle.abi_layout.specs.Laid.{IsLaidFront}
 use Rattle.abi_layout.proofs.SoundLemmas.{rules_are_sound}
 use Rattle.abi_layout.proofs.hierarchy_layout.lay_out.Goals as goal

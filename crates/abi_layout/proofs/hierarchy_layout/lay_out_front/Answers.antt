@@ -1,4 +1,4 @@
-use Rattle.std.proofs.Common.{◌≡◌, ◌∙◌, List, ap, subst, sym, inl, inr, ⊎_elim, length}
+use Rattle.std.proofs.Common.{◌∙◌, List, ap, subst, sym, inl, inr, ⊎_elim, length}
 use Rattle.std.proofs.lemmas.Result.{err_from_is_err_and}
 use Rattle.abi_layout.specs.declared.known.Known.{Known}
 use Rattle.abi_layout.specs.declared.class_layout.ClassLayout.{ClassLayout}

@@ -1,4 +1,4 @@
-use Rattle.std.proofs.Common.{◌≡◌, ◌+◌, List, Option, ℕ, arith, subst, sym}
+use Rattle.std.proofs.Common.{◌+◌, List, Option, ℕ, arith, subst, sym}
 use Rattle.cxx_subobject.specs.Subobjects.{whole_of}
 use Rattle.abi_layout.proofs.Lists.{number}
 use Rattle.abi_layout.proofs.HoldingLemmas.{AreFirst, one_more_first, all_first}

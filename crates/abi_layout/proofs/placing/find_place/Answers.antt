@@ -1,5 +1,4 @@
-use Rattle.std.proofs.Common.{◌≡◌, ◌∙◌, true, false, sym, arith}
-use Rattle.std.specs.Prelude.{not}
+use Rattle.std.proofs.Common.{◌≡◌, ◌∙◌, true, sym, arith}
 use Rattle.abi_emptybase.specs.Table.{has_conflict}
 use Rattle.abi_layout.proofs.Parts.{opposed}
 use Rattle.abi_layout.proofs.PlacingLemmas.{place_at_start, first_least, place_behind, next_least, multiple_more}

@@ -1,4 +1,4 @@
-use Rattle.std.proofs.Common.{◌≡◌, ◌∙◌, List, sym, subst, ap, arith}
+use Rattle.std.proofs.Common.{◌∙◌, List, sym, subst, ap, arith}
 use Rattle.abi_emptybase.specs.declared.Part.{Part}
 use Rattle.abi_emptybase.specs.Table.{has_conflict}
 use Rattle.abi_layout.specs.Alignments.{AreWithin}

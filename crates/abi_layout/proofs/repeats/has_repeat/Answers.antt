@@ -1,4 +1,4 @@
-use Rattle.std.proofs.Common.{◌≡◌, ◌∙◌, get_or, sym}
+use Rattle.std.proofs.Common.{◌∙◌, get_or, sym}
 use Rattle.abi_emptybase.specs.declared.Part.{Part}
 use Rattle.abi_layout.proofs.Each.{never, always}
 use Rattle.abi_layout.proofs.HoldingLemmas.{any_default}

@@ -1,4 +1,4 @@
-use Rattle.std.proofs.Common.{◌≡◌, ◌∙◌, ◌⊎◌, List, ℕ, Bool, inl, inr, ⊎_elim, ap, subst, sym, map}
+use Rattle.std.proofs.Common.{◌∙◌, List, inl, inr, ⊎_elim, ap, subst, sym, map}
 use Rattle.std.specs.Prelude.{Contains, filter}
 use Rattle.std.proofs.lemmas.Result.{err_from_is_err_and}
 use Rattle.cxx_hierarchy.specs.declared.records.ClassId.{ClassId}

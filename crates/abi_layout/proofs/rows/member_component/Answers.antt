@@ -1,8 +1,4 @@
-use Rattle.std.proofs.Common.{sym, subst}
-use Rattle.abi_layout.specs.Laid.{parts_of_type}
-use Rattle.abi_layout.specs.Known.{parts_in}
-use Rattle.abi_layout.specs.Alignments.{AreWithin}
-use Rattle.abi_layout.proofs.RowLemmas.{type_within, member_fit}
+use Rattle.abi_layout.proofs.RowLemmas.{type_within}
 use Rattle.abi_layout.proofs.rows.member_component.Goals as goal
 
 pub member_parts-requires-clause-within : goal.member_parts-requires-clause-within

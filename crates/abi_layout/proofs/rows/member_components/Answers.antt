@@ -1,8 +1,5 @@
-use Rattle.std.proofs.Common.{◌≡◌, ◌∙◌, ◌++◌, ◌∷◌, [], List, map, take, inl, inr, ⊎_elim, ap, subst, sym}
-use Rattle.std.proofs.lemmas.List.{take_all}
+use Rattle.std.proofs.Common.{◌∙◌, ◌++◌, ◌∷◌, [], List, map, take, inl, inr, ⊎_elim, ap, subst, sym}
 use Rattle.std.proofs.lemmas.Result.{err_from_is_err_and}
-use Rattle.cxx_hierarchy.specs.declared.records.ClassId.{ClassId}
-use Rattle.cxx_hierarchy.specs.declared.records.Member.{Member}
 use Rattle.abi_layout.specs.declared.component.Component.{Component}
 use Rattle.abi_layout.specs.Laid.{member_component}
 use Rattle.abi_layout.specs.Known.{parts_in}
