@@ -39,6 +39,7 @@ pub struct ClassLayout {
 #[derive(Debug, Drop)]
 pub struct AbiLayout {
     rows: Vec<ClassLayout>,
+    virtuals: Vec<Vec<ClassId>>,
 }
 
 impl Model for AbiLayout {
@@ -52,10 +53,22 @@ impl Model for AbiLayout {
 
 impl AbiLayout {
     /// The layout with these rows.
-    pub(crate) fn from_rows(rows: Vec<ClassLayout>) -> AbiLayout
+    pub(crate) fn from_rows(rows: Vec<ClassLayout>, virtuals: Vec<Vec<ClassId>>) -> AbiLayout
         ensures { result ≡ rows.items }
     {
-        AbiLayout { rows }
+        AbiLayout { rows, virtuals }
+    }
+
+    /// The place of a virtual base in an object of a class.
+    pub(crate) fn virtual_place(&self, c: ClassId, v: ClassId) -> u32 {
+        let mut n = 0;
+        for w in &self.virtuals[c.0 as usize] {
+            if w.0 == v.0 {
+                return self.rows[c.0 as usize].virtual_places.as_slice()[n];
+            }
+            n += 1;
+        }
+        0
     }
 
     /// The number of classes.

@@ -31,7 +31,7 @@ pub fn lay_out_front(alloc: Global, h: &Hierarchy, count: u32) -> Result<AbiLayo
         rows.push(laid.row)?;
         known.push(laid.known)?;
     }
-    Ok(AbiLayout::from_rows(rows))
+    Ok(AbiLayout::from_rows(rows, Vec::new(alloc)))
 }
 
 /// Lays out the classes of a hierarchy without dynamic classes (Itanium C++ ABI 2.4).

@@ -14,6 +14,8 @@ mod brought;
 pub mod class_layout;
 pub mod component;
 pub mod dynamic_bases;
+pub mod dynamic_layout;
+mod dynamic_rows;
 pub mod hierarchy_layout;
 pub mod holding;
 pub mod known;
@@ -29,6 +31,7 @@ pub mod statics;
 mod tests;
 
 pub use crate::class_layout::{AbiLayout, ClassLayout, PlaceList, Primary};
+pub use crate::dynamic_layout::lay_out_first;
 pub use crate::hierarchy_layout::{lay_out, lay_out_front, one_layout, some_layout};
 pub use crate::soundness::laid_is_sound;
 pub use crate::statics::is_static;

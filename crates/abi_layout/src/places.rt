@@ -83,7 +83,10 @@ impl AbiLayout {
         requires subobject { IsSubobject h.now c s.now }
         ensures { result ≡ (places_of h.now self.now).place c s.now }
     {
-        self.sum_along(h, c, classes_below(s.path.as_slice()))
+        match s.root {
+            cxx_subobject::Root::Whole => self.sum_along(h, c, classes_below(s.path.as_slice())),
+            cxx_subobject::Root::Shared(v) => self.virtual_place(c, v) + self.sum_along(h, v, classes_below(s.path.as_slice())),
+        }
     }
 
     /// The place of a member in an object of the class that declares it, in bytes; 0 where there is no such member.

@@ -191,7 +191,7 @@ fn member_component(
 /// The members in the order of declaration.
 ///
 /// Errors: the limit L6 where one takes more than 500,000 bytes, or want of memory.
-fn member_components(
+pub(crate) fn member_components(
     alloc: Global,
     rows: &[ClassLayout],
     known: &[Known],
@@ -227,7 +227,7 @@ fn empty_placing(alloc: Global) -> Placing
 }
 
 /// Before the first component is placed: the class itself is at 0.
-fn first_placing(alloc: Global, c: ClassId) -> Result<Placing, NoMemory>
+pub(crate) fn first_placing(alloc: Global, c: ClassId) -> Result<Placing, NoMemory>
     ensures stage { IfOk result (λ placing. placing.stage ≡ first_stage c) }
     ensures placing { IfOk result IsPlacing }
 {
