@@ -8,7 +8,7 @@ use cxx_hierarchy::{
     Base, ClassId, ClassRec, Destructor, FieldType, Function, Hierarchy, Member, Name, PartAt,
     PartKind, RecordList, ReturnType, Scalar, Stop, ValueType, build,
 };
-use cxx_subobject::{Root, Subobject};
+use cxx_subobject::{Root, Subobject, is_public_base};
 use foundation::{NoMemory, Sequence};
 use std::alloc::Global;
 use std::test::Fail;
@@ -228,6 +228,91 @@ fn finds_bases(rt: HostRuntime) -> Result<(), Fail> {
         base(alloc, &h, ClassId(3), ClassId(0))?.as_str(),
         "the base is ambiguous"
     );
+    assert_eq!(rt; base(alloc, &h, ClassId(2), ClassId(0))?.as_str(), "20");
+    Ok(())
+}
+
+/// The class with one more base.
+fn with_base(
+    alloc: Global,
+    class: ClassRec<Name>,
+    text: &str,
+    is_virtual: bool,
+    is_public: bool,
+) -> Result<ClassRec<Name>, NoMemory>
+    requires { IsInOrder class }
+    ensures { IfOk result IsInOrder }
+{
+    let mut class = class;
+    class.bases.push(Base {
+        class: name(alloc, text)?,
+        is_virtual,
+        is_public,
+        at: 0,
+    })?;
+    Ok(class)
+}
+
+/// `struct A {}; struct B : private virtual A {}; struct C : virtual A {}; struct D : B, C {};`
+fn private_diamond(alloc: Global) -> Result<Hierarchy, Stop> {
+    let a = class(alloc, "A", &[], false)?;
+    let b = with_base(alloc, class(alloc, "B", &[], false)?, "A", true, false)?;
+    let c = class(alloc, "C", &["A"], true)?;
+    let d = class(alloc, "D", &["B", "C"], false)?;
+    let records = with(with(Sequence::new(alloc), a)?, b)?;
+    build(alloc, &with(with(records, c)?, d)?)
+}
+
+/// Whether public edges lead from a class to its one base of another.
+fn publicity(alloc: Global, h: &Hierarchy, c: ClassId, d: ClassId) -> Result<&'static str, NoMemory>
+    requires { c.0 < length h.now }
+{
+    let whole = match unique_base(alloc, h, c, c) {
+        Ok(whole) => whole,
+        Err(_) => return Ok("no whole"),
+    };
+    let base = match unique_base(alloc, h, c, d) {
+        Ok(base) => base,
+        Err(_) => return Ok("no base"),
+    };
+    if is_public_base(h, c, &whole, &base) {
+        Ok("public")
+    } else {
+        Ok("private")
+    }
+}
+
+#[test]
+fn one_public_way_is_enough(rt: HostRuntime) -> Result<(), Fail> {
+    let alloc = rt.alloc();
+    let h = private_diamond(alloc)?;
+    assert_eq!(rt; h.len(), 4);
+    assert_eq!(rt; publicity(alloc, &h, ClassId(3), ClassId(0))?, "public");
+    assert_eq!(rt; publicity(alloc, &h, ClassId(2), ClassId(0))?, "public");
+    assert_eq!(rt; publicity(alloc, &h, ClassId(1), ClassId(0))?, "private");
+    Ok(())
+}
+
+/// `struct A {}; struct B : virtual A {}; struct C : A {}; struct D : B, C {};`
+fn both_ways(alloc: Global) -> Result<Hierarchy, Stop> {
+    let a = class(alloc, "A", &[], false)?;
+    let b = class(alloc, "B", &["A"], true)?;
+    let c = class(alloc, "C", &["A"], false)?;
+    let d = class(alloc, "D", &["B", "C"], false)?;
+    let records = with(with(Sequence::new(alloc), a)?, b)?;
+    build(alloc, &with(with(records, c)?, d)?)
+}
+
+#[test]
+fn a_base_reached_both_ways_is_there_twice(rt: HostRuntime) -> Result<(), Fail> {
+    let alloc = rt.alloc();
+    let h = both_ways(alloc)?;
+    assert_eq!(rt; h.len(), 4);
+    assert_eq!(rt;
+        base(alloc, &h, ClassId(3), ClassId(0))?.as_str(),
+        "the base is ambiguous"
+    );
+    assert_eq!(rt; base(alloc, &h, ClassId(1), ClassId(0))?.as_str(), "*0");
     assert_eq!(rt; base(alloc, &h, ClassId(2), ClassId(0))?.as_str(), "20");
     Ok(())
 }
