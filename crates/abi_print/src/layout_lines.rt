@@ -1,6 +1,6 @@
 //! The text of a class's layout.
 
-ghost use Rattle.std.specs.Prelude.{◌≡◌, ◌++◌, ◌<◌, OnOk, Contains, length};
+ghost use Rattle.std.specs.Prelude.{◌≡◌, ◌++◌, ◌<◌, OnOk, IfOk, Contains, length};
 ghost use Rattle.std.specs.List.{flat_map};
 ghost use Rattle.std.specs.Fmt.{decimal};
 ghost use Rattle.cxx_hierarchy.specs.declared.records.ClassId.{ClassId};
@@ -9,11 +9,11 @@ ghost use Rattle.cxx_subobject.specs.Subobjects.{IsSubobject, tail_of};
 ghost use Rattle.cxx_hierarchy.specs.Classes.{members_of};
 ghost use Rattle.abi_layout.specs.Places.{places_of};
 ghost use Rattle.abi_layout.specs.Sound.{IsSound};
-ghost use Rattle.abi_print.specs.LayoutTexts.{name_of, slashed, joined, subobject_text, scalar_text, value_text, type_text, length_text, primary_text, class_text, base_text, field_text, fields_text, proper, listed_text};
+ghost use Rattle.abi_print.specs.LayoutTexts.{name_of, slashed, joined, subobject_text, scalar_text, value_text, type_text, length_text, primary_text, class_text, base_text, field_text, fields_text, proper, listed_text, layout_text};
 
 use abi_layout::{AbiLayout, ClassLayout, Primary};
 use cxx_hierarchy::{ClassId, FieldType, Hierarchy, Member, Scalar, ValueType};
-use cxx_subobject::{Root, Subobject};
+use cxx_subobject::{Root, Subobject, list_subobjects};
 use foundation::NoMemory;
 use std::alloc::Global;
 
@@ -301,4 +301,25 @@ pub fn append_layout(
     append_bases(alloc, text, h, layout, c, proper_of(list))?;
     append_fields(alloc, text, h, layout, c)?;
     Ok(())
+}
+
+/// The text of a class's layout: the class and its sizes, its primary base, its base subobjects in preorder, and its
+/// members in the order of declaration.
+///
+/// Errors: want of memory.
+pub fn layout_text(
+    alloc: Global,
+    h: &Hierarchy,
+    layout: &AbiLayout,
+    c: ClassId,
+) -> Result<Vec<u8>, NoMemory>
+    requires sound { IsSound h.now (places_of h.now layout.now) }
+    requires known { c.0 < length h.now }
+    requires laid { c.0 < length layout.now }
+    ensures { IfOk result (λ text. text.items ≡ layout_text h.now layout.now c) }
+{
+    let list = list_subobjects(alloc, h, c)?;
+    let mut text = Vec::new(alloc);
+    append_layout(alloc, &mut text, h, layout, c, list.as_slice())?;
+    Ok(text)
 }

@@ -1,4 +1,4 @@
-//! The texts that a run prints.
+//! The texts of a run and of a layout.
 //!
 //! This crate owns the text of what a run tells (`specs/Texts.antt`): for each number its decimal digits, with `-`
 //! before one below 0, for each pointer its object's number and the place of its subobject in it, and a line feed.
@@ -11,5 +11,5 @@
 pub mod layout_lines;
 pub mod line;
 
-pub use crate::layout_lines::append_layout;
+pub use crate::layout_lines::{append_layout, layout_text};
 pub use crate::line::append_line;

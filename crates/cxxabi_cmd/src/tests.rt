@@ -1,10 +1,16 @@
 //! The whole program over sources and sinks of every kind.
 
+ghost use Rattle.std.specs.Prelude.{◌≤◌, length};
+
 use crate::{
     BytesSink, BytesSource, Sink, Source, Status, StdinSource, StdoutSink, SteadySink,
     SteadySource, run_cxxabi,
 };
-use cxx_hierarchy::{LimitNo, Rule};
+use abi_layout::{is_static, lay_out};
+use abi_print::layout_text as text_of_layout;
+use cxx_decl_parser::parse_source;
+use cxx_hierarchy::{ClassId, LimitNo, Rule, Stop, build};
+use cxx_text::tokens;
 use std::alloc::{AllocError, Global};
 use std::io;
 use std::test::Fail;
@@ -116,6 +122,38 @@ fn layouts_of_all_classes(rt: HostRuntime) -> Result<(), Fail> {
     );
     let (dynamic, _) = layout_text(rt.alloc(), b"struct A { virtual void f() {} };")?;
     assert_eq!(rt; dynamic, Status::Refused(Rule::Syntax, 0));
+    Ok(())
+}
+
+// The text of the layout of a class of a source, by the calls below the program.
+fn layout_by_calls(alloc: Global, text: &[u8], c: ClassId) -> Result<Vec<u8>, Stop>
+    requires { length text.now ≤ 262144 }
+{
+    let list = tokens(alloc, text)?;
+    let source = parse_source(alloc, text, &list)?;
+    let h = build(alloc, &source.records)?;
+    if !is_static(&h) {
+        return Err(Stop::NoMemory);
+    }
+    if c.0 >= h.len() {
+        return Err(Stop::NoMemory);
+    }
+    let layout = lay_out(alloc, &h)?;
+    if c.0 as usize >= layout.len() {
+        return Err(Stop::NoMemory);
+    }
+    let text = text_of_layout(alloc, &h, &layout, c)?;
+    Ok(text)
+}
+
+#[test]
+fn layout_by_the_calls_below(rt: HostRuntime) -> Result<(), Fail> {
+    let source = b"struct E {}; struct F : E { E e; int x; };";
+    let text = layout_by_calls(rt.alloc(), source.as_slice(), ClassId(1))?;
+    assert_eq!(rt;
+        text.as_slice(),
+        b"class F size 8 align 4 dsize 8 nvsize 8 nvalign 4\nprimary none\n0 base E\n1 field E e\n4 field int x\n".as_slice()
+    );
     Ok(())
 }
 
