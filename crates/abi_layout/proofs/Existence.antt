@@ -9,7 +9,7 @@ use Rattle.abi_emptybase.specs.Table.{same_part, holds, moved, has_conflict}
 use Rattle.abi_layout.specs.declared.component.Component.{Component}
 use Rattle.abi_layout.specs.declared.component.Stage.{Stage}
 use Rattle.abi_layout.specs.declared.class_layout.ClassLayout.{ClassLayout}
-use Rattle.abi_layout.specs.declared.class_layout.Primary.TheVariants.{None as NoPrimary}
+use Rattle.abi_primary.specs.declared.Primary.TheVariants.{None as NoPrimary}
 use Rattle.abi_layout.specs.Sound.{Divides}
 use Rattle.abi_layout.specs.Laid.{IsNext, IsCandidate, IsPlace, ArePlaced, after, after_all, IsLayoutOf}
 use Rattle.abi_layout.proofs.Parts.{split, opposed}
@@ -116,6 +116,6 @@ layout_exists first bases members pod positive b m =
     let above : 1 ≤ last.align = let x = align_grows first bases base_places.places in let y = align_grows mid members member_places.places in omega arith in
     let size = rounded (max 1 last.size) last.align in
     record {
-      row = record { size = size; align = last.align; dsize = if pod then size else last.dsize; nvsize = if pod then size else last.size; nvalign = last.align; primary = NoPrimary; base_places = base_places.places; virtual_places = []; member_places = member_places.places };
-      laid = record { bases_placed = base_places.placed; members_placed = member_places.placed; align = refl; size = rounded_is_next (max 1 last.size) last.align above; dsize = refl; nvsize = refl; nvalign = refl; primary = refl; virtual = refl };
+      row = record { size = size; align = last.align; dsize = if pod then size else last.dsize; nvsize = if pod then size else last.size; nvalign = last.align; primary = NoPrimary; base_places = base_places.places; virtual_bases = []; virtual_places = []; holders = []; member_places = member_places.places };
+      laid = record { bases_placed = base_places.placed; members_placed = member_places.placed; align = refl; size = rounded_is_next (max 1 last.size) last.align above; dsize = refl; nvsize = refl; nvalign = refl; primary = refl; shared = refl; virtual = refl; holders = refl };
     }

@@ -17,7 +17,7 @@ use Rattle.abi_layout.specs.Holding.{virtual_in, primary_in_class, shared_primar
 use Rattle.abi_layout.proofs.Parts.{split, opposed}
 
 -- whether it is this class
-abbrev is_class : Option ClassId → ClassId → Bool
+abbrev pub is_class : Option ClassId → ClassId → Bool
 is_class None v = false
 is_class (Some w) v = nat_eq w.0 v.0
 
@@ -32,7 +32,7 @@ at_class : (ps : List Primary) (v : ClassId) (o : Option ClassId) → has_primar
 at_class ps v None = refl
 at_class ps v (Some d) = at_list ps d.0 v
 
-test_is : (ps : List Primary) (v : ClassId) (s : Subobject) → has_primary ps v s ≡ is_class (shared_primary ps s) v
+pub test_is : (ps : List Primary) (v : ClassId) (s : Subobject) → has_primary ps v s ≡ is_class (shared_primary ps s) v
 test_is ps v s = at_class ps v (class_of s)
 
 -- the first of the first n elements that passes

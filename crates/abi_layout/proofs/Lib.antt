@@ -25,3 +25,11 @@ pub mod SceneLemmas
 pub mod BroughtLemmas
 pub mod PlacedLemmas
 pub mod RepeatLemmas
+pub mod ArrangeLemmas
+pub mod SceneFits
+pub mod SettledLemmas
+pub mod OpenLemmas
+pub mod CanSettleLemmas
+pub mod NestedLemmas
+pub mod RoomLemmas
+mod ObjectTree

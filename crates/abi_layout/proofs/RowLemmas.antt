@@ -28,7 +28,7 @@ use Rattle.abi_layout.specs.Places.{size_of_value, is_plain_base}
 use Rattle.abi_layout.specs.Kinds.{empty_kind, pod_kind}
 use Rattle.abi_layout.specs.Laid.{IsNext, ArePlaced, after, after_all, copies, count_of, size_of_type, align_of_type, parts_of_type, base_component, member_component, first_stage, bases_stage, last_stage, IsLayoutOf}
 use Rattle.abi_layout.specs.Alignments.{IsAlignment, byte, two_bytes, four_bytes, eight_bytes, AreWithin, IsFit, AreFit, AreLittle, IsPastLimit}
-use Rattle.abi_layout.specs.Known.{empties_in, pods_in, parts_in, IsWithin, AreAllWithin, IsEarlierType, bases_by, members_by, IsRowOf, HasLarge, IsLaidClass, IsTooLarge}
+use Rattle.abi_layout.specs.Known.{empties_in, pods_in, parts_in, IsWithin, AreAllWithin, IsSized, AreAllSized, IsEarlierType, bases_by, members_by, IsRowOf, HasLarge, IsLaidClass, IsTooLarge}
 use Rattle.abi_layout.proofs.Lists.{get_within, has_here, has_later}
 use Rattle.abi_layout.proofs.Parts.{within_further, within_moved, within_both}
 use Rattle.abi_layout.proofs.PlacingLemmas.{size_grows, places_are_one, next_within}
@@ -98,22 +98,47 @@ base_fit rows known base all lt_rows lt_known =
         made true = record { align = w.nvalign; takes = w.size; parts = within_further row.nvsize row.size k.parts w.nvsize w.parts }
         made false = record { align = w.nvalign; takes = let a = w.nvsize in let b = w.size in omega arith; parts = w.parts }
 
+-- the row and what is known of a class whose object is sized
+pub record HasSized (rows : List ClassLayout) (known : List Known) (c : ClassId) : Type 0 where
+  pub row : ClassLayout
+  pub k : Known
+  pub row_is : slice_get rows c.0 ≡ Some row
+  pub known_is : slice_get known c.0 ≡ Some k
+  pub sized : IsSized row k.parts
+
+pub sized_of : (rows : List ClassLayout) (known : List Known) (c : ClassId) → AreAllSized rows known → c.0 < length rows → c.0 < length known → HasSized rows known c
+sized_of rows known c all lt_rows lt_known =
+    let r = get_within rows c.0 lt_rows in
+    let k = get_within known c.0 lt_known in
+    record { row = r.0; k = k.0; row_is = r.1; known_is = k.1; sized = all.each c.0 r.0 k.0 r.1 k.1 }
+
+pub all_sized : (rows : List ClassLayout) (known : List Known) → AreAllWithin rows known → AreAllSized rows known
+all_sized rows known all = record {
+  each = λ number row k r e. let w = all.each number row k r e in record {
+    align = w.align;
+    nvalign = w.nvalign;
+    nvsize = w.nvsize;
+    size = w.size;
+    parts = within_further row.nvsize row.size k.parts w.nvsize w.parts;
+  };
+}
+
 -- the parts of a member or element lie within its size
-pub type_within : (rows : List ClassLayout) (known : List Known) (type : FieldType ClassId) → AreAllWithin rows known → IsEarlierType (length rows) type → length known ≡ length rows → AreWithin (size_of_type rows type) (parts_of_type (parts_in known) type)
+pub type_within : (rows : List ClassLayout) (known : List Known) (type : FieldType ClassId) → AreAllSized rows known → IsEarlierType (length rows) type → length known ≡ length rows → AreWithin (size_of_type rows type) (parts_of_type (parts_in known) type)
 type_within rows known (Value type) all earlier same = tt
 type_within rows known (Object d) all earlier same =
     let lt : d.0 < length rows = earlier in
-    let e = earlier_of rows known d all lt (omega arith) in
-    rw (e.row_is, e.known_is) (within_further e.row.nvsize e.row.size e.k.parts e.within.nvsize e.within.parts)
+    let e = sized_of rows known d all lt (omega arith) in
+    rw (e.row_is, e.known_is) e.sized.parts
 
-pub type_alignment : (rows : List ClassLayout) (known : List Known) (type : FieldType ClassId) → AreAllWithin rows known → IsEarlierType (length rows) type → length known ≡ length rows → IsAlignment (align_of_type rows type)
+pub type_alignment : (rows : List ClassLayout) (known : List Known) (type : FieldType ClassId) → AreAllSized rows known → IsEarlierType (length rows) type → length known ≡ length rows → IsAlignment (align_of_type rows type)
 type_alignment rows known (Value type) all earlier same = value_alignment type
 type_alignment rows known (Object d) all earlier same =
     let lt : d.0 < length rows = earlier in
-    let e = earlier_of rows known d all lt (omega arith) in
-    rw e.row_is e.within.align
+    let e = sized_of rows known d all lt (omega arith) in
+    rw e.row_is e.sized.align
 
-pub member_fit : (rows : List ClassLayout) (known : List Known) (member : Member ClassId) → AreAllWithin rows known → IsEarlierType (length rows) member.ty → length known ≡ length rows → count_of member.count * size_of_type rows member.ty ≤ 500000 → IsFit (member_component rows (parts_in known) member)
+pub member_fit : (rows : List ClassLayout) (known : List Known) (member : Member ClassId) → AreAllSized rows known → IsEarlierType (length rows) member.ty → length known ≡ length rows → count_of member.count * size_of_type rows member.ty ≤ 500000 → IsFit (member_component rows (parts_in known) member)
 member_fit rows known member all earlier same le = record {
   align = type_alignment rows known member.ty all earlier same;
   takes = le;
@@ -139,7 +164,7 @@ bases_fit rows known (base ∷ bases) all same earlier =
     at true here rest = (here, rest)
     at false here rest = rest
 
-pub members_fit : (rows : List ClassLayout) (known : List Known) (members : List (Member ClassId)) → AreAllWithin rows known → length known ≡ length rows → ((member : Member ClassId) → Contains members member → IsEarlierType (length rows) member.ty)
+pub members_fit : (rows : List ClassLayout) (known : List Known) (members : List (Member ClassId)) → AreAllSized rows known → length known ≡ length rows → ((member : Member ClassId) → Contains members member → IsEarlierType (length rows) member.ty)
     → AreLittle (map (member_component rows (parts_in known)) members) → AreFit (map (member_component rows (parts_in known)) members)
 members_fit rows known [] all same earlier little = tt
 members_fit rows known (member ∷ members) all same earlier little = (
@@ -216,7 +241,9 @@ row_is_laid first last bases members pod ps qs row b m l r =
       nvsize = r.nvsize ∙ ap (λ (s : Stage). if pod then row.size else s.size) is;
       nvalign = r.nvalign;
       primary = r.primary;
+      shared = r.shared;
       virtual = r.virtual;
+      holders = r.holders;
     }
 
 pub row_within : (last : Stage) (pod : Bool) (ps qs : List ℕ) (row : ClassLayout) → IsAlignment last.align → last.size ≤ 500000 → AreWithin last.size last.parts → IsRowOf last pod ps qs row → IsWithin row last.parts

@@ -1,5 +1,5 @@
 -- At most one layout meets the rules.
-use Rattle.std.proofs.Common.{◌≡◌, ℕ, zero, suc, ◌+◌, ◌<◌, ◌≤◌, ◌⊎◌, inl, inr, Bool, Some, List, [], ◌∷◌, length, refl, ap, subst, sym, ◌∙◌, arith}
+use Rattle.std.proofs.Common.{◌≡◌, ℕ, zero, suc, ◌+◌, ◌<◌, ◌≤◌, ◌⊎◌, inl, inr, Bool, Option, Some, List, [], ◌∷◌, length, refl, ap, subst, sym, ◌∙◌, arith}
 use Rattle.std.specs.Prelude.{if◌then◌else◌, max}
 use Rattle.std.specs.List.{slice_get}
 use Rattle.std.proofs.lemmas.Bool.{cases_order}
@@ -8,7 +8,8 @@ use Rattle.cxx_hierarchy.specs.declared.records.ClassId.{ClassId}
 use Rattle.cxx_hierarchy.specs.Classes.{Class, Classes, class_at}
 use Rattle.abi_layout.specs.declared.component.Component.{Component}
 use Rattle.abi_layout.specs.declared.component.Stage.{Stage}
-use Rattle.abi_layout.specs.declared.class_layout.Primary.{Primary}
+use Rattle.cxx_subobject.specs.declared.Subobject.{Subobject}
+use Rattle.abi_primary.specs.declared.Primary.{Primary}
 use Rattle.abi_layout.specs.declared.class_layout.ClassLayout.{ClassLayout}
 use Rattle.abi_layout.specs.Kinds.{is_empty, is_pod, IsStatic}
 use Rattle.abi_layout.specs.Laid.{IsNext, ArePlaced, after_all, base_components, member_components, parts_of, first_stage, last_stage, IsLayoutOf, IsRow, IsLaidFront, IsLaid}
@@ -16,12 +17,12 @@ use Rattle.abi_layout.proofs.Lists.{number, get_within}
 use Rattle.abi_layout.proofs.PlacingLemmas.{next_is_one, places_are_one}
 use Rattle.abi_layout.proofs.PartLemmas.{earlier_classes, Agree, bases_agree, members_agree, parts_agree}
 
-abbrev pub row_with : ℕ → ℕ → ℕ → ℕ → ℕ → Primary → List ℕ → List ℕ → List ℕ → ClassLayout
-row_with size align dsize nvsize nvalign primary bases virtuals members = record { size = size; align = align; dsize = dsize; nvsize = nvsize; nvalign = nvalign; primary = primary; base_places = bases; virtual_places = virtuals; member_places = members }
+abbrev pub row_with : ℕ → ℕ → ℕ → ℕ → ℕ → Primary → List ℕ → List ClassId → List ℕ → List (Option Subobject) → List ℕ → ClassLayout
+row_with size align dsize nvsize nvalign primary bases shared virtuals holders members = record { size = size; align = align; dsize = dsize; nvsize = nvsize; nvalign = nvalign; primary = primary; base_places = bases; virtual_bases = shared; virtual_places = virtuals; holders = holders; member_places = members }
 
-same_row : (x y : ClassLayout) → x.size ≡ y.size → x.align ≡ y.align → x.dsize ≡ y.dsize → x.nvsize ≡ y.nvsize → x.nvalign ≡ y.nvalign → x.primary ≡ y.primary → x.base_places ≡ y.base_places → x.virtual_places ≡ y.virtual_places → x.member_places ≡ y.member_places → x ≡ y
-same_row x y a b c d e f g h i =
-    let r : row_with x.size x.align x.dsize x.nvsize x.nvalign x.primary x.base_places x.virtual_places x.member_places ≡ row_with y.size y.align y.dsize y.nvsize y.nvalign y.primary y.base_places y.virtual_places y.member_places = cc in r
+pub same_row : (x y : ClassLayout) → x.size ≡ y.size → x.align ≡ y.align → x.dsize ≡ y.dsize → x.nvsize ≡ y.nvsize → x.nvalign ≡ y.nvalign → x.primary ≡ y.primary → x.base_places ≡ y.base_places → x.virtual_bases ≡ y.virtual_bases → x.virtual_places ≡ y.virtual_places → x.holders ≡ y.holders → x.member_places ≡ y.member_places → x ≡ y
+same_row x y a b c d e f g h i j k =
+    let r : row_with x.size x.align x.dsize x.nvsize x.nvalign x.primary x.base_places x.virtual_bases x.virtual_places x.holders x.member_places ≡ row_with y.size y.align y.dsize y.nvsize y.nvalign y.primary y.base_places y.virtual_bases y.virtual_places y.holders y.member_places = cc in r
 
 -- two rows of one class by the same components
 pub row_is_one : (first : Stage) (bases members : List Component) (pod : Bool) (x y : ClassLayout) → IsLayoutOf first bases members pod x → IsLayoutOf first bases members pod y → x ≡ y
@@ -34,7 +35,7 @@ row_is_one first bases members pod x y l k =
     let size = next_is_one (max 1 (last_stage first bases members y).size) y.align x.size y.size (subst (λ a. IsNext (max 1 (last_stage first bases members y).size) a x.size) align (subst (λ (s : Stage). IsNext (max 1 s.size) x.align x.size) last l.size)) k.size in
     let dsize = l.dsize ∙ (ap (λ s. if pod then s else (last_stage first bases members x).dsize) size ∙ (ap (λ (s : Stage). if pod then y.size else s.dsize) last ∙ sym k.dsize)) in
     let nvsize = l.nvsize ∙ (ap (λ s. if pod then s else (last_stage first bases members x).size) size ∙ (ap (λ (s : Stage). if pod then y.size else s.size) last ∙ sym k.nvsize)) in
-    same_row x y size align dsize nvsize (l.nvalign ∙ (align ∙ sym k.nvalign)) (l.primary ∙ sym k.primary) base_places (l.virtual ∙ sym k.virtual) member_places
+    same_row x y size align dsize nvsize (l.nvalign ∙ (align ∙ sym k.nvalign)) (l.primary ∙ sym k.primary) base_places (l.shared ∙ sym k.shared) (l.virtual ∙ sym k.virtual) (l.holders ∙ sym k.holders) member_places
 
 -- a row by rows that agree on the classes before its class
 pub row_agrees : (h : Classes) → IsStatic h → (rows others : List ClassLayout) (c : ClassId) (class : Class) (row : ClassLayout) → class_at h c ≡ Some class → ((d : ClassId) → d.0 < c.0 → slice_get rows d.0 ≡ slice_get others d.0) → IsRow h rows c class row → IsRow h others c class row

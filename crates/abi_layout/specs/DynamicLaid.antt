@@ -17,8 +17,6 @@ use Rattle.abi_primary.specs.PrimaryBase.{IsPrimary}
 use Rattle.abi_primary.specs.Holder.{holder_of}
 use Rattle.abi_layout.specs.declared.component.Component.{Component}
 use Rattle.abi_layout.specs.declared.component.Stage.{Stage}
-use Rattle.abi_layout.specs.declared.class_layout.Primary.{Primary as RowPrimary}
-use Rattle.abi_layout.specs.declared.class_layout.Primary.TheVariants.{None as NoRowPrimary, Direct as RowDirect, Virtual as RowVirtual}
 use Rattle.abi_layout.specs.declared.class_layout.ClassLayout.{ClassLayout}
 use Rattle.abi_layout.specs.declared.dynamic_bases.PlacedBase.{PlacedBase}
 use Rattle.abi_layout.specs.Kinds.{is_empty, is_pod}
@@ -99,22 +97,29 @@ pub record IsLayoutBy (first : Stage) (fronts members frees : List Component) (f
   pub size : IsNext (max 1 (after_all (after_all (after_all first fronts front_places) members row.member_places) frees free_places).size) row.align row.size
   pub dsize : row.dsize ≡ (if is_pod then row.size else (after_all (after_all (after_all first fronts front_places) members row.member_places) frees free_places).dsize)
 
-abbrev pub row_primary : Primary → RowPrimary
-row_primary NoPrimary = NoRowPrimary
-row_primary (Direct b) = RowDirect b
-row_primary (Virtual v) = RowVirtual v
+-- the components of class c lie at these places, and the sizes of its row come of it; it has a virtual pointer of its own,
+-- or none
+abbrev pub IsArrangedBy : Classes → List ClassLayout → List Primary → ClassId → Class → Bool → (front_places free_places : List ℕ) → ClassLayout → Type 0
+IsArrangedBy h rows primaries c class has_pointer front_places free_places row =
+    IsLayoutBy (start_stage c has_pointer) (front_components h rows primaries (object_parts h rows primaries) c class) (map (member_component rows (object_parts h rows primaries)) class.members)
+    (free_components h rows primaries (object_parts h rows primaries) c) front_places free_places (is_pod h c) row
+
+-- a class has a virtual pointer of its own where it is dynamic and has no primary base
+abbrev pub HasPointer : Classes → List Primary → ClassId → Bool → Type 0
+HasPointer h primaries c has_pointer = IsTrue has_pointer ↔ (IsDynamic h c × (primary_of primaries c ≡ NoPrimary))
 
 -- the row is the layout of the class, by the rows and the primary bases of the classes up to it
 pub record IsDynamicRow (h : Classes) (rows : List ClassLayout) (nearly : List Bool) (primaries : List Primary) (c : ClassId) (class : Class) (row : ClassLayout) : Type 0 where
   pub is_primary : IsPrimary h nearly (take c.0 primaries) c (primary_of primaries c)
-  pub primary : row.primary ≡ row_primary (primary_of primaries c)
+  pub primary : row.primary ≡ primary_of primaries c
   pub has_pointer : Bool
-  pub pointer : IsTrue has_pointer ↔ (IsDynamic h c × (primary_of primaries c ≡ NoPrimary))
-  pub placed : IsLayoutBy (start_stage c has_pointer) (front_components h rows primaries (object_parts h rows primaries) c class) (map (member_component rows (object_parts h rows primaries)) class.members) (free_components h rows primaries (object_parts h rows primaries) c)
-      (map (placed_place h rows c) (fronts primaries c class)) (map (placed_place h rows c) (free_bases h primaries c)) (is_pod h c) row
+  pub pointer : HasPointer h primaries c has_pointer
+  pub placed : IsArrangedBy h rows primaries c class has_pointer (map (placed_place h rows c) (fronts primaries c class)) (map (placed_place h rows c) (free_bases h primaries c)) row
   -- a place for each direct non-virtual base and each virtual base; one that is held lies at its holder
   pub each_base : length row.base_places ≡ length (filter is_plain_base class.bases)
+  pub shared : row.virtual_bases ≡ virtual_bases h c
   pub each_virtual : length row.virtual_places ≡ length (virtual_bases h c)
+  pub holders : row.holders ≡ map (holder_of h primaries c) (virtual_bases h c)
   pub held : (v : ClassId) (holder : Subobject) → Contains (virtual_bases h c) v → holder_of h primaries c v ≡ Some holder → virtual_place h rows c v ≡ place_of h rows c holder
 
 abbrev pub is_whole : Root → Bool
@@ -134,14 +139,19 @@ pub record TellsNearly (h : Classes) (rows : List ClassLayout) (count : ℕ) (ne
   pub one_each : length nearly ≡ count
   pub each : (c : ClassId) → c.0 < count → IsTrue (get_or nearly c.0 false) ↔ IsNearlyEmpty h nearly (is_shifted h rows c) c
 
--- the rows are the layout of the first `count` classes, whichever they are
-pub record IsFrontLaid (h : Classes) (count : ℕ) (rows : List ClassLayout) : Type 0 where
+-- the rows are the layout of the first `count` classes, where the lists tell which of these are nearly empty, and which
+-- their primary bases are
+pub record IsLaidBy (h : Classes) (count : ℕ) (rows : List ClassLayout) (nearly : List Bool) (primaries : List Primary) : Type 0 where
   pub one_each : length rows ≡ count
-  pub nearly : List Bool
   pub tells : TellsNearly h rows count nearly
-  pub primaries : List Primary
   pub primary_each : length primaries ≡ count
   pub row : (c : ClassId) (class : Class) (row : ClassLayout) → class_at h c ≡ Some class → slice_get rows c.0 ≡ Some row → IsDynamicRow h rows nearly primaries c class row
+
+-- the rows are the layout of the first `count` classes, whichever they are
+pub record IsFrontLaid (h : Classes) (count : ℕ) (rows : List ClassLayout) : Type 0 where
+  pub nearly : List Bool
+  pub primaries : List Primary
+  pub by : IsLaidBy h count rows nearly primaries
 
 -- a base of class c brings one pair of class and place twice, so that no place helps
 pub record BringsTwice (h : Classes) (rows : List ClassLayout) (primaries : List Primary) (c : ClassId) (class : Class) : Type 0 where

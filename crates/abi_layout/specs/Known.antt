@@ -9,7 +9,7 @@ use Rattle.cxx_hierarchy.specs.Classes.{Class}
 use Rattle.abi_emptybase.specs.declared.Part.{Part}
 use Rattle.abi_layout.specs.declared.component.Component.{Component}
 use Rattle.abi_layout.specs.declared.component.Stage.{Stage}
-use Rattle.abi_layout.specs.declared.class_layout.Primary.TheVariants.{None as NoPrimary}
+use Rattle.abi_primary.specs.declared.Primary.TheVariants.{None as NoPrimary}
 use Rattle.abi_layout.specs.declared.known.Known.{Known}
 use Rattle.abi_layout.specs.declared.known.LaidClass.{LaidClass}
 use Rattle.abi_layout.specs.declared.class_layout.ClassLayout.{ClassLayout}
@@ -50,6 +50,17 @@ pub record IsWithin (row : ClassLayout) (brought : List Part) : Type 0 where
 pub record AreAllWithin (rows : List ClassLayout) (known : List Known) : Type 0 where
   pub each : (number : ℕ) (row : ClassLayout) (k : Known) → slice_get rows number ≡ Some row → slice_get known number ≡ Some k → IsWithin row k.parts
 
+-- a row within the limit of sizes, and class subobjects that lie within the size of an object
+pub record IsSized (row : ClassLayout) (brought : List Part) : Type 0 where
+  pub align : IsAlignment row.align
+  pub nvalign : IsAlignment row.nvalign
+  pub nvsize : row.nvsize ≤ row.size
+  pub size : row.size ≤ 500000
+  pub parts : AreWithin row.size brought
+
+pub record AreAllSized (rows : List ClassLayout) (known : List Known) : Type 0 where
+  pub each : (number : ℕ) (row : ClassLayout) (k : Known) → slice_get rows number ≡ Some row → slice_get known number ≡ Some k → IsSized row k.parts
+
 -- a type whose class, if it is one, is laid out
 abbrev pub IsEarlierType : ℕ → FieldType ClassId → Type 0
 IsEarlierType count (Value type) = Unit {0}
@@ -80,7 +91,9 @@ pub record IsRowOf (last : Stage) (is_pod : Bool) (base_places member_places : L
   pub nvalign : row.nvalign ≡ row.align
   pub primary : row.primary ≡ NoPrimary
   pub bases_are : row.base_places ≡ base_places
+  pub shared : row.virtual_bases ≡ []
   pub virtual : row.virtual_places ≡ []
+  pub holders : row.holders ≡ []
   pub members_are : row.member_places ≡ member_places
 
 -- a component takes more than the limit of sizes

@@ -10,7 +10,7 @@ use Rattle.abi_emptybase.specs.declared.Part.{Part}
 use Rattle.abi_emptybase.specs.Table.{moved, has_conflict}
 use Rattle.abi_layout.specs.declared.component.Component.{Component}
 use Rattle.abi_layout.specs.declared.component.Stage.{Stage}
-use Rattle.abi_layout.specs.declared.class_layout.Primary.TheVariants.{None as NoPrimary}
+use Rattle.abi_primary.specs.declared.Primary.TheVariants.{None as NoPrimary}
 use Rattle.abi_layout.specs.declared.class_layout.ClassLayout.{ClassLayout}
 use Rattle.abi_layout.specs.Kinds.{is_empty, is_pod}
 use Rattle.abi_layout.specs.Places.{size_of_value, size_in, align_in, bases_in, members_in, is_plain_base}
@@ -155,7 +155,9 @@ pub record IsLayoutOf (first : Stage) (bases members : List Component) (is_pod :
   pub nvsize : row.nvsize ≡ (if is_pod then row.size else (last_stage first bases members row).size)
   pub nvalign : row.nvalign ≡ row.align
   pub primary : row.primary ≡ NoPrimary
+  pub shared : row.virtual_bases ≡ []
   pub virtual : row.virtual_places ≡ []
+  pub holders : row.holders ≡ []
 
 -- the row is the layout of the class, by the rows of the classes before it
 abbrev pub IsRow : Classes → List ClassLayout → ClassId → Class → ClassLayout → Type 0

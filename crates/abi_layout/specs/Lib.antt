@@ -1,6 +1,7 @@
 pub mod Places
 pub mod Locations
 pub mod Sound
+pub mod Chains
 pub mod Kinds
 pub mod Laid
 pub mod Alignments
@@ -10,4 +11,9 @@ pub mod Brought
 pub mod PlacedBases
 pub mod Repeats
 pub mod DynamicLaid
+pub mod SoundLayouts
+pub mod Refusals
 pub mod Scenes
+pub mod Arrangements
+pub mod OwnPlaces
+pub mod Settled

@@ -3,6 +3,7 @@ use Rattle.std.specs.Prelude.{Bool, true, false, not, ◌&&◌, nat_eq, if◌the
 use Rattle.cxx_hierarchy.specs.declared.records.ClassId.{ClassId}
 use Rattle.cxx_hierarchy.specs.declared.records.Base.{Base}
 use Rattle.cxx_hierarchy.specs.Classes.{Classes}
+use Rattle.cxx_hierarchy.specs.VirtualBases.{IsDirectBase, HasVirtualBase}
 use Rattle.cxx_subobject.specs.declared.Root.TheVariants.{Whole}
 use Rattle.cxx_subobject.specs.declared.Subobject.{Subobject}
 use Rattle.cxx_subobject.specs.Subobjects.{subobject, shared_base}
@@ -68,3 +69,9 @@ placed_component empties h rows primaries parts c base = record {
   takes = if empties (class_of_placed base) then size_in (slice_get rows (class_of_placed base).0) else nvsize_in (slice_get rows (class_of_placed base).0);
   parts = brought_by h rows primaries parts c (subobject_of c base) (class_of_placed base);
 }
+
+-- a primary base is a base: a direct non-virtual one, or a virtual one
+abbrev pub IsPossible : Classes → ClassId → Primary → Type 0
+IsPossible h c NoPrimary = Unit {0}
+IsPossible h c (Direct b) = IsDirectBase h c false b
+IsPossible h c (Virtual v) = HasVirtualBase h c v

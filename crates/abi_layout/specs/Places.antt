@@ -1,5 +1,5 @@
 -- Where things lie, in bytes, by the rows of a layout.
-use Rattle.std.specs.Prelude.{ℕ, ◌+◌, Bool, not, nat_eq, Option, Some, None, List, [], ◌∷◌, filter, position, slice_get}
+use Rattle.std.specs.Prelude.{ℕ, ◌+◌, Bool, not, nat_eq, Option, Some, None, List, [], ◌∷◌, filter, get_or, position, slice_get}
 use Rattle.cxx_hierarchy.specs.declared.records.ClassId.{ClassId}
 use Rattle.cxx_hierarchy.specs.declared.records.Base.{Base}
 use Rattle.cxx_hierarchy.specs.declared.records.ValueType.{ValueType}
@@ -8,16 +8,21 @@ use Rattle.cxx_hierarchy.specs.Scalars.{size_of}
 use Rattle.cxx_hierarchy.specs.Classes.{Classes, bases_of}
 use Rattle.cxx_subobject.specs.declared.Subobject.{Subobject}
 use Rattle.cxx_subobject.specs.Subobjects.{tail_of}
+use Rattle.abi_primary.specs.declared.Primary.{Primary}
+use Rattle.abi_primary.specs.declared.Primary.TheVariants.{None as NoPrimary}
 use Rattle.abi_layout.specs.declared.class_layout.ClassLayout.{ClassLayout}
 
 -- the size of a class, its alignment, its alignment as a base, the place of a subobject in an object of the class,
--- and the place of a member in an object of the class that declares it
+-- and the place of a member in an object of the class that declares it; the primary base of a class, and the subobject
+-- of a class that holds a virtual base of it
 pub record Places : Type 0 where
   pub size : ClassId → ℕ
   pub align : ClassId → ℕ
   pub base_align : ClassId → ℕ
   pub place : ClassId → Subobject → ℕ
   pub member : ClassId → ℕ → ℕ
+  pub primary : ClassId → Primary
+  pub holder : ClassId → ClassId → Option Subobject
 
 -- how many bytes a value takes, which is its alignment too
 abbrev pub size_of_value : ValueType ClassId → ℕ
@@ -64,6 +69,18 @@ abbrev pub place_along : Classes → List ClassLayout → ClassId → List Class
 place_along h rows c [] = 0
 place_along h rows c (b ∷ path) = base_place h rows c b + place_along h rows b path
 
+abbrev pub primary_in : Option ClassLayout → Primary
+primary_in None = NoPrimary
+primary_in (Some row) = row.primary
+
+abbrev pub nth_holder : List (Option Subobject) → Option ℕ → Option Subobject
+nth_holder holders None = None
+nth_holder holders (Some n) = get_or holders n None
+
+abbrev pub holder_in : Option ClassLayout → ClassId → Option Subobject
+holder_in None v = None
+holder_in (Some row) v = nth_holder row.holders (position (λ (w : ClassId). nat_eq w.0 v.0) row.virtual_bases)
+
 -- the places that rows give; for classes without virtual bases
 abbrev pub places_of : Classes → List ClassLayout → Places
 places_of h rows = record {
@@ -72,4 +89,6 @@ places_of h rows = record {
   base_align = λ c. nvalign_in (slice_get rows c.0);
   place = λ c s. place_along h rows c (tail_of s.path);
   member = λ d m. number_in (slice_get (members_in (slice_get rows d.0)) m);
+  primary = λ c. primary_in (slice_get rows c.0);
+  holder = λ c v. holder_in (slice_get rows c.0) v;
 }

@@ -2,26 +2,26 @@
 
 ghost use Rattle.std.specs.Prelude.{◌≡◌, ◌<◌, Some, length, slice_get};
 
+use abi_primary::Primary;
 use cxx_hierarchy::ClassId;
+use cxx_subobject::Subobject;
 use foundation::Sequence;
 use std::marker::Model;
 
 /// Places in bytes.
 pub type PlaceList = Sequence<u32>;
 
-/// The primary base of a class: the base whose virtual pointer it shares (Itanium C++ ABI 2.4).
-#[derive(Clone, Copy, Debug, PartialEq, Eq)]
-pub enum Primary {
-    None,
-    Direct(ClassId),
-    Virtual(ClassId),
-}
+/// Virtual bases of a class.
+pub type ClassList = Sequence<ClassId>;
+
+/// For each virtual base the subobject that holds it, if one does.
+pub type HolderList = Sequence<Option<Subobject>>;
 
 /// The layout of one class. All numbers are bytes.
 ///
 /// `dsize` is the size without tail padding, `nvsize` and `nvalign` are the size and alignment of the part
-/// without virtual bases. `base_places` follows the direct non-virtual bases, `virtual_places` the virtual bases
-/// in preorder, `member_places` the members.
+/// without virtual bases. `base_places` follows the direct non-virtual bases, `member_places` the members.
+/// `virtual_bases` has the virtual bases in preorder, and `virtual_places` and `holders` follow them.
 #[derive(Debug, Drop)]
 pub struct ClassLayout {
     pub size: u32,
@@ -31,7 +31,9 @@ pub struct ClassLayout {
     pub nvalign: u32,
     pub primary: Primary,
     pub base_places: PlaceList,
+    pub virtual_bases: ClassList,
     pub virtual_places: PlaceList,
+    pub holders: HolderList,
     pub member_places: PlaceList,
 }
 

@@ -1,7 +1,9 @@
 //! What a class is made of: its components, and how far its layout has come.
 
-ghost use Rattle.std.specs.Prelude.{◌≡◌, ◌+◌, ◌^◌, ◌<◌, ◌++◌, All, OnOk, map};
+ghost use Rattle.std.specs.Prelude.{◌≡◌, ◌+◌, ◌^◌, ◌<◌, ◌≤◌, ◌++◌, All, OnOk, map};
 ghost use Rattle.abi_emptybase.specs.Table.{moved};
+ghost use Rattle.abi_layout.specs.Laid.{parts_at};
+ghost use Rattle.abi_layout.specs.Alignments.{AreFit};
 
 use abi_emptybase::Part;
 use foundation::{NoMemory, Sequence};
@@ -39,6 +41,25 @@ pub(crate) fn push_moved(list: &mut PartList, parts: &[Part], at: u32) -> Result
             class: part.class,
             place: part.place + at,
         })?;
+    }
+    Ok(())
+}
+
+/// Puts what components bring at their places behind the others.
+pub(crate) fn push_placed(
+    list: &mut PartList,
+    components: &[Component],
+    places: &[u32],
+) -> Result<(), NoMemory>
+    requires fit { AreFit components.now }
+    requires places { All (λ place. place ≤ 500000) places.now }
+    ensures { OnOk result (list.new ≡ list.old ++ parts_at components.now places.now) }
+{
+    if let Some((component, components)) = components.split_first() {
+        if let Some((place, places)) = places.split_first() {
+            push_moved(list, component.parts.as_slice(), *place)?;
+            push_placed(list, components, places)?;
+        }
     }
     Ok(())
 }

@@ -10,10 +10,13 @@
 //! in their complete object and of members in their class, in bytes.
 #![tactic(auto)]
 
+pub mod arrangement;
+mod base_places;
 mod brought;
 pub mod class_layout;
 pub mod component;
 pub mod dynamic_bases;
+pub mod dynamic_rows;
 pub mod hierarchy_layout;
 pub mod holding;
 pub mod known;
@@ -27,8 +30,10 @@ pub mod soundness;
 pub mod statics;
 #[cfg(test)]
 mod tests;
+mod virtual_places;
 
-pub use crate::class_layout::{AbiLayout, ClassLayout, PlaceList, Primary};
+pub use crate::class_layout::{AbiLayout, ClassLayout, ClassList, HolderList, PlaceList};
 pub use crate::hierarchy_layout::{lay_out, lay_out_front, one_layout, some_layout};
 pub use crate::soundness::laid_is_sound;
 pub use crate::statics::is_static;
+pub use abi_primary::Primary;

@@ -11,14 +11,15 @@ ghost use Rattle.abi_emptybase.specs.Table.{moved};
 ghost use Rattle.abi_layout.specs.Places.{is_plain_base};
 ghost use Rattle.abi_layout.specs.Laid.{base_component, member_component, copies, count_of, size_of_type, align_of_type, parts_of_type, first_stage};
 ghost use Rattle.abi_layout.specs.Alignments.{IsAlignment, AreWithin, AreLittle, IsPlacing};
-ghost use Rattle.abi_layout.specs.Known.{empties_in, pods_in, parts_in, AreAllWithin, bases_by, members_by, empty_stage, AreEarlier, IsEarlierType, IsRowOf, HasLarge, IsLaidClass, IsTooLarge};
+ghost use Rattle.abi_layout.specs.Known.{empties_in, pods_in, parts_in, AreAllWithin, AreAllSized, bases_by, members_by, empty_stage, AreEarlier, IsEarlierType, IsRowOf, HasLarge, IsLaidClass, IsTooLarge};
 
-use crate::class_layout::{ClassLayout, PlaceList, Primary};
+use crate::class_layout::{ClassLayout, PlaceList};
 use crate::component::{Component, PartList, Stage, push_moved};
 use crate::known::{Known, LaidClass, is_empty_class, is_pod_class};
 use crate::member::size_of_value;
 use crate::placing::{Placing, SIZE_LIMIT, add_parts, place_all, round_up};
 use abi_emptybase::{Part, PlaceTable};
+use abi_primary::Primary;
 use cxx_hierarchy::{Base, ClassId, ClassRec, FieldType, LimitNo, Member, Stop};
 use foundation::{NoMemory, Sequence};
 use std::alloc::Global;
@@ -169,7 +170,7 @@ fn member_component(
 ) -> Result<Component, Stop>
     requires earlier { IsEarlierType (length rows.now) member.now.ty }
     requires known { length known.now ≡ length rows.now }
-    requires within { AreAllWithin rows.now known.now }
+    requires within { AreAllSized rows.now known.now }
     ensures component { IfOk result (λ component. component ≡ member_component rows.now (parts_in known.now) member.now) }
     ensures little { IfOk result (λ component. component.takes ≤ 500000) }
     ensures limit { IfErr result (λ e. (e ≡ Stop.NoMemory) ⊎ ((e ≡ Stop.Limit LimitNo.L6) × (500000 < (member_component rows.now (parts_in known.now) member.now).takes))) }
@@ -191,7 +192,7 @@ fn member_component(
 /// The members in the order of declaration.
 ///
 /// Errors: the limit L6 where one takes more than 500,000 bytes, or want of memory.
-fn member_components(
+pub(crate) fn member_components(
     alloc: Global,
     rows: &[ClassLayout],
     known: &[Known],
@@ -199,7 +200,7 @@ fn member_components(
 ) -> Result<Vec<Component>, Stop>
     requires earlier { (member : Member ClassId) → Contains members.now member → IsEarlierType (length rows.now) member.ty }
     requires known { length known.now ≡ length rows.now }
-    requires within { AreAllWithin rows.now known.now }
+    requires within { AreAllSized rows.now known.now }
     ensures little { IfOk result (λ components. AreLittle components.items) }
     ensures components { IfOk result (λ components. components.items ≡ map (member_component rows.now (parts_in known.now)) members.now) }
     ensures limit { IfErr result (λ e. (e ≡ Stop.NoMemory) ⊎ ((e ≡ Stop.Limit LimitNo.L6) × HasLarge (map (member_component rows.now (parts_in known.now)) members.now))) }
@@ -227,7 +228,7 @@ fn empty_placing(alloc: Global) -> Placing
 }
 
 /// Before the first component is placed: the class itself is at 0.
-fn first_placing(alloc: Global, c: ClassId) -> Result<Placing, NoMemory>
+pub(crate) fn first_placing(alloc: Global, c: ClassId) -> Result<Placing, NoMemory>
     ensures stage { IfOk result (λ placing. placing.stage ≡ first_stage c) }
     ensures placing { IfOk result IsPlacing }
 {
@@ -261,7 +262,9 @@ fn row_of(
         nvalign: stage.align,
         primary: Primary::None,
         base_places,
+        virtual_bases: Sequence::new(alloc),
         virtual_places: Sequence::new(alloc),
+        holders: Sequence::new(alloc),
         member_places,
     }
 }

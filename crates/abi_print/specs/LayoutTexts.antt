@@ -16,8 +16,8 @@ use Rattle.cxx_subobject.specs.declared.Root.TheVariants.{Whole, Shared}
 use Rattle.cxx_subobject.specs.declared.Subobject.{Subobject}
 use Rattle.cxx_subobject.specs.Subobjects.{tail_of}
 use Rattle.cxx_subobject.specs.Preorder.{preorder}
-use Rattle.abi_layout.specs.declared.class_layout.Primary.{Primary}
-use Rattle.abi_layout.specs.declared.class_layout.Primary.TheVariants.{None as NoPrimary, Direct, Virtual}
+use Rattle.abi_primary.specs.declared.Primary.{Primary}
+use Rattle.abi_primary.specs.declared.Primary.TheVariants.{None as NoPrimary, Direct, Virtual}
 use Rattle.abi_layout.specs.declared.class_layout.ClassLayout.{ClassLayout}
 use Rattle.abi_layout.specs.Places.{places_of}
 

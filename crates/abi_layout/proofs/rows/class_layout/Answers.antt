@@ -10,7 +10,7 @@ use Rattle.abi_layout.specs.Places.{is_plain_base}
 use Rattle.abi_layout.specs.Laid.{base_component, member_component, ArePlaced, after_all}
 use Rattle.abi_layout.specs.Alignments.{AreFit, AreLittle, IsPastLimit}
 use Rattle.abi_layout.specs.Known.{empties_in, parts_in, bases_by, members_by, HasLarge}
-use Rattle.abi_layout.proofs.RowLemmas.{bases_fit, members_fit, members_too_large, bases_past, members_past, class_is_laid}
+use Rattle.abi_layout.proofs.RowLemmas.{all_sized, bases_fit, members_fit, members_too_large, bases_past, members_past, class_is_laid}
 use Rattle.abi_layout.proofs.rows.class_layout.Goals as goal
 
 pub base_components-requires-clause-rows : goal.base_components-requires-clause-rows
@@ -18,6 +18,9 @@ base_components-requires-clause-rows c = λ base has. c.requires.earlier.bases b
 
 pub member_components-requires-clause-earlier : goal.member_components-requires-clause-earlier
 member_components-requires-clause-earlier c = λ member has. c.requires.earlier.objects member (subst (λ (xs : List (Member ClassId)). Contains xs member) c.as_slice-2.ensures has)
+
+pub member_components-requires-clause-within : goal.member_components-requires-clause-within
+member_components-requires-clause-within c = all_sized c.args.rows.now c.args.known.now c.requires.within
 
 pub returns-in_err-members-clause-limit : goal.returns-in_err-members-clause-limit
 returns-in_err-members-clause-limit c =
@@ -59,7 +62,7 @@ place_all-requires-2-clause-components c =
     let rows = c.args.rows.now in
     let known = c.args.known.now in
     let are = c.in_ok-members.ensures.components ∙ ap (map (member_component rows (parts_in known))) c.as_slice-2.ensures in
-    subst AreFit (sym (c.deref-2.ensures.value ∙ are)) (members_fit rows known c.args.class.now.members c.requires.within c.requires.known c.requires.earlier.objects (subst AreLittle are c.in_ok-members.ensures.little))
+    subst AreFit (sym (c.deref-2.ensures.value ∙ are)) (members_fit rows known c.args.class.now.members (all_sized rows known c.requires.within) c.requires.known c.requires.earlier.objects (subst AreLittle are c.in_ok-members.ensures.little))
 
 pub returns-in_err-member_places-clause-limit : goal.returns-in_err-member_places-clause-limit
 returns-in_err-member_places-clause-limit c =
