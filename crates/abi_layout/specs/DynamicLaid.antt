@@ -20,37 +20,13 @@ use Rattle.abi_layout.specs.declared.component.Stage.{Stage}
 use Rattle.abi_layout.specs.declared.class_layout.ClassLayout.{ClassLayout}
 use Rattle.abi_layout.specs.declared.dynamic_bases.PlacedBase.{PlacedBase}
 use Rattle.abi_layout.specs.Kinds.{is_empty, is_pod}
-use Rattle.abi_layout.specs.Places.{place_at, place_along, members_in, is_plain_base}
+use Rattle.abi_layout.specs.Places.{members_in, is_plain_base}
+pub use Rattle.abi_layout.specs.Places.{virtuals_in, shared_in, virtual_place, place_from, root_place, place_of}
 use Rattle.abi_layout.specs.Laid.{IsNext, ArePlaced, after_all, part_at, parts_at, member_component}
 use Rattle.abi_layout.specs.Holding.{virtual_bases}
 use Rattle.abi_layout.specs.Brought.{brought_by}
 use Rattle.abi_layout.specs.Repeats.{HasRepeat}
 use Rattle.abi_layout.specs.PlacedBases.{class_of_placed, subobject_of, front_bases, free_bases, placed_component}
-
-abbrev pub virtuals_in : Option ClassLayout → List ℕ
-virtuals_in None = []
-virtuals_in (Some row) = row.virtual_places
-
-abbrev pub shared_in : Option ClassLayout → List ClassId
-shared_in None = []
-shared_in (Some row) = row.virtual_bases
-
--- the place of a virtual base in an object of class c, by its row (`shared` of IsDynamicRow says that the row has the virtual
--- bases in preorder)
-abbrev pub virtual_place : Classes → List ClassLayout → ClassId → ClassId → ℕ
-virtual_place h rows c v = place_at (virtuals_in (slice_get rows c.0)) (position (λ (w : ClassId). nat_eq w.0 v.0) (shared_in (slice_get rows c.0)))
-
-abbrev pub place_from : Classes → List ClassLayout → List ClassId → ℕ
-place_from h rows [] = 0
-place_from h rows (d ∷ path) = place_along h rows d path
-
-abbrev pub root_place : Classes → List ClassLayout → ClassId → Root → ℕ
-root_place h rows c Whole = 0
-root_place h rows c (Shared v) = virtual_place h rows c v
-
--- the place of a subobject in an object of class c: where its root lies, and the places along its path
-abbrev pub place_of : Classes → List ClassLayout → ClassId → Subobject → ℕ
-place_of h rows c s = root_place h rows c s.root + place_from h rows s.path
 
 abbrev pub placed_place : Classes → List ClassLayout → ClassId → PlacedBase → ℕ
 placed_place h rows c base = place_of h rows c (subobject_of c base)
@@ -125,7 +101,7 @@ pub record IsDynamicRow (h : Classes) (rows : List ClassLayout) (nearly : List B
   pub shared : row.virtual_bases ≡ virtual_bases h c
   pub each_virtual : length row.virtual_places ≡ length (virtual_bases h c)
   pub holders : row.holders ≡ map (holder_of h primaries c) (virtual_bases h c)
-  pub held : (v : ClassId) (holder : Subobject) → Contains (virtual_bases h c) v → holder_of h primaries c v ≡ Some holder → virtual_place h rows c v ≡ place_of h rows c holder
+  pub held : (v : ClassId) (holder : Subobject) → Contains (virtual_bases h c) v → holder_of h primaries c v ≡ Some holder → virtual_place rows c v ≡ place_of h rows c holder
 
 abbrev pub is_whole : Root → Bool
 is_whole Whole = true
@@ -157,6 +133,10 @@ pub record IsFrontLaid (h : Classes) (count : ℕ) (rows : List ClassLayout) : T
   pub nearly : List Bool
   pub primaries : List Primary
   pub by : IsLaidBy h count rows nearly primaries
+
+-- the rows are the layout of all classes
+abbrev pub IsLaid : Classes → List ClassLayout → Type 0
+IsLaid h rows = IsFrontLaid h (length h) rows
 
 -- a base of class c brings one pair of class and place twice, so that no place helps
 pub record BringsTwice (h : Classes) (rows : List ClassLayout) (primaries : List Primary) (c : ClassId) (class : Class) : Type 0 where

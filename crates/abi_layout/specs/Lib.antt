@@ -13,6 +13,7 @@ pub mod Repeats
 pub mod DynamicLaid
 pub mod SoundLayouts
 pub mod Refusals
+pub mod AbiLayouts
 pub mod Scenes
 pub mod Arrangements
 pub mod OwnPlaces

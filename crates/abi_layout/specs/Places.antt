@@ -6,8 +6,9 @@ use Rattle.cxx_hierarchy.specs.declared.records.ValueType.{ValueType}
 use Rattle.cxx_hierarchy.specs.declared.records.ValueType.TheVariants.{Number, Pointer}
 use Rattle.cxx_hierarchy.specs.Scalars.{size_of}
 use Rattle.cxx_hierarchy.specs.Classes.{Classes, bases_of}
+use Rattle.cxx_subobject.specs.declared.Root.{Root}
+use Rattle.cxx_subobject.specs.declared.Root.TheVariants.{Whole, Shared}
 use Rattle.cxx_subobject.specs.declared.Subobject.{Subobject}
-use Rattle.cxx_subobject.specs.Subobjects.{tail_of}
 use Rattle.abi_primary.specs.declared.Primary.{Primary}
 use Rattle.abi_primary.specs.declared.Primary.TheVariants.{None as NoPrimary}
 use Rattle.abi_layout.specs.declared.class_layout.ClassLayout.{ClassLayout}
@@ -81,13 +82,37 @@ abbrev pub holder_in : Option ClassLayout → ClassId → Option Subobject
 holder_in None v = None
 holder_in (Some row) v = nth_holder row.holders (position (λ (w : ClassId). nat_eq w.0 v.0) row.virtual_bases)
 
--- the places that rows give; for classes without virtual bases
+abbrev pub virtuals_in : Option ClassLayout → List ℕ
+virtuals_in None = []
+virtuals_in (Some row) = row.virtual_places
+
+abbrev pub shared_in : Option ClassLayout → List ClassId
+shared_in None = []
+shared_in (Some row) = row.virtual_bases
+
+-- the place of a virtual base in an object of class c
+abbrev pub virtual_place : List ClassLayout → ClassId → ClassId → ℕ
+virtual_place rows c v = place_at (virtuals_in (slice_get rows c.0)) (position (λ (w : ClassId). nat_eq w.0 v.0) (shared_in (slice_get rows c.0)))
+
+abbrev pub place_from : Classes → List ClassLayout → List ClassId → ℕ
+place_from h rows [] = 0
+place_from h rows (d ∷ path) = place_along h rows d path
+
+abbrev pub root_place : List ClassLayout → ClassId → Root → ℕ
+root_place rows c Whole = 0
+root_place rows c (Shared v) = virtual_place rows c v
+
+-- the place of a subobject in an object of class c: where its root lies, and the places along its path
+abbrev pub place_of : Classes → List ClassLayout → ClassId → Subobject → ℕ
+place_of h rows c s = root_place rows c s.root + place_from h rows s.path
+
+-- the places that rows give
 abbrev pub places_of : Classes → List ClassLayout → Places
 places_of h rows = record {
   size = λ c. size_in (slice_get rows c.0);
   align = λ c. align_in (slice_get rows c.0);
   base_align = λ c. nvalign_in (slice_get rows c.0);
-  place = λ c s. place_along h rows c (tail_of s.path);
+  place = λ c s. place_of h rows c s;
   member = λ d m. number_in (slice_get (members_in (slice_get rows d.0)) m);
   primary = λ c. primary_in (slice_get rows c.0);
   holder = λ c v. holder_in (slice_get rows c.0) v;

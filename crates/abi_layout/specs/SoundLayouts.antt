@@ -13,12 +13,10 @@ use Rattle.abi_primary.specs.declared.Primary.{Primary}
 use Rattle.abi_primary.specs.declared.Primary.TheVariants.{Direct, Virtual}
 use Rattle.abi_primary.specs.Kinds.{IsDynamic}
 use Rattle.abi_primary.specs.PrimaryBase.{is_virtual_primary}
-use Rattle.abi_layout.specs.declared.class_layout.ClassLayout.{ClassLayout}
-use Rattle.abi_layout.specs.Places.{Places, size_of_value, size_in, align_in, nvalign_in, members_in, number_in, primary_in, holder_in}
+use Rattle.abi_layout.specs.Places.{Places, size_of_value}
 use Rattle.abi_layout.specs.Locations.{Hop, IsAt}
 use Rattle.abi_layout.specs.Sound.{Divides, IsSound}
 use Rattle.abi_layout.specs.Chains.{IsPrimaryPart, ShareChain}
-use Rattle.abi_layout.specs.DynamicLaid.{place_of}
 
 -- the virtual base is the primary base of the class, where there is one
 abbrev pub is_primary_of : Places → ClassId → Option ClassId → Bool
@@ -47,15 +45,3 @@ pub record IsSoundLayout (h : Classes) (l : Places) : Type 0 where
   pub sound : IsSound h l
   pub pointers : ArePointersSound h l
   pub primaries : ArePrimariesSound h l
-
--- the places that rows give
-abbrev pub places_in : Classes → List ClassLayout → Places
-places_in h rows = record {
-  size = λ c. size_in (slice_get rows c.0);
-  align = λ c. align_in (slice_get rows c.0);
-  base_align = λ c. nvalign_in (slice_get rows c.0);
-  place = λ c s. place_of h rows c s;
-  member = λ d m. number_in (slice_get (members_in (slice_get rows d.0)) m);
-  primary = λ c. primary_in (slice_get rows c.0);
-  holder = λ c v. holder_in (slice_get rows c.0) v;
-}

@@ -19,7 +19,7 @@ use Rattle.cxx_subobject.specs.Preorder.{preorder}
 use Rattle.abi_primary.specs.declared.Primary.{Primary}
 use Rattle.abi_primary.specs.declared.Primary.TheVariants.{None as NoPrimary, Direct, Virtual}
 use Rattle.abi_layout.specs.declared.class_layout.ClassLayout.{ClassLayout}
-use Rattle.abi_layout.specs.Places.{places_of}
+use Rattle.abi_layout.specs.Places.{number_in, members_in}
 
 abbrev pub name_in : Option Class → List ℕ
 name_in None = []
@@ -90,8 +90,8 @@ row_text h c None = []
 row_text h c (Some row) = class_text h c row
 
 -- a base subobject and its place
-abbrev pub base_text : Classes → List ClassLayout → ClassId → Subobject → List ℕ
-base_text h rows c s = decimal ((places_of h rows).place c s) ++ codes " base " ++ subobject_text h s ++ codes "\n"
+abbrev pub base_text : Classes → (ClassId → Subobject → ℕ) → ClassId → Subobject → List ℕ
+base_text h place c s = decimal (place c s) ++ codes " base " ++ subobject_text h s ++ codes "\n"
 
 -- a member and its place
 abbrev pub field_text : Classes → ℕ → Member ClassId → List ℕ
@@ -101,10 +101,13 @@ abbrev pub field_in : Classes → ℕ → Option (Member ClassId) → List ℕ
 field_in h place None = []
 field_in h place (Some member) = field_text h place member
 
+abbrev pub member_place : List ClassLayout → ClassId → ℕ → ℕ
+member_place rows c n = number_in (slice_get (members_in (slice_get rows c.0)) n)
+
 -- the first members, as many as are asked for
 abbrev pub fields_text : Classes → List ClassLayout → ClassId → ℕ → List ℕ
 fields_text h rows c zero = []
-fields_text h rows c (suc n) = fields_text h rows c n ++ field_in h ((places_of h rows).member c n) (slice_get (members_of h c) n)
+fields_text h rows c (suc n) = fields_text h rows c n ++ field_in h (member_place rows c n) (slice_get (members_of h c) n)
 
 -- all but the whole, which stands first
 abbrev pub proper : List Subobject → List Subobject
@@ -112,12 +115,12 @@ proper [] = []
 proper (s ∷ list) = list
 
 -- the lines of a class whose subobjects are listed: its numbers, its bases, its own members
-abbrev pub listed_text : Classes → List ClassLayout → ClassId → List Subobject → List ℕ
-listed_text h rows c list =
+abbrev pub listed_text : Classes → List ClassLayout → (ClassId → Subobject → ℕ) → ClassId → List Subobject → List ℕ
+listed_text h rows place c list =
     row_text h c (slice_get rows c.0)
-    ++ flat_map (base_text h rows c) (proper list)
+    ++ flat_map (base_text h place c) (proper list)
     ++ fields_text h rows c (length (members_of h c))
 
--- the layout of a class, its base subobjects in preorder
-abbrev pub layout_text : Classes → List ClassLayout → ClassId → List ℕ
-layout_text h rows c = listed_text h rows c (preorder h c)
+-- the layout of a class by its row and the places of its subobjects, which stand in preorder
+abbrev pub layout_text : Classes → List ClassLayout → (ClassId → Subobject → ℕ) → ClassId → List ℕ
+layout_text h rows place c = listed_text h rows place c (preorder h c)

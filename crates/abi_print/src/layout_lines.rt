@@ -1,17 +1,17 @@
 //! The text of a class's layout.
 
-ghost use Rattle.std.specs.Prelude.{◌≡◌, ◌++◌, ◌<◌, OnOk, IfOk, Contains, length};
+ghost use Rattle.std.specs.Prelude.{◌≡◌, ◌++◌, ◌<◌, OnOk, IfOk, Contains, length, slice_get};
 ghost use Rattle.std.specs.List.{flat_map};
 ghost use Rattle.std.specs.Fmt.{decimal};
 ghost use Rattle.cxx_hierarchy.specs.declared.records.ClassId.{ClassId};
 ghost use Rattle.cxx_subobject.specs.declared.Subobject.{Subobject};
 ghost use Rattle.cxx_subobject.specs.Subobjects.{IsSubobject, tail_of};
 ghost use Rattle.cxx_hierarchy.specs.Classes.{members_of};
-ghost use Rattle.abi_layout.specs.Places.{places_of};
-ghost use Rattle.abi_layout.specs.Sound.{IsSound};
+ghost use Rattle.abi_layout.specs.Places.{number_in};
 ghost use Rattle.abi_print.specs.LayoutTexts.{name_of, slashed, joined, subobject_text, scalar_text, value_text, type_text, length_text, primary_text, class_text, base_text, field_text, fields_text, proper, listed_text, layout_text};
 
-use abi_layout::{AbiLayout, ClassLayout, Primary};
+use abi_layout::{ClassLayout, SoundLayout};
+use abi_primary::Primary;
 use cxx_hierarchy::{ClassId, FieldType, Hierarchy, Member, Scalar, ValueType};
 use cxx_subobject::{Root, Subobject, list_subobjects};
 use foundation::NoMemory;
@@ -190,18 +190,18 @@ fn append_row(
 }
 
 /// Puts the line of a base subobject at the end.
-fn append_base(
+fn append_base<L: SoundLayout>(
     alloc: Global,
     text: &mut Vec<u8>,
     h: &Hierarchy,
-    layout: &AbiLayout,
+    layout: &L,
     c: ClassId,
     s: &Subobject,
 ) -> Result<(), NoMemory>
-    requires sound { IsSound h.now (places_of h.now layout.now) }
+    requires layout { L.lays_out layout.now h.now }
     requires known { c.0 < length h.now }
     requires subobject { IsSubobject h.now c s.now }
-    ensures { OnOk result (text.new.items ≡ text.old.items ++ base_text h.now layout.now c s.now) }
+    ensures { OnOk result (text.new.items ≡ text.old.items ++ base_text h.now (L.places layout.now h.now).place c s.now) }
 {
     append_number(alloc, text, layout.place(h, c, s))?;
     append(text, b" base ")?;
@@ -211,18 +211,18 @@ fn append_base(
 }
 
 /// Puts the lines of base subobjects at the end.
-fn append_bases(
+fn append_bases<L: SoundLayout>(
     alloc: Global,
     text: &mut Vec<u8>,
     h: &Hierarchy,
-    layout: &AbiLayout,
+    layout: &L,
     c: ClassId,
     list: &[Subobject],
 ) -> Result<(), NoMemory>
-    requires sound { IsSound h.now (places_of h.now layout.now) }
+    requires layout { L.lays_out layout.now h.now }
     requires known { c.0 < length h.now }
     requires subobjects { (s : Subobject) → Contains list.now s → IsSubobject h.now c s }
-    ensures { OnOk result (text.new.items ≡ text.old.items ++ flat_map (base_text h.now layout.now c) list.now) }
+    ensures { OnOk result (text.new.items ≡ text.old.items ++ flat_map (base_text h.now (L.places layout.now h.now).place c) list.now) }
 {
     for s in list {
         append_base(alloc, text, h, layout, c, s)?;
@@ -250,22 +250,33 @@ fn append_field(
     Ok(())
 }
 
+/// The place of a number, 0 past the last one.
+fn place_of(places: &[u32], n: usize) -> u32
+    ensures { result ≡ number_in (slice_get places.now n) }
+{
+    match places.get(n) {
+        Some(place) => *place,
+        None => 0,
+    }
+}
+
 /// Puts the lines of the members that a class declares at the end.
-fn append_fields(
+fn append_fields<L: SoundLayout>(
     alloc: Global,
     text: &mut Vec<u8>,
     h: &Hierarchy,
-    layout: &AbiLayout,
+    layout: &L,
     c: ClassId,
 ) -> Result<(), NoMemory>
-    requires { c.0 < length h.now }
-    ensures { OnOk result (text.new.items ≡ text.old.items ++ fields_text h.now layout.now c (length (members_of h.now c))) }
+    requires known { c.0 < length h.now }
+    requires laid { c.0 < length (L.rows layout.now) }
+    ensures { OnOk result (text.new.items ≡ text.old.items ++ fields_text h.now (L.rows layout.now) c (length (members_of h.now c))) }
 {
     h.keeps();
     let members = h.class(c).members.as_slice();
+    let places = layout.layout(c).member_places.as_slice();
     for number in 0..members.len() {
-        let place = layout.member(h, c, number as u32);
-        append_field(alloc, text, h, place, &members[number])?;
+        append_field(alloc, text, h, place_of(places, number), &members[number])?;
     }
     Ok(())
 }
@@ -283,19 +294,19 @@ fn proper_of(list: &[Subobject]) -> &[Subobject]
 /// subobjects in preorder, and its members in the order of declaration.
 ///
 /// Errors: want of memory, after which the text has a front of the lines behind what it had.
-pub fn append_layout(
+pub fn append_layout<L: SoundLayout>(
     alloc: Global,
     text: &mut Vec<u8>,
     h: &Hierarchy,
-    layout: &AbiLayout,
+    layout: &L,
     c: ClassId,
     list: &[Subobject],
 ) -> Result<(), NoMemory>
-    requires sound { IsSound h.now (places_of h.now layout.now) }
+    requires layout { L.lays_out layout.now h.now }
     requires known { c.0 < length h.now }
-    requires laid { c.0 < length layout.now }
+    requires laid { c.0 < length (L.rows layout.now) }
     requires subobjects { (s : Subobject) → Contains list.now s → IsSubobject h.now c s }
-    ensures { OnOk result (text.new.items ≡ text.old.items ++ listed_text h.now layout.now c list.now) }
+    ensures { OnOk result (text.new.items ≡ text.old.items ++ listed_text h.now (L.rows layout.now) (L.places layout.now h.now).place c list.now) }
 {
     append_row(alloc, text, h, c, layout.layout(c))?;
     append_bases(alloc, text, h, layout, c, proper_of(list))?;
@@ -307,16 +318,16 @@ pub fn append_layout(
 /// members in the order of declaration.
 ///
 /// Errors: want of memory.
-pub fn layout_text(
+pub fn layout_text<L: SoundLayout>(
     alloc: Global,
     h: &Hierarchy,
-    layout: &AbiLayout,
+    layout: &L,
     c: ClassId,
 ) -> Result<Vec<u8>, NoMemory>
-    requires sound { IsSound h.now (places_of h.now layout.now) }
+    requires layout { L.lays_out layout.now h.now }
     requires known { c.0 < length h.now }
-    requires laid { c.0 < length layout.now }
-    ensures { IfOk result (λ text. text.items ≡ layout_text h.now layout.now c) }
+    requires laid { c.0 < length (L.rows layout.now) }
+    ensures { IfOk result (λ text. text.items ≡ layout_text h.now (L.rows layout.now) (L.places layout.now h.now).place c) }
 {
     let list = list_subobjects(alloc, h, c)?;
     let mut text = Vec::new(alloc);

@@ -10,7 +10,7 @@ ghost use Rattle.abi_refine.specs.Samples.{sample_base, sample_record, base_reco
 use crate::ending::End;
 use crate::run::{execute, run_machine};
 use crate::tests::{member, name, part};
-use abi_layout::{is_static, lay_out};
+use abi_layout::lay_out;
 use abi_lower::lower;
 use byte_code::ImageBytes;
 use byte_machine::{Machine, MachineTurn};
@@ -244,7 +244,6 @@ fn part_of_two(alloc: Global) -> Result<SimpleProgram, NoMemory>
 #[test]
 fn two_bases_of_one_class_differ(rt: HostRuntime) -> Result<(), Fail> {
     let h = hierarchy(rt.alloc())?;
-    assert!(rt; is_static(&h));
     let layout = lay_out(rt.alloc(), &h)?;
     let program = two_bases(rt.alloc())?;
     let execution = execute(rt.alloc(), &h, &layout, &program, 100)?;
@@ -291,7 +290,6 @@ impl<M: Memory> Memory for Counting<M> {
 #[test]
 fn the_machine_alone_tells_the_text(rt: HostRuntime) -> Result<(), Fail> {
     let h = hierarchy(rt.alloc())?;
-    assert!(rt; is_static(&h));
     let layout = lay_out(rt.alloc(), &h)?;
     let program = part_of_two(rt.alloc())?;
     let image = ImageBytes {

@@ -9,7 +9,7 @@ ghost use Rattle.abi_refine.specs.Samples.{sample_member, sample_part, sample_re
 
 use crate::ending::End;
 use crate::run::execute;
-use abi_layout::{is_static, lay_out};
+use abi_layout::lay_out;
 use cxx_hierarchy::{
     ClassId, ClassRec, Destructor, FieldType, Hierarchy, Member, Name, PartAt, PartKind,
     RecordList, Scalar, Stop, ValueType, build,
@@ -198,7 +198,6 @@ fn unset_pointer(alloc: Global) -> Result<SimpleProgram, NoMemory>
 #[test]
 fn a_char_keeps_the_low_byte(rt: HostRuntime) -> Result<(), Fail> {
     let h = hierarchy(rt.alloc())?;
-    assert!(rt; is_static(&h));
     let layout = lay_out(rt.alloc(), &h)?;
     let program = chars(rt.alloc())?;
     let execution = execute(rt.alloc(), &h, &layout, &program, 100)?;
@@ -211,7 +210,6 @@ fn a_char_keeps_the_low_byte(rt: HostRuntime) -> Result<(), Fail> {
 #[test]
 fn an_unset_leaf_is_refused_at_its_line(rt: HostRuntime) -> Result<(), Fail> {
     let h = hierarchy(rt.alloc())?;
-    assert!(rt; is_static(&h));
     let layout = lay_out(rt.alloc(), &h)?;
     let program = unset(rt.alloc())?;
     let execution = execute(rt.alloc(), &h, &layout, &program, 100)?;
@@ -223,7 +221,6 @@ fn an_unset_leaf_is_refused_at_its_line(rt: HostRuntime) -> Result<(), Fail> {
 #[test]
 fn a_run_of_four_steps_has_printed(rt: HostRuntime) -> Result<(), Fail> {
     let h = hierarchy(rt.alloc())?;
-    assert!(rt; is_static(&h));
     let layout = lay_out(rt.alloc(), &h)?;
     let program = chars(rt.alloc())?;
     let execution = execute(rt.alloc(), &h, &layout, &program, 4)?;
@@ -236,7 +233,6 @@ fn a_run_of_four_steps_has_printed(rt: HostRuntime) -> Result<(), Fail> {
 #[test]
 fn an_unset_pointer_is_refused_at_its_line(rt: HostRuntime) -> Result<(), Fail> {
     let h = hierarchy(rt.alloc())?;
-    assert!(rt; is_static(&h));
     let layout = lay_out(rt.alloc(), &h)?;
     let program = unset_pointer(rt.alloc())?;
     let execution = execute(rt.alloc(), &h, &layout, &program, 100)?;

@@ -17,7 +17,7 @@ use Rattle.cxx_subobject.specs.Parts.{IsWithinLimits}
 use Rattle.cxx_overrider.specs.declared.FunctionId.{FunctionId}
 use Rattle.cxx_overrider.specs.Overriding.{HasTwoFinalOverriders, IsAbstract}
 use Rattle.cxx_overrider.specs.Covariance.{HasMismatch, HasIncompleteReturn, HasAmbiguousReturn, HasFineReturn, IsReturnFault, mismatch as is_mismatch, incomplete as is_incomplete, ambiguous as is_ambiguous}
-use Rattle.cxx_overrider.specs.Faults.{Spot, spot, limit_part, function_part, overrider_part, member_part, size_part, IsBefore, by_class, by_part, by_item, by_test, function_of, Fault, too_large, mismatch, incomplete, ambiguous, two_overriders, abstract_member, IsFirstFault, HasNoFault, StopsAtFault}
+use Rattle.cxx_overrider.specs.Faults.{Spot, spot, limit_part, function_part, overrider_part, member_part, size_part, IsBefore, by_class, by_part, by_item, by_test, function_of, Fault, too_large, mismatch, incomplete, ambiguous, two_overriders, abstract_member, IsFirstFault, HasNoFault, StopsIn}
 use Rattle.cxx_overrider.specs.Pass.{TellsAbstract, IsFineTo, is_abstract_object, class_after}
 use Rattle.cxx_overrider.proofs.Lists.{get_within, get_contains, or_front, or_last, either}
 use Rattle.cxx_overrider.proofs.Paths.{same_id}
@@ -149,10 +149,10 @@ functions_fine h c i all = part_more h c function_part i
     (λ b stop fault same part from. let lt = subst (λ (x : ClassId). b.item < length (functions_of h x)) same (few_functions h b stop fault part) in omega arith)
 
 -- the first fault
-pub first_fault : (h : Classes) (c : ClassId) (part item test : ℕ) (stop : Stop) → Fault h (spot c part item test) stop → IsFineTo h (spot c part item test) → StopsAtFault h stop
-first_fault h c part item test stop fault fine = inr (c, record { part = part; item = item; test = test; fault = fault; first = fine.none })
+pub first_fault : (h : Classes) (c : ClassId) (part item test : ℕ) (stop : Stop) → Fault h (spot c part item test) stop → IsFineTo h (spot c part item test) → StopsIn h c stop
+first_fault h c part item test stop fault fine = inr (record { part = part; item = item; test = test; fault = fault; first = fine.none })
 
-pub function_fault : (h : Classes) (c : ClassId) (i : ℕ) (f : Function ClassId) (rule : Rule) → slice_get (functions_of h c) i ≡ Some f → IsReturnFault h (function_of c i) rule → IsFineTo h (spot c function_part i 0) → StopsAtFault h (Refused rule f.at)
+pub function_fault : (h : Classes) (c : ClassId) (i : ℕ) (f : Function ClassId) (rule : Rule) → slice_get (functions_of h c) i ≡ Some f → IsReturnFault h (function_of c i) rule → IsFineTo h (spot c function_part i 0) → StopsIn h c (Refused rule f.at)
 function_fault h c i f _ at (is_mismatch m) fine = first_fault h c function_part i 0 (Refused ReturnMismatch f.at) (mismatch c i f at m) fine
 function_fault h c i f _ at (is_incomplete not m) fine = first_fault h c function_part i 1 (Refused IncompleteClass f.at) (incomplete c i f at m)
     (tests_more h c function_part i 0 (λ b stop fault same part item test. not (subst (λ (x : FunctionId). HasMismatch h x) (same_spot b c i same item) (mismatch_only h b stop fault part test))) fine)
@@ -217,7 +217,7 @@ member_unmarked h keeps list c i m b tells size at is not k =
     let t = (marked_object h list m.ty k.class tells ty (omega arith)).1 k.is_abstract in
     cc
 
-pub member_fault : (h : Classes) → IsHierarchy h → (list : List Bool) (c : ClassId) (i : ℕ) (m : Member ClassId) (b : Bool) → TellsAbstract h list → length list ≡ c.0 → slice_get (members_of h c) i ≡ Some m → b ≡ is_abstract_object list m.ty → b ≡ true → IsFineTo h (spot c member_part i 0) → StopsAtFault h (Refused Abstract m.at)
+pub member_fault : (h : Classes) → IsHierarchy h → (list : List Bool) (c : ClassId) (i : ℕ) (m : Member ClassId) (b : Bool) → TellsAbstract h list → length list ≡ c.0 → slice_get (members_of h c) i ≡ Some m → b ≡ is_abstract_object list m.ty → b ≡ true → IsFineTo h (spot c member_part i 0) → StopsIn h c (Refused Abstract m.at)
 member_fault h keeps list c i m b tells size at is yet fine =
     let k = object_there h list m.ty tells (λ d ty. let lt = keeps.objects c d m (get_contains (members_of h c) i m at) ty in omega arith) (sym is ∙ yet) in
     first_fault h c member_part i 0 (Refused Abstract m.at) (abstract_member c k.class i m at k.is k.is_abstract) fine
@@ -245,7 +245,7 @@ known_members : (h : Classes) (c : ClassId) (i : ℕ) (m : Member ClassId) (clas
 known_members h c i m None e at = cc
 known_members h c i m (Some class) e at = get_within h c.0 class at
 
-fault_known : (h : Classes) (b : Spot) (stop : Stop) → Fault h b stop → b.class.0 < length h
+pub fault_known : (h : Classes) (b : Spot) (stop : Stop) → Fault h b stop → b.class.0 < length h
 fault_known h _ _ (too_large c lt k) = lt
 fault_known h _ _ (mismatch c i f at k) = known_functions h c i f (class_at h c) at refl
 fault_known h _ _ (incomplete c i f at k) = known_functions h c i f (class_at h c) at refl

@@ -76,6 +76,10 @@ pub record IsFirstFault (h : Classes) (c : ClassId) (stop : Stop) : Type 0 where
 pub record HasNoFault (h : Classes) : Type 0 where
   pub none : (b : Spot) (stop : Stop) → Fault h b stop → ⊥
 
+-- the pass stops at this class with the first fault, or for want of memory
+abbrev pub StopsIn : Classes → ClassId → Stop → Type 0
+StopsIn h c stop = (stop ≡ NoMemory) ⊎ IsFirstFault h c stop
+
 -- the pass stops with the first fault, or for want of memory
 abbrev pub StopsAtFault : Classes → Stop → Type 0
 StopsAtFault h stop = (stop ≡ NoMemory) ⊎ ((c : ClassId) × IsFirstFault h c stop)

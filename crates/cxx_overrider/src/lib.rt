@@ -31,7 +31,7 @@ mod tests;
 pub mod virtuals;
 pub mod within;
 
-pub use crate::pass::{Overriders, check_overriders};
+pub use crate::pass::{ClassStop, Overriders, check_by_class, check_overriders};
 use cxx_hierarchy::ClassId;
 use cxx_subobject::Subobject;
 

@@ -7,7 +7,7 @@ ghost use Rattle.cxx_hierarchy.specs.Classes.{Classes};
 ghost use Rattle.cxx_subobject.specs.Subobjects.{IsSubobject, class_of};
 ghost use Rattle.cxx_subobject.specs.Parts.{TellsLimits};
 ghost use Rattle.cxx_overrider.specs.Overriding.{IsVirtual, IsFinalOverrider, IsAbstract};
-ghost use Rattle.cxx_overrider.specs.Faults.{HasNoFault, StopsAtFault, spot, limit_part, function_part, overrider_part, member_part};
+ghost use Rattle.cxx_overrider.specs.Faults.{HasNoFault, StopsIn, StopsAtFault, spot, limit_part, function_part, overrider_part, member_part};
 ghost use Rattle.cxx_overrider.specs.Settling.{IsMade};
 ghost use Rattle.cxx_overrider.specs.Tables.{AreTables};
 ghost use Rattle.cxx_overrider.specs.Pass.{TellsAbstract, IsFineTo, is_abstract_object, class_after};
@@ -83,7 +83,7 @@ fn check_limits(h: &Hierarchy, counts: &PartCounts, c: ClassId) -> Result<(), St
     requires counts { TellsLimits h.now counts.now }
     requires fine { IsFineTo h.now (spot c limit_part 0 0) }
     ensures fine { OnOk result (IsFineTo h.now (spot c function_part 0 0)) }
-    ensures err { IfErr result (StopsAtFault h.now) }
+    ensures err { IfErr result (StopsIn h.now c) }
 {
     h.keeps();
     if !counts.is_within(c) {
@@ -98,7 +98,7 @@ fn check_returns(h: &Hierarchy, tables: &Tables, c: ClassId) -> Result<(), Stop>
     requires tables { AreTables h.now tables.now }
     requires fine { IsFineTo h.now (spot c function_part 0 0) }
     ensures fine { OnOk result (IsFineTo h.now (spot c overrider_part 0 0)) }
-    ensures err { IfErr result (StopsAtFault h.now) }
+    ensures err { IfErr result (StopsIn h.now c) }
 {
     h.keeps();
     let functions = h.class(c).functions.as_slice();
@@ -129,7 +129,7 @@ fn check_finals(
     requires fine { IsFineTo h.now (spot c overrider_part 0 0) }
     ensures made { OnOk result (IsMade h.now tables.now.numbering.rows.items entries.new (c.0 + 1) 0 0) }
     ensures fine { OnOk result (IsFineTo h.now (spot c member_part 0 0)) }
-    ensures err { IfErr result (StopsAtFault h.now) }
+    ensures err { IfErr result (StopsIn h.now c) }
 {
     let class = h.class(c);
     let is_one = settle_class(alloc, h, tables, entries, c)?;
@@ -163,7 +163,7 @@ fn check_members(h: &Hierarchy, abstracts: &[bool], c: ClassId) -> Result<(), St
     requires size { length abstracts.now ≡ c.0 }
     requires fine { IsFineTo h.now (spot c member_part 0 0) }
     ensures fine { OnOk result (IsFineTo h.now (spot (class_after c) limit_part 0 0)) }
-    ensures err { IfErr result (StopsAtFault h.now) }
+    ensures err { IfErr result (StopsIn h.now c) }
 {
     h.keeps();
     let members = h.class(c).members.as_slice();
@@ -175,14 +175,71 @@ fn check_members(h: &Hierarchy, abstracts: &[bool], c: ClassId) -> Result<(), St
     Ok(())
 }
 
+/// Checks a class: its size, the returns of its functions in their order, that each virtual function has one final
+/// overrider in each subobject, and its member objects in their order. Then it marks whether the class is abstract.
+///
+/// Errors: the first condition that is not met, as a refusal at a byte or as the limit; want of memory.
+fn check_class(
+    alloc: Global,
+    h: &Hierarchy,
+    counts: &PartCounts,
+    tables: &Tables,
+    entries: &mut EntryTable,
+    abstracts: &mut Vec<bool>,
+    c: ClassId,
+) -> Result<(), Stop>
+    requires known { c.0 < length h.now }
+    requires counts { TellsLimits h.now counts.now }
+    requires tables { AreTables h.now tables.now }
+    requires made { IsMade h.now tables.now.numbering.rows.items entries.old c.0 0 0 }
+    requires abstracts { TellsAbstract h.now abstracts.old.items }
+    requires size { length abstracts.old.items ≡ c.0 }
+    requires fine { IsFineTo h.now (spot c limit_part 0 0) }
+    ensures made { OnOk result (IsMade h.now tables.now.numbering.rows.items entries.new (c.0 + 1) 0 0) }
+    ensures abstracts { OnOk result (TellsAbstract h.now abstracts.new.items) }
+    ensures size { OnOk result (length abstracts.new.items ≡ c.0 + 1) }
+    ensures fine { OnOk result (IsFineTo h.now (spot (class_after c) limit_part 0 0)) }
+    ensures err { IfErr result (StopsIn h.now c) }
+{
+    check_limits(h, counts, c)?;
+    check_returns(h, tables, c)?;
+    check_finals(alloc, h, tables, entries, c)?;
+    check_members(h, abstracts, c)?;
+    let is_abstract = is_abstract_class(h, tables, entries, c);
+    abstracts.push(is_abstract)?;
+    Ok(())
+}
+
+/// Where the pass stops: the class that a condition refuses, and how. After want of memory the class says nothing.
+#[derive(Clone, Copy, Debug, PartialEq, Eq)]
+pub struct ClassStop {
+    pub class: ClassId,
+    pub stop: Stop,
+}
+
+impl From<NoMemory> for ClassStop {
+    ghost use Rattle.std.specs.Prelude.{◌≡◌};
+    ghost use Rattle.cxx_hierarchy.specs.declared.stop.Stop.{Stop};
+
+    ghost from_gives = { λ _ e. e.stop ≡ Stop.NoMemory };
+
+    fn from(_: NoMemory) -> ClassStop {
+        ClassStop {
+            class: ClassId(0),
+            stop: Stop::NoMemory,
+        }
+    }
+}
+
 /// Checks the classes of a hierarchy in their order: in each its size, the returns of its functions in their order,
 /// that each virtual function has one final overrider in each subobject, and its member objects in their order.
 ///
-/// Errors: the first condition that is not met, as a refusal at a byte or as the limit; want of memory.
-pub fn check_overriders(alloc: Global, h: &Hierarchy) -> Result<Overriders, Stop>
+/// Errors: the first condition that is not met, as a refusal at a byte or as the limit, and the class that it refuses;
+/// want of memory.
+pub fn check_by_class(alloc: Global, h: &Hierarchy) -> Result<Overriders, ClassStop>
     ensures ok { IfOk result (AreOverriders h.now) }
     ensures fine { OnOk result (HasNoFault h.now) }
-    ensures err { IfErr result (StopsAtFault h.now) }
+    ensures err { IfErr result (λ e. StopsIn h.now e.class e.stop) }
 {
     h.keeps();
     let counts = PartCounts::new(alloc, h)?;
@@ -190,13 +247,19 @@ pub fn check_overriders(alloc: Global, h: &Hierarchy) -> Result<Overriders, Stop
     let mut entries = EntryTable::new(alloc);
     let mut abstracts = Vec::new(alloc);
     for number in 0..h.len() {
-        let c = ClassId(number);
-        check_limits(h, &counts, c)?;
-        check_returns(h, &tables, c)?;
-        check_finals(alloc, h, &tables, &mut entries, c)?;
-        check_members(h, &abstracts, c)?;
-        let is_abstract = is_abstract_class(h, &tables, &entries, c);
-        abstracts.push(is_abstract)?;
+        let class = ClassId(number);
+        match check_class(
+            alloc,
+            h,
+            &counts,
+            &tables,
+            &mut entries,
+            &mut abstracts,
+            class,
+        ) {
+            Ok(()) => {}
+            Err(stop) => return Err(ClassStop { class, stop }),
+        }
     }
     Ok(Overriders {
         alloc,
@@ -204,4 +267,18 @@ pub fn check_overriders(alloc: Global, h: &Hierarchy) -> Result<Overriders, Stop
         entries,
         abstracts,
     })
+}
+
+/// Checks the classes of a hierarchy as `check_by_class` does.
+///
+/// Errors: the first condition that is not met, as a refusal at a byte or as the limit; want of memory.
+pub fn check_overriders(alloc: Global, h: &Hierarchy) -> Result<Overriders, Stop>
+    ensures ok { IfOk result (AreOverriders h.now) }
+    ensures fine { OnOk result (HasNoFault h.now) }
+    ensures err { IfErr result (StopsAtFault h.now) }
+{
+    match check_by_class(alloc, h) {
+        Ok(overriders) => Ok(overriders),
+        Err(e) => Err(e.stop),
+    }
 }

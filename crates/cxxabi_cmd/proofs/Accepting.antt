@@ -10,11 +10,7 @@ use Rattle.cxx_hierarchy.specs.Hierarchies.{IsHierarchy}
 use Rattle.cxx_hierarchy.proofs.Kept.{is_hierarchy}
 use Rattle.cxx_decl_parser.specs.declared.source_text.SourceText.{SourceText}
 use Rattle.cxx_decl_parser.proofs.Numbers.{source_in_order}
-use Rattle.cxx_resolve.specs.declared.program.SimpleProgram.{SimpleProgram}
-use Rattle.abi_layout.specs.Kinds.{IsStatic}
 use Rattle.cxxabi_cmd.specs.Verdict.{Verdict, Judgement, Stops, Accepts, by_text, by_records, by_classes, accepted, IsSource}
-use Rattle.cxxabi_cmd.specs.Output.{IsProgram}
-use Rattle.cxxabi_cmd.proofs.StaticLemmas.{simple_static}
 
 each_of : {X : Type 0} (P : X → Type 0) (xs : List X) (i : ℕ) (x : X) → AllByRecursion P xs → slice_get xs i ≡ Some x → P x
 each_of P [] i x all at = cc
@@ -38,7 +34,3 @@ kept text _ (accepted s is none nothing) = source_keeps text s is none
 
 pub accepted_keeps : (text : List ℕ) (s : SourceText) (h : Classes) → Verdict text (Accepts s h) → IsHierarchy h
 accepted_keeps text s h verdict = kept text (Accepts s h) verdict
-
--- a program has no dynamic class
-pub program_static : (s : SourceText) (h : Classes) (p : SimpleProgram) → IsHierarchy h → IsProgram s h p → IsStatic h
-program_static s h p keeps is = simple_static h keeps is.resolves.classes

@@ -11,7 +11,7 @@ use Rattle.cxx_decl_parser.specs.declared.source_text.SourceText.{SourceText}
 use Rattle.cxx_resolve.specs.declared.program.SimpleProgram.{SimpleProgram}
 use Rattle.cxx_resolve.specs.Answers.{IsRefusal}
 use Rattle.cxx_resolve.specs.Main.{MainResolves}
-use Rattle.abi_layout.specs.Laid.{IsLaid}
+use Rattle.abi_layout.specs.DynamicLaid.{IsLaid}
 use Rattle.cxxabi_cmd.specs.declared.command.Command.{Command}
 use Rattle.cxxabi_cmd.specs.declared.command.Command.TheVariants.{Run}
 use Rattle.cxxabi_cmd.specs.declared.reply.Reply.{Reply}

@@ -3,8 +3,6 @@ pub mod CommandLemmas
 pub mod OutputLemmas
 pub mod ReplyLemmas
 pub mod AnswerLemmas
-pub mod StaticLemmas
-pub mod CountLemmas
 pub mod MeaningFaults
 pub mod ClassFaults
 pub mod Judging

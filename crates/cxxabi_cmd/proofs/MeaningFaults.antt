@@ -1,4 +1,4 @@
--- The conditions of the class-meaning pass: which are met without a dynamic class, and that a spot has one stop.
+-- The conditions of the class-meaning pass: a spot has one stop.
 use Rattle.std.proofs.Common.{◌≡◌, ℕ, zero, suc, ◌<◌, Bool, true, false, Option, Some, None, List, [], ◌∷◌, length, refl, sym, ◌∙◌, ap, subst, arith}
 use Rattle.std.specs.Prelude.{slice_get, ◌||◌}
 use Rattle.std.specs.List.{list_any}
@@ -19,54 +19,6 @@ use Rattle.cxx_overrider.specs.Functions.{says_virtual, says_virtual_in, says_vi
 use Rattle.cxx_overrider.specs.Overriding.{IsVirtual}
 use Rattle.cxx_overrider.specs.Faults.{Spot, spot, limit_part, size_part, Fault as MeaningFault, too_large, mismatch, incomplete, ambiguous, two_overriders, abstract_member}
 use Rattle.abi_layout.specs.Kinds.{IsStatic, IsStaticClass, has_virtual_function, is_virtual_destructor}
-
--- the stop is that of the counts of a class
-pub record IsCount (h : Classes) (at : Spot) (stop : Stop) : Type 0 where
-  pub class : ClassId
-  pub spot_is : at ≡ spot class limit_part 0 0
-  pub stop_is : stop ≡ Limit L5
-  pub known : class.0 < length h
-  pub many : IsWithinLimits h class → ⊥
-
-or_right : (a b : Bool) → b ≡ true → (a || b) ≡ true
-or_right true b is = refl
-or_right false b is = is
-
--- a class with a function that is declared virtual declares some
-flagged : (functions : List (Function ClassId)) (i : ℕ) (f : Function ClassId) → slice_get functions i ≡ Some f → f.is_virtual ≡ true → list_any (λ (g : Function ClassId). g.is_virtual) functions ≡ true
-flagged [] i f there says = absurd (cc)
-flagged (x ∷ xs) zero f there says = let same : x ≡ f = cc in let is : x.is_virtual ≡ true = ap (λ (g : Function ClassId). g.is_virtual) same ∙ says in rw is refl
-flagged (x ∷ xs) (suc i) f there says = or_right x.is_virtual (list_any (λ (g : Function ClassId). g.is_virtual) xs) (flagged xs i f there says)
-
-destructor_says : (d : Destructor) → says_virtual_at None d ≡ true → is_virtual_destructor d ≡ true
-destructor_says Implicit says = absurd (cc)
-destructor_says Plain says = absurd (cc)
-destructor_says Virtual says = refl
-
-says_in_class : (class : Class) (i : ℕ) (found : Option (Function ClassId)) → slice_get class.functions i ≡ found → says_virtual_at found class.destructor ≡ true → has_virtual_function class ≡ true
-says_in_class class i (Some f) there says = let some = flagged class.functions i f there says in rw some refl
-says_in_class class i None there says =
-    or_right (list_any (λ (g : Function ClassId). g.is_virtual) class.functions) (is_virtual_destructor class.destructor) (destructor_says class.destructor says)
-
-says_at : (h : Classes) (c : ClassId) (i : ℕ) (class : Option Class) → IsStatic h → class_at h c ≡ class → says_virtual_in class i ≡ true → ⊥
-says_at h c i None static there says = absurd (cc)
-says_at h c i (Some class) static there says =
-    let virtual = says_in_class class i (slice_get class.functions i) refl says in
-    let none = (static.each c class there).functions in
-    absurd (cc)
-
--- without a dynamic class no function is virtual
-no_virtual : (h : Classes) (f : FunctionId) → IsStatic h → IsVirtual h f → ⊥
-no_virtual h f static virtual = says_at h virtual.source.source.class virtual.source.source.index (class_at h virtual.source.source.class) static refl virtual.source.says
-
--- and all that the pass can meet are the counts
-pub meaning_is_count : (h : Classes) (at : Spot) (stop : Stop) → IsStatic h → MeaningFault h at stop → IsCount h at stop
-meaning_is_count h _ _ static (too_large c known many) = record { class = c; spot_is = refl; stop_is = refl; known = known; many = many }
-meaning_is_count h _ _ static (mismatch c i f there has) = absurd (no_virtual h has.overridden static has.overrides.is_virtual)
-meaning_is_count h _ _ static (incomplete c i f there has) = absurd (no_virtual h has.overridden static has.overrides.is_virtual)
-meaning_is_count h _ _ static (ambiguous c i f there has) = absurd (no_virtual h has.overridden static has.overrides.is_virtual)
-meaning_is_count h _ _ static (two_overriders c class there has) = absurd (no_virtual h has.function static has.of_class.is_virtual)
-meaning_is_count h _ _ static (abstract_member c d i m there is has) = absurd (no_virtual h has.function static has.of_class.is_virtual)
 
 abbrev rule_at : ℕ → Rule
 rule_at zero = ReturnMismatch

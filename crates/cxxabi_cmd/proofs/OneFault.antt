@@ -1,11 +1,13 @@
 -- A hierarchy has one first fault.
-use Rattle.std.proofs.Common.{◌≡◌, ℕ, ◌<◌, ◌⊎◌, ⊎_elim, inl, inr, refl, sym, ◌∙◌, ap, arith}
+use Rattle.std.proofs.Common.{◌≡◌, ℕ, ◌<◌, ◌≤◌, ◌⊎◌, Some, ⊎_elim, inl, inr, refl, sym, ◌∙◌, ap, arith}
 use Rattle.std.proofs.lemmas.Bool.{cases_order}
 use Rattle.cxx_hierarchy.specs.declared.records.ClassId.{ClassId}
 use Rattle.cxx_hierarchy.specs.declared.stop.Stop.{Stop}
-use Rattle.cxx_hierarchy.specs.Classes.{Classes}
-use Rattle.cxx_overrider.specs.Faults.{Spot, spot, size_part, IsBefore, by_class, by_part, by_item, by_test, Fault as MeaningFault}
-use Rattle.cxxabi_cmd.specs.Verdict.{Fault, of_meaning, large, IsFirstFault, HasNoFault}
+use Rattle.cxx_hierarchy.specs.declared.stop.Stop.TheVariants.{Refused}
+use Rattle.cxx_hierarchy.specs.declared.stop.Rule.TheVariants.{SharedPlace}
+use Rattle.cxx_hierarchy.specs.Classes.{Class, Classes, class_at}
+use Rattle.cxx_overrider.specs.Faults.{Spot, spot, size_part, place_part, IsBefore, by_class, by_part, by_item, by_test, Fault as MeaningFault}
+use Rattle.cxxabi_cmd.specs.Verdict.{Fault, of_meaning, large, shared, IsFirstFault, HasNoFault}
 use Rattle.cxxabi_cmd.proofs.MeaningFaults.{one_stop, part_below}
 
 same_number : (a b : ClassId) → a.0 ≡ b.0 → a ≡ b
@@ -47,15 +49,26 @@ in_order a b =
     (λ differ. ⊎_elim (λ lower. inl (by_class a b lower)) (λ higher. inr (inr (by_class b a higher))) differ)
     (cases_order a.class.0 b.class.0)
 
-apart : (h : Classes) (at : Spot) (stop : Stop) (c : ClassId) → MeaningFault h at stop → at ≡ spot c size_part 0 0 → ⊥
-apart h at stop c fault same = let below = part_below h at stop fault in let part : at.part ≡ size_part = ap (λ (s : Spot). s.part) same in omega arith
+size_behind : (h : Classes) (at : Spot) (stop : Stop) (c : ClassId) (part : ℕ) → size_part ≤ part → MeaningFault h at stop → at ≡ spot c part 0 0 → ⊥
+size_behind h at stop c part le fault same = let below = part_below h at stop fault in let is : at.part ≡ part = ap (λ (s : Spot). s.part) same in omega arith
+
+differ : (c d : ClassId) → spot c size_part 0 0 ≡ spot d place_part 0 0 → ⊥
+differ c d same = let is : size_part ≡ place_part = ap (λ (s : Spot). s.part) same in omega arith
 
 -- one condition is asked at a spot
 fault_same : (h : Classes) (a b : Spot) (d e : Stop) → Fault h a d → Fault h b e → a ≡ b → d ≡ e
 fault_same h _ _ _ _ (of_meaning a d one) (of_meaning b e other) same = one_stop h a b d e one other same
-fault_same h _ _ _ _ (of_meaning a d one) (large c known static is) same = absurd (apart h a d c one same)
-fault_same h _ _ _ _ (large c known static is) (of_meaning b e other) same = absurd (apart h b e c other (sym same))
-fault_same h _ _ _ _ (large c known static is) (large c' known' static' is') same = refl
+fault_same h _ _ _ _ (of_meaning a d one) (large c known is) same = absurd (size_behind h a d c size_part (omega arith) one same)
+fault_same h _ _ _ _ (of_meaning a d one) (shared c class at is) same = absurd (size_behind h a d c place_part (omega arith) one same)
+fault_same h _ _ _ _ (large c known is) (of_meaning b e other) same = absurd (size_behind h b e c size_part (omega arith) other (sym same))
+fault_same h _ _ _ _ (large c known is) (large c' known' is') same = refl
+fault_same h _ _ _ _ (large c known is) (shared c' class at is') same = absurd (differ c c' same)
+fault_same h _ _ _ _ (shared c class at is) (of_meaning b e other) same = absurd (size_behind h b e c place_part (omega arith) other (sym same))
+fault_same h _ _ _ _ (shared c class at is) (large c' known is') same = absurd (differ c' c (sym same))
+fault_same h _ _ _ _ (shared c class at is) (shared c' class' at' is') same =
+    let class_is : c ≡ c' = ap (λ (s : Spot). s.class) same in
+    let one : class ≡ class' = (let both : Some class ≡ Some class' = sym at ∙ (ap (class_at h) class_is ∙ at') in cc) in
+    ap (λ (k : Class). Refused SharedPlace k.at) one
 
 -- the first fault is one
 pub first_same : (h : Classes) (d e : Stop) → IsFirstFault h d → IsFirstFault h e → d ≡ e

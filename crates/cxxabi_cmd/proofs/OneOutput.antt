@@ -12,19 +12,18 @@ use Rattle.cxx_decl_parser.specs.declared.source_text.SourceText.{SourceText}
 use Rattle.cxx_decl_parser.specs.Same.{SameSource}
 use Rattle.cxx_resolve.specs.declared.program.SimpleProgram.{SimpleProgram}
 use Rattle.abi_layout.specs.declared.class_layout.ClassLayout.{ClassLayout}
-use Rattle.abi_layout.specs.Kinds.{IsStatic}
-use Rattle.abi_layout.specs.Laid.{IsLaid}
+use Rattle.abi_layout.specs.DynamicLaid.{IsLaid}
 use Rattle.abi_layout.proofs.Lists.{has_at}
-use Rattle.abi_layout.proofs.Unique.{layout_is_one}
+use Rattle.abi_layout.proofs.OneLayout.{layout_is_one}
 use Rattle.cxxabi_cmd.specs.declared.command.Command.{Command}
 use Rattle.cxxabi_cmd.specs.declared.command.Command.TheVariants.{Check, Run, LayoutOf}
 use Rattle.cxxabi_cmd.specs.Commands.{Says, check, run, layout, layout_of, IsCommand}
 use Rattle.cxxabi_cmd.specs.Verdict.{Verdict, Stops, Accepts, Judgement}
 use Rattle.cxxabi_cmd.specs.declared.status.Status.TheVariants.{Refused, Limit}
-use Rattle.cxxabi_cmd.specs.Output.{Output, usage, too_long, stopped, yielded, Yields, counted, no_main, not_taken, ran, unknown_class, laid_out, LaysOut, dynamic, whole, too_much, AsksFor, all_classes, one_class, IsProgram, Answer, line_alone, text_answer, count_answer, layouts_text, status_of_stop, run_answer, run_by}
+use Rattle.cxxabi_cmd.specs.Output.{Output, usage, too_long, stopped, yielded, Yields, counted, no_main, not_taken, ran, unknown_class, laid_out, LaysOut, whole, too_much, AsksFor, all_classes, one_class, IsProgram, Answer, line_alone, text_answer, count_answer, layouts_text, status_of_stop, run_answer, run_by}
 use Rattle.cxxabi_cmd.proofs.OneVerdict.{one_verdict}
 use Rattle.cxxabi_cmd.proofs.OneProgram.{main_missing_left, main_missing_right, program_left, program_right, one_program}
-use Rattle.cxxabi_cmd.proofs.Accepting.{accepted_keeps, program_static}
+use Rattle.cxxabi_cmd.proofs.Accepting.{accepted_keeps}
 
 -- the class of a name
 record IsNamed (h : Classes) (n : ℕ) (name : List ℕ) : Type 0 where
@@ -37,9 +36,13 @@ named_class [] n name at = absurd (cc)
 named_class (class ∷ h) zero name at = record { class = class; there = refl; named = cc }
 named_class (class ∷ h) (suc n) name at = let rest = named_class h n name at in record { class = rest.class; there = rest.there; named = rest.named }
 
-no_both : (h : Classes) (xs ys : List ClassId) (rows others : List ClassLayout) → IsStatic h → IsLaid h rows → IsLaid h others → xs ≡ ys → length (layouts_text h rows xs) ≤ 16777216 → 16777216 < length (layouts_text h others ys) → ⊥
-no_both h xs ys rows others static laid laid' same short long =
-    let one = ap (λ (r : List ClassLayout). length (layouts_text h r xs)) (layout_is_one h rows others static laid laid') in
+-- a hierarchy has one layout
+laid_is_one : (h : Classes) (rows others : List ClassLayout) → IsHierarchy h → IsLaid h rows → IsLaid h others → rows ≡ others
+laid_is_one h rows others keeps laid laid' = layout_is_one h (length h) rows others keeps (omega arith) laid laid'
+
+no_both : (h : Classes) (xs ys : List ClassId) (rows others : List ClassLayout) → IsHierarchy h → IsLaid h rows → IsLaid h others → xs ≡ ys → length (layouts_text h rows xs) ≤ 16777216 → 16777216 < length (layouts_text h others ys) → ⊥
+no_both h xs ys rows others keeps laid laid' same short long =
+    let one = ap (λ (r : List ClassLayout). length (layouts_text h r xs)) (laid_is_one h rows others keeps laid laid') in
     let two = ap (λ (x : List ClassId). length (layouts_text h others x)) same in
     omega arith
 
@@ -65,7 +68,7 @@ says_one _ _ _ _ (layout_of name plain) (layout_of other plain') same = let one 
 one_run : (s t : SourceText) (h : Classes) (p q : SimpleProgram) (rows others : List ClassLayout) → IsHierarchy h → SameSource s t → IsProgram s h p → IsProgram t h q → IsLaid h rows → IsLaid h others →
     run_answer h rows (run_by h rows p) ≡ run_answer h others (run_by h others q)
 one_run s t h p q rows others keeps same one other laid laid' =
-    ap (λ (r : List ClassLayout). run_answer h r (run_by h r p)) (layout_is_one h rows others (program_static s h p keeps one) laid laid')
+    ap (λ (r : List ClassLayout). run_answer h r (run_by h r p)) (laid_is_one h rows others keeps laid laid')
     ∙ ap (λ (x : SimpleProgram). run_answer h others (run_by h others x)) (one_program s t h p q keeps same one other)
 
 -- neither `check` nor `run` asks for layouts
@@ -133,17 +136,12 @@ not_unknown : (h : Classes) (name : List ℕ) (c : Command) (classes : List Clas
 not_unknown h name _ _ all_classes same none = absurd (cc)
 not_unknown h name _ _ (one_class name' c at) same none = none (let names : name ≡ name' = cc in subst (λ (n : List ℕ). Contains (class_names h) n) (sym names) (has_at (class_names h) c.0 name' at))
 
-lays_same : (h : Classes) (xs ys : List ClassId) (a b : Answer) → LaysOut h xs a → LaysOut h ys b → xs ≡ ys → a ≡ b
-lays_same h xs ys _ _ (dynamic none) (dynamic none') same = refl
-lays_same h xs ys _ _ (dynamic none) (whole rows static laid short) same = absurd (none static)
-lays_same h xs ys _ _ (dynamic none) (too_much rows static laid long) same = absurd (none static)
-lays_same h xs ys _ _ (whole rows static laid short) (dynamic none) same = absurd (none static)
-lays_same h xs ys _ _ (whole rows static laid short) (whole rows' static' laid' short') same =
-    ap (λ (r : List ClassLayout). text_answer (layouts_text h r xs)) (layout_is_one h rows rows' static laid laid') ∙ ap (λ (x : List ClassId). text_answer (layouts_text h rows' x)) same
-lays_same h xs ys _ _ (whole rows static laid short) (too_much rows' static' laid' long) same = absurd (no_both h xs ys rows rows' static laid laid' same short long)
-lays_same h xs ys _ _ (too_much rows static laid long) (dynamic none) same = absurd (none static)
-lays_same h xs ys _ _ (too_much rows static laid long) (whole rows' static' laid' short) same = absurd (no_both h ys xs rows' rows static laid' laid (sym same) short long)
-lays_same h xs ys _ _ (too_much rows static laid long) (too_much rows' static' laid' long') same = refl
+lays_same : (h : Classes) (xs ys : List ClassId) (a b : Answer) → IsHierarchy h → LaysOut h xs a → LaysOut h ys b → xs ≡ ys → a ≡ b
+lays_same h xs ys _ _ keeps (whole rows laid short) (whole rows' laid' short') same =
+    ap (λ (r : List ClassLayout). text_answer (layouts_text h r xs)) (laid_is_one h rows rows' keeps laid laid') ∙ ap (λ (x : List ClassId). text_answer (layouts_text h rows' x)) same
+lays_same h xs ys _ _ keeps (whole rows laid short) (too_much rows' laid' long) same = absurd (no_both h xs ys rows rows' keeps laid laid' same short long)
+lays_same h xs ys _ _ keeps (too_much rows laid long) (whole rows' laid' short) same = absurd (no_both h ys xs rows' rows keeps laid' laid (sym same) short long)
+lays_same h xs ys _ _ keeps (too_much rows laid long) (too_much rows' laid' long') same = refl
 
 -- what `layout` answers, of these classes or of none
 lays : (size : ℕ) (s t : SourceText) (h : Classes) (c d : Command) (xs : List ClassId) (a b : Answer) → IsHierarchy h → AsksFor h c xs → LaysOut h xs a → Yields size t h d b → c ≡ d → a ≡ b
@@ -152,7 +150,7 @@ lays size s t h c _ xs a _ keeps asks is (no_main none) same = absurd (no_run h 
 lays size s t h c _ xs a _ keeps asks is (not_taken tree main nothing) same = absurd (no_run h c xs asks (sym same))
 lays size s t h c _ xs a _ keeps asks is (ran q rows program laid) same = absurd (no_run h c xs asks (sym same))
 lays size s t h c _ xs a _ keeps asks is (unknown_class name none) same = absurd (not_unknown h name c xs asks (sym same) none)
-lays size s t h c _ xs a _ keeps asks is (laid_out command classes answer asks' is') same = lays_same h xs classes a answer is is' (asks_same h c command xs classes keeps asks asks' same)
+lays size s t h c _ xs a _ keeps asks is (laid_out command classes answer asks' is') same = lays_same h xs classes a answer keeps is is' (asks_same h c command xs classes keeps asks asks' same)
 
 unknown : (size : ℕ) (t : SourceText) (h : Classes) (name : List ℕ) (d : Command) (b : Answer) → (Contains (class_names h) name → ⊥) → Yields size t h d b → LayoutOf name ≡ d → line_alone (Refused UnknownName size) ≡ b
 unknown size t h name _ _ none counted same = absurd (cc)

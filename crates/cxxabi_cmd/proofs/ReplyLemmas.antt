@@ -15,8 +15,7 @@ use Rattle.cxx_body_parser.specs.declared.tree.BodyTree.{BodyTree}
 use Rattle.cxx_decl_parser.specs.declared.source_text.SourceText.{SourceText}
 use Rattle.cxx_resolve.specs.declared.program.SimpleProgram.{SimpleProgram}
 use Rattle.abi_layout.specs.declared.class_layout.ClassLayout.{ClassLayout}
-use Rattle.abi_layout.specs.Kinds.{IsStatic}
-use Rattle.abi_layout.specs.Laid.{IsLaid}
+use Rattle.abi_layout.specs.DynamicLaid.{IsLaid}
 use Rattle.cxxabi_cmd.specs.declared.command.Command.{Command}
 use Rattle.cxxabi_cmd.specs.declared.command.Command.TheVariants.{Run}
 use Rattle.cxxabi_cmd.specs.declared.reply.Reply.{Reply}
@@ -25,11 +24,11 @@ use Rattle.cxxabi_cmd.specs.declared.status.Status.TheVariants.{Limit}
 use Rattle.cxxabi_cmd.specs.Commands.{Says}
 use Rattle.cxxabi_cmd.specs.Verdict.{Verdict, Stops, Accepts}
 use Rattle.cxxabi_cmd.specs.Handed.{HandsOut, HasRun}
-use Rattle.cxxabi_cmd.specs.Output.{Answer, AsksFor, IsProgram, Output, stopped, yielded, Yields, counted, no_main, not_taken, ran, unknown_class, laid_out, LaysOut, dynamic, whole, too_much, IsAnswered, line_alone, text_answer, layouts_text, status_of_stop, run_by}
-use Rattle.cxxabi_cmd.specs.Replies.{answer_of, machine_of, IsLayout, IsLayoutOf, HandsBy}
-use Rattle.abi_print.specs.LayoutTexts.{layout_text}
+use Rattle.cxxabi_cmd.specs.Output.{Answer, AsksFor, IsProgram, Output, stopped, yielded, Yields, counted, no_main, not_taken, ran, unknown_class, laid_out, LaysOut, whole, too_much, IsAnswered, line_alone, text_answer, layouts_text, status_of_stop, run_by}
+use Rattle.cxxabi_cmd.specs.Replies.{answer_of, machine_of, HandsBy}
+use Rattle.abi_layout.specs.AbiLayouts.{IsAbiLayout}
 use Rattle.cxxabi_cmd.proofs.AnswerLemmas.{answered_end}
-use Rattle.cxxabi_cmd.proofs.LayoutLemmas.{one_layout}
+use Rattle.cxxabi_cmd.proofs.LayoutLemmas.{class_text, one_layout}
 use Rattle.cxxabi_cmd.proofs.OneOutput.{says_one}
 use Rattle.cxxabi_cmd.proofs.OneProgram.{program_left}
 use Rattle.cxxabi_cmd.proofs.OneVerdict.{one_verdict}
@@ -41,11 +40,9 @@ on_true_of : {P : Type 0} (b : Bool) → P → OnTrue b P
 on_true_of true p = p
 on_true_of false p = tt
 
-pub no_layout : (h : Classes) (layout : Option (List ClassLayout)) → IsLayoutOf h layout → layout ≡ None → IsStatic h → ⊥
-no_layout h layout is same = subst (λ (l : Option (List ClassLayout)). IsLayoutOf h l) same is
-
-pub the_layout : (h : Classes) (layout : Option (List ClassLayout)) (rows : List ClassLayout) → IsLayoutOf h layout → layout ≡ Some rows → IsLayout h rows
-the_layout h layout rows is same = subst (λ (l : Option (List ClassLayout)). IsLayoutOf h l) same is
+-- the rows of a layout are the layout
+pub is_laid : (h : Classes) (rows : List ClassLayout) → IsAbiLayout h rows → IsLaid h rows
+is_laid h rows is = record { nearly = is.laid.nearly; primaries = is.laid.primaries; by = is.laid.by }
 
 -- a number that has a name is that of a class
 pub named_below : (h : Classes) (n : ℕ) (name : List ℕ) → slice_get (class_names h) n ≡ Some name → n < length h
@@ -54,23 +51,23 @@ named_below (class ∷ h) zero name at = omega arith
 named_below (class ∷ h) (suc n) name at = let rest = named_below h n name at in omega arith
 
 -- a text of layouts, or the limit that it passes
-pub replied : (r : Result Reply Want) (within : Bool) (size : ℕ) (source : SourceText) (h : Classes) (command : Command) (classes : List ClassId) (rows : List ClassLayout) (text : List ℕ) → AsksFor h command classes → IsLayout h rows →
+pub replied : (r : Result Reply Want) (within : Bool) (size : ℕ) (source : SourceText) (h : Classes) (command : Command) (classes : List ClassId) (rows : List ClassLayout) (text : List ℕ) → AsksFor h command classes → IsLaid h rows →
     OnTrue within (text ≡ layouts_text h rows classes) → OnTrue within (length text ≤ 16777216) → OnFalse within (16777216 < length (layouts_text h rows classes)) →
     IfOk r (λ reply. OnTrue within (answer_of reply ≡ text_answer text)) → IfOk r (λ reply. OnFalse within (answer_of reply ≡ line_alone (Limit L9))) → IfOk r (λ reply. Yields size source h command (answer_of reply))
 replied (Ok reply) true size source h command classes rows text asks is same short past told limit =
     let fits : length (layouts_text h rows classes) ≤ 16777216 = subst (λ (t : List ℕ). length t ≤ 16777216) same short in
-    let lays : LaysOut h classes (text_answer text) = subst (λ (t : List ℕ). LaysOut h classes (text_answer t)) (sym same) (whole rows is.static is.laid fits) in
+    let lays : LaysOut h classes (text_answer text) = subst (λ (t : List ℕ). LaysOut h classes (text_answer t)) (sym same) (whole rows is fits) in
     subst (λ (a : Answer). Yields size source h command a) (sym told) (laid_out command classes (text_answer text) asks lays)
 replied (Ok reply) false size source h command classes rows text asks is same short past told limit =
-    subst (λ (a : Answer). Yields size source h command a) (sym limit) (laid_out command classes (line_alone (Limit L9)) asks (too_much rows is.static is.laid past))
+    subst (λ (a : Answer). Yields size source h command a) (sym limit) (laid_out command classes (line_alone (Limit L9)) asks (too_much rows is past))
 replied (Err w) within size source h command classes rows text asks is same short past told limit = tt
 
 -- the layout of one class
-pub replied_one : (r : Result Reply Want) (within : Bool) (size : ℕ) (source : SourceText) (h : Classes) (command : Command) (class : ClassId) (rows : List ClassLayout) (before text : List ℕ) → AsksFor h command (class ∷ []) → IsLayout h rows → before ≡ [] →
-    text ≡ before ++ layout_text h rows class → OnTrue within (length text ≤ 16777216) → OnFalse within (16777216 < length text) →
+pub replied_one : (r : Result Reply Want) (within : Bool) (size : ℕ) (source : SourceText) (h : Classes) (command : Command) (class : ClassId) (rows : List ClassLayout) (before text : List ℕ) → AsksFor h command (class ∷ []) → IsLaid h rows → before ≡ [] →
+    text ≡ before ++ class_text h rows class → OnTrue within (length text ≤ 16777216) → OnFalse within (16777216 < length text) →
     IfOk r (λ reply. OnTrue within (answer_of reply ≡ text_answer text)) → IfOk r (λ reply. OnFalse within (answer_of reply ≡ line_alone (Limit L9))) → IfOk r (λ reply. Yields size source h command (answer_of reply))
 replied_one r within size source h command class rows before text asks is empty same short past told limit =
-    let so : text ≡ layouts_text h rows (class ∷ []) = same ∙ ap (λ (t : List ℕ). t ++ layout_text h rows class) empty ∙ sym (one_layout h rows class) in
+    let so : text ≡ layouts_text h rows (class ∷ []) = same ∙ ap (λ (t : List ℕ). t ++ class_text h rows class) empty ∙ sym (one_layout h rows class) in
     replied r within size source h command (class ∷ []) rows text asks is (on_true_of within so) short (subst (λ (t : List ℕ). OnFalse within (16777216 < length t)) so past) told limit
 
 -- a main that is not there, and one that is
@@ -88,9 +85,8 @@ is_there (Some tree) b is off = record { tree = tree; is = refl }
 
 -- an answer to an accepted source is an answer
 lays_answered : (h : Classes) (classes : List ClassId) (a : Answer) → LaysOut h classes a → IsAnswered a.status
-lays_answered h classes _ (dynamic never) = tt
-lays_answered h classes _ (whole rows static laid short) = tt
-lays_answered h classes _ (too_much rows static laid long) = tt
+lays_answered h classes _ (whole rows laid short) = tt
+lays_answered h classes _ (too_much rows laid long) = tt
 
 yields_answered : (size : ℕ) (source : SourceText) (h : Classes) (command : Command) (a : Answer) → Yields size source h command a → IsAnswered a.status
 yields_answered size source h _ _ counted = tt

@@ -8,7 +8,7 @@ use Rattle.cxx_decl_parser.specs.declared.source_text.SourceText.{SourceText}
 use Rattle.cxx_resolve.specs.declared.program.SimpleProgram.{SimpleProgram}
 use Rattle.abi_layout.specs.declared.class_layout.ClassLayout.{ClassLayout}
 use Rattle.abi_layout.specs.Places.{places_of}
-use Rattle.abi_layout.specs.Laid.{IsLaid}
+use Rattle.abi_layout.specs.DynamicLaid.{IsLaid}
 use Rattle.abi_lower.specs.Blocks.{setup, code_for}
 use Rattle.abi_print.specs.Texts.{text_of}
 use Rattle.abi_refine.specs.Reaches.{ReachesWith}

@@ -16,8 +16,7 @@ use Rattle.path_model.specs.Runs.{Ran, Ending, Done as IsDone, UndefinedAt, OutO
 use Rattle.path_model.specs.Rules.{undefined_no}
 use Rattle.abi_layout.specs.declared.class_layout.ClassLayout.{ClassLayout}
 use Rattle.abi_layout.specs.Places.{places_of}
-use Rattle.abi_layout.specs.Kinds.{IsStatic}
-use Rattle.abi_layout.specs.Laid.{IsLaid}
+use Rattle.abi_layout.specs.DynamicLaid.{IsLaid}
 use Rattle.abi_print.specs.Texts.{text_of}
 use Rattle.abi_print.specs.LayoutTexts.{layout_text}
 use Rattle.cxxabi_cmd.specs.declared.command.Command.{Command}
@@ -93,7 +92,7 @@ pub data AsksFor (h : Classes) : Command → List ClassId → Type 0 where
 
 -- the layouts of classes, one after the other
 abbrev pub layouts_text : Classes → List ClassLayout → List ClassId → List ℕ
-layouts_text h rows classes = flat_map (layout_text h rows) classes
+layouts_text h rows classes = flat_map (layout_text h rows (places_of h rows).place) classes
 
 -- a source that has a main alone besides its classes, all of the form that is run, is this program
 pub record IsProgram (source : SourceText) (h : Classes) (program : SimpleProgram) : Type 0 where
@@ -105,9 +104,8 @@ pub record IsProgram (source : SourceText) (h : Classes) (program : SimpleProgra
 
 -- what is answered to the layout of these classes
 pub data LaysOut (h : Classes) (classes : List ClassId) : Answer → Type 0 where
-  dynamic : (IsStatic h → ⊥) → LaysOut h classes (line_alone (Refused Syntax 0))
-  whole : (rows : List ClassLayout) → IsStatic h → IsLaid h rows → length (layouts_text h rows classes) ≤ 16777216 → LaysOut h classes (text_answer (layouts_text h rows classes))
-  too_much : (rows : List ClassLayout) → IsStatic h → IsLaid h rows → 16777216 < length (layouts_text h rows classes) → LaysOut h classes (line_alone (Limit L9))
+  whole : (rows : List ClassLayout) → IsLaid h rows → length (layouts_text h rows classes) ≤ 16777216 → LaysOut h classes (text_answer (layouts_text h rows classes))
+  too_much : (rows : List ClassLayout) → IsLaid h rows → 16777216 < length (layouts_text h rows classes) → LaysOut h classes (line_alone (Limit L9))
 
 -- what a command answers to an accepted source of so many bytes
 pub data Yields (size : ℕ) (source : SourceText) (h : Classes) : Command → Answer → Type 0 where

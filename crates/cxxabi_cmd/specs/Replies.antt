@@ -1,19 +1,15 @@
 -- What the parts of the top call answer.
-use Rattle.std.specs.Prelude.{◌≡◌, ◌<◌, ◌≤◌, Option, Some, None, List, ℕ, length}
+use Rattle.std.specs.Prelude.{◌≡◌, Option, Some, None, List}
 use Rattle.std.specs.Option.{option_map}
 use Rattle.byte_code.specs.declared.code.Code.{Code}
 use Rattle.byte_machine.specs.Turn.{State}
 use Rattle.byte_machine.specs.MachineState.{code_of, state_of}
 use Rattle.cxx_hierarchy.specs.Classes.{Classes}
 use Rattle.cxx_hierarchy.specs.declared.records.ClassId.{ClassId}
-use Rattle.cxx_subobject.specs.Parts.{IsWithinLimits}
 use Rattle.cxx_decl_parser.specs.declared.source_text.SourceText.{SourceText}
 use Rattle.cxx_resolve.specs.declared.program.SimpleProgram.{SimpleProgram}
 use Rattle.abi_layout.specs.declared.class_layout.ClassLayout.{ClassLayout}
-use Rattle.abi_layout.specs.Kinds.{IsStatic}
-use Rattle.abi_layout.specs.Places.{places_of}
-use Rattle.abi_layout.specs.Sound.{IsSound}
-use Rattle.abi_layout.specs.Laid.{IsLaid}
+use Rattle.abi_layout.specs.DynamicLaid.{IsLaid}
 use Rattle.cxxabi_cmd.specs.declared.reply.Reply.{Reply}
 use Rattle.cxxabi_cmd.specs.declared.command.Command.{Command}
 use Rattle.cxxabi_cmd.specs.declared.command.Command.TheVariants.{Run}
@@ -26,22 +22,6 @@ answer_of reply = record { text = reply.text.items; status = reply.status }
 -- the code and the state of the machine of a reply
 abbrev pub machine_of : Reply → Option (Code × State)
 machine_of reply = option_map (λ m. (code_of m, state_of m)) reply.machine
-
--- the layout of the classes, where none is dynamic
-pub record IsLayout (h : Classes) (rows : List ClassLayout) : Type 0 where
-  pub static : IsStatic h
-  pub laid : IsLaid h rows
-  pub sound : IsSound h (places_of h rows)
-
-abbrev pub IsLayoutOf : Classes → Option (List ClassLayout) → Type 0
-IsLayoutOf h None = IsStatic h → ⊥
-IsLayoutOf h (Some rows) = IsLayout h rows
-
--- all classes before the number are within the limits of subobjects and parts, and the class of the number, if there is one, is not
-pub record IsFirstPast (h : Classes) (number : ℕ) : Type 0 where
-  pub known : number ≤ length h
-  pub before : (c : ClassId) → c.0 < number → IsWithinLimits h c
-  pub past : (c : ClassId) → c.0 ≡ number → c.0 < length h → IsWithinLimits h c → ⊥
 
 -- the machine of a program of the source
 pub record IsRunBy (source : SourceText) (h : Classes) (code : Code) (state : State) : Type 0 where

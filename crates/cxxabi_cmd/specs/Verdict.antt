@@ -1,5 +1,5 @@
 -- What the passes over a source say of it.
-use Rattle.std.specs.Prelude.{◌≡◌, ℕ, ◌+◌, ◌<◌, false, Option, Some, List, [], length, slice_get}
+use Rattle.std.specs.Prelude.{◌≡◌, ℕ, ◌<◌, false, Option, Some, List, [], length}
 use Rattle.cxx_text.specs.declared.token.Token.{Token}
 use Rattle.cxx_text.specs.Cover.{AreTokens}
 use Rattle.cxx_grammar.specs.declared.sort.Lexeme.{Lexeme}
@@ -8,17 +8,16 @@ use Rattle.cxx_grammar.specs.Lexemes.{lexemes, source_start}
 use Rattle.cxx_grammar.specs.Fault.{State, FrontIs, Fault as Event}
 use Rattle.cxx_hierarchy.specs.declared.records.ClassId.{ClassId}
 use Rattle.cxx_hierarchy.specs.declared.stop.Stop.{Stop}
-use Rattle.cxx_hierarchy.specs.declared.stop.Stop.TheVariants.{Limit}
+use Rattle.cxx_hierarchy.specs.declared.stop.Stop.TheVariants.{Refused, Limit}
+use Rattle.cxx_hierarchy.specs.declared.stop.Rule.TheVariants.{SharedPlace}
 use Rattle.cxx_hierarchy.specs.declared.stop.LimitNo.TheVariants.{L6}
-use Rattle.cxx_hierarchy.specs.Classes.{Classes}
+use Rattle.cxx_hierarchy.specs.Classes.{Class, Classes, class_at}
 use Rattle.cxx_hierarchy.specs.ClassPass.{faults_of, first_of}
 use Rattle.cxx_hierarchy.specs.Resolved.{resolved}
 use Rattle.cxx_decl_parser.specs.declared.source_text.SourceText.{SourceText}
 use Rattle.cxx_decl_parser.specs.Sources.{SourceReads}
-use Rattle.cxx_overrider.specs.Faults.{Spot, spot, size_part, IsBefore, Fault as MeaningFault}
-use Rattle.abi_layout.specs.declared.class_layout.ClassLayout.{ClassLayout}
-use Rattle.abi_layout.specs.Kinds.{IsStatic}
-use Rattle.abi_layout.specs.Laid.{IsLaidFront}
+use Rattle.cxx_overrider.specs.Faults.{Spot, spot, size_part, place_part, IsBefore, Fault as MeaningFault}
+use Rattle.abi_layout.specs.Refusals.{IsLargeClass, HasSharedPlace}
 
 -- the tokens of the text, up to its end or to the first place where none stands, have these sorts
 pub record AreLexemes (text : List ℕ) (all : List Lexeme) : Type 0 where
@@ -45,19 +44,12 @@ pub record StopsText (text : List ℕ) (stop : Stop) : Type 0 where
   pub sorts : AreLexemes text all
   pub event : Event source_form at_start all stop
 
--- by the rules of layout the class has a size above 500,000 bytes
-pub record IsTooLarge (h : Classes) (c : ClassId) : Type 0 where
-  pub rows : List ClassLayout
-  pub laid : IsLaidFront h (c.0 + 1) rows
-  pub row : ClassLayout
-  pub there : slice_get rows c.0 ≡ Some row
-  pub large : 500000 < row.size
-
--- the condition asked at the spot stops the source: one of the class-meaning pass, or the size of a class. Sizes are asked of
--- sources without a dynamic class
+-- the condition asked at the spot stops the source: one of the class-meaning pass, the size of a class, or a base of it that
+-- brings one class to one place twice
 pub data Fault (h : Classes) : Spot → Stop → Type 0 where
   of_meaning : (at : Spot) (stop : Stop) → MeaningFault h at stop → Fault h at stop
-  large : (c : ClassId) → c.0 < length h → IsStatic h → IsTooLarge h c → Fault h (spot c size_part 0 0) (Limit L6)
+  large : (c : ClassId) → c.0 < length h → IsLargeClass h c → Fault h (spot c size_part 0 0) (Limit L6)
+  shared : (c : ClassId) (class : Class) → class_at h c ≡ Some class → HasSharedPlace h c → Fault h (spot c place_part 0 0) (Refused SharedPlace class.at)
 
 -- a fault, and none is met before it
 pub record IsFirstFault (h : Classes) (stop : Stop) : Type 0 where
@@ -74,7 +66,7 @@ pub data Judgement : Type 0 where
   Stops : Stop → Judgement
   Accepts : SourceText → Classes → Judgement
 
--- the passes in their order: the text, the class records, and the classes with their counts and sizes
+-- the passes in their order: the text, the class records, and the classes with their counts, meanings, sizes and places
 pub data Verdict (text : List ℕ) : Judgement → Type 0 where
   by_text : (stop : Stop) → StopsText text stop → Verdict text (Stops stop)
   by_records : (source : SourceText) (stop : Stop) → IsSource text source → first_of (faults_of source.records) ≡ Some stop → Verdict text (Stops stop)

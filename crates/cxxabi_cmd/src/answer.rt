@@ -8,13 +8,14 @@ ghost use Rattle.cxx_resolve.specs.Typed.{IsTypedProgram};
 ghost use Rattle.path_model.specs.Rules.{undefined_no};
 ghost use Rattle.path_model.specs.declared.Undefined.{Undefined};
 ghost use Rattle.abi_layout.specs.declared.class_layout.ClassLayout.{ClassLayout};
-ghost use Rattle.abi_layout.specs.Laid.{IsLaid};
+ghost use Rattle.abi_layout.specs.AbiLayouts.{IsAbiLayout};
+ghost use Rattle.abi_layout.specs.DynamicLaid.{IsLaid};
 ghost use Rattle.abi_layout.specs.Places.{places_of};
 ghost use Rattle.abi_layout.specs.Sound.{IsSound};
 ghost use Rattle.abi_refine.specs.Endings.{ending_of};
 ghost use Rattle.cxxabi_cmd.specs.Output.{Answer, IsProgram, Yields, IsAnswered, line_alone, run_answer, run_by, status_of};
 ghost use Rattle.cxxabi_cmd.specs.Handed.{IsMachineOf};
-ghost use Rattle.cxxabi_cmd.specs.Replies.{answer_of, machine_of, IsLayoutOf, HandsBy};
+ghost use Rattle.cxxabi_cmd.specs.Replies.{answer_of, machine_of, HandsBy};
 
 use crate::command::Command;
 use crate::layout_answer::{lay_out_all, lay_out_one};
@@ -118,7 +119,7 @@ fn program_of(
 
 // What is answered to `run`.
 fn run_main(alloc: Global, size: u32, accepted: &Accepted) -> Result<Reply, NoMemory>
-    requires { IsLayoutOf accepted.now.hierarchy accepted.now.layout }
+    requires { IsAbiLayout accepted.now.hierarchy accepted.now.layout }
     ensures yields { IfOk result (λ reply. Yields size accepted.now.source accepted.now.hierarchy Command.Run (answer_of reply)) }
     ensures machine { IfOk result (λ reply. HandsBy Command.Run accepted.now.source accepted.now.hierarchy (machine_of reply)) }
 {
@@ -129,10 +130,7 @@ fn run_main(alloc: Global, size: u32, accepted: &Accepted) -> Result<Reply, NoMe
     let Some(program) = program_of(alloc, &accepted.source, &accepted.hierarchy)? else {
         return line_alone(alloc, Status::Refused(Rule::Syntax, 0));
     };
-    let Some(layout) = &accepted.layout else {
-        return line_alone(alloc, Status::Refused(Rule::Syntax, 0));
-    };
-    run_program(alloc, &accepted.hierarchy, &program, layout)
+    run_program(alloc, &accepted.hierarchy, &program, &accepted.layout)
 }
 
 // What a command answers to an accepted source of so many bytes.
@@ -142,7 +140,7 @@ pub(crate) fn answer(
     size: u32,
     accepted: &Accepted,
 ) -> Result<Reply, NoMemory>
-    requires { IsLayoutOf accepted.now.hierarchy accepted.now.layout }
+    requires { IsAbiLayout accepted.now.hierarchy accepted.now.layout }
     ensures yields { IfOk result (λ reply. Yields size accepted.now.source accepted.now.hierarchy command.now (answer_of reply)) }
     ensures machine { IfOk result (λ reply. HandsBy command.now accepted.now.source accepted.now.hierarchy (machine_of reply)) }
 {

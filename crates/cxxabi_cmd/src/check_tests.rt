@@ -25,7 +25,7 @@ struct Answered {
     text: &'static str,
 }
 
-const ANSWERS: [Answered; 16] = [
+const ANSWERS: [Answered; 19] = [
     Answered {
         source: "",
         text: "0 classes\n",
@@ -53,6 +53,18 @@ const ANSWERS: [Answered; 16] = [
     Answered {
         source: "float x;",
         text: "refused E21 LeftOut at 0\n",
+    },
+    Answered {
+        source: "struct E {}; struct V : E { virtual void f() {} }; struct S : virtual V {}; struct W : S {}; struct P : virtual W {}; struct T : virtual V {}; struct B : T, E, P {}; struct X { virtual void g() {} }; struct A : X, virtual W {}; struct C : A, B {};",
+        text: "refused E24 SharedPlace at 235\n",
+    },
+    Answered {
+        source: "struct E {}; struct V : E { virtual void f() {} }; struct S : virtual V {}; struct W : S {}; struct P : virtual W {}; struct T : virtual V {}; struct B : T, P {}; struct X { virtual void g() {} }; struct A : X, virtual W {}; struct C : A, B {};",
+        text: "10 classes\n",
+    },
+    Answered {
+        source: "struct V { virtual void f() {} }; struct A : virtual V { long a[4096]; }; struct B { A a[15]; }; struct C { B b[2]; }; struct L : V { virtual int f() { return 1; } };",
+        text: "limit L6\n",
     },
     Answered {
         source: "struct B : A {};",

@@ -4,10 +4,10 @@ ghost use Rattle.std.specs.Prelude.{◌≡◌, ◌≤◌, ◌<◌, ◌++◌, ◌
 ghost use Rattle.std.specs.Bool.{OnTrue, OnFalse};
 ghost use Rattle.cxx_hierarchy.specs.declared.records.ClassId.{ClassId};
 ghost use Rattle.abi_layout.specs.Places.{places_of};
-ghost use Rattle.abi_layout.specs.Sound.{IsSound};
+ghost use Rattle.abi_layout.specs.AbiLayouts.{IsAbiLayout};
 ghost use Rattle.abi_print.specs.LayoutTexts.{layout_text};
 ghost use Rattle.cxxabi_cmd.specs.Output.{Yields, AsksFor, first_classes, layouts_text, line_alone, text_answer};
-ghost use Rattle.cxxabi_cmd.specs.Replies.{answer_of, machine_of, IsLayoutOf, HandsBy};
+ghost use Rattle.cxxabi_cmd.specs.Replies.{answer_of, machine_of, HandsBy};
 
 use crate::command::Command;
 use crate::reply::{Reply, line_alone};
@@ -31,10 +31,9 @@ fn append_class(
     c: ClassId,
     text: &mut Vec<u8>,
 ) -> Result<bool, NoMemory>
-    requires sound { IsSound h.now (places_of h.now layout.now) }
+    requires layout { IsAbiLayout h.now layout.now }
     requires known { c.0 < length h.now }
-    requires laid { c.0 < length layout.now }
-    ensures text { OnOk result (text.new.items ≡ text.old.items ++ layout_text h.now layout.now c) }
+    ensures text { OnOk result (text.new.items ≡ text.old.items ++ layout_text h.now layout.now (places_of h.now layout.now).place c) }
     ensures within { IfOk result (λ within. OnTrue within (length text.new.items ≤ 16777216)) }
     ensures past { IfOk result (λ within. OnFalse within (16777216 < length text.new.items)) }
 {
@@ -67,8 +66,7 @@ fn append_all(
     layout: &AbiLayout,
     text: &mut Vec<u8>,
 ) -> Result<bool, NoMemory>
-    requires sound { IsSound h.now (places_of h.now layout.now) }
-    requires laid { length layout.now ≡ length h.now }
+    requires layout { IsAbiLayout h.now layout.now }
     requires start { text.old.items ≡ [] }
     ensures text { IfOk result (λ within. OnTrue within (text.new.items ≡ layouts_text h.now layout.now (first_classes (length h.now)))) }
     ensures within { IfOk result (λ within. OnTrue within (length text.new.items ≤ 16777216)) }
@@ -84,15 +82,12 @@ fn append_all(
 
 // What is answered to `layout`.
 pub(crate) fn lay_out_all(alloc: Global, accepted: &Accepted) -> Result<Reply, NoMemory>
-    requires { IsLayoutOf accepted.now.hierarchy accepted.now.layout }
+    requires { IsAbiLayout accepted.now.hierarchy accepted.now.layout }
     ensures yields { (size : ℕ) → IfOk result (λ reply. Yields size accepted.now.source accepted.now.hierarchy Command.Layout (answer_of reply)) }
     ensures machine { IfOk result (λ reply. machine_of reply ≡ None) }
 {
-    let Some(layout) = &accepted.layout else {
-        return line_alone(alloc, Status::Refused(Rule::Syntax, 0));
-    };
     let mut text = Vec::new(alloc);
-    let within = append_all(alloc, &accepted.hierarchy, layout, &mut text)?;
+    let within = append_all(alloc, &accepted.hierarchy, &accepted.layout, &mut text)?;
     reply_of(alloc, text, within)
 }
 
@@ -103,17 +98,14 @@ pub(crate) fn lay_out_one(
     name: &[u8],
     accepted: &Accepted,
 ) -> Result<Reply, NoMemory>
-    requires { IsLayoutOf accepted.now.hierarchy accepted.now.layout }
+    requires { IsAbiLayout accepted.now.hierarchy accepted.now.layout }
     ensures yields { IfOk result (λ reply. Yields size accepted.now.source accepted.now.hierarchy (Command.LayoutOf name.now) (answer_of reply)) }
     ensures machine { IfOk result (λ reply. machine_of reply ≡ None) }
 {
     let Some(class) = accepted.hierarchy.find(name) else {
         return line_alone(alloc, Status::Refused(Rule::UnknownName, size));
     };
-    let Some(layout) = &accepted.layout else {
-        return line_alone(alloc, Status::Refused(Rule::Syntax, 0));
-    };
     let mut text = Vec::new(alloc);
-    let within = append_class(alloc, &accepted.hierarchy, layout, class, &mut text)?;
+    let within = append_class(alloc, &accepted.hierarchy, &accepted.layout, class, &mut text)?;
     reply_of(alloc, text, within)
 }

@@ -5,4 +5,4 @@ use Rattle.abi_print.proofs.layout_lines.append_bases.Given as goal
 
 -- the lines so far stand behind the text
 abbrev pub invariant-loop-s : goal.invariant-loop-s
-invariant-loop-s l = l.text.items ≡ l.fn.text.items ++ flat_map (base_text l.h l.layout l.fn.c) (take l.s-index l.list)
+invariant-loop-s g l = l.text.items ≡ l.fn.text.items ++ flat_map (base_text l.h (g.L.SoundLayout.places l.layout l.h).place l.fn.c) (take l.s-index l.list)

@@ -10,4 +10,4 @@ in_proper [] s has = has
 in_proper (x ∷ list) s has = has_later x list s has
 
 pub append_bases-requires-clause-subobjects : goal.append_bases-requires-clause-subobjects
-append_bases-requires-clause-subobjects c = λ s has. c.requires.subobjects s (in_proper c.args.list.now s (subst (λ (xs : List Subobject). Contains xs s) c.proper_of.ensures has))
+append_bases-requires-clause-subobjects g c = λ s has. c.requires.subobjects s (in_proper c.args.list.now s (subst (λ (xs : List Subobject). Contains xs s) c.proper_of.ensures has))

@@ -4,9 +4,8 @@ use Rattle.cxx_resolve.proofs.Whole.{typed_main}
 use Rattle.cxxabi_cmd.specs.declared.command.Command.TheVariants.{Run}
 use Rattle.cxxabi_cmd.specs.declared.status.Status.TheVariants.{Refused}
 use Rattle.cxxabi_cmd.specs.Output.{no_main, not_taken, ran, line_alone, run_answer, run_by}
-use Rattle.cxxabi_cmd.proofs.Accepting.{program_static}
 use Rattle.cxxabi_cmd.proofs.AnswerLemmas.{yields, hands_none, hands_machine, not_program, the_program}
-use Rattle.cxxabi_cmd.proofs.ReplyLemmas.{no_layout, the_layout, is_missing, is_there}
+use Rattle.cxxabi_cmd.proofs.ReplyLemmas.{is_laid, is_missing, is_there}
 use Rattle.cxxabi_cmd.proofs.answer.run_main.Goals as goal
 
 pub returns-then-is_none-clause-yields : goal.returns-then-is_none-clause-yields
@@ -25,16 +24,6 @@ returns-in_default-clause-machine c =
     hands_none c.line_alone-in_default.result Run c.args.accepted.now.source c.args.accepted.now.hierarchy c.line_alone-in_default.ensures.machine
     (λ asked program rows is laid. not_program c.args.accepted.now.source c.args.accepted.now.hierarchy c.in_ok-program.field-0 c.in_ok-program.ensures c.in_default.is program is)
 
-pub returns-in_default-layout-clause-yields : goal.returns-in_default-layout-clause-yields
-returns-in_default-layout-clause-yields c =
-    let is = the_program c.args.accepted.now.source c.args.accepted.now.hierarchy c.in_ok-program.field-0 c.in-Some.program c.in_ok-program.ensures c.in-Some.is in
-    absurd (no_layout c.args.accepted.now.hierarchy c.args.accepted.now.layout c.requires c.in_default-layout.is (program_static c.args.accepted.now.source c.args.accepted.now.hierarchy c.in-Some.program c.keeps.ensures is))
-
-pub returns-in_default-layout-clause-machine : goal.returns-in_default-layout-clause-machine
-returns-in_default-layout-clause-machine c =
-    let is = the_program c.args.accepted.now.source c.args.accepted.now.hierarchy c.in_ok-program.field-0 c.in-Some.program c.in_ok-program.ensures c.in-Some.is in
-    absurd (no_layout c.args.accepted.now.hierarchy c.args.accepted.now.layout c.requires c.in_default-layout.is (program_static c.args.accepted.now.source c.args.accepted.now.hierarchy c.in-Some.program c.keeps.ensures is))
-
 pub run_program-requires-clause-typed : goal.run_program-requires-clause-typed
 run_program-requires-clause-typed c =
     let is = the_program c.args.accepted.now.source c.args.accepted.now.hierarchy c.in_ok-program.field-0 c.in-Some.program c.in_ok-program.ensures c.in-Some.is in
@@ -42,13 +31,18 @@ run_program-requires-clause-typed c =
 
 pub returns-clause-yields : goal.returns-clause-yields
 returns-clause-yields c =
-    let is = the_program c.args.accepted.now.source c.args.accepted.now.hierarchy c.in_ok-program.field-0 c.in-Some.program c.in_ok-program.ensures c.in-Some.is in
-    let layout = the_layout c.args.accepted.now.hierarchy c.args.accepted.now.layout c.in-Some-layout.layout c.requires c.in-Some-layout.is in
-    yields c.run_program.result c.args.size c.args.accepted.now.source c.args.accepted.now.hierarchy Run (run_answer c.args.accepted.now.hierarchy c.in-Some-layout.layout (run_by c.args.accepted.now.hierarchy c.in-Some-layout.layout c.in-Some.program)) c.run_program.ensures.answer
-    (ran c.in-Some.program c.in-Some-layout.layout is layout.laid)
+    let h = c.args.accepted.now.hierarchy in
+    let rows = c.args.accepted.now.layout in
+    let is = the_program c.args.accepted.now.source h c.in_ok-program.field-0 c.in-Some.program c.in_ok-program.ensures c.in-Some.is in
+    yields c.run_program.result c.args.size c.args.accepted.now.source h Run (run_answer h rows (run_by h rows c.in-Some.program)) c.run_program.ensures.answer
+    (ran c.in-Some.program rows is (is_laid h rows c.requires))
 
 pub returns-clause-machine : goal.returns-clause-machine
 returns-clause-machine c =
-    let is = the_program c.args.accepted.now.source c.args.accepted.now.hierarchy c.in_ok-program.field-0 c.in-Some.program c.in_ok-program.ensures c.in-Some.is in
-    let layout = the_layout c.args.accepted.now.hierarchy c.args.accepted.now.layout c.in-Some-layout.layout c.requires c.in-Some-layout.is in
-    hands_machine c.run_program.result Run c.args.accepted.now.source c.args.accepted.now.hierarchy c.in-Some.program c.in-Some-layout.layout refl is layout.laid c.run_program.ensures.machine
+    let h = c.args.accepted.now.hierarchy in
+    let rows = c.args.accepted.now.layout in
+    let is = the_program c.args.accepted.now.source h c.in_ok-program.field-0 c.in-Some.program c.in_ok-program.ensures c.in-Some.is in
+    hands_machine c.run_program.result Run c.args.accepted.now.source h c.in-Some.program rows refl is (is_laid h rows c.requires) c.run_program.ensures.machine
+
+pub run_program-requires-clause-sound : goal.run_program-requires-clause-sound
+run_program-requires-clause-sound c = c.requires.sound.sound

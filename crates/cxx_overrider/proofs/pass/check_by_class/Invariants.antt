@@ -3,7 +3,7 @@ use Rattle.cxx_hierarchy.specs.declared.records.ClassId.{ClassId}
 use Rattle.cxx_overrider.specs.Faults.{spot, limit_part}
 use Rattle.cxx_overrider.specs.Settling.{IsMade}
 use Rattle.cxx_overrider.specs.Pass.{IsFineTo, TellsAbstract}
-use Rattle.cxx_overrider.proofs.pass.check_overriders.Given as goal
+use Rattle.cxx_overrider.proofs.pass.check_by_class.Given as goal
 
 -- the classes so far are fine, and the tables tell of them
 abbrev pub invariant-loop-number : goal.invariant-loop-number

@@ -3,8 +3,8 @@ use Rattle.cxx_hierarchy.specs.declared.records.ClassId.{ClassId}
 use Rattle.cxx_overrider.specs.Pass.{TellsAbstract}
 use Rattle.cxx_overrider.specs.Settling.{IsMade}
 use Rattle.cxx_overrider.proofs.Made.{made_start}
-use Rattle.cxx_overrider.proofs.PassLemmas.{fine_start, fine_end, no_abstracts, abstracts_more}
-use Rattle.cxx_overrider.proofs.pass.check_overriders.Goals as goal
+use Rattle.cxx_overrider.proofs.PassLemmas.{fine_start, fine_end, no_abstracts}
+use Rattle.cxx_overrider.proofs.pass.check_by_class.Goals as goal
 
 pub loop-number-init : goal.loop-number-init
 loop-number-init c =
@@ -17,17 +17,12 @@ loop-number-init c =
     }
 
 pub loop-number-preserved : goal.loop-number-preserved
-loop-number-preserved c =
-    let h = c.args.h.now in
-    let d : ClassId = record { 0 = c.loop-number.number } in
-    let list = c.loop-number.abstracts.items in
-    let e : c.push.new.self.items ≡ list ++ c.is_abstract_class-is_abstract.result ∷ [] = c.in_ok-push.ensures.items in
-    record {
-      made = c.in_ok-check_finals.ensures.made;
-      size = let n = c.loop-number.invariant.size in omega (arith, ap length e, length-append {A = Bool});
-      abstracts = subst (λ (x : List Bool). TellsAbstract h x) (sym e) (abstracts_more h list d c.is_abstract_class-is_abstract.result c.loop-number.invariant.abstracts c.loop-number.invariant.size c.is_abstract_class-is_abstract.ensures);
-      fine = c.in_ok-check_members.ensures.fine;
-    }
+loop-number-preserved c = record {
+  made = c.in-Ok.ensures.made;
+  size = c.in-Ok.ensures.size;
+  abstracts = c.in-Ok.ensures.abstracts;
+  fine = c.in-Ok.ensures.fine;
+}
 
 pub returns-clause-ok : goal.returns-clause-ok
 returns-clause-ok c =
