@@ -33,3 +33,5 @@ pub mod CanSettleLemmas
 pub mod NestedLemmas
 pub mod RoomLemmas
 mod ObjectTree
+pub mod AgreeingRows
+pub mod AgreeingParts
