@@ -35,3 +35,4 @@ pub mod RoomLemmas
 mod ObjectTree
 pub mod AgreeingRows
 pub mod AgreeingParts
+pub mod AgreeingClasses
