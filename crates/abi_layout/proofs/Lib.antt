@@ -36,3 +36,4 @@ mod ObjectTree
 pub mod AgreeingRows
 pub mod AgreeingParts
 pub mod AgreeingClasses
+pub mod AgreeingFronts
