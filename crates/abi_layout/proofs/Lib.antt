@@ -37,3 +37,4 @@ pub mod AgreeingRows
 pub mod AgreeingParts
 pub mod AgreeingClasses
 pub mod AgreeingFronts
+pub mod OneLayoutLists
