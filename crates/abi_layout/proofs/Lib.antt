@@ -38,3 +38,4 @@ pub mod AgreeingParts
 pub mod AgreeingClasses
 pub mod AgreeingFronts
 pub mod OneLayoutLists
+pub mod OneLayoutRows
