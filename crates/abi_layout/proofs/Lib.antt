@@ -39,3 +39,4 @@ pub mod AgreeingClasses
 pub mod AgreeingFronts
 pub mod OneLayoutLists
 pub mod OneLayoutRows
+pub mod OneLayoutFronts
