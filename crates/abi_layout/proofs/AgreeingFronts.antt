@@ -1,5 +1,5 @@
 -- Layouts of the first classes: of one class more, and of fewer.
-use Rattle.std.proofs.Common.{◌≡◌, ℕ, zero, suc, ◌+◌, ◌<◌, ◌≤◌, ⊎_elim, Bool, true, false, Option, Some, None, List, [], ◌∷◌, ◌++◌, take, length, get_or, refl, ap, subst, sym, ◌∙◌, arith}
+use Rattle.std.proofs.Common.{◌≡◌, ℕ, zero, suc, ◌+◌, ◌<◌, ◌≤◌, ⊎_elim, Bool, false, Some, None, List, [], ◌∷◌, ◌++◌, take, length, get_or, refl, ap, subst, sym, ◌∙◌, arith}
 use Rattle.std.specs.Prelude.{IsTrue, ◌↔◌}
 use Rattle.std.specs.List.{slice_get}
 use Rattle.std.proofs.lemmas.Bool.{cases_order}
@@ -14,12 +14,12 @@ use Rattle.abi_primary.specs.PrimaryBase.{IsPrimary}
 use Rattle.abi_layout.specs.declared.class_layout.ClassLayout.{ClassLayout}
 use Rattle.abi_layout.specs.Holding.{virtual_in, virtual_primary}
 use Rattle.abi_layout.specs.Scenes.{AreBefore}
-use Rattle.abi_layout.specs.DynamicLaid.{primary_of, IsDynamicRow, is_shifted, TellsNearly, IsLaidBy}
+use Rattle.abi_layout.specs.DynamicLaid.{primary_of, IsDynamicRow, is_shifted, IsLaidBy}
 use Rattle.abi_layout.specs.Refusals.{IsNextClass}
 use Rattle.abi_layout.proofs.Lists.{number, get_within}
 use Rattle.abi_layout.proofs.Fronts.{longer, last_one, old_or_last}
 use Rattle.abi_layout.proofs.AgreeingRows.{AgreeTo, agree_less, agree_turned, agree_item, agree_push, agree_take, primary_agrees, take_agrees}
-use Rattle.abi_layout.proofs.AgreeingParts.{ArePossible, possible_less, possible_agrees, virtual_falls}
+use Rattle.abi_layout.proofs.AgreeingParts.{ArePossible, possible_agrees, virtual_falls}
 use Rattle.abi_layout.proofs.AgreeingClasses.{laid_possible, next_possible, primary_possible, is_primary_agrees, nearly_empty_agrees, shifted_agrees, pointer_agrees, row_agrees}
 
 -- what a list tells of a class, by lists and rows that agree

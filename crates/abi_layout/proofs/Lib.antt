@@ -40,3 +40,4 @@ pub mod AgreeingFronts
 pub mod OneLayoutLists
 pub mod OneLayoutRows
 pub mod OneLayoutFronts
+pub mod OneLayoutStops

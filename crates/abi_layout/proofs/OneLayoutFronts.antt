@@ -1,27 +1,26 @@
 -- At most one layout meets the rules, so that a class has one size, and a class of a layout is not refused.
-use Rattle.std.proofs.Common.{◌≡◌, ℕ, zero, suc, ◌+◌, ◌<◌, ◌≤◌, ⊎_elim, Bool, true, false, Option, Some, None, List, [], ◌∷◌, map, take, length, get_or, refl, ap, subst, sym, ◌∙◌, arith}
+use Rattle.std.proofs.Common.{◌≡◌, ℕ, zero, suc, ◌+◌, ◌<◌, ◌≤◌, Bool, false, Some, List, map, take, length, get_or, refl, ap, subst, sym, ◌∙◌, arith}
 use Rattle.std.specs.Prelude.{IsTrue, ◌↔◌}
 use Rattle.std.specs.List.{slice_get}
 use Rattle.std.proofs.lemmas.Option.{slice_get-get_or, slice_get_within}
 use Rattle.cxx_hierarchy.specs.declared.records.ClassId.{ClassId}
-use Rattle.cxx_hierarchy.specs.Classes.{Class, Classes, class_at}
+use Rattle.cxx_hierarchy.specs.Classes.{Class, Classes}
 use Rattle.cxx_hierarchy.specs.Hierarchies.{IsHierarchy}
 use Rattle.abi_primary.specs.declared.Primary.{Primary}
 use Rattle.abi_primary.specs.declared.Primary.TheVariants.{None as NoPrimary}
 use Rattle.abi_primary.specs.NearlyEmpty.{IsNearlyEmpty}
 use Rattle.abi_primary.specs.PrimaryBase.{IsPrimary}
-use Rattle.abi_layout.specs.declared.component.Component.{Component}
 use Rattle.abi_layout.specs.declared.class_layout.ClassLayout.{ClassLayout}
 use Rattle.abi_layout.specs.Kinds.{is_pod}
-use Rattle.abi_layout.specs.Laid.{member_component, AreSmall}
+use Rattle.abi_layout.specs.Laid.{member_component}
 use Rattle.abi_layout.specs.PlacedBases.{free_bases}
-use Rattle.abi_layout.specs.DynamicLaid.{placed_place, primary_of, fronts, front_components, free_components, object_parts, start_stage, IsArrangedBy, HasPointer, IsDynamicRow, is_shifted, IsLaidBy, IsFrontLaid, BringsTwice}
-use Rattle.abi_layout.specs.Refusals.{IsNextClass, HasSize, IsLargeClass, HasSharedPlace, AreApart, IsWellLaid}
+use Rattle.abi_layout.specs.DynamicLaid.{placed_place, primary_of, fronts, front_components, free_components, object_parts, start_stage, IsArrangedBy, HasPointer, is_shifted, IsLaidBy, IsFrontLaid, BringsTwice}
+use Rattle.abi_layout.specs.Refusals.{IsNextClass, HasSize, IsLargeClass, HasSharedPlace, IsWellLaid}
 use Rattle.abi_layout.proofs.Lists.{number, get_within}
-use Rattle.abi_layout.proofs.AgreeingRows.{AgreeTo, agree_less, agree_turned, agree_take, primary_agrees, take_agrees}
+use Rattle.abi_layout.proofs.AgreeingRows.{AgreeTo, agree_less, agree_turned, agree_take, take_agrees}
 use Rattle.abi_layout.proofs.AgreeingParts.{ArePossible, possible_agrees}
 use Rattle.abi_layout.proofs.AgreeingClasses.{laid_possible, is_primary_agrees, nearly_empty_agrees, shifted_agrees, arranged_agrees, brings_twice_agrees, pointer_agrees}
-use Rattle.abi_layout.proofs.AgreeingFronts.{IsOneOf, one_of}
+use Rattle.abi_layout.proofs.AgreeingFronts.{one_of}
 use Rattle.abi_layout.proofs.OneLayoutLists.{agree_whole, agree_grows, bool_same, layout_is_one as arranged_once}
 use Rattle.abi_layout.proofs.OneLayoutRows.{primary_is_one, AreRows, row_is_one}
 
@@ -54,7 +53,6 @@ one_class h count n rows others near other ps qs keeps within laid also lt befor
     let e = also.primary_each in
     let f = laid.tells.one_each in
     let g = also.tells.one_each in
-    let c = number n in
     let class = get_within h n (omega arith) in
     let x = get_within rows n (omega arith) in
     let y = get_within others n (omega arith) in
@@ -154,9 +152,6 @@ arranged_along h c rows others ps qs class kind has_pointer own front_places fre
 pub one_size : (h : Classes) (c : ClassId) (m n : ℕ) → IsHierarchy h → HasSize h c m → HasSize h c n → m ≡ n
 one_size h c m n keeps x y =
     let same = next_is_one h c keeps x.next y.next in
-    let rows = y.next.rows in
-    let ps = y.next.primaries in
-    let class = y.next.class in
     let is = arranged_once (start_stage c y.next.has_pointer) (front_components h y.next.rows y.next.primaries (object_parts h y.next.rows y.next.primaries) c y.next.class) (map (member_component y.next.rows (object_parts h y.next.rows y.next.primaries)) y.next.class.members) (free_components h y.next.rows y.next.primaries (object_parts h y.next.rows y.next.primaries) c)
     x.front_places y.front_places x.free_places y.free_places (is_pod h c) x.row y.row
     (arranged_along h c x.next.rows y.next.rows x.next.primaries y.next.primaries x.next.class y.next.class x.next.has_pointer y.next.has_pointer x.front_places x.free_places x.row same.rows same.primaries same.class same.has_pointer x.placed)

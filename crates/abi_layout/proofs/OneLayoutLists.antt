@@ -1,19 +1,18 @@
 -- Lists of places that are told by keys, and layouts by the same components, are one.
-use Rattle.std.proofs.Common.{◌≡◌, ℕ, zero, suc, ◌+◌, ◌<◌, ◌≤◌, ⊎_elim, inl, inr, Bool, true, false, cond, ltb, Option, Some, None, List, [], ◌∷◌, map, take, length, refl, ap, subst, sym, ◌∙◌, arith}
-use Rattle.std.specs.Prelude.{IsTrue, ◌↔◌, filter, position, nat_eq, max, ◌==◌, ◌||◌, not, if◌then◌else◌}
+use Rattle.std.proofs.Common.{◌≡◌, ℕ, zero, suc, ◌+◌, ◌<◌, ⊎_elim, inl, inr, Bool, true, false, cond, ltb, Option, Some, None, List, [], ◌∷◌, map, length, refl, ap, subst, sym, ◌∙◌, arith}
+use Rattle.std.specs.Prelude.{if◌then◌else◌, IsTrue, ◌↔◌, filter, position, nat_eq, max, ◌==◌, ◌||◌}
 use Rattle.std.specs.List.{slice_get, filter_map, cons_option, position_or_len, list_any}
 use Rattle.std.proofs.lemmas.Bool.{eq-eqb, eqb-true, lt-ltb, cases_order}
 use Rattle.std.proofs.lemmas.List.{take_all}
 use Rattle.std.proofs.lemmas.Option.{slice_get_within, slice_get_read}
 use Rattle.cxx_hierarchy.specs.declared.records.ClassId.{ClassId}
-use Rattle.cxx_hierarchy.specs.declared.records.Base.{Base}
-use Rattle.cxx_hierarchy.specs.Classes.{Classes, bases_of}
+use Rattle.cxx_hierarchy.specs.Classes.{Classes}
 use Rattle.cxx_hierarchy.specs.Hierarchies.{IsHierarchy}
 use Rattle.cxx_hierarchy.specs.VirtualBases.{HasVirtualBase}
-use Rattle.cxx_subobject.specs.declared.Root.TheVariants.{Whole, Shared}
+use Rattle.cxx_subobject.specs.declared.Root.TheVariants.{Shared}
 use Rattle.cxx_subobject.specs.declared.Subobject.{Subobject}
 use Rattle.cxx_subobject.specs.Subobjects.{IsSubobject, whole, shared, shared_base}
-use Rattle.cxx_subobject.specs.Preorder.{tree, firsts, preorder}
+use Rattle.cxx_subobject.specs.Preorder.{tree, preorder}
 use Rattle.cxx_subobject.specs.Subobjects.{whole_of}
 use Rattle.cxx_subobject.proofs.ListLemmas.{Has, EachOnce, has_at, contains_from_has}
 use Rattle.cxx_subobject.proofs.TreeLemmas.{has_filter, preorder_has, has_preorder, firsts_once}

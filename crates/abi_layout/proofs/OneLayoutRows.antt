@@ -1,5 +1,5 @@
 -- The row of a class is one, where the rows before it are.
-use Rattle.std.proofs.Common.{◌≡◌, ℕ, zero, suc, ◌+◌, ◌<◌, ◌≤◌, ⊎_elim, inl, inr, Bool, true, false, Option, Some, None, List, [], ◌∷◌, ◌++◌, map, take, length, get_or, refl, ap, subst, sym, ◌∙◌, arith}
+use Rattle.std.proofs.Common.{◌≡◌, ℕ, zero, suc, ◌+◌, ◌<◌, ◌≤◌, ⊎_elim, Bool, true, false, Option, Some, None, List, [], ◌∷◌, map, length, refl, ap, subst, sym, ◌∙◌, arith}
 use Rattle.std.specs.Prelude.{Contains, filter, position, nat_eq, not}
 use Rattle.std.specs.List.{slice_get}
 use Rattle.std.proofs.lemmas.Bool.{eqb-true, cases_order}
@@ -8,12 +8,12 @@ use Rattle.cxx_hierarchy.specs.declared.records.ClassId.{ClassId}
 use Rattle.cxx_hierarchy.specs.declared.records.Base.{Base}
 use Rattle.cxx_hierarchy.specs.Classes.{Class, Classes, class_at, bases_of, bases_in as named_bases}
 use Rattle.cxx_hierarchy.specs.Hierarchies.{IsHierarchy}
-use Rattle.cxx_hierarchy.specs.VirtualBases.{IsDirectBase, HasVirtualBase}
+use Rattle.cxx_hierarchy.specs.VirtualBases.{HasVirtualBase}
 use Rattle.cxx_subobject.specs.declared.Root.TheVariants.{Whole, Shared}
 use Rattle.cxx_subobject.specs.declared.Subobject.{Subobject}
 use Rattle.cxx_subobject.specs.Subobjects.{IsSubobject, whole, shared, subobject, Leads, last_of}
 use Rattle.cxx_subobject.specs.Preorder.{preorder}
-use Rattle.cxx_subobject.proofs.ListLemmas.{Has, has_right, contains_from_has}
+use Rattle.cxx_subobject.proofs.ListLemmas.{Has, contains_from_has}
 use Rattle.cxx_subobject.proofs.TreeLemmas.{has_filter, filter_has, preorder_lists}
 use Rattle.abi_primary.specs.declared.Primary.{Primary}
 use Rattle.abi_primary.specs.declared.Primary.TheVariants.{None as NoPrimary, Direct, Virtual}
@@ -36,7 +36,7 @@ use Rattle.abi_layout.proofs.NestedLemmas.{front_has}
 use Rattle.abi_layout.proofs.AgreeingRows.{AgreeTo, map_same, class_low, primary_agrees, fronts_agree, holder_agrees, free_agree, along_agrees}
 use Rattle.abi_layout.proofs.AgreeingParts.{ArePossible}
 use Rattle.abi_layout.proofs.AgreeingClasses.{pointer_agrees, arranged_agrees}
-use Rattle.abi_layout.proofs.OneLayoutLists.{same_class, bool_same, EachKey, index_of, keys_by_place, keys_filter, places_by_keys, maps_at, has_image, virtual_keys, has_virtual, virtual_has, any_own, IsOneLayout, layout_is_one}
+use Rattle.abi_layout.proofs.OneLayoutLists.{same_class, bool_same, EachKey, keys_by_place, keys_filter, places_by_keys, maps_at, has_image, virtual_keys, has_virtual, virtual_has, any_own, IsOneLayout, layout_is_one}
 
 first_is_one : (h : Classes) (bases : List (Base ClassId)) (b d : ClassId) → IsFirstDynamic h bases b → IsFirstDynamic h bases d → b ≡ d
 first_is_one h bases b d x y = ⊎_elim
@@ -169,16 +169,13 @@ base_keys h c keeps = keys_by_place (λ (base : Base ClassId). base.class.0) (ba
 
 base_places_one : (h : Classes) (rows others : List ClassLayout) (near other : List Bool) (ps qs : List Primary) (c : ClassId) (class : Class) (x y : ClassLayout) → AreRows h rows others near other ps qs c class x y → x.base_places ≡ y.base_places
 base_places_one h rows others near other ps qs c class x y r =
-    let key : Base ClassId → ℕ = λ base. base.class.0 in
-    let plain : List (Base ClassId) = filter is_plain_base (bases_of h c) in
-    let many : length (filter is_plain_base class.bases) ≡ length plain = ap (λ (o : Option Class). length (filter is_plain_base (named_bases o))) (sym r.class_is) in
+    let many : length (filter is_plain_base class.bases) ≡ length (filter is_plain_base (bases_of h c)) = ap (λ (o : Option Class). length (filter is_plain_base (named_bases o))) (sym r.class_is) in
     places_by_keys (λ (base : Base ClassId). base.class.0) (filter is_plain_base (bases_of h c)) x.base_places y.base_places
     (keys_filter (λ (base : Base ClassId). base.class.0) is_plain_base (bases_of h c) (base_keys h c r.keeps))
     (r.row.each_base ∙ many) (r.other_row.each_base ∙ many)
     (λ base has.
     let of_base = has_filter is_plain_base (bases_of h c) base has in
     let way = plain_is base.is_virtual of_base.1 in
-    let at = position (λ (z : Base ClassId). nat_eq z.class.0 base.class.0) (filter is_plain_base (bases_of h c)) in
     ap (λ (o : Option ClassLayout). place_at (bases_in o) (position (λ (z : Base ClassId). nat_eq z.class.0 base.class.0) (filter is_plain_base (bases_of h c)))) (sym r.there)
     ∙ (base_place_one h rows others near other ps qs c class x y r base (contains_from_has (bases_of h c) base of_base.0) way
     ∙ ap (λ (o : Option ClassLayout). place_at (bases_in o) (position (λ (z : Base ClassId). nat_eq z.class.0 base.class.0) (filter is_plain_base (bases_of h c)))) r.other_there))
