@@ -27,9 +27,10 @@ tells_agrees : (h : Classes) (n : ℕ) (rows others : List ClassLayout) (near ot
 tells_agrees h n rows others near other c keeps lt agree nearly told =
     let here = agree_item n near other c.0 false nearly lt in
     let shifted = shifted_agrees h rows others c keeps (agree_less (c.0 + 1) n rows others (omega arith) agree) in
-    let before = agree_less c.0 n near other (omega arith) nearly in
-    (λ t. subst (λ b. IsNearlyEmpty h other b c) shifted (nearly_empty_agrees h near other (is_shifted h rows c) c keeps before (told.0 (subst IsTrue (sym here) t))),
-    λ e. subst IsTrue here (told.1 (nearly_empty_agrees h other near (is_shifted h rows c) c keeps (agree_turned c.0 near other before) (subst (λ b. IsNearlyEmpty h other b c) (sym shifted) e))))
+    let before = agree_less c.0 n near other (omega arith) nearly in (
+      λ t. subst (λ b. IsNearlyEmpty h other b c) shifted (nearly_empty_agrees h near other (is_shifted h rows c) c keeps before (told.0 (subst IsTrue (sym here) t))),
+      λ e. subst IsTrue here (told.1 (nearly_empty_agrees h other near (is_shifted h rows c) c keeps (agree_turned c.0 near other before) (subst (λ b. IsNearlyEmpty h other b c) (sym shifted) e))),
+    )
 
 -- one class more is laid out
 pub one_more : (h : Classes) (n : ℕ) (rows : List ClassLayout) (nearly : List Bool) (ps : List Primary) (c : ClassId) (class : Class) (row : ClassLayout) (is : Bool) (primary : Primary) → IsHierarchy h → IsLaidBy h n rows nearly ps → class_at h c ≡ Some class → c.0 ≡ n

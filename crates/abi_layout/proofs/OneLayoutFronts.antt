@@ -40,9 +40,10 @@ item_same {X} n xs ys d lt less same = slice_get-get_or xs n d lt ∙ (ap (λ (x
 nearly_one : (h : Classes) (rows others : List ClassLayout) (near other : List Bool) (c : ClassId) → IsHierarchy h → AgreeTo (c.0 + 1) rows others → AgreeTo c.0 near other → (IsTrue (get_or near c.0 false) ↔ IsNearlyEmpty h near (is_shifted h rows c) c) → (IsTrue (get_or other c.0 false) ↔ IsNearlyEmpty h other (is_shifted h others c) c) → get_or near c.0 false ≡ get_or other c.0 false
 nearly_one h rows others near other c keeps agree nearly told also =
     let shifted = shifted_agrees h rows others c keeps agree in
-    bool_same (get_or near c.0 false) (get_or other c.0 false) told
-    (λ t. subst (λ b. IsNearlyEmpty h near b c) (sym shifted) (nearly_empty_agrees h other near (is_shifted h others c) c keeps (agree_turned c.0 near other nearly) (also.0 t)),
-    λ e. also.1 (nearly_empty_agrees h near other (is_shifted h others c) c keeps nearly (subst (λ b. IsNearlyEmpty h near b c) shifted e)))
+    bool_same (get_or near c.0 false) (get_or other c.0 false) told (
+      λ t. subst (λ b. IsNearlyEmpty h near b c) (sym shifted) (nearly_empty_agrees h other near (is_shifted h others c) c keeps (agree_turned c.0 near other nearly) (also.0 t)),
+      λ e. also.1 (nearly_empty_agrees h near other (is_shifted h others c) c keeps nearly (subst (λ b. IsNearlyEmpty h near b c) shifted e)),
+    )
 
 -- one class more
 one_class : (h : Classes) (count n : ℕ) (rows others : List ClassLayout) (near other : List Bool) (ps qs : List Primary) → IsHierarchy h → count ≤ length h → IsLaidBy h count rows near ps → IsLaidBy h count others other qs → n < count → AreOneTo n rows others near other ps qs → AreOneTo (suc n) rows others near other ps qs
