@@ -33,3 +33,11 @@ pub mod CanSettleLemmas
 pub mod NestedLemmas
 pub mod RoomLemmas
 mod ObjectTree
+pub mod AgreeingRows
+pub mod AgreeingParts
+pub mod AgreeingClasses
+pub mod AgreeingFronts
+pub mod OneLayoutLists
+pub mod OneLayoutRows
+pub mod OneLayoutFronts
+pub mod OneLayoutStops
