@@ -31,9 +31,14 @@ abbrev pub virtuals_in : Option ClassLayout → List ℕ
 virtuals_in None = []
 virtuals_in (Some row) = row.virtual_places
 
--- the place of a virtual base in an object of class c
+abbrev pub shared_in : Option ClassLayout → List ClassId
+shared_in None = []
+shared_in (Some row) = row.virtual_bases
+
+-- the place of a virtual base in an object of class c, by its row (`shared` of IsDynamicRow says that the row has the virtual
+-- bases in preorder)
 abbrev pub virtual_place : Classes → List ClassLayout → ClassId → ClassId → ℕ
-virtual_place h rows c v = place_at (virtuals_in (slice_get rows c.0)) (position (λ (w : ClassId). nat_eq w.0 v.0) (virtual_bases h c))
+virtual_place h rows c v = place_at (virtuals_in (slice_get rows c.0)) (position (λ (w : ClassId). nat_eq w.0 v.0) (shared_in (slice_get rows c.0)))
 
 abbrev pub place_from : Classes → List ClassLayout → List ClassId → ℕ
 place_from h rows [] = 0
