@@ -35,3 +35,4 @@ pub mod RoomLemmas
 pub mod ObjectTree
 pub mod ObjectKnown
 pub mod ObjectPaths
+pub mod ObjectDecode
