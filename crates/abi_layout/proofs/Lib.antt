@@ -34,3 +34,4 @@ pub mod NestedLemmas
 pub mod RoomLemmas
 pub mod ObjectTree
 pub mod ObjectSound
+pub mod ObjectKinds
