@@ -35,3 +35,4 @@ pub mod RoomLemmas
 pub mod ObjectTree
 pub mod ObjectSound
 pub mod ObjectKinds
+pub mod ObjectPrimaries
