@@ -36,3 +36,6 @@ pub mod ObjectTree
 pub mod ObjectKnown
 pub mod ObjectPaths
 pub mod ObjectDecode
+pub mod ObjectSound
+pub mod ObjectKinds
+pub mod ObjectPrimaries
