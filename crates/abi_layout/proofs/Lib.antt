@@ -36,6 +36,8 @@ pub mod ObjectTree
 pub mod ObjectKnown
 pub mod ObjectPaths
 pub mod ObjectDecode
+pub mod ObjectSteps
+pub mod ObjectStarts
 pub mod ObjectSound
 pub mod ObjectKinds
 pub mod ObjectPrimaries

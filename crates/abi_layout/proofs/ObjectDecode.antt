@@ -23,7 +23,8 @@ use Rattle.abi_layout.proofs.Lists.{get_within, has_at}
 use Rattle.abi_layout.proofs.Stages.{Has, has_left, has_right, split}
 use Rattle.abi_layout.proofs.Listed.{placed_length}
 use Rattle.abi_layout.proofs.ObjectTree.{Node, Complete, Within, Bytes, Pointer, Placement, Step, Contents, start_of, StepsTo, Reaches, here, down, class_of_node, placed_base, node_of_type, placed_members, members_at, contents_of_object, contents_of}
-use Rattle.abi_layout.proofs.ObjectKnown.{IsLaidOut, HasRow, row_of}
+use Rattle.abi_layout.proofs.ObjectPrimaries.{HasRow}
+use Rattle.abi_layout.proofs.ObjectKnown.{IsLaidOut, row_of}
 use Rattle.abi_layout.proofs.ObjectPaths.{last_hops, through, further, decode, IsReached, ways_joined, index_of, node_at, node_of, subobject_reached}
 
 -- the node is a subobject, of a class, of an object of class c

@@ -38,7 +38,8 @@ use Rattle.abi_layout.proofs.NestedLemmas.{front_has}
 use Rattle.abi_layout.proofs.SettledLemmas.{base_below}
 use Rattle.abi_layout.proofs.OpenLemmas.{virtual_below}
 use Rattle.abi_layout.proofs.ObjectTree.{Node, Complete, Within, Bytes, Pointer, Placement, Step, Contents, start_of, StepsTo, Reaches, here, down, one_at, own_pointer, placed_base, inner_base, members_at, shared_start, contents_of_object, contents_of}
-use Rattle.abi_layout.proofs.ObjectKnown.{IsLaidOut, HasRow, row_of, primary_is_virtual, virtual_primary_is, has_virtual}
+use Rattle.abi_layout.proofs.ObjectPrimaries.{HasRow, primary_when_virtual}
+use Rattle.abi_layout.proofs.ObjectKnown.{IsLaidOut, row_of, before_of, has_virtual}
 
 -- the hop into a node that is a class subobject
 abbrev pub last_hops : Node → List Hop
@@ -191,7 +192,7 @@ holder_is h ps c v t keeps e =
     by_class None f = let g : false ≡ true = f in cc
     by_class (Some w) f = ap (λ n. Some (number n)) (eqb-true w.0 v.0 f)
 
-last_below : (h : Classes) → IsHierarchy h → (d : ClassId) (path : List ClassId) → Leads h d path → (last_of d path).0 ≤ d.0
+pub last_below : (h : Classes) → IsHierarchy h → (d : ClassId) (path : List ClassId) → Leads h d path → (last_of d path).0 ≤ d.0
 last_below h keeps d [] leads = omega arith
 last_below h keeps d (b ∷ path) leads = let f = base_below h d b keeps leads.0 in let r = last_below h keeps b path leads.1 in omega arith
 
@@ -227,10 +228,10 @@ shared_reached h rows nearly ps known (suc n) c v lt has le = by_holder (holder_
         (reached_further contents (Complete c) (Within c t d) (Within c (shared_base v) v) (place_of h rows c t) 0 way (from_holder h rows ps c v t d e primary))
 
     by_root : (t : Subobject) → IsSubobject h c t → holder_of h ps c v ≡ Some t → shared_primary ps t ≡ Some v → ((w : ClassId) → HasVirtualBase h c w → v.0 < w.0 → IsReached contents (Complete c) (Within c (shared_base w) w) (virtual_place h rows c w)) → IsReached contents (Complete c) (Within c (shared_base v) v) (virtual_place h rows c v)
-    by_root _ (whole [] l) e primary next = let r = row_of h rows nearly ps known c lt in placed (at_front h rows nearly ps c r (SharedBase v) (shared_front h rows nearly ps c v r (primary_is_virtual ps c v primary)))
+    by_root _ (whole [] l) e primary next = let r = row_of h rows nearly ps known c lt in placed (at_front h rows nearly ps c r (SharedBase v) (shared_front h rows nearly ps c v r (primary_when_virtual ps c v primary)))
     by_root _ (whole (b ∷ path) l) e primary next = through_holder (subobject Whole (c ∷ b ∷ path)) (last_of b path) e primary (whole_reached h rows nearly ps known c (b ∷ path) lt l)
     by_root _ (shared w path base l) e primary next =
-        let falls = (virtual_primary_is h rows nearly ps known (last_of w path) v primary).falls in
+        let falls = (before_of h rows nearly ps known).falls (last_of w path) v primary in
         let below = last_below h known.keeps w path l in
         through_holder (subobject (Shared w) (w ∷ path)) (last_of w path) e primary
         (reached_further contents (Complete c) (Within c (shared_base w) w) (Within c (subobject (Shared w) (w ∷ path)) (last_of w path)) (virtual_place h rows c w) (place_along h rows w path) (next w base (omega arith)) (along_path h rows ps c w (shared_base w) path l))
