@@ -38,6 +38,8 @@ pub mod ObjectPaths
 pub mod ObjectDecode
 pub mod ObjectSteps
 pub mod ObjectStarts
+pub mod ObjectChains
+pub mod ObjectShares
 pub mod ObjectSound
 pub mod ObjectKinds
 pub mod ObjectPrimaries
