@@ -40,6 +40,7 @@ pub mod ObjectSteps
 pub mod ObjectStarts
 pub mod ObjectChains
 pub mod ObjectShares
+pub mod ObjectPointers
 pub mod ObjectSound
 pub mod ObjectKinds
 pub mod ObjectPrimaries

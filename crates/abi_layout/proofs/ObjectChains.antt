@@ -1,26 +1,22 @@
 -- Chains of virtual pointers in the tree of an object: steps by primary bases to the pointer at the start of a part.
-use Rattle.std.proofs.Common.{◌≡◌, ℕ, zero, suc, ◌+◌, ◌*◌, ◌<◌, ◌≤◌, inl, inr, ⊎_elim, Bool, true, false, Option, Some, None, List, [], ◌∷◌, ◌++◌, map, length, get_or, refl, ap, subst, sym, ◌∙◌, arith}
-use Rattle.std.specs.Prelude.{Contains, filter, not, nat_eq, ◌&&◌, if◌then◌else◌, position}
+use Rattle.std.proofs.Common.{◌≡◌, ℕ, zero, suc, ◌+◌, ◌*◌, ◌<◌, inl, Bool, true, false, Option, Some, None, List, [], ◌∷◌, ◌++◌, map, length, get_or, refl, ap, subst, sym, ◌∙◌, arith}
+use Rattle.std.specs.Prelude.{filter, not, nat_eq, ◌&&◌, if◌then◌else◌, position}
 use Rattle.std.specs.List.{slice_get}
 use Rattle.std.proofs.lemmas.Bool.{eqb-true, eq-eqb}
 use Rattle.cxx_hierarchy.specs.declared.records.ClassId.{ClassId}
-use Rattle.cxx_hierarchy.specs.declared.records.Base.{Base}
-use Rattle.cxx_hierarchy.specs.Classes.{Class, Classes, class_at, bases_of}
+use Rattle.cxx_hierarchy.specs.Classes.{Class, Classes, bases_of}
 use Rattle.cxx_hierarchy.specs.VirtualBases.{IsDirectBase, HasVirtualBase}
-use Rattle.cxx_subobject.specs.declared.Root.TheVariants.{Whole, Shared}
 use Rattle.cxx_subobject.specs.declared.Subobject.{Subobject}
-use Rattle.cxx_subobject.specs.Subobjects.{subobject, whole_of, shared_base, IsSubobject, whole, shared, class_of, same_subobject}
+use Rattle.cxx_subobject.specs.Subobjects.{subobject, whole_of, shared_base, IsSubobject, shared, class_of}
 use Rattle.cxx_subobject.proofs.TreeLemmas.{subobject_same}
 use Rattle.abi_primary.specs.declared.Primary.{Primary}
 use Rattle.abi_primary.specs.declared.Primary.TheVariants.{None as NoPrimary, Direct, Virtual}
 use Rattle.abi_primary.specs.Kinds.{IsDynamic}
 use Rattle.abi_primary.specs.Holder.{holder_of}
 use Rattle.abi_layout.specs.declared.class_layout.ClassLayout.{ClassLayout}
-use Rattle.abi_layout.specs.declared.dynamic_bases.PlacedBase.{PlacedBase}
 use Rattle.abi_layout.specs.declared.dynamic_bases.PlacedBase.TheVariants.{Own, SharedBase}
 use Rattle.abi_layout.specs.Places.{Places, is_plain_base, base_place, primary_in, nth_holder, holder_in}
 use Rattle.abi_layout.specs.Laid.{nvsize_in}
-use Rattle.abi_layout.specs.Kinds.{is_kind}
 use Rattle.abi_layout.specs.Chains.{IsPrimaryPart, by_direct, by_holder}
 use Rattle.abi_layout.specs.Holding.{virtual_bases, virtual_primary, is_holder, holds_base}
 use Rattle.abi_layout.specs.PlacedBases.{free_bases}
@@ -28,12 +24,12 @@ use Rattle.abi_layout.specs.DynamicLaid.{primary_of, fronts, placed_place}
 use Rattle.abi_layout.specs.SoundLayouts.{places_in}
 use Rattle.abi_layout.proofs.Lists.{number}
 use Rattle.abi_layout.proofs.Stages.{Has, has_left, has_right, has_map, split}
-use Rattle.abi_layout.proofs.KindLemmas.{has_of, contains_of, in_filter}
+use Rattle.abi_layout.proofs.KindLemmas.{has_of, in_filter}
 use Rattle.abi_layout.proofs.Locate.{first_that, position_is}
 use Rattle.abi_layout.proofs.SettledLemmas.{base_below}
-use Rattle.abi_layout.proofs.ObjectTree.{Node, Complete, Within, Bytes, Pointer, Placement, Step, Contents, start_of, StepsTo, Reaches, here, down, one_at, dynamic_kind, is_no_primary, owns_pointer, own_pointer, placed_base, inner_base, members_at, shared_start, contents_of_object, contents_of}
+use Rattle.abi_layout.proofs.ObjectTree.{Node, Complete, Within, Pointer, Placement, Step, Contents, start_of, StepsTo, Reaches, here, down, one_at, is_no_primary, owns_pointer, own_pointer, placed_base, inner_base, members_at, shared_start, contents_of_object, contents_of}
 use Rattle.abi_layout.proofs.ObjectKinds.{dynamic_test}
-use Rattle.abi_layout.proofs.ObjectPrimaries.{HasRow, virtual_when_primary, shared_at_start, whole_holds}
+use Rattle.abi_layout.proofs.ObjectPrimaries.{virtual_when_primary, shared_at_start, whole_holds}
 use Rattle.abi_layout.proofs.ObjectKnown.{IsLaidOut, row_of, virtual_primary_is, direct_primary_is, has_virtual}
 use Rattle.abi_layout.proofs.ObjectPaths.{index_of, at_front, own_front, shared_front}
 use Rattle.abi_layout.proofs.ObjectDecode.{IsPart, whole_part, inner_part, part_valid, part_class}

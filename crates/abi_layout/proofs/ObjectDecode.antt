@@ -1,5 +1,5 @@
 -- Each location has steps in the tree of the object, at its place, and its hops can be read from them.
-use Rattle.std.proofs.Common.{◌≡◌, ℕ, zero, suc, ◌+◌, ◌*◌, ◌<◌, ◌≤◌, ⊎_elim, inl, inr, Bool, Option, Some, None, List, [], ◌∷◌, ◌++◌, map, length, refl, ap, subst, sym, ◌∙◌, arith}
+use Rattle.std.proofs.Common.{◌≡◌, ℕ, zero, suc, ◌+◌, ◌*◌, ◌<◌, inl, inr, Bool, Option, Some, None, List, [], ◌∷◌, ◌++◌, map, length, refl, ap, subst, sym, ◌∙◌, arith}
 use Rattle.std.specs.List.{slice_get}
 use Rattle.std.proofs.lemmas.Option.{slice_get_within}
 use Rattle.std.proofs.lemmas.List.{append-nil}
@@ -10,22 +10,21 @@ use Rattle.cxx_hierarchy.specs.declared.records.FieldType.TheVariants.{Value, Ob
 use Rattle.cxx_hierarchy.specs.Classes.{Class, Classes, class_at, members_of, members_in as class_members_in}
 use Rattle.cxx_subobject.specs.declared.Root.TheVariants.{Whole, Shared}
 use Rattle.cxx_subobject.specs.declared.Subobject.{Subobject}
-use Rattle.cxx_subobject.specs.Subobjects.{Leads, subobject, whole_of, IsSubobject, whole, shared, last_of, class_of}
+use Rattle.cxx_subobject.specs.Subobjects.{subobject, whole_of, IsSubobject, whole, shared, class_of}
 use Rattle.abi_primary.specs.declared.Primary.{Primary}
 use Rattle.abi_layout.specs.declared.class_layout.ClassLayout.{ClassLayout}
 use Rattle.abi_layout.specs.Places.{size_of_value, number_in, members_in}
 use Rattle.abi_layout.specs.Locations.{Hop, Inherit, Element, count_of, IsElement, IsAt, at_base, at_value, at_inner}
 use Rattle.abi_layout.specs.Laid.{size_of_type, member_component, after_all}
-use Rattle.abi_layout.specs.PlacedBases.{free_bases}
 use Rattle.abi_layout.specs.DynamicLaid.{place_of, fronts, object_parts, front_components, start_stage, placed_place}
 use Rattle.abi_layout.specs.SoundLayouts.{places_in}
 use Rattle.abi_layout.proofs.Lists.{get_within, has_at}
-use Rattle.abi_layout.proofs.Stages.{Has, has_left, has_right, split}
+use Rattle.abi_layout.proofs.Stages.{Has, has_left, has_right}
 use Rattle.abi_layout.proofs.Listed.{placed_length}
-use Rattle.abi_layout.proofs.ObjectTree.{Node, Complete, Within, Bytes, Pointer, Placement, Step, Contents, start_of, StepsTo, Reaches, here, down, class_of_node, placed_base, node_of_type, placed_members, members_at, contents_of_object, contents_of}
+use Rattle.abi_layout.proofs.ObjectTree.{Node, Complete, Within, Bytes, Placement, Step, Contents, start_of, StepsTo, Reaches, here, down, class_of_node, placed_base, node_of_type, placed_members, members_at, contents_of_object, contents_of}
 use Rattle.abi_layout.proofs.ObjectPrimaries.{HasRow}
 use Rattle.abi_layout.proofs.ObjectKnown.{IsLaidOut, row_of}
-use Rattle.abi_layout.proofs.ObjectPaths.{last_hops, through, further, decode, IsReached, ways_joined, index_of, node_at, node_of, subobject_reached}
+use Rattle.abi_layout.proofs.ObjectPaths.{last_hops, through, further, decode, ways_joined, index_of, node_of, subobject_reached}
 
 -- the node is a subobject, of a class, of an object of class c
 pub data IsPart (h : Classes) (c : ClassId) : Node → Subobject → ClassId → Type 0 where

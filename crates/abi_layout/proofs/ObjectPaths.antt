@@ -1,23 +1,21 @@
 -- Each inheritance subobject of an object is reached in its tree, at its place.
-use Rattle.std.proofs.Common.{◌≡◌, ℕ, zero, suc, ◌+◌, ◌*◌, ◌<◌, ◌≤◌, inl, inr, ⊎_elim, Bool, true, false, cond, Option, Some, None, List, [], ◌∷◌, ◌++◌, map, length, refl, ap, subst, sym, ◌∙◌, arith, append_assoc}
-use Rattle.std.specs.Prelude.{Contains, filter, not, nat_eq, ◌||◌, if◌then◌else◌}
+use Rattle.std.proofs.Common.{◌≡◌, ℕ, zero, suc, ◌+◌, ◌*◌, ◌<◌, ◌≤◌, inl, inr, ⊎_elim, Bool, true, false, Option, Some, None, List, [], ◌∷◌, ◌++◌, map, length, refl, ap, subst, sym, ◌∙◌, arith, append_assoc}
+use Rattle.std.specs.Prelude.{Contains, filter, not, ◌||◌, if◌then◌else◌}
 use Rattle.std.specs.List.{slice_get, list_any}
 use Rattle.std.proofs.lemmas.Bool.{eqb-true}
 use Rattle.std.proofs.lemmas.List.{append-nil}
 use Rattle.cxx_hierarchy.specs.declared.records.ClassId.{ClassId}
-use Rattle.cxx_hierarchy.specs.declared.records.Base.{Base}
-use Rattle.cxx_hierarchy.specs.Classes.{Class, Classes, class_at, bases_of, bases_in}
+use Rattle.cxx_hierarchy.specs.Classes.{Class, Classes, bases_of, bases_in}
 use Rattle.cxx_hierarchy.specs.Hierarchies.{IsHierarchy}
 use Rattle.cxx_hierarchy.specs.VirtualBases.{IsDirectBase, HasVirtualBase}
 use Rattle.cxx_subobject.specs.declared.Root.{Root}
 use Rattle.cxx_subobject.specs.declared.Root.TheVariants.{Whole, Shared}
 use Rattle.cxx_subobject.specs.declared.Subobject.{Subobject}
-use Rattle.cxx_subobject.specs.Subobjects.{Leads, subobject, whole_of, shared_base, IsSubobject, whole, shared, last_of, class_of, same_subobject}
+use Rattle.cxx_subobject.specs.Subobjects.{Leads, subobject, whole_of, shared_base, IsSubobject, whole, shared, last_of, class_of}
 use Rattle.cxx_subobject.specs.Preorder.{preorder}
-use Rattle.cxx_subobject.proofs.TreeLemmas.{preorder_lists, same_itself, subobject_same}
+use Rattle.cxx_subobject.proofs.TreeLemmas.{preorder_lists, same_itself}
 use Rattle.abi_primary.specs.declared.Primary.{Primary}
 use Rattle.abi_primary.specs.declared.Primary.TheVariants.{Virtual}
-use Rattle.abi_primary.specs.PrimaryBase.{has_primary}
 use Rattle.abi_primary.specs.Holder.{holder_of, IsHeld}
 use Rattle.abi_primary.proofs.HolderLemmas.{held}
 use Rattle.abi_layout.specs.declared.class_layout.ClassLayout.{ClassLayout}
@@ -28,8 +26,8 @@ use Rattle.abi_layout.specs.Laid.{nvsize_in}
 use Rattle.abi_layout.specs.Locations.{Hop, Inherit, Element}
 use Rattle.abi_layout.specs.OwnPlaces.{is_own}
 use Rattle.abi_layout.specs.Holding.{virtual_bases, virtual_primary, shared_primary, holds_base}
-use Rattle.abi_layout.specs.PlacedBases.{class_of_placed, subobject_of, first_base, is_other_base, front_bases, is_free, free_bases}
-use Rattle.abi_layout.specs.DynamicLaid.{virtual_place, place_from, place_of, placed_place, primary_of, fronts}
+use Rattle.abi_layout.specs.PlacedBases.{class_of_placed, subobject_of, front_bases, is_free, free_bases}
+use Rattle.abi_layout.specs.DynamicLaid.{virtual_place, place_of, placed_place, primary_of, fronts}
 use Rattle.abi_layout.proofs.Lists.{number}
 use Rattle.abi_layout.proofs.Stages.{Has, has_left, has_right, has_map, split}
 use Rattle.abi_layout.proofs.KindLemmas.{has_of, contains_of, in_filter}
@@ -37,7 +35,7 @@ use Rattle.abi_layout.proofs.HoldingLemmas.{is_class, test_is}
 use Rattle.abi_layout.proofs.NestedLemmas.{front_has}
 use Rattle.abi_layout.proofs.SettledLemmas.{base_below}
 use Rattle.abi_layout.proofs.OpenLemmas.{virtual_below}
-use Rattle.abi_layout.proofs.ObjectTree.{Node, Complete, Within, Bytes, Pointer, Placement, Step, Contents, start_of, StepsTo, Reaches, here, down, one_at, own_pointer, placed_base, inner_base, members_at, shared_start, contents_of_object, contents_of}
+use Rattle.abi_layout.proofs.ObjectTree.{Node, Complete, Within, Bytes, Pointer, Placement, Step, Contents, start_of, Reaches, here, down, one_at, placed_base, inner_base, members_at, shared_start, contents_of_object, contents_of}
 use Rattle.abi_layout.proofs.ObjectPrimaries.{HasRow, primary_when_virtual}
 use Rattle.abi_layout.proofs.ObjectKnown.{IsLaidOut, row_of, before_of, has_virtual}
 

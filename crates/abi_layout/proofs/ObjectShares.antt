@@ -1,28 +1,27 @@
 -- Two parts of an object with one chain of virtual pointers share it: one is in the chain of the other.
-use Rattle.std.proofs.Common.{◌≡◌, ℕ, zero, suc, ◌+◌, ◌<◌, ◌≤◌, ⊎_elim, Bool, Option, Some, None, List, [], ◌∷◌, ◌++◌, length, refl, ap, subst, sym, ◌∙◌, arith}
+use Rattle.std.proofs.Common.{◌≡◌, ℕ, ◌+◌, ◌<◌, Bool, Option, Some, None, List, [], ◌∷◌, ◌++◌, length, refl, ap, subst, sym, ◌∙◌, arith}
 use Rattle.std.specs.List.{slice_get}
 use Rattle.cxx_hierarchy.specs.declared.records.ClassId.{ClassId}
 use Rattle.cxx_hierarchy.specs.declared.records.FieldType.{FieldType}
 use Rattle.cxx_hierarchy.specs.declared.records.FieldType.TheVariants.{Value, Object}
 use Rattle.cxx_hierarchy.specs.Classes.{Classes, members_of}
 use Rattle.cxx_subobject.specs.declared.Subobject.{Subobject}
-use Rattle.cxx_subobject.specs.Subobjects.{whole_of, IsSubobject, class_of}
+use Rattle.cxx_subobject.specs.Subobjects.{whole_of}
 use Rattle.abi_primary.specs.declared.Primary.{Primary}
 use Rattle.abi_primary.specs.Kinds.{IsDynamic}
 use Rattle.abi_layout.specs.declared.class_layout.ClassLayout.{ClassLayout}
-use Rattle.abi_layout.specs.Places.{Places, size_of_value}
+use Rattle.abi_layout.specs.Places.{Places}
 use Rattle.abi_layout.specs.Locations.{Hop, Inherit, Element, IsElement}
-use Rattle.abi_layout.specs.Chains.{IsPrimaryPart, IsInChain, itself, further as further_part, ShareChain, downwards, upwards, in_element}
+use Rattle.abi_layout.specs.Chains.{IsInChain, itself, further as further_part, ShareChain, downwards, upwards, in_element}
 use Rattle.abi_layout.specs.SoundLayouts.{places_in}
 use Rattle.abi_layout.proofs.Lists.{has_at}
-use Rattle.abi_layout.proofs.Stages.{Has}
 use Rattle.abi_layout.proofs.KindLemmas.{has_of}
-use Rattle.abi_layout.proofs.ObjectTree.{Node, Complete, Within, Bytes, Pointer, Placement, Step, Contents, start_of, StepsTo, Reaches, here, down, class_of_node, node_of_type, contents_of}
+use Rattle.abi_layout.proofs.ObjectTree.{Node, Complete, Within, Placement, Step, Contents, StepsTo, Reaches, here, down, class_of_node, node_of_type, contents_of}
 use Rattle.abi_layout.proofs.ObjectKnown.{IsLaidOut}
 use Rattle.abi_layout.proofs.ObjectPaths.{last_hops, through, further, decode}
-use Rattle.abi_layout.proofs.ObjectDecode.{IsPart, whole_part, inner_part, part_hops, part_valid, part_class, part_node, element_within, IsObjectNode}
+use Rattle.abi_layout.proofs.ObjectDecode.{IsPart, whole_part, inner_part, part_hops, part_class, part_node, element_within, IsObjectNode}
 use Rattle.abi_layout.proofs.ObjectSteps.{IsStepKind, to_base, to_member, to_pointer, step_kind}
-use Rattle.abi_layout.proofs.ObjectChains.{IsChain, last_step, next_step, chain_some, StartsChain, starts_chain}
+use Rattle.abi_layout.proofs.ObjectChains.{IsChain, last_step, next_step, chain_some, starts_chain}
 
 same_step : (s t : Step) (p o : List Step) → (s ∷ p) ≡ (t ∷ o) → s ≡ t
 same_step s t p o e = cc

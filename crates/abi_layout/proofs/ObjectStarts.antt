@@ -1,7 +1,7 @@
 -- A direct primary base lies at the start of its class.
-use Rattle.std.proofs.Common.{◌≡◌, ℕ, zero, suc, ◌+◌, ◌*◌, ◌<◌, ◌≤◌, inl, inr, ⊎_elim, Bool, true, false, Option, Some, None, List, [], ◌∷◌, ◌++◌, map, length, refl, ap, subst, sym, ◌∙◌, arith}
+use Rattle.std.proofs.Common.{◌≡◌, ℕ, zero, suc, ◌+◌, ◌*◌, ◌<◌, ◌≤◌, inl, inr, Bool, true, false, Option, Some, None, List, [], ◌∷◌, ◌++◌, map, length, refl, subst, sym, ◌∙◌, arith}
 use Rattle.std.specs.Prelude.{All, Contains, nat_eq, ◌&&◌, ◌||◌, if◌then◌else◌}
-use Rattle.std.specs.List.{slice_get, list_any, flat_map}
+use Rattle.std.specs.List.{slice_get, flat_map}
 use Rattle.std.proofs.lemmas.Bool.{eqb-true}
 use Rattle.std.proofs.lemmas.Option.{slice_get_within}
 use Rattle.std.proofs.lemmas.List.Elements.{All-contains}
@@ -15,9 +15,9 @@ use Rattle.cxx_hierarchy.specs.Hierarchies.{IsHierarchy}
 use Rattle.cxx_subobject.specs.declared.Subobject.{Subobject}
 use Rattle.cxx_subobject.specs.Subobjects.{base_subobject, shared_base}
 use Rattle.abi_emptybase.specs.declared.Part.{Part}
-use Rattle.abi_emptybase.specs.Table.{same_part, holds, moved, has_conflict}
+use Rattle.abi_emptybase.specs.Table.{moved, has_conflict}
 use Rattle.abi_primary.specs.declared.Primary.{Primary}
-use Rattle.abi_primary.specs.declared.Primary.TheVariants.{None as NoPrimary, Direct, Virtual}
+use Rattle.abi_primary.specs.declared.Primary.TheVariants.{None as NoPrimary, Direct}
 use Rattle.abi_layout.specs.declared.class_layout.ClassLayout.{ClassLayout}
 use Rattle.abi_layout.specs.declared.component.Component.{Component}
 use Rattle.abi_layout.specs.declared.component.Stage.{Stage}
@@ -28,14 +28,13 @@ use Rattle.abi_layout.specs.Places.{members_in, base_place}
 use Rattle.abi_layout.specs.Laid.{IsPlace, behind, ArePlaced, part_at, parts_at, size_of_type, parts_of_type, copies, member_component}
 use Rattle.abi_layout.specs.Locations.{count_of}
 use Rattle.abi_layout.specs.Holding.{held_base}
-use Rattle.abi_layout.specs.Brought.{member_parts, base_brings, shared_brings, brought, brought_by}
+use Rattle.abi_layout.specs.Brought.{member_parts, base_brings, shared_brings, brought}
 use Rattle.abi_layout.specs.PlacedBases.{class_of_placed, subobject_of, front_bases, free_bases, placed_component}
 use Rattle.abi_layout.specs.Kinds.{is_empty}
-use Rattle.abi_layout.specs.DynamicLaid.{primary_of, fronts, placed_place, front_components, free_components, object_parts_in, object_parts_within, object_parts, start_stage}
+use Rattle.abi_layout.specs.DynamicLaid.{primary_of, fronts, placed_place, front_components, object_parts_in, object_parts_within, object_parts, start_stage}
 use Rattle.abi_layout.specs.Scenes.{AreBefore}
 use Rattle.abi_layout.proofs.Stages.{Has, split}
-use Rattle.abi_layout.proofs.KindLemmas.{contains_of, has_of, from_map}
-use Rattle.abi_layout.proofs.Parts.{opposed}
+use Rattle.abi_layout.proofs.KindLemmas.{contains_of, from_map}
 use Rattle.abi_layout.proofs.OpenLemmas.{fronts_below, frees_below}
 use Rattle.abi_layout.proofs.BroughtLemmas.{held_is_primary}
 use Rattle.abi_layout.proofs.ObjectPrimaries.{primary_possible}
@@ -130,9 +129,11 @@ objects_under h rows nearly ps known (suc n) = λ c. by_class c (class_at h c) r
         let possible = primary_possible h nearly _ c (primary_of ps c) known.keeps r.laid.is_primary in
         let front = placed_under h rows ps parts c (fronts ps c class) (map (placed_place h rows c) (fronts ps c class)) known.keeps before falling (fronts_below h c class (primary_of ps c) known.keeps e possible) in
         let members = members_under h rows parts c class.members (members_in (slice_get rows c.0)) falling (λ member f has is. known.keeps.objects c f member (subst (λ (o : Option Class). Contains (class_members_in o) member) (sym e) (contains_of class.members member has)) is) in
-        let free = placed_under h rows ps parts c (free_bases h ps c) (map (placed_place h rows c) (free_bases h ps c)) known.keeps before falling (frees_below h ps c known.keeps) in
-        (omega arith, under_both (c.0 + 1) (parts_at (front_components h rows ps parts c class) (map (placed_place h rows c) (fronts ps c class))) _ front
-        (under_both (c.0 + 1) (parts_at (map (member_component rows parts) class.members) (members_in (slice_get rows c.0))) _ members free))
+        let free = placed_under h rows ps parts c (free_bases h ps c) (map (placed_place h rows c) (free_bases h ps c)) known.keeps before falling (frees_below h ps c known.keeps) in (
+          omega arith,
+          under_both (c.0 + 1) (parts_at (front_components h rows ps parts c class) (map (placed_place h rows c) (fronts ps c class))) _ front
+              (under_both (c.0 + 1) (parts_at (map (member_component rows parts) class.members) (members_in (slice_get rows c.0))) _ members free),
+        )
 
 -- parts of smaller classes meet the class alone nowhere
 no_conflict : (d : ClassId) (n place : ℕ) (parts : List Part) → n ≤ d.0 → AreUnder n parts → has_conflict (part_at d 0 ∷ []) parts place ≡ false

@@ -1,17 +1,16 @@
 -- What a step of the tree of an object leads to: a base, an element of a member, or a virtual pointer.
-use Rattle.std.proofs.Common.{◌≡◌, ℕ, zero, suc, ◌+◌, ◌<◌, ◌≤◌, inl, inr, ⊎_elim, Bool, true, false, cond, Option, Some, None, List, [], ◌∷◌, ◌++◌, map, length, refl, ap, subst, sym, ◌∙◌, arith}
+use Rattle.std.proofs.Common.{◌≡◌, ℕ, suc, ◌+◌, ◌<◌, ◌≤◌, ⊎_elim, Bool, true, false, cond, Option, Some, None, List, [], ◌∷◌, ◌++◌, map, length, refl, ap, subst, sym, ◌∙◌, arith}
 use Rattle.std.specs.Prelude.{Contains, filter, not, ◌&&◌, if◌then◌else◌}
 use Rattle.std.specs.List.{slice_get}
 use Rattle.cxx_hierarchy.specs.declared.records.ClassId.{ClassId}
 use Rattle.cxx_hierarchy.specs.declared.records.Base.{Base}
 use Rattle.cxx_hierarchy.specs.declared.records.Member.{Member}
 use Rattle.cxx_hierarchy.specs.declared.records.FieldType.{FieldType}
-use Rattle.cxx_hierarchy.specs.Classes.{Class, Classes, class_at, bases_of, members_of, bases_in}
+use Rattle.cxx_hierarchy.specs.Classes.{Class, Classes, bases_of, members_of, bases_in}
 use Rattle.cxx_hierarchy.specs.Hierarchies.{IsHierarchy}
 use Rattle.cxx_hierarchy.specs.VirtualBases.{IsDirectBase, HasVirtualBase, direct, further}
-use Rattle.cxx_subobject.specs.declared.Root.TheVariants.{Whole, Shared}
 use Rattle.cxx_subobject.specs.declared.Subobject.{Subobject}
-use Rattle.cxx_subobject.specs.Subobjects.{Leads, subobject, whole_of, shared_base, IsSubobject, whole, shared, last_of, class_of}
+use Rattle.cxx_subobject.specs.Subobjects.{Leads, subobject, shared_base, IsSubobject, whole, shared, last_of, class_of}
 use Rattle.abi_primary.specs.declared.Primary.{Primary}
 use Rattle.abi_primary.specs.declared.Primary.TheVariants.{None as NoPrimary, Direct, Virtual}
 use Rattle.abi_primary.specs.Holder.{holder_of}
@@ -22,12 +21,11 @@ use Rattle.abi_layout.specs.Places.{is_plain_base, members_in}
 use Rattle.abi_layout.specs.Laid.{nvsize_in}
 use Rattle.abi_layout.specs.Locations.{count_of, IsElement}
 use Rattle.abi_layout.specs.Holding.{virtual_bases, virtual_primary, holds_base}
-use Rattle.abi_layout.specs.PlacedBases.{class_of_placed, subobject_of, first_base, is_first_base, is_other_base, front_bases, is_free, free_bases, IsPossible}
+use Rattle.abi_layout.specs.PlacedBases.{class_of_placed, subobject_of, first_base, is_first_base, is_other_base, is_free, free_bases, IsPossible}
 use Rattle.abi_layout.specs.DynamicLaid.{primary_of, fronts}
-use Rattle.abi_layout.proofs.Lists.{has_at}
 use Rattle.abi_layout.proofs.Stages.{Has, has_cases, split}
-use Rattle.abi_layout.proofs.KindLemmas.{has_of, contains_of, from_filter, from_map}
-use Rattle.abi_layout.proofs.ObjectTree.{Node, Complete, Within, Bytes, Pointer, Placement, one_at, owns_pointer, own_pointer, placed_base, inner_base, node_of_type, placed_members, members_at, shared_start, contents_of_object, contents_of}
+use Rattle.abi_layout.proofs.KindLemmas.{contains_of, from_filter, from_map}
+use Rattle.abi_layout.proofs.ObjectTree.{Node, Within, Pointer, Placement, one_at, owns_pointer, own_pointer, placed_base, inner_base, node_of_type, placed_members, members_at, shared_start, contents_of_object, contents_of}
 use Rattle.abi_layout.proofs.ObjectPrimaries.{HasRow, primary_possible}
 use Rattle.abi_layout.proofs.ObjectKnown.{IsLaidOut, row_of, virtual_primary_is, virtual_has}
 use Rattle.abi_layout.proofs.ObjectPaths.{last_below}
