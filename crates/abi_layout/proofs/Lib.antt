@@ -36,3 +36,5 @@ pub mod ObjectTree
 pub mod ObjectSound
 pub mod ObjectKinds
 pub mod ObjectPrimaries
+pub mod Pairs
+pub mod ObjectItems
