@@ -38,3 +38,4 @@ pub mod ObjectKinds
 pub mod ObjectPrimaries
 pub mod Pairs
 pub mod ObjectItems
+pub mod ObjectFine

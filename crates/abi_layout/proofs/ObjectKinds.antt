@@ -8,7 +8,7 @@ use Rattle.cxx_hierarchy.specs.declared.records.Base.{Base}
 use Rattle.cxx_hierarchy.specs.declared.records.Member.{Member}
 use Rattle.cxx_hierarchy.specs.Classes.{Class, Classes, class_at, bases_of, bases_in}
 use Rattle.cxx_hierarchy.specs.Hierarchies.{IsHierarchy}
-use Rattle.cxx_hierarchy.specs.VirtualBases.{IsDirectBase}
+use Rattle.cxx_hierarchy.specs.VirtualBases.{IsDirectBase, HasVirtualBase, direct, further}
 use Rattle.abi_primary.specs.Kinds.{IsDynamic, declares, shares, inherits, IsEmpty, empty}
 use Rattle.abi_layout.specs.Kinds.{in_class, is_kind_in, is_kind, empty_kind, has_virtual_function, is_empty}
 use Rattle.abi_layout.proofs.Lists.{has_here, has_later}
@@ -148,6 +148,11 @@ pub dynamic_not_empty : (h : Classes) (c : ClassId) → IsDynamic h c → IsEmpt
 dynamic_not_empty h _ (declares c class at t) (empty _ other f m n w b) = let same : class ≡ other = cc in not_both t (ap has_virtual_function same ∙ n)
 dynamic_not_empty h _ (shares c v way) (empty _ other f m n w b) = not_both way.way (w way.base (subst (λ (o : Option Class). Contains (bases_in o) way.base) f way.listed))
 dynamic_not_empty h _ (inherits c d k way x) (empty _ other f m n w b) = dynamic_not_empty h d x (subst (IsEmpty h) way.class (b way.base (subst (λ (o : Option Class). Contains (bases_in o) way.base) f way.listed)))
+
+-- a class with a virtual base is dynamic
+pub virtual_dynamic : (h : Classes) (c v : ClassId) → HasVirtualBase h c v → IsDynamic h c
+virtual_dynamic h _ _ (direct c v way) = shares c v way
+virtual_dynamic h _ _ (further c b v k way rest) = inherits c b k way (virtual_dynamic h b v rest)
 
 -- the test of dynamic classes is exact
 pub dynamic_test : (h : Classes) (c : ClassId) → IsHierarchy h → IsDynamic h c → is_kind dynamic_kind h c ≡ true

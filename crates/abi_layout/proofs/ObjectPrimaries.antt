@@ -1,6 +1,6 @@
 -- Primary bases: each is a dynamic base, and a virtual one of a class lies at its start.
 use Rattle.std.proofs.Common.{◌≡◌, ℕ, zero, suc, ◌+◌, ◌<◌, ◌≤◌, inl, inr, ⊎_elim, Bool, true, false, cond, Option, Some, None, List, [], ◌∷◌, length, get_or, refl, ap, subst, sym, ◌∙◌, arith}
-use Rattle.std.specs.Prelude.{Contains, filter, not, ◌&&◌, ◌==◌, nat_eq}
+use Rattle.std.specs.Prelude.{Contains, filter, not, ◌&&◌, ◌==◌, nat_eq, if◌then◌else◌}
 use Rattle.std.specs.List.{slice_get, find, filter_map, cons_option}
 use Rattle.std.proofs.lemmas.Bool.{eqb-true, eq-eqb}
 use Rattle.std.proofs.lemmas.Bool.{cases_order}
@@ -194,6 +194,26 @@ virtual_listed h c v keeps has =
     let s = shared_base v in
     let listed = (preorder_lists h c keeps).listed s (shared v [] has tt) in
     contains_of (virtual_bases h c) v (in_filter_map shared_class (preorder h c) s v (has_of (preorder h c) s listed) refl)
+
+from_filter_map : {X Y : Type 0} (f : X → Option Y) (xs : List X) (y : Y) → Has (filter_map f xs) y → (x : X) × Has xs x × (f x ≡ Some y)
+from_filter_map f [] y has = absurd has
+from_filter_map {X} {Y} f (z ∷ xs) y has = at (f z) refl has (λ k. from_filter_map f xs y k)
+  where
+    at : (o : Option Y) → f z ≡ o → Has (cons_option o (filter_map f xs)) y → (Has (filter_map f xs) y → (x : X) × Has xs x × (f x ≡ Some y)) → (x : X) × Has (z ∷ xs) x × (f x ≡ Some y)
+    at None e k more = let r = more k in (r.0, inr r.1, r.2)
+    at (Some w) e k more = ⊎_elim (λ same. (z, inl refl, e ∙ ap (λ v. Some v) same)) (λ j. let r = more j in (r.0, inr r.1, r.2)) k
+
+-- each in the list of virtual bases is one
+pub listed_virtual : (h : Classes) (c v : ClassId) → IsHierarchy h → Has (virtual_bases h c) v → HasVirtualBase h c v
+listed_virtual h c v keeps has =
+    let r = from_filter_map shared_class (preorder h c) v has in
+    of_subobject r.0 ((preorder_lists h c keeps).valid r.0 (contains_of (preorder h c) r.0 r.1)) r.2
+  where
+    of_subobject : (s : Subobject) → IsSubobject h c s → shared_class s ≡ Some v → HasVirtualBase h c v
+    of_subobject _ (whole path leads) e = let f : None ≡ Some v = e in cc
+    of_subobject _ (shared w path way leads) e = split (length (w ∷ path) == 1) (λ b. (if b then Some w else None) ≡ Some v → HasVirtualBase h c v)
+        (λ t some. let same : w ≡ v = cc in subst (HasVirtualBase h c) same way)
+        (λ f lacks. let g : None ≡ Some v = lacks in cc) e
 
 -- a virtual primary base lies at the start of its class
 pub shared_at_start : (h : Classes) (rows : List ClassLayout) (nearly : List Bool) (primaries : List Primary) (d v : ClassId) → IsHierarchy h → IsLaidBy h (length h) rows nearly primaries → d.0 < length h → primary_of primaries d ≡ Virtual v → placed_place h rows d (SharedBase v) ≡ 0
