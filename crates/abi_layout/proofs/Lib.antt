@@ -39,3 +39,4 @@ pub mod ObjectPrimaries
 pub mod Pairs
 pub mod ObjectItems
 pub mod ObjectFine
+pub mod ObjectPlaced
