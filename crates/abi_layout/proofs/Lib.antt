@@ -40,3 +40,4 @@ pub mod Pairs
 pub mod ObjectItems
 pub mod ObjectFine
 pub mod ObjectPlaced
+pub mod ObjectRows
