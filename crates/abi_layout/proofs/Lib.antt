@@ -41,3 +41,5 @@ pub mod ObjectItems
 pub mod ObjectFine
 pub mod ObjectPlaced
 pub mod ObjectRows
+pub mod ObjectWithin
+pub mod ObjectArranged

@@ -1,4 +1,4 @@
--- A layout by the rules of any hierarchy is an arranged tree.
+-- In a layout by the rules of any hierarchy each complete object is arranged.
 use Rattle.std.proofs.Common.{◌≡◌, ℕ, zero, suc, ◌+◌, ◌*◌, ◌<◌, ◌≤◌, ◌⊎◌, inl, inr, ⊎_elim, Bool, true, false, cond, Option, Some, None, List, [], ◌∷◌, ◌++◌, map, length, get_or, refl, ap, subst, sym, ◌∙◌, arith}
 use Rattle.std.specs.Prelude.{if◌then◌else◌, max, filter, ◌&&◌}
 use Rattle.std.specs.List.{slice_get, Contains}
@@ -52,7 +52,7 @@ pub record IsLaidOut (h : Classes) (rows : List ClassLayout) (nearly : List Bool
   pub laid : IsLaidBy h (length h) rows nearly primaries
 
 -- what is not empty makes its class not empty
-item_has_data : (h : Classes) (rows : List ClassLayout) (primaries : List Primary) (c : ClassId) (class : Class) (x : Item) → IsHierarchy h → class_at h c ≡ Some class → IsItem h c class x → (component_item h rows primaries c x).is_empty ≡ false → is_empty h c ≡ false
+pub item_has_data : (h : Classes) (rows : List ClassLayout) (primaries : List Primary) (c : ClassId) (class : Class) (x : Item) → IsHierarchy h → class_at h c ≡ Some class → IsItem h c class x → (component_item h rows primaries c x).is_empty ≡ false → is_empty h c ≡ false
 item_has_data h rows primaries c class x keeps at view other = split (is_empty h c) (λ b. is_empty h c ≡ b → b ≡ false) (λ _ t. absurd (by_view x view other (empty_by_test h (c.0 + 1) c t))) (λ _ f. refl) refl
   where
     by_view : (y : Item) → IsItem h c class y → (component_item h rows primaries c y).is_empty ≡ false → IsEmpty h c → ⊥
@@ -64,12 +64,12 @@ item_has_data h rows primaries c class x keeps at view other = split (is_empty h
     by_view _ (is_member n member place has) some is = let parts = empty_parts h c class at is in subst (λ (xs : List (Member ClassId)). Has xs member) parts.no_member has
 
 -- a class's own virtual pointer
-own_has : (h : Classes) (primaries : List Primary) (d : ClassId) (k : Placement) → Has (own_pointer h primaries d) k → (owns_pointer h primaries d ≡ true) × (one_at Pointer 0 8 ≡ k)
+pub own_has : (h : Classes) (primaries : List Primary) (d : ClassId) (k : Placement) → Has (own_pointer h primaries d) k → (owns_pointer h primaries d ≡ true) × (one_at Pointer 0 8 ≡ k)
 own_has h primaries d k has = split (owns_pointer h primaries d) (λ b. Has (if b then one_at Pointer 0 8 ∷ [] else []) k → owns_pointer h primaries d ≡ b → (owns_pointer h primaries d ≡ true) × (one_at Pointer 0 8 ≡ k))
     (λ _ x e. ⊎_elim (λ same. (e, same)) (λ r. absurd r) x)
     (λ _ x e. absurd x) has refl
 
-own_two : (h : Classes) (rows : List ClassLayout) (primaries : List Primary) (d : ClassId) → Pairs (AreClear (measures_of h rows)) (own_pointer h primaries d)
+pub own_two : (h : Classes) (rows : List ClassLayout) (primaries : List Primary) (d : ClassId) → Pairs (AreClear (measures_of h rows)) (own_pointer h primaries d)
 own_two h rows primaries d = split (owns_pointer h primaries d) (λ b. Pairs (AreClear (measures_of h rows)) (if b then one_at Pointer 0 8 ∷ [] else [])) (λ _. (λ y x. absurd x, tt)) (λ _. tt)
 
 both : (a b : Bool) → (a && b) ≡ true → (a ≡ true) × (b ≡ true)
@@ -82,11 +82,11 @@ no_primary_is (Direct b) e = let f : false ≡ true = e in cc
 no_primary_is (Virtual v) e = let f : false ≡ true = e in cc
 
 -- a class that owns a pointer is dynamic, and begins with it
-record Owns (h : Classes) (d : ClassId) (first : Stage) : Type 0 where
-  dynamic : IsDynamic h d
-  dsize : first.dsize ≡ 8
+pub record Owns (h : Classes) (d : ClassId) (first : Stage) : Type 0 where
+  pub dynamic : IsDynamic h d
+  pub dsize : first.dsize ≡ 8
 
-owns : (h : Classes) (rows : List ClassLayout) (nearly : List Bool) (primaries : List Primary) (d : ClassId) (k : HasRow h rows nearly primaries d) → owns_pointer h primaries d ≡ true → Owns h d (start_stage d k.laid.has_pointer)
+pub owns : (h : Classes) (rows : List ClassLayout) (nearly : List Bool) (primaries : List Primary) (d : ClassId) (k : HasRow h rows nearly primaries d) → owns_pointer h primaries d ≡ true → Owns h d (start_stage d k.laid.has_pointer)
 owns h rows nearly primaries d k e =
     let b = both (is_kind dynamic_kind h d) (is_no_primary (primary_of primaries d)) e in
     let dynamic = dynamic_by_test h d b.0 in
@@ -94,7 +94,7 @@ owns h rows nearly primaries d k e =
     record { dynamic = dynamic; dsize = ap (λ x. (start_stage d x).dsize) t }
 
 -- nodes are of lower rank than the class
-type_falls : (c : ClassId) (type : FieldType ClassId) → ((d : ClassId) → type ≡ Object d → d.0 < c.0) → rank_of (node_of_type type) < 2 * c.0 + 1
+pub type_falls : (c : ClassId) (type : FieldType ClassId) → ((d : ClassId) → type ≡ Object d → d.0 < c.0) → rank_of (node_of_type type) < 2 * c.0 + 1
 type_falls c (Value type) below = omega arith
 type_falls c (Object d) below = let l = below d refl in omega arith
 
@@ -126,7 +126,7 @@ complete_is h rows nearly primaries c k =
     (bases_are rows (placed_base h rows c) fs) (members_are rows (placed_base h rows c) 0 k.class.members k.row.member_places ∙ sym members) (bases_are rows (placed_base h rows c) vs)
 
 -- a complete object is arranged
-complete_arranged : (h : Classes) (rows : List ClassLayout) (nearly : List Bool) (primaries : List Primary) (c : ClassId) → IsLaidOut h rows nearly primaries → c.0 < length h → IsArranged (contents_of h rows primaries) (measures_of h rows) (Complete c)
+pub complete_arranged : (h : Classes) (rows : List ClassLayout) (nearly : List Bool) (primaries : List Primary) (c : ClassId) → IsLaidOut h rows nearly primaries → c.0 < length h → IsArranged (contents_of h rows primaries) (measures_of h rows) (Complete c)
 complete_arranged h rows nearly primaries c known lt =
     arranged_by (contents_of h rows primaries) m (Complete c) (complete_place h rows c) items (own_pointer h primaries c) (complete_is h rows nearly primaries c k)
     (λ x has. each x has)
