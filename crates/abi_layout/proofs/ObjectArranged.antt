@@ -1,5 +1,5 @@
 -- A layout by the rules of any hierarchy is an arranged tree, and so it is sound at every depth.
-use Rattle.std.proofs.Common.{◌≡◌, ℕ, suc, ◌+◌, ◌<◌, ◌≤◌, ◌⊎◌, inl, inr, Bool, true, false, Option, Some, None, List, [], ◌∷◌, ◌++◌, map, length, refl, ap, subst, sym, ◌∙◌, arith}
+use Rattle.std.proofs.Common.{◌≡◌, ℕ, suc, ◌+◌, ◌<◌, ◌≤◌, ◌⊎◌, inl, inr, Bool, false, Option, Some, None, List, [], ◌∷◌, ◌++◌, map, length, refl, ap, subst, ◌∙◌, arith}
 use Rattle.std.specs.Prelude.{if◌then◌else◌, filter, ◌&&◌}
 use Rattle.std.specs.List.{slice_get}
 use Rattle.std.proofs.lemmas.Option.{slice_get_past}
@@ -11,14 +11,14 @@ use Rattle.cxx_subobject.specs.declared.Subobject.{Subobject}
 use Rattle.abi_primary.specs.declared.Primary.{Primary}
 use Rattle.abi_layout.specs.declared.class_layout.ClassLayout.{ClassLayout}
 use Rattle.abi_layout.specs.Places.{size_in, members_in, is_plain_base}
-use Rattle.abi_layout.specs.Kinds.{is_kind, is_kind_in, in_class}
+use Rattle.abi_layout.specs.Kinds.{is_kind_in, in_class}
 use Rattle.abi_layout.specs.Laid.{nvsize_in}
 use Rattle.abi_layout.specs.Holding.{virtual_in, virtual_primary}
 use Rattle.abi_layout.specs.DynamicLaid.{primary_of, IsLaidBy}
 use Rattle.abi_layout.proofs.Arranged.{within_or_past}
-use Rattle.abi_layout.proofs.ObjectTree.{Node, Complete, Within, Bytes, Pointer, Placement, Contents, Measures, IsArranged, AreArranged, IsSoundTree, dynamic_kind, is_no_primary, one_at, own_pointer, inner_base, placed_members, members_at, shared_start, contents_of_object, contents_of, span_of, measures_of}
+use Rattle.abi_layout.proofs.ObjectTree.{Node, Complete, Within, Bytes, Pointer, Placement, Contents, Measures, IsArranged, AreArranged, IsSoundTree, dynamic_kind, is_no_primary, one_at, own_pointer, inner_base, placed_members, shared_start, contents_of_object, contents_of, span_of, measures_of}
 use Rattle.abi_layout.proofs.ObjectSound.{tree_is_sound}
-use Rattle.abi_layout.proofs.ObjectRows.{IsLaidOut, complete_arranged}
+use Rattle.abi_layout.proofs.ObjectRows.{complete_arranged}
 use Rattle.abi_layout.proofs.ObjectWithin.{within_arranged}
 
 nothing : (contents : Contents) (m : Measures) (n : Node) → contents n ≡ [] → IsArranged contents m n
@@ -46,9 +46,6 @@ past_within h rows primaries c s d e f =
 pub arranged : (h : Classes) (rows : List ClassLayout) (nearly : List Bool) (primaries : List Primary) → IsHierarchy h → IsLaidBy h (length h) rows nearly primaries → AreArranged (contents_of h rows primaries) (measures_of h rows)
 arranged h rows nearly primaries keeps laid = record { node = node; positive = positive }
   where
-    known : IsLaidOut h rows nearly primaries
-    known = record { keeps = keeps; laid = laid }
-
     positive : (n : Node) → 0 < span_of rows n
     positive (Complete c) = let m = le-max_left 1 (size_in (slice_get rows c.0)) in omega arith
     positive (Within c s d) = let m = le-max_left 1 (nvsize_in (slice_get rows d.0)) in omega arith
@@ -61,12 +58,12 @@ arranged h rows nearly primaries keeps laid = record { node = node; positive = p
     node (Complete c) = by_order (within_or_past c.0 (length h))
       where
         by_order : (c.0 < length h) ⊎ (length h ≤ c.0) → IsArranged (contents_of h rows primaries) (measures_of h rows) (Complete c)
-        by_order (inl lt) = complete_arranged h rows nearly primaries c known lt
+        by_order (inl lt) = complete_arranged h rows nearly primaries c keeps laid lt
         by_order (inr past) = nothing (contents_of h rows primaries) (measures_of h rows) (Complete c) (ap (contents_of_object h rows primaries c) (slice_get_past h c.0 past))
     node (Within c s d) = by_order (within_or_past d.0 (length h))
       where
         by_order : (d.0 < length h) ⊎ (length h ≤ d.0) → IsArranged (contents_of h rows primaries) (measures_of h rows) (Within c s d)
-        by_order (inl lt) = within_arranged h rows nearly primaries c s d known lt
+        by_order (inl lt) = within_arranged h rows nearly primaries c s d keeps laid lt
         by_order (inr past) =
             let count = laid.primary_each in
             nothing (contents_of h rows primaries) (measures_of h rows) (Within c s d) (past_within h rows primaries c s d (slice_get_past h d.0 past) (slice_get_past primaries d.0 (omega arith)))

@@ -1,7 +1,7 @@
 -- What the rules give of each row alone: sizes in order, alignments, a byte for what is not empty, and room for a virtual
 -- pointer in what is dynamic.
-use Rattle.std.proofs.Common.{◌≡◌, ℕ, zero, suc, ◌+◌, ◌*◌, ◌<◌, ◌≤◌, inl, inr, ⊎_elim, Bool, true, false, Option, Some, None, List, [], ◌∷◌, ◌++◌, map, length, refl, ap, subst, sym, ◌∙◌, arith}
-use Rattle.std.specs.Prelude.{if◌then◌else◌, max, filter, not, ◌&&◌, nat_eq}
+use Rattle.std.proofs.Common.{◌≡◌, ℕ, zero, suc, ◌+◌, ◌<◌, ◌≤◌, inl, inr, ⊎_elim, Bool, true, false, Option, Some, List, [], ◌∷◌, ◌++◌, map, length, refl, ap, subst, sym, ◌∙◌, arith}
+use Rattle.std.specs.Prelude.{if◌then◌else◌, max, filter, not, ◌&&◌}
 use Rattle.std.specs.List.{slice_get, Contains}
 use Rattle.std.proofs.lemmas.Bool.{eqb-true}
 use Rattle.std.proofs.Math.Nat.{le-max_left, le-max_right}
@@ -26,13 +26,13 @@ use Rattle.abi_layout.specs.declared.dynamic_bases.PlacedBase.TheVariants.{Own, 
 use Rattle.abi_layout.specs.Places.{size_in, align_in, nvalign_in}
 use Rattle.abi_layout.specs.Sound.{Divides}
 use Rattle.abi_layout.specs.Kinds.{is_empty, is_pod}
-use Rattle.abi_layout.specs.Laid.{nvsize_in, count_of, size_of_type, align_of_type, member_component, ArePlaced, after, after_all}
+use Rattle.abi_layout.specs.Laid.{nvsize_in, count_of, size_of_type, align_of_type, member_component, ArePlaced, after}
 use Rattle.abi_layout.specs.Holding.{virtual_bases}
 use Rattle.abi_layout.specs.PlacedBases.{first_base, is_first_base, is_other_base, front_bases, is_free, free_bases, IsPossible}
 use Rattle.abi_layout.specs.DynamicLaid.{primary_of, fronts, object_parts, start_stage, IsLaidBy}
 use Rattle.abi_layout.specs.Alignments.{IsAlignment, byte, eight_bytes}
 use Rattle.abi_layout.proofs.Lists.{number}
-use Rattle.abi_layout.proofs.Stages.{Has, split, has_left, has_right, has_map, has_cases, Grows, grows}
+use Rattle.abi_layout.proofs.Stages.{Has, split, has_left, has_right, has_map, has_cases, grows}
 use Rattle.abi_layout.proofs.KindLemmas.{contains_of, in_filter}
 use Rattle.abi_layout.proofs.FineRows.{value_align, align_positive, last_align, count_positive, product_positive}
 use Rattle.abi_layout.proofs.TreeSound.{itself_divides}
@@ -42,7 +42,7 @@ use Rattle.abi_layout.proofs.Locate.{same_class}
 use Rattle.abi_layout.proofs.Pairs.{has_mapped}
 use Rattle.abi_layout.proofs.ObjectKinds.{dynamic_has_data, HasData, by_member, by_kind, by_base, has_data}
 use Rattle.abi_layout.proofs.ObjectPrimaries.{HasRow, row_of, primary_possible, direct_primary, shared_primary, listed_virtual}
-use Rattle.abi_layout.proofs.ObjectItems.{put_at, Item, a_base, a_member, place_item, component_item, member_items, base_items, front_items, all_items, ArePut, front_stage, mid_stage, end_stage, IsRow, front_put, all_put, IsMemberItem, member_item}
+use Rattle.abi_layout.proofs.ObjectItems.{put_at, Item, a_base, a_member, place_item, component_item, member_items, base_items, front_items, all_items, ArePut, front_stage, mid_stage, end_stage, IsRow, front_put, all_put, member_item}
 
 -- an item is a base or a member of its class
 pub data IsItem (h : Classes) (c : ClassId) (class : Class) : Item → Type 0 where

@@ -1,5 +1,5 @@
 -- What a class has placed in it, in order: bases, members, and virtual bases behind them.
-use Rattle.std.proofs.Common.{◌≡◌, ℕ, zero, suc, ◌+◌, ◌*◌, ◌<◌, ◌≤◌, ◌⊎◌, inl, inr, ⊎_elim, Bool, true, false, List, [], ◌∷◌, ◌++◌, map, refl, ap, subst, sym, ◌∙◌, arith}
+use Rattle.std.proofs.Common.{◌≡◌, ℕ, suc, ◌+◌, ◌≤◌, ◌⊎◌, inl, inr, ⊎_elim, Bool, false, List, [], ◌∷◌, ◌++◌, map, refl, ap, subst, sym, ◌∙◌, arith}
 use Rattle.std.specs.Prelude.{if◌then◌else◌}
 use Rattle.cxx_hierarchy.specs.declared.records.ClassId.{ClassId}
 use Rattle.cxx_hierarchy.specs.declared.records.Member.{Member}
@@ -10,7 +10,7 @@ use Rattle.abi_layout.specs.declared.component.Stage.{Stage}
 use Rattle.abi_layout.specs.declared.class_layout.ClassLayout.{ClassLayout}
 use Rattle.abi_layout.specs.declared.dynamic_bases.PlacedBase.{PlacedBase}
 use Rattle.abi_layout.specs.Kinds.{is_empty}
-use Rattle.abi_layout.specs.Laid.{count_of, size_of_type, member_component, IsPlace, after, after_all, ArePlaced}
+use Rattle.abi_layout.specs.Laid.{count_of, size_of_type, member_component, after, after_all, ArePlaced}
 use Rattle.abi_layout.specs.PlacedBases.{placed_component, free_bases}
 use Rattle.abi_layout.specs.DynamicLaid.{fronts, placed_place, object_parts, start_stage, front_components, free_components, IsArrangedBy}
 use Rattle.abi_layout.proofs.Stages.{Has, IsPut, put_here, put_earlier, grows_once}

@@ -11,7 +11,6 @@ use Rattle.cxx_hierarchy.specs.Hierarchies.{IsHierarchy}
 use Rattle.cxx_hierarchy.specs.VirtualBases.{IsDirectBase, HasVirtualBase, direct, further}
 use Rattle.abi_primary.specs.Kinds.{IsDynamic, declares, shares, inherits, IsEmpty, empty}
 use Rattle.abi_layout.specs.Kinds.{in_class, is_kind_in, is_kind, empty_kind, has_virtual_function, is_empty}
-use Rattle.abi_layout.proofs.Lists.{has_here, has_later}
 use Rattle.abi_layout.proofs.Each.{not_both}
 use Rattle.abi_layout.proofs.Stages.{Has, split}
 use Rattle.abi_layout.proofs.KindLemmas.{contains_of, has_of}

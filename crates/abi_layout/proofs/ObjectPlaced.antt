@@ -1,9 +1,9 @@
 -- A placement and what it is to its class: where it lies, that it fits, and that two of them lie apart.
-use Rattle.std.proofs.Common.{◌≡◌, ℕ, zero, suc, ◌+◌, ◌*◌, ◌<◌, ◌≤◌, ◌⊎◌, inl, inr, ⊎_elim, Bool, true, false, Option, Some, None, List, [], ◌∷◌, ◌++◌, map, refl, ap, subst, sym, ◌∙◌, arith, append_assoc}
+use Rattle.std.proofs.Common.{◌≡◌, ℕ, ◌+◌, ◌*◌, ◌<◌, ◌≤◌, ◌⊎◌, inl, inr, ⊎_elim, false, Some, List, ◌++◌, map, refl, ap, subst, sym, ◌∙◌, arith, append_assoc}
 use Rattle.std.specs.Prelude.{if◌then◌else◌, max}
 use Rattle.std.specs.List.{slice_get}
 use Rattle.std.proofs.lemmas.List.{map-append}
-use Rattle.std.proofs.Math.Nat.{max-le, max-eq_right}
+use Rattle.std.proofs.Math.Nat.{max-le}
 use Rattle.cxx_hierarchy.specs.declared.records.ClassId.{ClassId}
 use Rattle.cxx_hierarchy.specs.declared.records.Member.{Member}
 use Rattle.cxx_hierarchy.specs.declared.records.FieldType.{FieldType}
@@ -19,14 +19,13 @@ use Rattle.abi_layout.specs.Places.{size_of_value, size_in, nvalign_in}
 use Rattle.abi_layout.specs.Sound.{Divides}
 use Rattle.abi_layout.specs.Kinds.{is_empty}
 use Rattle.abi_layout.specs.Laid.{nvsize_in, count_of, size_of_type, align_of_type, member_component}
-use Rattle.abi_layout.specs.Alignments.{IsAlignment, eight_bytes}
+use Rattle.abi_layout.specs.Alignments.{eight_bytes}
 use Rattle.abi_layout.proofs.Stages.{Has, split, has_cases, IsPut}
 use Rattle.abi_layout.proofs.TreeSound.{sum_divides, through_divides, itself_divides, zero_divides, copy_ends}
 use Rattle.abi_layout.proofs.Arranged.{align_divides, times_divides, most}
-use Rattle.abi_layout.proofs.FineRows.{value_align, align_positive}
 use Rattle.abi_layout.proofs.Listed.{no_copies}
 use Rattle.abi_layout.proofs.Pairs.{Pairs, has_get, pairs_get, pairs_append, pairs_map, has_mapped}
-use Rattle.abi_layout.proofs.ObjectTree.{Node, Complete, Within, Bytes, Pointer, Placement, Contents, start_of, Measures, IsInPlace, AreClear, IsArranged, one_at, node_of_type, rank_of, span_of, data_end_of, align_of, measures_of}
+use Rattle.abi_layout.proofs.ObjectTree.{Node, Within, Pointer, Placement, Contents, Measures, IsInPlace, AreClear, IsArranged, one_at, node_of_type, rank_of, span_of, data_end_of, align_of, measures_of}
 use Rattle.abi_layout.proofs.ObjectItems.{AreApart}
 use Rattle.abi_layout.proofs.ObjectFine.{IsFine, IsFineType}
 

@@ -1,19 +1,18 @@
 -- Primary bases: each is a dynamic base, and a virtual one of a class lies at its start.
 use Rattle.std.proofs.Common.{◌≡◌, ℕ, zero, suc, ◌+◌, ◌<◌, ◌≤◌, inl, inr, ⊎_elim, Bool, true, false, cond, Option, Some, None, List, [], ◌∷◌, length, get_or, refl, ap, subst, sym, ◌∙◌, arith}
-use Rattle.std.specs.Prelude.{Contains, filter, not, ◌&&◌, ◌==◌, nat_eq, if◌then◌else◌}
+use Rattle.std.specs.Prelude.{Contains, not, ◌&&◌, ◌==◌, nat_eq, if◌then◌else◌}
 use Rattle.std.specs.List.{slice_get, find, filter_map, cons_option}
-use Rattle.std.proofs.lemmas.Bool.{eqb-true, eq-eqb}
+use Rattle.std.proofs.lemmas.Bool.{eq-eqb}
 use Rattle.std.proofs.lemmas.Bool.{cases_order}
 use Rattle.std.proofs.lemmas.List.{get_or_past}
 use Rattle.cxx_hierarchy.specs.declared.records.ClassId.{ClassId}
-use Rattle.cxx_hierarchy.specs.declared.records.Base.{Base}
 use Rattle.cxx_hierarchy.specs.Classes.{Class, Classes, class_at, bases_of}
 use Rattle.cxx_hierarchy.specs.Hierarchies.{IsHierarchy}
 use Rattle.cxx_hierarchy.specs.VirtualBases.{IsDirectBase, HasVirtualBase}
 use Rattle.cxx_subobject.specs.declared.Root.{Root}
 use Rattle.cxx_subobject.specs.declared.Root.TheVariants.{Whole, Shared}
 use Rattle.cxx_subobject.specs.declared.Subobject.{Subobject}
-use Rattle.cxx_subobject.specs.Subobjects.{IsSubobject, whole, shared, whole_of, shared_base, base_subobject, same_subobject}
+use Rattle.cxx_subobject.specs.Subobjects.{IsSubobject, whole, shared, whole_of, shared_base}
 use Rattle.cxx_subobject.specs.Preorder.{tree, firsts, preorder}
 use Rattle.cxx_subobject.proofs.TreeLemmas.{preorder_lists}
 use Rattle.abi_primary.specs.declared.Primary.{Primary}
@@ -23,8 +22,7 @@ use Rattle.abi_primary.specs.NearlyEmpty.{is_nearly}
 use Rattle.abi_primary.specs.PrimaryBase.{is_nearly_root, is_nearly_base, is_taken_root, is_free_base, as_primary, choice, IsPrimary, of_direct, of_virtual, has_primary, is_virtual_primary}
 use Rattle.abi_primary.specs.Holder.{holder_of}
 use Rattle.abi_layout.specs.declared.class_layout.ClassLayout.{ClassLayout}
-use Rattle.abi_layout.specs.declared.dynamic_bases.PlacedBase.{PlacedBase}
-use Rattle.abi_layout.specs.declared.dynamic_bases.PlacedBase.TheVariants.{Own, SharedBase}
+use Rattle.abi_layout.specs.declared.dynamic_bases.PlacedBase.TheVariants.{SharedBase}
 use Rattle.abi_layout.specs.Holding.{shared_class, virtual_bases, virtual_in, virtual_primary}
 use Rattle.abi_layout.specs.Scenes.{AreBefore}
 use Rattle.abi_layout.specs.PlacedBases.{IsPossible}

@@ -1,19 +1,15 @@
 -- In a layout by the rules of any hierarchy each complete object is arranged.
-use Rattle.std.proofs.Common.{◌≡◌, ℕ, zero, suc, ◌+◌, ◌*◌, ◌<◌, ◌≤◌, ◌⊎◌, inl, inr, ⊎_elim, Bool, true, false, cond, Option, Some, None, List, [], ◌∷◌, ◌++◌, map, length, get_or, refl, ap, subst, sym, ◌∙◌, arith}
-use Rattle.std.specs.Prelude.{if◌then◌else◌, max, filter, ◌&&◌}
+use Rattle.std.proofs.Common.{◌≡◌, ℕ, ◌+◌, ◌*◌, ◌<◌, ◌⊎◌, ⊎_elim, Bool, true, false, Option, Some, List, [], ◌∷◌, ◌++◌, map, length, refl, ap, subst, sym, ◌∙◌, arith}
+use Rattle.std.specs.Prelude.{if◌then◌else◌, ◌&&◌}
 use Rattle.std.specs.List.{slice_get, Contains}
-use Rattle.std.proofs.lemmas.Option.{slice_get_past}
-use Rattle.std.proofs.Math.Nat.{le-max_left, le-max_right}
+use Rattle.std.proofs.Math.Nat.{le-max_right}
 use Rattle.cxx_hierarchy.specs.declared.records.ClassId.{ClassId}
-use Rattle.cxx_hierarchy.specs.declared.records.Base.{Base}
 use Rattle.cxx_hierarchy.specs.declared.records.Member.{Member}
 use Rattle.cxx_hierarchy.specs.declared.records.FieldType.{FieldType}
 use Rattle.cxx_hierarchy.specs.declared.records.FieldType.TheVariants.{Value, Object}
-use Rattle.cxx_hierarchy.specs.Classes.{Class, Classes, class_at, bases_of, bases_in, members_of, members_in as class_members_in}
+use Rattle.cxx_hierarchy.specs.Classes.{Class, Classes, class_at, bases_in, members_in as class_members_in}
 use Rattle.cxx_hierarchy.specs.Hierarchies.{IsHierarchy}
-use Rattle.cxx_hierarchy.specs.VirtualBases.{IsDirectBase, HasVirtualBase}
-use Rattle.cxx_subobject.specs.declared.Subobject.{Subobject}
-use Rattle.cxx_subobject.specs.Subobjects.{subobject, shared_base}
+use Rattle.cxx_subobject.specs.Subobjects.{shared_base}
 use Rattle.abi_primary.specs.declared.Primary.{Primary}
 use Rattle.abi_primary.specs.declared.Primary.TheVariants.{None as NoPrimary, Direct, Virtual}
 use Rattle.abi_primary.specs.Kinds.{IsDynamic, IsEmpty}
@@ -21,35 +17,25 @@ use Rattle.abi_primary.proofs.KindLemmas.{empty_parts}
 use Rattle.abi_layout.specs.declared.component.Component.{Component}
 use Rattle.abi_layout.specs.declared.component.Stage.{Stage}
 use Rattle.abi_layout.specs.declared.class_layout.ClassLayout.{ClassLayout}
-use Rattle.abi_layout.specs.declared.dynamic_bases.PlacedBase.{PlacedBase}
 use Rattle.abi_layout.specs.declared.dynamic_bases.PlacedBase.TheVariants.{Own, SharedBase}
-use Rattle.abi_layout.specs.Places.{size_in, align_in, nvalign_in, members_in, is_plain_base, base_place}
-use Rattle.abi_layout.specs.Sound.{Divides}
-use Rattle.abi_layout.specs.Kinds.{is_kind, is_kind_in, is_empty, in_class}
-use Rattle.abi_layout.specs.Laid.{nvsize_in}
-use Rattle.abi_layout.specs.Holding.{virtual_in, virtual_primary, holds_base}
-use Rattle.abi_layout.specs.PlacedBases.{subobject_of, free_bases, IsPossible}
+use Rattle.abi_layout.specs.Places.{size_in, align_in, members_in}
+use Rattle.abi_layout.specs.Kinds.{is_kind, is_empty}
+use Rattle.abi_layout.specs.PlacedBases.{subobject_of, free_bases}
 use Rattle.abi_layout.specs.Brought.{brought_by}
 use Rattle.abi_layout.specs.DynamicLaid.{primary_of, fronts, placed_place, object_parts, start_stage, IsLaidBy}
 use Rattle.abi_layout.specs.Alignments.{eight_bytes}
-use Rattle.abi_layout.proofs.Stages.{Has, split, has_left, has_right, has_map, has_cases, IsPut}
-use Rattle.abi_layout.proofs.KindLemmas.{contains_of, has_of, from_filter}
+use Rattle.abi_layout.proofs.Stages.{Has, split, IsPut}
 use Rattle.abi_layout.proofs.Each.{not_both}
 use Rattle.abi_layout.proofs.SettledLemmas.{base_below}
 use Rattle.abi_layout.proofs.OpenLemmas.{virtual_below}
-use Rattle.abi_layout.proofs.Arranged.{align_divides, within_or_past}
-use Rattle.abi_layout.proofs.Pairs.{Pairs, pairs_among, pairs_append, pairs_weaker, pairs_map, pairs_by_number, has_mapped}
-use Rattle.abi_layout.proofs.ObjectTree.{Node, Complete, Within, Bytes, Pointer, Placement, Measures, IsInPlace, AreClear, IsArranged, AreArranged, dynamic_kind, is_no_primary, owns_pointer, one_at, own_pointer, placed_base, inner_base, placed_members, members_at, shared_start, contents_of_object, contents_of, rank_of, span_of, data_end_of, align_of, measures_of, node_of_type}
+use Rattle.abi_layout.proofs.Arranged.{align_divides}
+use Rattle.abi_layout.proofs.Pairs.{Pairs, pairs_weaker}
+use Rattle.abi_layout.proofs.ObjectTree.{Complete, Pointer, Placement, Measures, IsInPlace, AreClear, IsArranged, dynamic_kind, is_no_primary, owns_pointer, one_at, own_pointer, placed_base, placed_members, members_at, contents_of_object, contents_of, rank_of, measures_of, node_of_type}
 use Rattle.abi_layout.proofs.ObjectKinds.{empty_test, empty_by_test, dynamic_not_empty, virtual_dynamic, dynamic_by_test, dynamic_has_data}
-use Rattle.abi_layout.proofs.ObjectPrimaries.{HasRow, row_of, primary_possible, shared_primary, primary_when_virtual, shared_at_start}
-use Rattle.abi_layout.proofs.ObjectItems.{put_at, AreApart, apart_back, pairs_placed, Item, a_base, a_member, place_item, component_item, member_items, base_items, front_items, all_items, ArePut, mid_stage, end_stage, front_put, all_put, placement_of, members_are, bases_are, member_item, members_differ}
-use Rattle.abi_layout.proofs.ObjectFine.{IsItem, is_own, is_shared, is_member, all_view, front_among, plain_front, shared_front, IsFine, fine, type_fine, object_below, item_align, row_fine}
-use Rattle.abi_layout.proofs.ObjectPlaced.{Stands, in_place, clear_of, base_stands, pointer_stands, member_stands, own_in_place, own_clear, arranged_by, laid_out}
-
--- the rows are the layout of the hierarchy
-pub record IsLaidOut (h : Classes) (rows : List ClassLayout) (nearly : List Bool) (primaries : List Primary) : Type 0 where
-  pub keeps : IsHierarchy h
-  pub laid : IsLaidBy h (length h) rows nearly primaries
+use Rattle.abi_layout.proofs.ObjectPrimaries.{HasRow, row_of, primary_possible}
+use Rattle.abi_layout.proofs.ObjectItems.{put_at, AreApart, pairs_placed, Item, place_item, component_item, member_items, base_items, all_items, ArePut, end_stage, all_put, placement_of, members_are, bases_are}
+use Rattle.abi_layout.proofs.ObjectFine.{IsItem, is_own, is_shared, is_member, all_view, IsFine, fine, type_fine, object_below, item_align, row_fine}
+use Rattle.abi_layout.proofs.ObjectPlaced.{Stands, in_place, clear_of, base_stands, member_stands, own_in_place, own_clear, arranged_by, laid_out}
 
 -- what is not empty makes its class not empty
 pub item_has_data : (h : Classes) (rows : List ClassLayout) (primaries : List Primary) (c : ClassId) (class : Class) (x : Item) → IsHierarchy h → class_at h c ≡ Some class → IsItem h c class x → (component_item h rows primaries c x).is_empty ≡ false → is_empty h c ≡ false
@@ -126,8 +112,8 @@ complete_is h rows nearly primaries c k =
     (bases_are rows (placed_base h rows c) fs) (members_are rows (placed_base h rows c) 0 k.class.members k.row.member_places ∙ sym members) (bases_are rows (placed_base h rows c) vs)
 
 -- a complete object is arranged
-pub complete_arranged : (h : Classes) (rows : List ClassLayout) (nearly : List Bool) (primaries : List Primary) (c : ClassId) → IsLaidOut h rows nearly primaries → c.0 < length h → IsArranged (contents_of h rows primaries) (measures_of h rows) (Complete c)
-complete_arranged h rows nearly primaries c known lt =
+pub complete_arranged : (h : Classes) (rows : List ClassLayout) (nearly : List Bool) (primaries : List Primary) (c : ClassId) → IsHierarchy h → IsLaidBy h (length h) rows nearly primaries → c.0 < length h → IsArranged (contents_of h rows primaries) (measures_of h rows) (Complete c)
+complete_arranged h rows nearly primaries c keeps laid lt =
     arranged_by (contents_of h rows primaries) m (Complete c) (complete_place h rows c) items (own_pointer h primaries c) (complete_is h rows nearly primaries c k)
     (λ x has. each x has)
     (pairs_weaker (AreApart component place) (λ x y. AreClear m (complete_place h rows c x) (complete_place h rows c y)) items
@@ -141,7 +127,7 @@ complete_arranged h rows nearly primaries c known lt =
     m = measures_of h rows
 
     k : HasRow h rows nearly primaries c
-    k = row_of h rows nearly primaries c known.laid lt
+    k = row_of h rows nearly primaries c laid lt
 
     first : Stage
     first = start_stage c k.laid.has_pointer
@@ -162,13 +148,13 @@ complete_arranged h rows nearly primaries c known lt =
     put = all_put h rows primaries c k.class k.laid.has_pointer k.row k.laid.placed
 
     low : (b : ClassId) → b.0 < c.0 → IsFine h rows b
-    low b less = fine h rows nearly primaries b known.keeps known.laid (omega arith)
+    low b less = fine h rows nearly primaries b keeps laid (omega arith)
 
     view : (x : Item) → Has items x → IsItem h c k.class x
-    view x has = all_view h primaries c k.class k.row x known.keeps k.there (primary_possible h nearly _ c (primary_of primaries c) known.keeps k.laid.is_primary) has
+    view x has = all_view h primaries c k.class k.row x keeps k.there (primary_possible h nearly _ c (primary_of primaries c) keeps k.laid.is_primary) has
 
     stands : (x : Item) → Has items x → Stands m (component x) (place x) (complete_place h rows c x) × (rank_of (complete_place h rows c x).node < 2 * c.0 + 2)
-    stands x has = complete_stands h rows primaries c k.class x known.keeps k.there low (view x has)
+    stands x has = complete_stands h rows primaries c k.class x keeps k.there low (view x has)
 
     put_is : (x : Item) → Has items x → IsPut first last (component x) (place x)
     put_is x has = subst (λ (st : Stage). IsPut first st (component x) (place x)) put.ends (put_at component place first items x put.placed has)
@@ -180,7 +166,7 @@ complete_arranged h rows nearly primaries c known lt =
     align_is = ap align_in k.row_there
 
     here : IsFine h rows c
-    here = fine h rows nearly primaries c known.keeps known.laid lt
+    here = fine h rows nearly primaries c keeps laid lt
 
     each : (x : Item) → Has items x → IsInPlace m (Complete c) (complete_place h rows c x)
     each x has =
@@ -192,8 +178,8 @@ complete_arranged h rows nearly primaries c known lt =
         let a = p.align in
         let b = f.align in
         in_place m (Complete c) first last (component x) (place x) (complete_place h rows c x) s.0 p s.1 (omega (arith, l, r, size_is))
-        (λ other. let e : (if is_empty h c then 0 else size_in (slice_get rows c.0)) ≡ size_in (slice_get rows c.0) = ap (λ b. if b then 0 else size_in (slice_get rows c.0)) (item_has_data h rows primaries c k.class x known.keeps k.there (view x has) other) in omega (arith, l, e, size_is))
-        (align_divides (component x).align (align_in (slice_get rows c.0)) (item_align h rows primaries c k.class x known.keeps k.there low (view x has)) here.align (omega (arith, a, b, align_is)))
+        (λ other. let e : (if is_empty h c then 0 else size_in (slice_get rows c.0)) ≡ size_in (slice_get rows c.0) = ap (λ b. if b then 0 else size_in (slice_get rows c.0)) (item_has_data h rows primaries c k.class x keeps k.there (view x has) other) in omega (arith, l, e, size_is))
+        (align_divides (component x).align (align_in (slice_get rows c.0)) (item_align h rows primaries c k.class x keeps k.there low (view x has)) here.align (omega (arith, a, b, align_is)))
 
     own : Owns h c first → IsInPlace m (Complete c) (one_at Pointer 0 8)
     own o =

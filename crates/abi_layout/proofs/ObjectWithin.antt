@@ -1,51 +1,45 @@
 -- In a layout by the rules of any hierarchy each subobject is arranged.
-use Rattle.std.proofs.Common.{◌≡◌, ℕ, zero, suc, ◌+◌, ◌*◌, ◌<◌, ◌≤◌, ◌⊎◌, inl, inr, ⊎_elim, Bool, true, false, cond, Option, Some, None, List, [], ◌∷◌, ◌++◌, map, length, get_or, refl, ap, subst, sym, ◌∙◌, arith}
-use Rattle.std.specs.Prelude.{if◌then◌else◌, max, filter, ◌&&◌, not}
-use Rattle.std.specs.List.{slice_get, Contains}
-use Rattle.std.proofs.lemmas.Option.{slice_get_past}
-use Rattle.std.proofs.Math.Nat.{le-max_left, le-max_right}
+use Rattle.std.proofs.Common.{◌≡◌, ℕ, ◌+◌, ◌*◌, ◌<◌, ◌⊎◌, ⊎_elim, Bool, true, false, Option, Some, None, List, [], ◌∷◌, ◌++◌, map, length, refl, ap, subst, sym, ◌∙◌, arith}
+use Rattle.std.specs.Prelude.{if◌then◌else◌, filter, not}
+use Rattle.std.specs.List.{slice_get}
+use Rattle.std.proofs.Math.Nat.{le-max_right}
 use Rattle.cxx_hierarchy.specs.declared.records.ClassId.{ClassId}
 use Rattle.cxx_hierarchy.specs.declared.records.Base.{Base}
 use Rattle.cxx_hierarchy.specs.declared.records.Member.{Member}
-use Rattle.cxx_hierarchy.specs.declared.records.FieldType.{FieldType}
-use Rattle.cxx_hierarchy.specs.declared.records.FieldType.TheVariants.{Value, Object}
-use Rattle.cxx_hierarchy.specs.Classes.{Class, Classes, class_at, bases_of, bases_in, members_of, members_in as class_members_in}
+use Rattle.cxx_hierarchy.specs.declared.records.FieldType.TheVariants.{Object}
+use Rattle.cxx_hierarchy.specs.Classes.{Class, Classes, class_at, bases_of, bases_in, members_in as class_members_in}
 use Rattle.cxx_hierarchy.specs.Hierarchies.{IsHierarchy}
-use Rattle.cxx_hierarchy.specs.VirtualBases.{IsDirectBase, HasVirtualBase}
+use Rattle.cxx_hierarchy.specs.VirtualBases.{IsDirectBase}
 use Rattle.cxx_subobject.specs.declared.Subobject.{Subobject}
 use Rattle.cxx_subobject.specs.Subobjects.{subobject, shared_base}
 use Rattle.cxx_subobject.proofs.TreeLemmas.{has_filter}
 use Rattle.abi_primary.specs.declared.Primary.{Primary}
-use Rattle.abi_primary.specs.declared.Primary.TheVariants.{None as NoPrimary, Direct, Virtual}
-use Rattle.abi_primary.specs.Kinds.{IsDynamic, IsEmpty}
-use Rattle.abi_primary.proofs.KindLemmas.{empty_parts}
+use Rattle.abi_primary.specs.declared.Primary.TheVariants.{Virtual}
 use Rattle.abi_layout.specs.declared.component.Component.{Component}
 use Rattle.abi_layout.specs.declared.component.Stage.{Stage}
 use Rattle.abi_layout.specs.declared.class_layout.ClassLayout.{ClassLayout}
 use Rattle.abi_layout.specs.declared.dynamic_bases.PlacedBase.{PlacedBase}
 use Rattle.abi_layout.specs.declared.dynamic_bases.PlacedBase.TheVariants.{Own, SharedBase}
-use Rattle.abi_layout.specs.Places.{size_in, align_in, nvalign_in, members_in, is_plain_base, base_place}
-use Rattle.abi_layout.specs.Sound.{Divides}
-use Rattle.abi_layout.specs.Kinds.{is_kind, is_kind_in, is_empty, in_class}
+use Rattle.abi_layout.specs.Places.{nvalign_in, members_in, is_plain_base, base_place}
+use Rattle.abi_layout.specs.Kinds.{is_empty}
 use Rattle.abi_layout.specs.Laid.{nvsize_in}
-use Rattle.abi_layout.specs.Holding.{virtual_in, virtual_primary, holds_base}
-use Rattle.abi_layout.specs.PlacedBases.{subobject_of, free_bases, IsPossible}
+use Rattle.abi_layout.specs.Holding.{virtual_primary, holds_base}
+use Rattle.abi_layout.specs.PlacedBases.{subobject_of}
 use Rattle.abi_layout.specs.Brought.{brought_by}
 use Rattle.abi_layout.specs.DynamicLaid.{primary_of, fronts, placed_place, object_parts, start_stage, IsLaidBy}
 use Rattle.abi_layout.specs.Alignments.{eight_bytes}
 use Rattle.abi_layout.proofs.Stages.{Has, split, has_left, has_right, has_map, has_cases, IsPut}
-use Rattle.abi_layout.proofs.KindLemmas.{contains_of, has_of, from_filter}
-use Rattle.abi_layout.proofs.Each.{not_both}
+use Rattle.abi_layout.proofs.KindLemmas.{from_filter}
 use Rattle.abi_layout.proofs.SettledLemmas.{base_below}
 use Rattle.abi_layout.proofs.OpenLemmas.{virtual_below}
-use Rattle.abi_layout.proofs.Arranged.{align_divides, within_or_past}
+use Rattle.abi_layout.proofs.Arranged.{align_divides}
 use Rattle.abi_layout.proofs.Pairs.{Pairs, pairs_among, pairs_append, pairs_weaker, pairs_map, pairs_by_number, has_mapped}
-use Rattle.abi_layout.proofs.ObjectTree.{Node, Complete, Within, Bytes, Pointer, Placement, Measures, IsInPlace, AreClear, IsArranged, AreArranged, dynamic_kind, is_no_primary, owns_pointer, one_at, own_pointer, placed_base, inner_base, placed_members, members_at, shared_start, contents_of_object, contents_of, rank_of, span_of, data_end_of, align_of, measures_of, node_of_type}
-use Rattle.abi_layout.proofs.ObjectKinds.{empty_test, empty_by_test, dynamic_not_empty, virtual_dynamic, dynamic_by_test, dynamic_has_data}
-use Rattle.abi_layout.proofs.ObjectPrimaries.{HasRow, row_of, primary_possible, shared_primary, primary_when_virtual, shared_at_start}
-use Rattle.abi_layout.proofs.ObjectItems.{put_at, AreApart, apart_back, pairs_placed, Item, a_base, a_member, place_item, component_item, member_items, base_items, front_items, all_items, ArePut, mid_stage, end_stage, front_put, all_put, placement_of, members_are, bases_are, member_item, members_differ}
-use Rattle.abi_layout.proofs.ObjectFine.{plain_edge, IsItem, is_own, is_shared, is_member, all_view, front_among, plain_front, shared_front, IsFine, fine, type_fine, object_below, item_align, row_fine}
-use Rattle.abi_layout.proofs.ObjectRows.{IsLaidOut, item_has_data, own_has, own_two, Owns, owns, type_falls}
+use Rattle.abi_layout.proofs.ObjectTree.{Within, Pointer, Placement, Measures, IsInPlace, AreClear, IsArranged, one_at, own_pointer, inner_base, placed_members, members_at, shared_start, contents_of, rank_of, measures_of}
+use Rattle.abi_layout.proofs.ObjectKinds.{dynamic_has_data}
+use Rattle.abi_layout.proofs.ObjectPrimaries.{HasRow, row_of, shared_primary, primary_when_virtual, shared_at_start}
+use Rattle.abi_layout.proofs.ObjectItems.{put_at, AreApart, apart_back, pairs_placed, Item, a_base, a_member, place_item, component_item, member_items, base_items, front_items, ArePut, mid_stage, front_put, placement_of, members_are, member_item, members_differ}
+use Rattle.abi_layout.proofs.ObjectFine.{plain_edge, IsItem, is_own, is_shared, is_member, plain_front, shared_front, IsFine, fine, type_fine, object_below, item_align, row_fine}
+use Rattle.abi_layout.proofs.ObjectRows.{item_has_data, own_has, own_two, Owns, owns, type_falls}
 use Rattle.abi_layout.proofs.ObjectPlaced.{Stands, in_place, clear_of, base_stands, pointer_stands, member_stands, own_in_place, own_clear, arranged_by, laid_out}
 
 -- the placements of a subobject, by the items of its class
@@ -168,48 +162,48 @@ inner_differ h primaries d class row keeps at =
     shared_once (Some v) = (λ y has. absurd has, tt)
 
 -- each item of a subobject is a base or a member of its class
-inner_item : (h : Classes) (rows : List ClassLayout) (nearly : List Bool) (primaries : List Primary) (d : ClassId) (class : Class) (x : Item) → IsLaidOut h rows nearly primaries → d.0 < length h → IsInner h primaries d class x → IsItem h d class x
-inner_item h rows nearly primaries d class _ known lt (inner_member n member place has) = is_member n member place has
-inner_item h rows nearly primaries d class _ known lt (inner_own b edge) = is_own b edge
-inner_item h rows nearly primaries d class _ known lt (inner_shared v e) = is_shared v (shared_primary h rows nearly primaries d v known.keeps known.laid lt e).0
+inner_item : (h : Classes) (rows : List ClassLayout) (nearly : List Bool) (primaries : List Primary) (d : ClassId) (class : Class) (x : Item) → IsHierarchy h → IsLaidBy h (length h) rows nearly primaries → d.0 < length h → IsInner h primaries d class x → IsItem h d class x
+inner_item h rows nearly primaries d class _ keeps laid lt (inner_member n member place has) = is_member n member place has
+inner_item h rows nearly primaries d class _ keeps laid lt (inner_own b edge) = is_own b edge
+inner_item h rows nearly primaries d class _ keeps laid lt (inner_shared v e) = is_shared v (shared_primary h rows nearly primaries d v keeps laid lt e).0
 
-within_stands : (h : Classes) (rows : List ClassLayout) (nearly : List Bool) (primaries : List Primary) (c : ClassId) (s : Subobject) (d : ClassId) (class : Class) (x : Item) → IsLaidOut h rows nearly primaries → d.0 < length h → class_at h d ≡ Some class → ((b : ClassId) → b.0 < d.0 → IsFine h rows b) → IsInner h primaries d class x
+within_stands : (h : Classes) (rows : List ClassLayout) (nearly : List Bool) (primaries : List Primary) (c : ClassId) (s : Subobject) (d : ClassId) (class : Class) (x : Item) → IsHierarchy h → IsLaidBy h (length h) rows nearly primaries → d.0 < length h → class_at h d ≡ Some class → ((b : ClassId) → b.0 < d.0 → IsFine h rows b) → IsInner h primaries d class x
     → Stands (measures_of h rows) (component_item h rows primaries d x) (place_item h rows d x) (within_place h rows primaries c s d x) × (rank_of (within_place h rows primaries c s d x).node < 2 * d.0 + 1)
-within_stands h rows nearly primaries c s d class _ known lt at low (inner_member n member place has) =
-    let below = λ (e : ClassId) (is : member.ty ≡ Object e). object_below h d class member e known.keeps at has is in
+within_stands h rows nearly primaries c s d class _ keeps laid lt at low (inner_member n member place has) =
+    let below = λ (e : ClassId) (is : member.ty ≡ Object e). object_below h d class member e keeps at has is in
     let f = type_falls d member.ty below in
     (member_stands h rows (object_parts h rows primaries) n member place (type_fine h rows d low member.ty below), f)
-within_stands h rows nearly primaries c s d class _ known lt at low (inner_own b edge) =
-    let l = base_below h d b known.keeps edge in
+within_stands h rows nearly primaries c s d class _ keeps laid lt at low (inner_own b edge) =
+    let l = base_below h d b keeps edge in
     let place : base_place h rows d b ≡ placed_place h rows d (Own b) = omega arith in
     (subst (λ p. Stands (measures_of h rows) (component_item h rows primaries d (a_base (Own b))) p (within_place h rows primaries c s d (a_base (Own b)))) place
     (base_stands h rows c (subobject s.root (s.path ++ b ∷ [])) b (brought_by h rows primaries (object_parts h rows primaries) d (subobject_of d (Own b)) b) (base_place h rows d b) (low b l)), omega arith)
-within_stands h rows nearly primaries c s d class _ known lt at low (inner_shared v e) =
-    let x = shared_primary h rows nearly primaries d v known.keeps known.laid lt e in
-    let l = virtual_below h known.keeps d v x.0 in
-    let place : 0 ≡ placed_place h rows d (SharedBase v) = sym (shared_at_start h rows nearly primaries d v known.keeps known.laid lt e) in
+within_stands h rows nearly primaries c s d class _ keeps laid lt at low (inner_shared v e) =
+    let x = shared_primary h rows nearly primaries d v keeps laid lt e in
+    let l = virtual_below h keeps d v x.0 in
+    let place : 0 ≡ placed_place h rows d (SharedBase v) = sym (shared_at_start h rows nearly primaries d v keeps laid lt e) in
     let parts = brought_by h rows primaries (object_parts h rows primaries) d (shared_base v) v in
     split (holds_base h primaries c s v) (λ t. Stands (measures_of h rows) (component_item h rows primaries d (a_base (SharedBase v))) (placed_place h rows d (SharedBase v)) (one_at (if t then Within c (shared_base v) v else Pointer) 0 (nvsize_in (slice_get rows v.0))) × (rank_of (if t then Within c (shared_base v) v else Pointer) < 2 * d.0 + 1))
     (λ t. (subst (λ p. Stands (measures_of h rows) (component_item h rows primaries d (a_base (SharedBase v))) p (one_at (Within c (shared_base v) v) 0 (nvsize_in (slice_get rows v.0)))) place (base_stands h rows c (shared_base v) v parts 0 (low v l)), omega arith))
     (λ f. (subst (λ p. Stands (measures_of h rows) (component_item h rows primaries d (a_base (SharedBase v))) p (one_at Pointer 0 (nvsize_in (slice_get rows v.0)))) place (pointer_stands h rows v parts 0 (low v l) x.1 (dynamic_has_data h v x.1)), omega arith))
 
 -- a subobject is arranged
-pub within_arranged : (h : Classes) (rows : List ClassLayout) (nearly : List Bool) (primaries : List Primary) (c : ClassId) (s : Subobject) (d : ClassId) → IsLaidOut h rows nearly primaries → d.0 < length h → IsArranged (contents_of h rows primaries) (measures_of h rows) (Within c s d)
-within_arranged h rows nearly primaries c s d known lt =
-    arranged_by (contents_of h rows primaries) m (Within c s d) laid items (own_pointer h primaries d) (within_is h rows nearly primaries c s d k)
+pub within_arranged : (h : Classes) (rows : List ClassLayout) (nearly : List Bool) (primaries : List Primary) (c : ClassId) (s : Subobject) (d : ClassId) → IsHierarchy h → IsLaidBy h (length h) rows nearly primaries → d.0 < length h → IsArranged (contents_of h rows primaries) (measures_of h rows) (Within c s d)
+within_arranged h rows nearly primaries c s d keeps laid lt =
+    arranged_by (contents_of h rows primaries) m (Within c s d) placement items (own_pointer h primaries d) (within_is h rows nearly primaries c s d k)
     (λ x has. each x has)
-    (pairs_weaker (AreApart component place) (λ x y. AreClear m (laid x) (laid y)) items
-    (λ x y a b apart. clear_of m component place x y (laid x) (laid y) (stands x a).0 (stands y b).0 apart)
-    (pairs_among (AreApart component place) front items (λ x y r. apart_back component place x y r) (pairs_placed component place first front put.placed) (λ y has. inner_among primaries d k.class k.row y has) (inner_differ h primaries d k.class k.row known.keeps k.there)))
+    (pairs_weaker (AreApart component place) (λ x y. AreClear m (placement x) (placement y)) items
+    (λ x y a b apart. clear_of m component place x y (placement x) (placement y) (stands x a).0 (stands y b).0 apart)
+    (pairs_among (AreApart component place) front items (λ x y r. apart_back component place x y r) (pairs_placed component place first front put.placed) (λ y has. inner_among primaries d k.class k.row y has) (inner_differ h primaries d k.class k.row keeps k.there)))
     (λ p has. let o = own_has h primaries d p has in subst (λ (z : Placement). IsInPlace m (Within c s d) z) o.1 (own (owns h rows nearly primaries d k o.0)))
     (own_two h rows primaries d)
-    (λ x p a has. let o = own_has h primaries d p has in subst (λ (z : Placement). AreClear m (laid x) z) o.1 (own_clear m first last (component x) (place x) (laid x) (stands x a).0 (put_is x a) (owns h rows nearly primaries d k o.0).dsize))
+    (λ x p a has. let o = own_has h primaries d p has in subst (λ (z : Placement). AreClear m (placement x) z) o.1 (own_clear m first last (component x) (place x) (placement x) (stands x a).0 (put_is x a) (owns h rows nearly primaries d k o.0).dsize))
   where
     m : Measures
     m = measures_of h rows
 
     k : HasRow h rows nearly primaries d
-    k = row_of h rows nearly primaries d known.laid lt
+    k = row_of h rows nearly primaries d laid lt
 
     first : Stage
     first = start_stage d k.laid.has_pointer
@@ -229,23 +223,23 @@ within_arranged h rows nearly primaries c s d known lt =
     place : Item → ℕ
     place = place_item h rows d
 
-    laid : Item → Placement
-    laid = within_place h rows primaries c s d
+    placement : Item → Placement
+    placement = within_place h rows primaries c s d
 
     put : ArePut h rows primaries d first last front
     put = front_put h rows primaries d k.class k.laid.has_pointer k.row k.laid.placed
 
     low : (b : ClassId) → b.0 < d.0 → IsFine h rows b
-    low b less = fine h rows nearly primaries b known.keeps known.laid (omega arith)
+    low b less = fine h rows nearly primaries b keeps laid (omega arith)
 
     view : (x : Item) → Has items x → IsInner h primaries d k.class x
     view x has = inner_view h primaries d k.class k.row x k.there has
 
     item : (x : Item) → Has items x → IsItem h d k.class x
-    item x has = inner_item h rows nearly primaries d k.class x known lt (view x has)
+    item x has = inner_item h rows nearly primaries d k.class x keeps laid lt (view x has)
 
-    stands : (x : Item) → Has items x → Stands m (component x) (place x) (laid x) × (rank_of (laid x).node < 2 * d.0 + 1)
-    stands x has = within_stands h rows nearly primaries c s d k.class x known lt k.there low (view x has)
+    stands : (x : Item) → Has items x → Stands m (component x) (place x) (placement x) × (rank_of (placement x).node < 2 * d.0 + 1)
+    stands x has = within_stands h rows nearly primaries c s d k.class x keeps laid lt k.there low (view x has)
 
     put_is : (x : Item) → Has items x → IsPut first last (component x) (place x)
     put_is x has = subst (λ (st : Stage). IsPut first st (component x) (place x)) put.ends (put_at component place first front x put.placed (inner_among primaries d k.class k.row x has))
@@ -257,9 +251,9 @@ within_arranged h rows nearly primaries c s d known lt =
     align_is = ap nvalign_in k.row_there
 
     here : IsFine h rows d
-    here = fine h rows nearly primaries d known.keeps known.laid lt
+    here = fine h rows nearly primaries d keeps laid lt
 
-    each : (x : Item) → Has items x → IsInPlace m (Within c s d) (laid x)
+    each : (x : Item) → Has items x → IsInPlace m (Within c s d) (placement x)
     each x has =
         let f = row_fine h rows primaries d k.class k.laid.has_pointer k.row k.laid.placed in
         let t = stands x has in
@@ -268,9 +262,9 @@ within_arranged h rows nearly primaries c s d known lt =
         let r = le-max_right 1 (nvsize_in (slice_get rows d.0)) in
         let a = p.align in
         let b = f.nvalign in
-        in_place m (Within c s d) first last (component x) (place x) (laid x) t.0 p t.1 (omega (arith, l, r, size_is))
-        (λ other. let e : (if is_empty h d then 0 else nvsize_in (slice_get rows d.0)) ≡ nvsize_in (slice_get rows d.0) = ap (λ b. if b then 0 else nvsize_in (slice_get rows d.0)) (item_has_data h rows primaries d k.class x known.keeps k.there (item x has) other) in omega (arith, l, e, size_is))
-        (align_divides (component x).align (nvalign_in (slice_get rows d.0)) (item_align h rows primaries d k.class x known.keeps k.there low (item x has)) here.nvalign (omega (arith, a, b, align_is)))
+        in_place m (Within c s d) first last (component x) (place x) (placement x) t.0 p t.1 (omega (arith, l, r, size_is))
+        (λ other. let e : (if is_empty h d then 0 else nvsize_in (slice_get rows d.0)) ≡ nvsize_in (slice_get rows d.0) = ap (λ b. if b then 0 else nvsize_in (slice_get rows d.0)) (item_has_data h rows primaries d k.class x keeps k.there (item x has) other) in omega (arith, l, e, size_is))
+        (align_divides (component x).align (nvalign_in (slice_get rows d.0)) (item_align h rows primaries d k.class x keeps k.there low (item x has)) here.nvalign (omega (arith, a, b, align_is)))
 
     own : Owns h d first → IsInPlace m (Within c s d) (one_at Pointer 0 8)
     own o =

@@ -1,5 +1,5 @@
 -- What holds of each two elements of a list, the one before the other.
-use Rattle.std.proofs.Common.{◌≡◌, ℕ, zero, suc, ◌<◌, ⊎_elim, inl, inr, Some, None, List, [], ◌∷◌, ◌++◌, map, refl, subst, sym, arith}
+use Rattle.std.proofs.Common.{◌≡◌, ℕ, zero, suc, ◌<◌, ⊎_elim, inl, inr, Some, None, List, [], ◌∷◌, ◌++◌, map, refl, subst, arith}
 use Rattle.std.specs.List.{slice_get}
 use Rattle.abi_layout.proofs.Stages.{Has, has_cases}
 
