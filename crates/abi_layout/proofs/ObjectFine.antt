@@ -3,7 +3,7 @@
 use Rattle.std.proofs.Common.{◌≡◌, ℕ, zero, suc, ◌+◌, ◌<◌, ◌≤◌, inl, inr, ⊎_elim, Bool, true, false, Option, Some, List, [], ◌∷◌, ◌++◌, map, length, refl, ap, subst, sym, ◌∙◌, arith}
 use Rattle.std.specs.Prelude.{if◌then◌else◌, max, filter, not, ◌&&◌}
 use Rattle.std.specs.List.{slice_get, Contains}
-use Rattle.std.proofs.lemmas.Bool.{eqb-true}
+use Rattle.std.proofs.lemmas.Bool.{not-true, eqb-true, and_parts}
 use Rattle.std.proofs.Math.Nat.{le-max_left, le-max_right}
 use Rattle.cxx_hierarchy.specs.declared.records.ClassId.{ClassId}
 use Rattle.cxx_hierarchy.specs.declared.records.Base.{Base}
@@ -50,14 +50,6 @@ pub data IsItem (h : Classes) (c : ClassId) (class : Class) : Item → Type 0 wh
   is_shared : (v : ClassId) → HasVirtualBase h c v → IsItem h c class (a_base (SharedBase v))
   is_member : (n : ℕ) (member : Member ClassId) (place : ℕ) → Has class.members member → IsItem h c class (a_member n member place)
 
-both : (a b : Bool) → (a && b) ≡ true → (a ≡ true) × (b ≡ true)
-both true b e = (refl, e)
-both false b e = cc
-
-not_true : (b : Bool) → not b ≡ true → b ≡ false
-not_true true e = cc
-not_true false e = refl
-
 -- a plain base, by the list of bases
 pub plain_edge : (h : Classes) (c : ClassId) (class : Class) (base : Base ClassId) → class_at h c ≡ Some class → Has class.bases base → base.is_virtual ≡ false → IsDirectBase h c false base.class
 plain_edge h c class base at has way = record { base = base; listed = subst (λ (o : Option Class). Contains (bases_in o) base) (sym at) (contains_of class.bases base has); class = refl; way = way }
@@ -72,7 +64,7 @@ front_view h c class p base at possible has = ⊎_elim
     (λ l. first_view h c class p base possible l)
     (λ r. let k = has_mapped (λ (x : Base ClassId). Own x.class) (filter (is_other_base p) class.bases) base r in
     let f = has_filter (is_other_base p) class.bases k.0 k.1 in
-    let way = not_true k.0.is_virtual (both (not k.0.is_virtual) (not (is_first_base p k.0)) f.1).0 in
+    let way = not-true k.0.is_virtual (and_parts (not k.0.is_virtual) (not (is_first_base p k.0)) f.1).0 in
     subst (λ (x : PlacedBase). IsItem h c class (a_base x)) k.2 (is_own k.0.class (plain_edge h c class k.0 at f.0 way)))
     (has_cases (first_base p) (map (λ (x : Base ClassId). Own x.class) (filter (is_other_base p) class.bases)) base has)
 

@@ -36,11 +36,12 @@ apart_back component place x y r = λ a b. ⊎_elim (λ l. inr l) (λ g. inl g) 
 
 pub pairs_placed : {X : Type 0} (component : X → Component) (place : X → ℕ) (st : Stage) (xs : List X) → ArePlaced st (map component xs) (map place xs) → Pairs (AreApart component place) xs
 pairs_placed component place st [] l = tt
-pairs_placed component place st (x ∷ xs) l =
-    (λ y has u v. let r = (put_at component place (after st (component x) (place x)) xs y l.1 has).behind v in
-    let q : (after st (component x) (place x)).dsize ≡ place x + (component x).takes = ap (λ b. if b then st.dsize else place x + (component x).takes) u in
-    inl (omega (arith, q, r)),
-    pairs_placed component place (after st (component x) (place x)) xs l.1)
+pairs_placed component place st (x ∷ xs) l = (
+  λ y has u v. let r = (put_at component place (after st (component x) (place x)) xs y l.1 has).behind v in
+      let q : (after st (component x) (place x)).dsize ≡ place x + (component x).takes = ap (λ b. if b then st.dsize else place x + (component x).takes) u in
+      inl (omega (arith, q, r)),
+  pairs_placed component place (after st (component x) (place x)) xs l.1,
+)
 
 -- a placed base, or a member by its number, with its place
 pub data Item : Type 0 where

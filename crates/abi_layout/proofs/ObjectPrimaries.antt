@@ -2,8 +2,7 @@
 use Rattle.std.proofs.Common.{◌≡◌, ℕ, zero, suc, ◌+◌, ◌<◌, ◌≤◌, inl, inr, ⊎_elim, Bool, true, false, cond, Option, Some, None, List, [], ◌∷◌, length, get_or, refl, ap, subst, sym, ◌∙◌, arith}
 use Rattle.std.specs.Prelude.{Contains, not, ◌&&◌, ◌==◌, nat_eq, if◌then◌else◌}
 use Rattle.std.specs.List.{slice_get, find, filter_map, cons_option}
-use Rattle.std.proofs.lemmas.Bool.{eq-eqb}
-use Rattle.std.proofs.lemmas.Bool.{cases_order}
+use Rattle.std.proofs.lemmas.Bool.{eq-eqb, and_parts, cases_order}
 use Rattle.std.proofs.lemmas.List.{get_or_past}
 use Rattle.cxx_hierarchy.specs.declared.records.ClassId.{ClassId}
 use Rattle.cxx_hierarchy.specs.Classes.{Class, Classes, class_at, bases_of}
@@ -47,10 +46,6 @@ row_of h rows nearly primaries c laid lt =
     let r = get_within rows c.0 (omega arith) in
     record { class = k.0; there = k.1; row = r.0; row_there = r.1; laid = laid.row c k.0 r.0 k.1 r.1 }
 
-both : (a b : Bool) → (a && b) ≡ true → (a ≡ true) × (b ≡ true)
-both true b e = (refl, e)
-both false b e = cc
-
 pub found_has : {X : Type 0} (p : X → Bool) (xs : List X) (x : X) → find p xs ≡ Some x → Has xs x × (p x ≡ true)
 found_has p [] x e = let f : None ≡ Some x = e in cc
 found_has {X} p (y ∷ xs) x e = split (p y) (λ b. p y ≡ b → cond b (Some y) (find p xs) ≡ Some x → Has (y ∷ xs) x × (p x ≡ true))
@@ -71,13 +66,13 @@ record IsNearlyShared (nearly : List Bool) (list : List Subobject) (v : ClassId)
 nearly_shared : (nearly : List Bool) (list : List Subobject) (v : ClassId) (s : Subobject) → Has list s → is_nearly_base nearly s ≡ true → as_primary s.root ≡ Virtual v → IsNearlyShared nearly list v
 nearly_shared nearly list v s has near e =
     let root = root_is s.root v e in
-    let t = both (length s.path == 1) (is_nearly_root nearly s.root) near in
+    let t = and_parts (length s.path == 1) (is_nearly_root nearly s.root) near in
     record { subobject = s; has = has; root = root; near = ap (is_nearly_root nearly) (sym root) ∙ t.1 }
 
 chosen : (nearly : List Bool) (earlier : List Primary) (list : List Subobject) (v : ClassId) (o q : Option Subobject) → find (is_free_base nearly earlier list) list ≡ o → find (is_nearly_base nearly) list ≡ q → choice o q ≡ Virtual v → IsNearlyShared nearly list v
 chosen nearly earlier list v (Some s) q e f is =
     let x = found_has (is_free_base nearly earlier list) list s e in
-    nearly_shared nearly list v s x.0 (both (is_nearly_base nearly s) (not (is_taken_root earlier list s.root)) x.1).0 is
+    nearly_shared nearly list v s x.0 (and_parts (is_nearly_base nearly s) (not (is_taken_root earlier list s.root)) x.1).0 is
 chosen nearly earlier list v None (Some s) e f is = let x = found_has (is_nearly_base nearly) list s f in nearly_shared nearly list v s x.0 x.1 is
 chosen nearly earlier list v None None e f is = let g : NoPrimary ≡ Virtual v = is in cc
 

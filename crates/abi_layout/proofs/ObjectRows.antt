@@ -3,6 +3,7 @@ use Rattle.std.proofs.Common.{◌≡◌, ℕ, ◌+◌, ◌*◌, ◌<◌, ◌⊎�
 use Rattle.std.specs.Prelude.{if◌then◌else◌, ◌&&◌}
 use Rattle.std.specs.List.{slice_get, Contains}
 use Rattle.std.proofs.Math.Nat.{le-max_right}
+use Rattle.std.proofs.lemmas.Bool.{and_parts}
 use Rattle.cxx_hierarchy.specs.declared.records.ClassId.{ClassId}
 use Rattle.cxx_hierarchy.specs.declared.records.Member.{Member}
 use Rattle.cxx_hierarchy.specs.declared.records.FieldType.{FieldType}
@@ -58,10 +59,6 @@ own_has h primaries d k has = split (owns_pointer h primaries d) (λ b. Has (if 
 pub own_two : (h : Classes) (rows : List ClassLayout) (primaries : List Primary) (d : ClassId) → Pairs (AreClear (measures_of h rows)) (own_pointer h primaries d)
 own_two h rows primaries d = split (owns_pointer h primaries d) (λ b. Pairs (AreClear (measures_of h rows)) (if b then one_at Pointer 0 8 ∷ [] else [])) (λ _. (λ y x. absurd x, tt)) (λ _. tt)
 
-both : (a b : Bool) → (a && b) ≡ true → (a ≡ true) × (b ≡ true)
-both true b e = (refl, e)
-both false b e = cc
-
 no_primary_is : (p : Primary) → is_no_primary p ≡ true → p ≡ NoPrimary
 no_primary_is NoPrimary e = refl
 no_primary_is (Direct b) e = let f : false ≡ true = e in cc
@@ -74,7 +71,7 @@ pub record Owns (h : Classes) (d : ClassId) (first : Stage) : Type 0 where
 
 pub owns : (h : Classes) (rows : List ClassLayout) (nearly : List Bool) (primaries : List Primary) (d : ClassId) (k : HasRow h rows nearly primaries d) → owns_pointer h primaries d ≡ true → Owns h d (start_stage d k.laid.has_pointer)
 owns h rows nearly primaries d k e =
-    let b = both (is_kind dynamic_kind h d) (is_no_primary (primary_of primaries d)) e in
+    let b = and_parts (is_kind dynamic_kind h d) (is_no_primary (primary_of primaries d)) e in
     let dynamic = dynamic_by_test h d b.0 in
     let t : k.laid.has_pointer ≡ true = k.laid.pointer.1 (dynamic, no_primary_is (primary_of primaries d) b.1) in
     record { dynamic = dynamic; dsize = ap (λ x. (start_stage d x).dsize) t }

@@ -3,6 +3,7 @@ use Rattle.std.proofs.Common.{◌≡◌, ℕ, ◌+◌, ◌*◌, ◌<◌, ◌⊎�
 use Rattle.std.specs.Prelude.{if◌then◌else◌, filter, not}
 use Rattle.std.specs.List.{slice_get}
 use Rattle.std.proofs.Math.Nat.{le-max_right}
+use Rattle.std.proofs.lemmas.Bool.{not-true}
 use Rattle.cxx_hierarchy.specs.declared.records.ClassId.{ClassId}
 use Rattle.cxx_hierarchy.specs.declared.records.Base.{Base}
 use Rattle.cxx_hierarchy.specs.declared.records.Member.{Member}
@@ -88,10 +89,6 @@ data IsInner (h : Classes) (primaries : List Primary) (d : ClassId) (class : Cla
   inner_own : (b : ClassId) → IsDirectBase h d false b → IsInner h primaries d class (a_base (Own b))
   inner_shared : (v : ClassId) → primary_of primaries d ≡ Virtual v → IsInner h primaries d class (a_base (SharedBase v))
 
-not_true : (b : Bool) → not b ≡ true → b ≡ false
-not_true true e = cc
-not_true false e = refl
-
 -- a plain base that is listed
 record IsPlain (bases : List (Base ClassId)) (x : Item) : Type 0 where
   base : Base ClassId
@@ -103,7 +100,7 @@ plain_item : (bases : List (Base ClassId)) (x : Item) → Has (map own_item (fil
 plain_item bases x has =
     let r = has_mapped own_item (filter is_plain_base bases) x has in
     let f = has_filter is_plain_base bases r.0 r.1 in
-    record { base = r.0; has = f.0; way = not_true r.0.is_virtual f.1; is = r.2 }
+    record { base = r.0; has = f.0; way = not-true r.0.is_virtual f.1; is = r.2 }
 
 inner_view : (h : Classes) (primaries : List Primary) (d : ClassId) (class : Class) (row : ClassLayout) (x : Item) → class_at h d ≡ Some class → Has (inner_items primaries d class row) x → IsInner h primaries d class x
 inner_view h primaries d class row x at has = ⊎_elim
@@ -175,9 +172,11 @@ within_stands h rows nearly primaries c s d class _ keeps laid lt at low (inner_
     (member_stands h rows (object_parts h rows primaries) n member place (type_fine h rows d low member.ty below), f)
 within_stands h rows nearly primaries c s d class _ keeps laid lt at low (inner_own b edge) =
     let l = base_below h d b keeps edge in
-    let place : base_place h rows d b ≡ placed_place h rows d (Own b) = omega arith in
-    (subst (λ p. Stands (measures_of h rows) (component_item h rows primaries d (a_base (Own b))) p (within_place h rows primaries c s d (a_base (Own b)))) place
-    (base_stands h rows c (subobject s.root (s.path ++ b ∷ [])) b (brought_by h rows primaries (object_parts h rows primaries) d (subobject_of d (Own b)) b) (base_place h rows d b) (low b l)), omega arith)
+    let place : base_place h rows d b ≡ placed_place h rows d (Own b) = omega arith in (
+      subst (λ p. Stands (measures_of h rows) (component_item h rows primaries d (a_base (Own b))) p (within_place h rows primaries c s d (a_base (Own b)))) place
+          (base_stands h rows c (subobject s.root (s.path ++ b ∷ [])) b (brought_by h rows primaries (object_parts h rows primaries) d (subobject_of d (Own b)) b) (base_place h rows d b) (low b l)),
+      omega arith,
+    )
 within_stands h rows nearly primaries c s d class _ keeps laid lt at low (inner_shared v e) =
     let x = shared_primary h rows nearly primaries d v keeps laid lt e in
     let l = virtual_below h keeps d v x.0 in
