@@ -44,3 +44,10 @@ pub mod ObjectPointers
 pub mod ObjectSound
 pub mod ObjectKinds
 pub mod ObjectPrimaries
+pub mod Pairs
+pub mod ObjectItems
+pub mod ObjectFine
+pub mod ObjectPlaced
+pub mod ObjectRows
+pub mod ObjectWithin
+pub mod ObjectArranged

@@ -2,19 +2,18 @@
 use Rattle.std.proofs.Common.{◌≡◌, ℕ, zero, suc, ◌+◌, ◌<◌, inl, inr, ⊎_elim, Bool, true, false, Option, Some, None, List, [], ◌∷◌, length, refl, ap, subst, sym, ◌∙◌, arith}
 use Rattle.std.specs.Prelude.{not, ◌&&◌, ◌||◌, ◌==◌}
 use Rattle.std.specs.List.{Contains, list_all, list_any}
-use Rattle.std.proofs.lemmas.Bool.{eqb-true}
+use Rattle.std.proofs.lemmas.Bool.{not-true, eqb-true, and_parts, or_left, or_right}
 use Rattle.cxx_hierarchy.specs.declared.records.ClassId.{ClassId}
 use Rattle.cxx_hierarchy.specs.declared.records.Base.{Base}
 use Rattle.cxx_hierarchy.specs.declared.records.Member.{Member}
 use Rattle.cxx_hierarchy.specs.Classes.{Class, Classes, class_at, bases_of, bases_in}
 use Rattle.cxx_hierarchy.specs.Hierarchies.{IsHierarchy}
-use Rattle.cxx_hierarchy.specs.VirtualBases.{IsDirectBase}
+use Rattle.cxx_hierarchy.specs.VirtualBases.{IsDirectBase, HasVirtualBase, direct, further}
 use Rattle.abi_primary.specs.Kinds.{IsDynamic, declares, shares, inherits, IsEmpty, empty}
 use Rattle.abi_layout.specs.Kinds.{in_class, is_kind_in, is_kind, empty_kind, has_virtual_function, is_empty}
-use Rattle.abi_layout.proofs.Lists.{has_here, has_later}
 use Rattle.abi_layout.proofs.Each.{not_both}
 use Rattle.abi_layout.proofs.Stages.{Has, split}
-use Rattle.abi_layout.proofs.KindLemmas.{contains_of, has_of}
+use Rattle.abi_layout.proofs.KindLemmas.{contains_of, has_of, all_each, one_fails}
 use Rattle.abi_layout.proofs.ObjectTree.{dynamic_kind}
 
 -- an element that passes
@@ -29,37 +28,13 @@ any_has {X} p (x ∷ xs) e = split (p x) (λ b. (b || list_any p xs) ≡ true �
     (λ t k is. record { item = x; has = inl refl; passes = is })
     (λ f k is. let r = any_has p xs k in record { item = r.item; has = inr r.has; passes = r.passes }) e refl
 
-or_left : (a b : Bool) → a ≡ true → (a || b) ≡ true
-or_left true b t = refl
-or_left false b t = let f : false ≡ true = t in cc
-
-or_right : (a b : Bool) → b ≡ true → (a || b) ≡ true
-or_right true b t = refl
-or_right false b t = t
-
 pub has_any : {X : Type 0} (p : X → Bool) (xs : List X) (x : X) → Has xs x → p x ≡ true → list_any p xs ≡ true
 has_any p [] x h e = absurd h
 has_any p (y ∷ xs) x h e = ⊎_elim (λ q. or_left (p y) (list_any p xs) (ap p q ∙ e)) (λ r. or_right (p y) (list_any p xs) (has_any p xs x r e)) h
 
-both : (a b : Bool) → (a && b) ≡ true → (a ≡ true) × (b ≡ true)
-both true b e = (refl, e)
-both false b e = cc
-
-each_of : {X : Type 0} (p : X → Bool) (xs : List X) → list_all p xs ≡ true → (x : X) → Has xs x → p x ≡ true
-each_of p [] e x h = absurd h
-each_of p (y ∷ xs) e x h = let b = both (p y) (list_all p xs) e in ⊎_elim (λ q. ap p (sym q) ∙ b.0) (λ r. each_of p xs b.1 x r) h
-
 all_of : {X : Type 0} (p : X → Bool) (xs : List X) → ((x : X) → Has xs x → p x ≡ true) → list_all p xs ≡ true
 all_of p [] each = refl
 all_of p (x ∷ xs) each = let a = each x (inl refl) in let b = all_of p xs (λ y h. each y (inr h)) in cc
-
-some_fails : {X : Type 0} (p : X → Bool) (xs : List X) → list_all p xs ≡ false → (x : X) × Has xs x × (p x ≡ false)
-some_fails p [] e = cc
-some_fails {X} p (y ∷ xs) e = split (p y) (λ b. (b && list_all p xs) ≡ false → p y ≡ b → (x : X) × Has (y ∷ xs) x × (p x ≡ false)) (λ t k _. let r = some_fails p xs k in (r.0, inr r.1, r.2)) (λ f k g. (y, inl refl, g)) e refl
-
-not_true : (b : Bool) → not b ≡ true → b ≡ false
-not_true true e = cc
-not_true false e = refl
 
 edge : (h : Classes) (c : ClassId) (class : Class) (base : Base ClassId) → class_at h c ≡ Some class → Has class.bases base → IsDirectBase h c base.is_virtual base.class
 edge h c class base e has = record { base = base; listed = subst (λ (o : Option Class). Contains (bases_in o) base) (sym e) (contains_of class.bases base has); class = refl; way = refl }
@@ -123,10 +98,10 @@ empty_by_test h (suc n) c e = by_class (class_at h c) refl (λ b t. empty_by_tes
     by_class None at below t = let f : false ≡ true = t in cc
     by_class (Some class) at below t =
         let p = λ (base : Base ClassId). not base.is_virtual && is_kind_in empty_kind h n base.class in
-        let k = both (length class.members == 0) (not (has_virtual_function class) && list_all p class.bases) t in
-        let l = both (not (has_virtual_function class)) (list_all p class.bases) k.1 in
-        let one = λ (base : Base ClassId) (has : Contains class.bases base). both (not base.is_virtual) (is_kind_in empty_kind h n base.class) (each_of p class.bases l.1 base (has_of class.bases base has)) in
-        empty c class at (none_there class.members k.0) (not_true (has_virtual_function class) l.0) (λ base has. not_true base.is_virtual (one base has).0) (λ base has. below base.class (one base has).1)
+        let k = and_parts (length class.members == 0) (not (has_virtual_function class) && list_all p class.bases) t in
+        let l = and_parts (not (has_virtual_function class)) (list_all p class.bases) k.1 in
+        let one = λ (base : Base ClassId) (has : Contains class.bases base). and_parts (not base.is_virtual) (is_kind_in empty_kind h n base.class) (all_each p class.bases l.1 base (has_of class.bases base has)) in
+        empty c class at (none_there class.members k.0) (not-true (has_virtual_function class) l.0) (λ base has. not-true base.is_virtual (one base has).0) (λ base has. below base.class (one base has).1)
 
 -- an empty class passes the test
 pub empty_test : (h : Classes) → IsHierarchy h → (n : ℕ) (c : ClassId) → c.0 < n → IsEmpty h c → is_kind_in empty_kind h n c ≡ true
@@ -148,6 +123,11 @@ pub dynamic_not_empty : (h : Classes) (c : ClassId) → IsDynamic h c → IsEmpt
 dynamic_not_empty h _ (declares c class at t) (empty _ other f m n w b) = let same : class ≡ other = cc in not_both t (ap has_virtual_function same ∙ n)
 dynamic_not_empty h _ (shares c v way) (empty _ other f m n w b) = not_both way.way (w way.base (subst (λ (o : Option Class). Contains (bases_in o) way.base) f way.listed))
 dynamic_not_empty h _ (inherits c d k way x) (empty _ other f m n w b) = dynamic_not_empty h d x (subst (IsEmpty h) way.class (b way.base (subst (λ (o : Option Class). Contains (bases_in o) way.base) f way.listed)))
+
+-- a class with a virtual base is dynamic
+pub virtual_dynamic : (h : Classes) (c v : ClassId) → HasVirtualBase h c v → IsDynamic h c
+virtual_dynamic h _ _ (direct c v way) = shares c v way
+virtual_dynamic h _ _ (further c b v k way rest) = inherits c b k way (virtual_dynamic h b v rest)
 
 -- the test of dynamic classes is exact
 pub dynamic_test : (h : Classes) (c : ClassId) → IsHierarchy h → IsDynamic h c → is_kind dynamic_kind h c ≡ true
@@ -189,7 +169,7 @@ has_data h keeps c class at some = by_members class.members refl
         let same : empty_kind (is_kind_in empty_kind h c.0) class ≡ list_all (λ (base : Base ClassId). not base.is_virtual && is_kind_in empty_kind h c.0 base.class) class.bases =
         ap (λ b. b && (not (has_virtual_function class) && list_all (λ (base : Base ClassId). not base.is_virtual && is_kind_in empty_kind h c.0 base.class) class.bases)) members
         ∙ ap (λ b. b && list_all (λ (base : Base ClassId). not base.is_virtual && is_kind_in empty_kind h c.0 base.class) class.bases) still in
-        let r = some_fails (λ (base : Base ClassId). not base.is_virtual && is_kind_in empty_kind h c.0 base.class) class.bases (sym same ∙ here) in
+        let r = one_fails (λ (base : Base ClassId). not base.is_virtual && is_kind_in empty_kind h c.0 base.class) class.bases (sym same ∙ here) in
         split r.0.is_virtual (λ b. r.0.is_virtual ≡ b → (not b && is_kind_in empty_kind h c.0 r.0.class) ≡ false → HasData h c class)
         (λ _ way _. by_kind (shares c r.0.class (subst (λ w. IsDirectBase h c w r.0.class) way (edge h c class r.0 at r.1))))
         (λ _ way k. by_base r.0 r.1 way (base_some r.0 r.1 way k)) refl r.2)

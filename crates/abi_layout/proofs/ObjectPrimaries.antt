@@ -1,19 +1,17 @@
 -- Primary bases: each is a dynamic base, and a virtual one of a class lies at its start.
 use Rattle.std.proofs.Common.{◌≡◌, ℕ, zero, suc, ◌+◌, ◌<◌, ◌≤◌, inl, inr, ⊎_elim, Bool, true, false, cond, Option, Some, None, List, [], ◌∷◌, length, get_or, refl, ap, subst, sym, ◌∙◌, arith}
-use Rattle.std.specs.Prelude.{Contains, filter, not, ◌&&◌, ◌==◌, nat_eq}
+use Rattle.std.specs.Prelude.{Contains, not, ◌&&◌, ◌==◌, nat_eq, if◌then◌else◌}
 use Rattle.std.specs.List.{slice_get, find, filter_map, cons_option}
-use Rattle.std.proofs.lemmas.Bool.{eqb-true, eq-eqb}
-use Rattle.std.proofs.lemmas.Bool.{cases_order}
+use Rattle.std.proofs.lemmas.Bool.{eq-eqb, and_parts, cases_order}
 use Rattle.std.proofs.lemmas.List.{get_or_past}
 use Rattle.cxx_hierarchy.specs.declared.records.ClassId.{ClassId}
-use Rattle.cxx_hierarchy.specs.declared.records.Base.{Base}
 use Rattle.cxx_hierarchy.specs.Classes.{Class, Classes, class_at, bases_of}
 use Rattle.cxx_hierarchy.specs.Hierarchies.{IsHierarchy}
 use Rattle.cxx_hierarchy.specs.VirtualBases.{IsDirectBase, HasVirtualBase}
 use Rattle.cxx_subobject.specs.declared.Root.{Root}
 use Rattle.cxx_subobject.specs.declared.Root.TheVariants.{Whole, Shared}
 use Rattle.cxx_subobject.specs.declared.Subobject.{Subobject}
-use Rattle.cxx_subobject.specs.Subobjects.{IsSubobject, whole, shared, whole_of, shared_base, base_subobject, same_subobject}
+use Rattle.cxx_subobject.specs.Subobjects.{IsSubobject, whole, shared, whole_of, shared_base}
 use Rattle.cxx_subobject.specs.Preorder.{tree, firsts, preorder}
 use Rattle.cxx_subobject.proofs.TreeLemmas.{preorder_lists}
 use Rattle.abi_primary.specs.declared.Primary.{Primary}
@@ -23,8 +21,7 @@ use Rattle.abi_primary.specs.NearlyEmpty.{is_nearly}
 use Rattle.abi_primary.specs.PrimaryBase.{is_nearly_root, is_nearly_base, is_taken_root, is_free_base, as_primary, choice, IsPrimary, of_direct, of_virtual, has_primary, is_virtual_primary}
 use Rattle.abi_primary.specs.Holder.{holder_of}
 use Rattle.abi_layout.specs.declared.class_layout.ClassLayout.{ClassLayout}
-use Rattle.abi_layout.specs.declared.dynamic_bases.PlacedBase.{PlacedBase}
-use Rattle.abi_layout.specs.declared.dynamic_bases.PlacedBase.TheVariants.{Own, SharedBase}
+use Rattle.abi_layout.specs.declared.dynamic_bases.PlacedBase.TheVariants.{SharedBase}
 use Rattle.abi_layout.specs.Holding.{shared_class, virtual_bases, virtual_in, virtual_primary}
 use Rattle.abi_layout.specs.Scenes.{AreBefore}
 use Rattle.abi_layout.specs.PlacedBases.{IsPossible}
@@ -49,10 +46,6 @@ row_of h rows nearly primaries c laid lt =
     let r = get_within rows c.0 (omega arith) in
     record { class = k.0; there = k.1; row = r.0; row_there = r.1; laid = laid.row c k.0 r.0 k.1 r.1 }
 
-both : (a b : Bool) → (a && b) ≡ true → (a ≡ true) × (b ≡ true)
-both true b e = (refl, e)
-both false b e = cc
-
 pub found_has : {X : Type 0} (p : X → Bool) (xs : List X) (x : X) → find p xs ≡ Some x → Has xs x × (p x ≡ true)
 found_has p [] x e = let f : None ≡ Some x = e in cc
 found_has {X} p (y ∷ xs) x e = split (p y) (λ b. p y ≡ b → cond b (Some y) (find p xs) ≡ Some x → Has (y ∷ xs) x × (p x ≡ true))
@@ -73,13 +66,13 @@ record IsNearlyShared (nearly : List Bool) (list : List Subobject) (v : ClassId)
 nearly_shared : (nearly : List Bool) (list : List Subobject) (v : ClassId) (s : Subobject) → Has list s → is_nearly_base nearly s ≡ true → as_primary s.root ≡ Virtual v → IsNearlyShared nearly list v
 nearly_shared nearly list v s has near e =
     let root = root_is s.root v e in
-    let t = both (length s.path == 1) (is_nearly_root nearly s.root) near in
+    let t = and_parts (length s.path == 1) (is_nearly_root nearly s.root) near in
     record { subobject = s; has = has; root = root; near = ap (is_nearly_root nearly) (sym root) ∙ t.1 }
 
 chosen : (nearly : List Bool) (earlier : List Primary) (list : List Subobject) (v : ClassId) (o q : Option Subobject) → find (is_free_base nearly earlier list) list ≡ o → find (is_nearly_base nearly) list ≡ q → choice o q ≡ Virtual v → IsNearlyShared nearly list v
 chosen nearly earlier list v (Some s) q e f is =
     let x = found_has (is_free_base nearly earlier list) list s e in
-    nearly_shared nearly list v s x.0 (both (is_nearly_base nearly s) (not (is_taken_root earlier list s.root)) x.1).0 is
+    nearly_shared nearly list v s x.0 (and_parts (is_nearly_base nearly s) (not (is_taken_root earlier list s.root)) x.1).0 is
 chosen nearly earlier list v None (Some s) e f is = let x = found_has (is_nearly_base nearly) list s f in nearly_shared nearly list v s x.0 x.1 is
 chosen nearly earlier list v None None e f is = let g : NoPrimary ≡ Virtual v = is in cc
 
@@ -194,6 +187,26 @@ virtual_listed h c v keeps has =
     let s = shared_base v in
     let listed = (preorder_lists h c keeps).listed s (shared v [] has tt) in
     contains_of (virtual_bases h c) v (in_filter_map shared_class (preorder h c) s v (has_of (preorder h c) s listed) refl)
+
+from_filter_map : {X Y : Type 0} (f : X → Option Y) (xs : List X) (y : Y) → Has (filter_map f xs) y → (x : X) × Has xs x × (f x ≡ Some y)
+from_filter_map f [] y has = absurd has
+from_filter_map {X} {Y} f (z ∷ xs) y has = at (f z) refl has (λ k. from_filter_map f xs y k)
+  where
+    at : (o : Option Y) → f z ≡ o → Has (cons_option o (filter_map f xs)) y → (Has (filter_map f xs) y → (x : X) × Has xs x × (f x ≡ Some y)) → (x : X) × Has (z ∷ xs) x × (f x ≡ Some y)
+    at None e k more = let r = more k in (r.0, inr r.1, r.2)
+    at (Some w) e k more = ⊎_elim (λ same. (z, inl refl, e ∙ ap (λ v. Some v) same)) (λ j. let r = more j in (r.0, inr r.1, r.2)) k
+
+-- each in the list of virtual bases is one
+pub listed_virtual : (h : Classes) (c v : ClassId) → IsHierarchy h → Has (virtual_bases h c) v → HasVirtualBase h c v
+listed_virtual h c v keeps has =
+    let r = from_filter_map shared_class (preorder h c) v has in
+    of_subobject r.0 ((preorder_lists h c keeps).valid r.0 (contains_of (preorder h c) r.0 r.1)) r.2
+  where
+    of_subobject : (s : Subobject) → IsSubobject h c s → shared_class s ≡ Some v → HasVirtualBase h c v
+    of_subobject _ (whole path leads) e = let f : None ≡ Some v = e in cc
+    of_subobject _ (shared w path way leads) e = split (length (w ∷ path) == 1) (λ b. (if b then Some w else None) ≡ Some v → HasVirtualBase h c v)
+        (λ t some. let same : w ≡ v = cc in subst (HasVirtualBase h c) same way)
+        (λ f lacks. let g : None ≡ Some v = lacks in cc) e
 
 -- a virtual primary base lies at the start of its class
 pub shared_at_start : (h : Classes) (rows : List ClassLayout) (nearly : List Bool) (primaries : List Primary) (d v : ClassId) → IsHierarchy h → IsLaidBy h (length h) rows nearly primaries → d.0 < length h → primary_of primaries d ≡ Virtual v → placed_place h rows d (SharedBase v) ≡ 0
