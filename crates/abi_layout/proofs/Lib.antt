@@ -32,4 +32,6 @@ pub mod OpenLemmas
 pub mod CanSettleLemmas
 pub mod NestedLemmas
 pub mod RoomLemmas
-mod ObjectTree
+pub mod ObjectTree
+pub mod OnceLemmas
+pub mod ObjectLists
