@@ -35,3 +35,4 @@ pub mod RoomLemmas
 pub mod ObjectTree
 pub mod OnceLemmas
 pub mod ObjectLists
+pub mod ObjectPrimaries
