@@ -36,3 +36,5 @@ pub mod ObjectTree
 pub mod OnceLemmas
 pub mod ObjectLists
 pub mod ObjectPrimaries
+pub mod ObjectParts
+pub mod ObjectUnfolds
