@@ -38,3 +38,4 @@ pub mod ObjectLists
 pub mod ObjectPrimaries
 pub mod ObjectParts
 pub mod ObjectUnfolds
+pub mod ObjectOnce

@@ -1,5 +1,5 @@
 -- Where nodes list class subobjects by their placements, two paths to one class at one place are one.
-use Rattle.std.proofs.Common.{◌≡◌, ℕ, zero, suc, ◌+◌, ◌*◌, ◌<◌, ◌≤◌, inl, inr, ⊎_elim, Option, Some, None, List, [], ◌∷◌, ◌++◌, map, refl, ap, subst, sym, ◌∙◌, arith}
+use Rattle.std.proofs.Common.{◌≡◌, ℕ, zero, suc, ◌+◌, ◌*◌, ◌<◌, inl, ⊎_elim, Option, Some, None, List, [], ◌∷◌, ◌++◌, map, refl, ap, subst, sym, ◌∙◌, arith}
 use Rattle.std.specs.List.{slice_get, flat_map}
 use Rattle.cxx_hierarchy.specs.declared.records.ClassId.{ClassId}
 use Rattle.cxx_subobject.proofs.ListLemmas.{Has, EachOnce, has_right, has_cases, has_from_mapped}
@@ -8,7 +8,7 @@ use Rattle.abi_emptybase.specs.Table.{moved}
 use Rattle.abi_layout.specs.Laid.{part_at, copies}
 use Rattle.abi_layout.proofs.ObjectTree.{Node, Placement, Step, Contents, start_of, StepsTo, Reaches, here, down, Measures, AreArranged, class_of_node, placed_parts}
 use Rattle.abi_layout.proofs.Stages.{has_map}
-use Rattle.abi_layout.proofs.OnceLemmas.{once_left, once_right, once_clash, once_unmapped, unmapped, stands_at, in_segment, one_segment, once_segment, has_copy, one_copy, once_copy, copied}
+use Rattle.abi_layout.proofs.OnceLemmas.{once_right, once_clash, once_unmapped, unmapped, stands_at, in_segment, one_segment, once_segment, has_copy, one_copy, once_copy, copied}
 
 -- what a class node lists of itself
 abbrev pub own_part : Option ClassId → List Part
@@ -68,7 +68,7 @@ one_step contents parts n s t k l d q r once to into h g same =
     let second = into.there in
     let is : l ≡ k = cc in
     let copy = same_copy parts k d s.copy t.copy q r (once_segment (placed_parts parts) (contents n) s.number k once to.there) to.within (subst (λ (x : Placement). t.copy < x.count) is into.within) h
-        (subst (λ (x : Placement). Has (parts x.node) (part_at d r)) is g) (subst (λ (x : Placement). start_of k s.copy + q ≡ start_of x t.copy + r) is same) in
+    (subst (λ (x : Placement). Has (parts x.node) (part_at d r)) is g) (subst (λ (x : Placement). start_of k s.copy + q ≡ start_of x t.copy + r) is same) in
     let start : start_of k s.copy ≡ start_of l t.copy = ap (λ i. start_of k i) copy ∙ ap (λ (x : Placement). start_of x t.copy) (sym is) in
     let both : step s.number s.copy ≡ step t.number t.copy = ap (λ a. step a s.copy) number ∙ ap (λ b. step t.number b) copy in
     record { step_is = both; placement_is = is; rest_is = omega arith }

@@ -1,10 +1,9 @@
 -- The parts of a class by those of the classes before it.
-use Rattle.std.proofs.Common.{◌≡◌, ℕ, zero, suc, ◌+◌, ◌<◌, Option, Some, None, List, [], ◌∷◌, ◌++◌, map, refl, ap, sym, ◌∙◌, arith}
+use Rattle.std.proofs.Common.{◌≡◌, ℕ, zero, suc, ◌+◌, ◌<◌, Option, Some, None, List, ◌∷◌, ◌++◌, map, refl, ap, sym, ◌∙◌, arith}
 use Rattle.std.specs.Prelude.{Contains}
 use Rattle.std.specs.List.{slice_get, flat_map}
 use Rattle.std.proofs.lemmas.List.Elements.{All-contains}
 use Rattle.cxx_hierarchy.specs.declared.records.ClassId.{ClassId}
-use Rattle.cxx_hierarchy.specs.declared.records.Member.{Member}
 use Rattle.cxx_hierarchy.specs.declared.records.FieldType.{FieldType}
 use Rattle.cxx_hierarchy.specs.declared.records.FieldType.TheVariants.{Value, Object}
 use Rattle.cxx_hierarchy.specs.Classes.{Class, Classes, class_at, bases_of, members_of, members_in as members_of_class}
@@ -18,8 +17,8 @@ use Rattle.abi_layout.specs.declared.dynamic_bases.PlacedBase.{PlacedBase}
 use Rattle.abi_layout.specs.Kinds.{is_empty}
 use Rattle.abi_layout.specs.Places.{members_in}
 use Rattle.abi_layout.specs.Laid.{part_at, parts_at, parts_of_type, count_of, size_of_type, align_of_type, member_component}
-use Rattle.abi_layout.specs.Holding.{virtual_primary, held_base}
-use Rattle.abi_layout.specs.Brought.{member_parts, base_brings, shared_brings, brought, brought_by}
+use Rattle.abi_layout.specs.Holding.{held_base}
+use Rattle.abi_layout.specs.Brought.{member_parts, base_brings, shared_brings, brought}
 use Rattle.abi_layout.specs.PlacedBases.{class_of_placed, subobject_of, free_bases, placed_component}
 use Rattle.abi_layout.specs.DynamicLaid.{primary_of, fronts, front_components, free_components, placed_place, object_parts_in, object_parts_within, object_parts}
 use Rattle.abi_layout.proofs.PartLemmas.{same_map, base_made, member_made}

@@ -1,5 +1,5 @@
 -- What the primary bases of a layout are: direct non-virtual bases, or virtual bases, of smaller numbers than their class.
-use Rattle.std.proofs.Common.{◌≡◌, ℕ, ◌<◌, Bool, cond, Option, Some, None, List, [], ◌∷◌, length, get_or, inl, inr, refl, ap, subst, sym, ◌∙◌, arith}
+use Rattle.std.proofs.Common.{◌≡◌, ℕ, ◌<◌, Bool, cond, Option, Some, None, List, [], ◌∷◌, length, take, get_or, inl, inr, refl, ap, subst, sym, ◌∙◌, arith}
 use Rattle.std.specs.List.{slice_get, find}
 use Rattle.std.proofs.lemmas.Option.{slice_get_within, get_or_from_slice_get}
 use Rattle.cxx_hierarchy.specs.declared.records.ClassId.{ClassId}
@@ -67,7 +67,7 @@ pub record ArePossible (h : Classes) (primaries : List Primary) : Type 0 where
 possible_in : (h : Classes) (rows : List ClassLayout) (nearly : List Bool) (primaries : List Primary) → IsLaidBy h (length h) rows nearly primaries → (c : ClassId) (class : Class) → class_at h c ≡ Some class → IsPossible h c (primary_of primaries c)
 possible_in h rows nearly primaries by c class e =
     let r = dynamic_row h rows nearly primaries by c class e in
-    primary_possible h nearly (Rattle.std.proofs.Common.take c.0 primaries) c (primary_of primaries c) r.laid.is_primary
+    primary_possible h nearly (take c.0 primaries) c (primary_of primaries c) r.laid.is_primary
 
 virtual_is : (o : Option Primary) (v : ClassId) → virtual_in o ≡ Some v → o ≡ Some (Virtual v)
 virtual_is None v e = cc

@@ -1,10 +1,9 @@
 -- The tree of an object lists the parts of its class.
-use Rattle.std.proofs.Common.{◌≡◌, ℕ, zero, suc, ◌+◌, ◌*◌, ◌<◌, ◌⊎◌, inl, inr, ⊎_elim, Bool, true, false, Option, Some, None, List, [], ◌∷◌, ◌++◌, map, length, refl, ap, subst, sym, ◌∙◌, arith}
+use Rattle.std.proofs.Common.{◌≡◌, ℕ, suc, ◌*◌, ◌<◌, inl, inr, ⊎_elim, Bool, true, false, Option, Some, None, List, [], ◌∷◌, ◌++◌, map, length, refl, ap, subst, sym, ◌∙◌, arith}
 use Rattle.std.specs.Prelude.{Contains, filter, not, if◌then◌else◌}
 use Rattle.std.specs.List.{slice_get, flat_map}
 use Rattle.std.proofs.lemmas.List.{append-nil}
 use Rattle.std.proofs.lemmas.List.Concat.{flat_map-append}
-use Rattle.std.proofs.lemmas.Option.{slice_get_within}
 use Rattle.cxx_hierarchy.specs.declared.records.ClassId.{ClassId}
 use Rattle.cxx_hierarchy.specs.declared.records.Base.{Base}
 use Rattle.cxx_hierarchy.specs.declared.records.Member.{Member}
@@ -14,7 +13,7 @@ use Rattle.cxx_hierarchy.specs.Classes.{Class, Classes, class_at, bases_of, memb
 use Rattle.cxx_hierarchy.specs.Hierarchies.{IsHierarchy}
 use Rattle.cxx_subobject.specs.declared.Subobject.{Subobject}
 use Rattle.cxx_subobject.specs.declared.Root.TheVariants.{Shared}
-use Rattle.cxx_subobject.specs.Subobjects.{subobject, base_subobject, shared_base}
+use Rattle.cxx_subobject.specs.Subobjects.{subobject, shared_base}
 use Rattle.cxx_subobject.proofs.ListLemmas.{Has, has_at, has_cases, contains_from_has}
 use Rattle.cxx_subobject.proofs.TreeLemmas.{has_filter}
 use Rattle.abi_emptybase.specs.declared.Part.{Part}
@@ -112,10 +111,10 @@ object_unfolds h rows ps keeps possible c class e =
     let members : flat_map f (members_at h rows c) ≡ parts_at (map (member_component rows (object_parts h rows ps)) class.members) (members_in (slice_get rows c.0)) =
     members_listed h rows ps 0 (members_of h c) (members_in (slice_get rows c.0)) ∙ ap (λ (o : Option Class). parts_at (map (member_component rows (object_parts h rows ps)) (members_of_class o)) (members_in (slice_get rows c.0))) e in
     let pieces = four_pieces f (map (placed_base h rows c) (fronts ps c class)) (members_at h rows c) (map (placed_base h rows c) (free_bases h ps c)) (own_pointer h ps c)
-        (parts_at (front_components h rows ps (object_parts h rows ps) c class) (map (placed_place h rows c) (fronts ps c class)))
-        (parts_at (map (member_component rows (object_parts h rows ps)) class.members) (members_in (slice_get rows c.0)))
-        (parts_at (free_components h rows ps (object_parts h rows ps) c) (map (placed_place h rows c) (free_bases h ps c)))
-        (bases_listed h rows ps c (fronts ps c class)) members (bases_listed h rows ps c (free_bases h ps c)) (pointer_listed h rows ps (owns_pointer h ps c)) in
+    (parts_at (front_components h rows ps (object_parts h rows ps) c class) (map (placed_place h rows c) (fronts ps c class)))
+    (parts_at (map (member_component rows (object_parts h rows ps)) class.members) (members_in (slice_get rows c.0)))
+    (parts_at (free_components h rows ps (object_parts h rows ps) c) (map (placed_place h rows c) (free_bases h ps c)))
+    (bases_listed h rows ps c (fronts ps c class)) members (bases_listed h rows ps c (free_bases h ps c)) (pointer_listed h rows ps (owns_pointer h ps c)) in
     object_here h rows ps keeps possible c class e
     ∙ ap (λ t. part_at c 0 ∷ t) (sym (ap (λ (o : Option Class). flat_map f (contents_of_object h rows ps c o)) e ∙ pieces))
 
@@ -123,8 +122,8 @@ within_unfolds : (h : Classes) (rows : List ClassLayout) (ps : List Primary) →
 within_unfolds h rows ps keeps possible c s d =
     let f = placed_parts (node_parts h rows ps) in
     let pieces = four_pieces f (members_at h rows d) (map (inner_base h rows c s d) (filter is_plain_base (bases_of h d))) (shared_start h rows ps c s (virtual_primary ps d)) (own_pointer h ps d)
-        (member_parts h rows (object_parts h rows ps) d) (flat_map (base_brings h rows (brought_by h rows ps (object_parts h rows ps) c) s d) (bases_of h d)) (shared_brings (brought_by h rows ps (object_parts h rows ps) c) (held_base h ps c s d))
-        (members_listed h rows ps 0 (members_of h d) (members_in (slice_get rows d.0))) (inner_listed h rows ps c s d (bases_of h d)) (shared_listed h rows ps c s (virtual_primary ps d)) (pointer_listed h rows ps (owns_pointer h ps d)) in
+    (member_parts h rows (object_parts h rows ps) d) (flat_map (base_brings h rows (brought_by h rows ps (object_parts h rows ps) c) s d) (bases_of h d)) (shared_brings (brought_by h rows ps (object_parts h rows ps) c) (held_base h ps c s d))
+    (members_listed h rows ps 0 (members_of h d) (members_in (slice_get rows d.0))) (inner_listed h rows ps c s d (bases_of h d)) (shared_listed h rows ps c s (virtual_primary ps d)) (pointer_listed h rows ps (owns_pointer h ps d)) in
     brought_is h rows ps (object_parts h rows ps) c keeps possible.before s d ∙ ap (λ t. part_at d 0 ∷ t) (sym pieces)
 
 -- nodes of the classes of the hierarchy

@@ -1,13 +1,14 @@
 -- Lists without repeats: their pieces, and copies of one list of parts.
-use Rattle.std.proofs.Common.{◌≡◌, ℕ, zero, suc, ◌+◌, ◌*◌, ◌<◌, ◌≤◌, ◌⊎◌, inl, inr, ⊎_elim, Some, List, [], ◌∷◌, ◌++◌, map, refl, ap, subst, sym, ◌∙◌, arith}
+use Rattle.std.proofs.Common.{◌≡◌, ℕ, zero, suc, ◌+◌, ◌*◌, ◌<◌, ◌⊎◌, inl, inr, ⊎_elim, Some, List, [], ◌∷◌, ◌++◌, map, refl, ap, subst, sym, ◌∙◌, arith}
 use Rattle.std.specs.List.{slice_get, flat_map}
 use Rattle.std.proofs.lemmas.Bool.{cases_order}
-use Rattle.cxx_subobject.proofs.ListLemmas.{Has, EachOnce, AreApart, has_left, has_right, has_cases, has_at, once_append}
+use Rattle.cxx_subobject.proofs.ListLemmas.{Has, EachOnce, has_left, has_right, has_cases, once_append}
 use Rattle.abi_emptybase.specs.declared.Part.{Part}
 use Rattle.abi_emptybase.specs.Table.{moved}
 use Rattle.abi_layout.specs.Laid.{copies}
 use Rattle.abi_layout.specs.Repeats.{HasRepeat}
 use Rattle.abi_layout.proofs.Stages.{has_map}
+use Rattle.abi_layout.proofs.TreeSound.{copy_ends}
 
 pub once_left : {X : Type 0} (xs ys : List X) → EachOnce (xs ++ ys) → EachOnce xs
 once_left [] ys once = tt
@@ -140,7 +141,7 @@ once_copies (suc n) stride parts once below =
         let lt = below a.part a.has in
         let one : a.part.place + a.copy * stride ≡ x.place = ap (λ (z : Part). z.place) a.is in
         let two : b.item.place + n * stride ≡ x.place = ap (λ (z : Part). z.place) b.is in
-        let ends = Rattle.abi_layout.proofs.TreeSound.copy_ends a.copy n stride a.within in
+        let ends = copy_ends a.copy n stride a.within in
         omega arith
 
 -- a list in which nothing stands twice has each part once
