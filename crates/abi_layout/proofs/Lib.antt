@@ -33,9 +33,11 @@ pub mod CanSettleLemmas
 pub mod NestedLemmas
 pub mod RoomLemmas
 pub mod ObjectTree
+pub mod ObjectSound
+pub mod ObjectKinds
+pub mod ObjectPrimaries
 pub mod OnceLemmas
 pub mod ObjectLists
-pub mod ObjectPrimaries
 pub mod ObjectParts
 pub mod ObjectUnfolds
 pub mod ObjectOnce

@@ -22,14 +22,13 @@ use Rattle.abi_layout.specs.Brought.{brought_by}
 use Rattle.abi_layout.specs.PlacedBases.{class_of_placed, subobject_of, free_bases, placed_component}
 use Rattle.abi_layout.specs.DynamicLaid.{fronts, front_components, free_components, placed_place, object_parts, start_stage, IsLaidBy}
 use Rattle.abi_layout.specs.Refusals.{AreApart}
-use Rattle.abi_layout.proofs.Lists.{get_within}
 use Rattle.abi_layout.proofs.Stages.{none_brought}
 use Rattle.abi_layout.proofs.PartLemmas.{stage_parts}
 use Rattle.abi_layout.proofs.ObjectTree.{Node, Complete, Step, Reaches, AreArranged, class_of_node, contents_of, measures_of, node_parts}
 use Rattle.abi_layout.proofs.OnceLemmas.{once_moved, once_copies, once_by_repeats, unmapped}
 use Rattle.abi_layout.proofs.ObjectLists.{listed_within, one_path}
-use Rattle.abi_layout.proofs.ObjectPrimaries.{HasDynamicRow, dynamic_row, ArePossible, are_possible}
-use Rattle.abi_layout.proofs.ObjectParts.{object_here}
+use Rattle.abi_layout.proofs.ObjectPrimaries.{HasRow, row_of}
+use Rattle.abi_layout.proofs.ObjectParts.{ArePossible, are_possible, object_here}
 use Rattle.abi_layout.proofs.ObjectUnfolds.{IsKnownNode, object_lists}
 
 -- components placed behind a stage bring nothing twice, where each by itself does not
@@ -45,10 +44,9 @@ stage_once stage (c ∷ cs) (p ∷ ps) once each placed =
 -- a complete object takes a byte at least
 pub size_positive : (h : Classes) (rows : List ClassLayout) (nearly : List Bool) (ps : List Primary) → IsLaidBy h (length h) rows nearly ps → (c : ClassId) → c.0 < length h → 1 ≤ size_in (slice_get rows c.0)
 size_positive h rows nearly ps by c lt =
-    let class = get_within h c.0 lt in
-    let r = dynamic_row h rows nearly ps by c class.0 class.1 in
+    let r = row_of h rows nearly ps c by lt in
     let behind = r.laid.placed.size.behind in
-    let size : size_in (slice_get rows c.0) ≡ r.row.size = ap size_in r.there in
+    let size : size_in (slice_get rows c.0) ≡ r.row.size = ap size_in r.row_there in
     omega arith
 
 -- what a complete object has begins within its size
@@ -73,12 +71,13 @@ base_once h rows ps apart c class lt e base has =
     (λ t. apart.each c class lt e (record { base = base; placed = contains_from_has (fronts ps c class ++ free_bases h ps c) base has; repeated = t }))
 
 -- where the components of a class bring nothing twice each, an object has nothing twice
-object_once : (h : Classes) (rows : List ClassLayout) (nearly : List Bool) (ps : List Primary) → IsHierarchy h → ArePossible h ps → (c : ClassId) (class : Class) → class_at h c ≡ Some class → HasDynamicRow h rows nearly ps c class
-    → ((x : Component) → Has (front_components h rows ps (object_parts h rows ps) c class) x → EachOnce x.parts)
-    → ((x : Component) → Has (map (member_component rows (object_parts h rows ps)) class.members) x → EachOnce x.parts)
+object_once : (h : Classes) (rows : List ClassLayout) (nearly : List Bool) (ps : List Primary) → IsHierarchy h → ArePossible h ps → (c : ClassId) → (r : HasRow h rows nearly ps c)
+    → ((x : Component) → Has (front_components h rows ps (object_parts h rows ps) c r.class) x → EachOnce x.parts)
+    → ((x : Component) → Has (map (member_component rows (object_parts h rows ps)) r.class.members) x → EachOnce x.parts)
     → ((x : Component) → Has (free_components h rows ps (object_parts h rows ps) c) x → EachOnce x.parts)
     → EachOnce (object_parts h rows ps c)
-object_once h rows nearly ps keeps possible c class e r front member free =
+object_once h rows nearly ps keeps possible c r front member free =
+    let class = r.class in
     let laid = r.laid.placed in
     let fc = front_components h rows ps (object_parts h rows ps) c class in
     let mc = map (member_component rows (object_parts h rows ps)) class.members in
@@ -99,7 +98,7 @@ object_once h rows nearly ps keeps possible c class e r front member free =
     stage_parts inner vc vp
     ∙ (ap (λ t. t ++ v) (stage_parts mid mc r.row.member_places ∙ ap (λ t. t ++ m) (stage_parts start fc fp))
     ∙ (append_assoc ((part_at c 0 ∷ []) ++ f) m v ∙ append_assoc (part_at c 0 ∷ []) f (m ++ v))) in
-    let here : object_parts h rows ps c ≡ part_at c 0 ∷ (f ++ (m ++ v)) = object_here h rows ps keeps possible c class e ∙ ap (λ (o : Option ClassLayout). part_at c 0 ∷ (f ++ (parts_at mc (members_in o) ++ v))) r.there in
+    let here : object_parts h rows ps c ≡ part_at c 0 ∷ (f ++ (m ++ v)) = object_here h rows ps keeps possible c class r.there ∙ ap (λ (o : Option ClassLayout). part_at c 0 ∷ (f ++ (parts_at mc (members_in o) ++ v))) r.row_there in
     subst (λ (xs : List Part). EachOnce xs) (last ∙ sym here) third
 
 objects_once_below : (h : Classes) (rows : List ClassLayout) (nearly : List Bool) (ps : List Primary) → IsHierarchy h → IsLaidBy h (length h) rows nearly ps → AreApart h (length h) rows ps → AreArranged (contents_of h rows ps) (measures_of h rows) → (n : ℕ) (c : ClassId) → c.0 < n → c.0 < length h → EachOnce (object_parts h rows ps c)
@@ -109,12 +108,12 @@ objects_once_below h rows nearly ps keeps by apart arranged (suc n) c lt below =
   where
     at : ((d : ClassId) → d.0 < c.0 → EachOnce (object_parts h rows ps d)) → EachOnce (object_parts h rows ps c)
     at earlier =
-        let found = get_within h c.0 below in
-        let class = found.0 in
-        let e = found.1 in
+        let found = row_of h rows nearly ps c by below in
+        let class = found.class in
+        let e = found.there in
         let parts = object_parts h rows ps in
         let own : members_of h c ≡ class.members = ap members_of_class e in
-        object_once h rows nearly ps keeps (are_possible h rows nearly ps keeps by) c class e (dynamic_row h rows nearly ps by c class e)
+        object_once h rows nearly ps keeps (are_possible h rows nearly ps keeps by) c found
         (λ x has.
         let r = unmapped (placed_component (is_empty h) h rows ps parts c) (fronts ps c class) x has in
         subst (λ (y : Component). EachOnce y.parts) r.is (base_once h rows ps apart c class below e r.item (has_left (fronts ps c class) (free_bases h ps c) r.item r.has)))

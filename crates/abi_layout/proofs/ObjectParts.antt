@@ -1,8 +1,9 @@
 -- The parts of a class by those of the classes before it.
-use Rattle.std.proofs.Common.{◌≡◌, ℕ, zero, suc, ◌+◌, ◌<◌, Option, Some, None, List, ◌∷◌, ◌++◌, map, refl, ap, sym, ◌∙◌, arith}
+use Rattle.std.proofs.Common.{◌≡◌, ℕ, zero, suc, ◌+◌, ◌<◌, Bool, Option, Some, None, List, ◌∷◌, ◌++◌, map, length, take, refl, ap, sym, ◌∙◌, arith}
 use Rattle.std.specs.Prelude.{Contains}
 use Rattle.std.specs.List.{slice_get, flat_map}
 use Rattle.std.proofs.lemmas.List.Elements.{All-contains}
+use Rattle.std.proofs.lemmas.Option.{slice_get_within}
 use Rattle.cxx_hierarchy.specs.declared.records.ClassId.{ClassId}
 use Rattle.cxx_hierarchy.specs.declared.records.FieldType.{FieldType}
 use Rattle.cxx_hierarchy.specs.declared.records.FieldType.TheVariants.{Value, Object}
@@ -19,12 +20,26 @@ use Rattle.abi_layout.specs.Places.{members_in}
 use Rattle.abi_layout.specs.Laid.{part_at, parts_at, parts_of_type, count_of, size_of_type, align_of_type, member_component}
 use Rattle.abi_layout.specs.Holding.{held_base}
 use Rattle.abi_layout.specs.Brought.{member_parts, base_brings, shared_brings, brought}
-use Rattle.abi_layout.specs.PlacedBases.{class_of_placed, subobject_of, free_bases, placed_component}
-use Rattle.abi_layout.specs.DynamicLaid.{primary_of, fronts, front_components, free_components, placed_place, object_parts_in, object_parts_within, object_parts}
+use Rattle.abi_layout.specs.PlacedBases.{class_of_placed, subobject_of, free_bases, placed_component, IsPossible}
+use Rattle.abi_layout.specs.Scenes.{AreBefore}
+use Rattle.abi_layout.specs.DynamicLaid.{primary_of, fronts, front_components, free_components, placed_place, object_parts_in, object_parts_within, object_parts, IsLaidBy}
 use Rattle.abi_layout.proofs.PartLemmas.{same_map, base_made, member_made}
 use Rattle.abi_layout.proofs.BroughtLemmas.{same_mapped, same_base, same_shared, held_is_primary}
 use Rattle.abi_layout.proofs.OpenLemmas.{fronts_below, frees_below}
-use Rattle.abi_layout.proofs.ObjectPrimaries.{ArePossible}
+use Rattle.abi_layout.proofs.ObjectPrimaries.{row_of, primary_possible, laid_before}
+
+-- what the lists of a tree need of the primary bases: each is a base of its class, and a virtual one stands before it
+pub record ArePossible (h : Classes) (primaries : List Primary) : Type 0 where
+  pub possible : (c : ClassId) (class : Class) → class_at h c ≡ Some class → IsPossible h c (primary_of primaries c)
+  pub before : AreBefore primaries
+
+pub are_possible : (h : Classes) (rows : List ClassLayout) (nearly : List Bool) (primaries : List Primary) → IsHierarchy h → IsLaidBy h (length h) rows nearly primaries → ArePossible h primaries
+are_possible h rows nearly primaries keeps laid = record {
+  possible = λ c class e.
+      let r = row_of h rows nearly primaries c laid (slice_get_within h c.0 class e) in
+      primary_possible h nearly (take c.0 primaries) c (primary_of primaries c) keeps r.laid.is_primary;
+  before = laid_before h rows nearly primaries keeps laid;
+}
 
 type_parts : (f g : ClassId → List Part) (type : FieldType ClassId) → ((e : ClassId) → type ≡ Object e → f e ≡ g e) → parts_of_type f type ≡ parts_of_type g type
 type_parts f g (Value type) agree = refl

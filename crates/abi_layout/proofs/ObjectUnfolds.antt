@@ -35,8 +35,7 @@ use Rattle.abi_layout.proofs.Lists.{get_within}
 use Rattle.abi_layout.proofs.ObjectTree.{Node, Complete, Within, Bytes, Pointer, Placement, class_of_node, placed_parts, owns_pointer, one_at, own_pointer, placed_base, inner_base, node_of_type, placed_members, members_at, shared_start, contents_of_object, contents_of, node_parts}
 use Rattle.abi_layout.proofs.OnceLemmas.{unmapped}
 use Rattle.abi_layout.proofs.ObjectLists.{own_part, ListsParts}
-use Rattle.abi_layout.proofs.ObjectPrimaries.{ArePossible}
-use Rattle.abi_layout.proofs.ObjectParts.{front_below, free_below, object_here}
+use Rattle.abi_layout.proofs.ObjectParts.{ArePossible, front_below, free_below, object_here}
 
 one_copied : (stride : ℕ) (parts : List Part) → copies 1 stride parts ≡ parts
 one_copied stride parts = let z : 0 * stride ≡ 0 = omega arith in ap (λ n. map (moved n) parts) z ∙ moved_none parts
