@@ -51,3 +51,8 @@ pub mod ObjectPlaced
 pub mod ObjectRows
 pub mod ObjectWithin
 pub mod ObjectArranged
+pub mod OnceLemmas
+pub mod ObjectLists
+pub mod ObjectParts
+pub mod ObjectUnfolds
+pub mod ObjectOnce
