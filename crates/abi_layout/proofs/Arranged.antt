@@ -27,7 +27,7 @@ use Rattle.abi_layout.proofs.FineRows.{value_align, align_positive, row_fine, Is
 use Rattle.abi_layout.proofs.Listed.{no_copies, item_brings, IsBelow, item_below, listed}
 
 -- of two alignments the smaller divides the greater
-align_divides : (x y : ℕ) → IsAlignment x → IsAlignment y → x ≤ y → Divides x y
+pub align_divides : (x y : ℕ) → IsAlignment x → IsAlignment y → x ≤ y → Divides x y
 align_divides _ y byte b le = record { times = y; is = omega arith }
 align_divides _ _ two_bytes byte le = absurd (omega arith)
 align_divides _ _ two_bytes two_bytes le = record { times = 1; is = refl }
@@ -73,7 +73,7 @@ record IsSized (h : Classes) (rows : List ClassLayout) (item : Item) : Type 0 wh
   empty : (component_in_row h rows item).is_empty ≡ is_empty_item h item
   place : (at : ℕ) → (place_item rows item at).place ≡ at
 
-times_divides : (a b e : ℕ) → Divides a b → Divides a (e * b)
+pub times_divides : (a b e : ℕ) → Divides a b → Divides a (e * b)
 times_divides a b e d = through_divides a b (e * b) d (record { times = e; is = refl })
 
 pub most : (n : ℕ) → 1 ≤ n → max 1 n ≡ n

@@ -30,12 +30,12 @@ moved_twice at by (part ∷ parts) =
     let sum : part.place + by + at ≡ part.place + (at + by) = omega arith in
     ap (λ p. (let x : Part = record { class = part.class; place = p } in x) ∷ map (moved at) (map (moved by) parts)) sum ∙ ap (λ xs. moved (at + by) part ∷ xs) (moved_twice at by parts)
 
-same_mapped : {X Y : Type 0} (f g : X → List Y) (xs : List X) → ((x : X) → Contains xs x → f x ≡ g x) → flat_map f xs ≡ flat_map g xs
+pub same_mapped : {X Y : Type 0} (f g : X → List Y) (xs : List X) → ((x : X) → Contains xs x → f x ≡ g x) → flat_map f xs ≡ flat_map g xs
 same_mapped f g [] same = refl
 same_mapped f g (x ∷ xs) same = ap (λ t. t ++ flat_map f xs) (same x (has_here x xs)) ∙ ap (λ t. g x ++ t) (same_mapped f g xs (λ y has. same y (has_later x xs y has)))
 
 -- what two tellers that agree on the classes before d bring by a base of d
-same_base : (h : Classes) (rows : List ClassLayout) (f g : Subobject → ClassId → List Part) (s : Subobject) (d : ClassId) (base : Base ClassId) → (base.is_virtual ≡ false → (t : Subobject) → f t base.class ≡ g t base.class) → base_brings h rows f s d base ≡ base_brings h rows g s d base
+pub same_base : (h : Classes) (rows : List ClassLayout) (f g : Subobject → ClassId → List Part) (s : Subobject) (d : ClassId) (base : Base ClassId) → (base.is_virtual ≡ false → (t : Subobject) → f t base.class ≡ g t base.class) → base_brings h rows f s d base ≡ base_brings h rows g s d base
 same_base h rows f g s d base agree = split base.is_virtual (λ b. (b ≡ false → (t : Subobject) → f t base.class ≡ g t base.class) → (if b then [] else map (moved (base_place h rows d base.class)) (f (base_subobject s base) base.class)) ≡ (if b then [] else map (moved (base_place h rows d base.class)) (g (base_subobject s base) base.class)))
     (λ t same. refl)
     (λ e same. ap (map (moved (base_place h rows d base.class))) (same refl (base_subobject s base))) agree
@@ -44,7 +44,7 @@ held_is : (h : Classes) (ps : List Primary) (c : ClassId) (s : Subobject) (o : O
 held_is h ps c s None v e = cc
 held_is h ps c s (Some w) v e = split (holds_base h ps c s w) (λ b. (if b then Some w else None) ≡ Some v → Some w ≡ Some v) (λ t some. some) (λ f none. let no_base : None ≡ Some v = none in cc) e
 
-same_shared : (f g : Subobject → ClassId → List Part) (o : Option ClassId) → ((v : ClassId) → o ≡ Some v → (t : Subobject) → f t v ≡ g t v) → shared_brings f o ≡ shared_brings g o
+pub same_shared : (f g : Subobject → ClassId → List Part) (o : Option ClassId) → ((v : ClassId) → o ≡ Some v → (t : Subobject) → f t v ≡ g t v) → shared_brings f o ≡ shared_brings g o
 same_shared f g None agree = refl
 same_shared f g (Some v) agree = agree v refl (shared_base v)
 

@@ -54,7 +54,7 @@ align_positive _ eight_bytes = omega arith
 greater_align : (x y : ℕ) → IsAlignment x → IsAlignment y → IsAlignment (max x y)
 greater_align x y a b = ⊎_elim (λ e. subst IsAlignment (sym (max-eq_left (omega arith))) a) (λ o. ⊎_elim (λ l. subst IsAlignment (sym (max-eq_right (omega arith))) b) (λ g. subst IsAlignment (sym (max-eq_left (omega arith))) a) o) (cases_order x y)
 
-last_align : (st : Stage) (cs : List Component) (ps : List ℕ) → IsAlignment st.align → ((c : Component) → Has cs c → IsAlignment c.align) → IsAlignment (after_all st cs ps).align
+pub last_align : (st : Stage) (cs : List Component) (ps : List ℕ) → IsAlignment st.align → ((c : Component) → Has cs c → IsAlignment c.align) → IsAlignment (after_all st cs ps).align
 last_align st [] ps a each = a
 last_align st (c ∷ cs) [] a each = a
 last_align st (c ∷ cs) (p ∷ ps) a each = last_align (after st c p) cs ps (greater_align st.align c.align a (each c (inl refl))) (λ d h. each d (inr h))
@@ -148,7 +148,7 @@ pub count_positive : (n : Option ℕ) → ((m : ℕ) → n ≡ Some m → 1 ≤ 
 count_positive None some = omega arith
 count_positive (Some m) some = some m refl
 
-product_positive : (a b : ℕ) → 1 ≤ a → 1 ≤ b → 1 ≤ a * b
+pub product_positive : (a b : ℕ) → 1 ≤ a → 1 ≤ b → 1 ≤ a * b
 product_positive a b x y = let m = mul-le-mul_right b x in omega (arith, m)
 
 pub item_takes : (h : Classes) (rows : List ClassLayout) → IsStatic h → (c : ClassId) (class : Class) → class_at h c ≡ Some class → AreFineBelow h rows c → (item : Item) → IsItem class item → is_empty_item h item ≡ false → 1 ≤ (component_in_row h rows item).takes

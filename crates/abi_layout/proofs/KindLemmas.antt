@@ -40,11 +40,11 @@ both_true : (a b : Bool) → (a && b) ≡ true → (a ≡ true) × (b ≡ true)
 both_true true b e = (refl, e)
 both_true false b e = cc
 
-all_each : {X : Type 0} (p : X → Bool) (xs : List X) → list_all p xs ≡ true → (x : X) → Has xs x → p x ≡ true
+pub all_each : {X : Type 0} (p : X → Bool) (xs : List X) → list_all p xs ≡ true → (x : X) → Has xs x → p x ≡ true
 all_each p [] e x h = absurd h
 all_each p (y ∷ xs) e x h = let b = both_true (p y) (list_all p xs) e in ⊎_elim (λ q. ap p (sym q) ∙ b.0) (λ r. all_each p xs b.1 x r) h
 
-one_fails : {X : Type 0} (p : X → Bool) (xs : List X) → list_all p xs ≡ false → (x : X) × Has xs x × (p x ≡ false)
+pub one_fails : {X : Type 0} (p : X → Bool) (xs : List X) → list_all p xs ≡ false → (x : X) × Has xs x × (p x ≡ false)
 one_fails p [] e = cc
 one_fails {X} p (y ∷ xs) e = split (p y) (λ b. (b && list_all p xs) ≡ false → p y ≡ b → (x : X) × Has (y ∷ xs) x × (p x ≡ false)) (λ t k _. let r = one_fails p xs k in (r.0, inr r.1, r.2)) (λ f k g. (y, inl refl, g)) e refl
 

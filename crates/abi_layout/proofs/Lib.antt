@@ -32,7 +32,6 @@ pub mod OpenLemmas
 pub mod CanSettleLemmas
 pub mod NestedLemmas
 pub mod RoomLemmas
-mod ObjectTree
 pub mod AgreeingRows
 pub mod AgreeingParts
 pub mod AgreeingClasses
@@ -41,3 +40,27 @@ pub mod OneLayoutLists
 pub mod OneLayoutRows
 pub mod OneLayoutFronts
 pub mod OneLayoutStops
+pub mod ObjectTree
+pub mod ObjectKnown
+pub mod ObjectPaths
+pub mod ObjectDecode
+pub mod ObjectSteps
+pub mod ObjectStarts
+pub mod ObjectChains
+pub mod ObjectShares
+pub mod ObjectPointers
+pub mod ObjectSound
+pub mod ObjectKinds
+pub mod ObjectPrimaries
+pub mod Pairs
+pub mod ObjectItems
+pub mod ObjectFine
+pub mod ObjectPlaced
+pub mod ObjectRows
+pub mod ObjectWithin
+pub mod ObjectArranged
+pub mod OnceLemmas
+pub mod ObjectLists
+pub mod ObjectParts
+pub mod ObjectUnfolds
+pub mod ObjectOnce

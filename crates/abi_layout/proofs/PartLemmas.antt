@@ -35,7 +35,7 @@ same_all : {X : Type 0} (p q : X → Bool) (xs : List X) → ((x : X) → Contai
 same_all p q [] each = refl
 same_all p q (x ∷ xs) each = let a = each x (has_here x xs) in let b = same_all p q xs (λ y h. each y (has_later x xs y h)) in cc
 
-same_map : {X Y : Type 0} (f g : X → Y) (xs : List X) → ((x : X) → Contains xs x → f x ≡ g x) → map f xs ≡ map g xs
+pub same_map : {X Y : Type 0} (f g : X → Y) (xs : List X) → ((x : X) → Contains xs x → f x ≡ g x) → map f xs ≡ map g xs
 same_map f g [] each = refl
 same_map f g (x ∷ xs) each = let a = each x (has_here x xs) in let b = same_map f g xs (λ y h. each y (has_later x xs y h)) in cc
 

@@ -84,7 +84,7 @@ pub record Grows (first last : Stage) : Type 0 where
   pub align : first.align ≤ last.align
   pub parts : (x : Part) → Has first.parts x → Has last.parts x
 
-grows_once : (st : Stage) (c : Component) (p : ℕ) → IsPlace st c p → Grows st (after st c p)
+pub grows_once : (st : Stage) (c : Component) (p : ℕ) → IsPlace st c p → Grows st (after st c p)
 grows_once st c p is = record {
   dsize = split c.is_empty (λ b. st.dsize ≤ (if b then st.dsize else p + c.takes)) (λ e. omega arith) (λ e. let f = behind_of st c p is.candidate e in omega arith);
   size = le-max_left st.size (p + c.takes);
@@ -101,7 +101,7 @@ grows st [] ps l = record { dsize = omega arith; size = omega arith; align = ome
 grows st (c ∷ cs) [] l = absurd l
 grows st (c ∷ cs) (p ∷ ps) l = grows_through st (after st c p) (after_all (after st c p) cs ps) (grows_once st c p l.0) (grows (after st c p) cs ps l.1)
 
-put_here : (st : Stage) (c : Component) (p : ℕ) (cs : List Component) (ps : List ℕ) → IsPlace st c p → ArePlaced (after st c p) cs ps → IsPut st (after_all (after st c p) cs ps) c p
+pub put_here : (st : Stage) (c : Component) (p : ℕ) (cs : List Component) (ps : List ℕ) → IsPlace st c p → ArePlaced (after st c p) cs ps → IsPut st (after_all (after st c p) cs ps) c p
 put_here st c p cs ps is rest =
     let g = grows (after st c p) cs ps rest in
     let s = g.size in
@@ -118,7 +118,7 @@ put_here st c p cs ps is rest =
       parts = λ x h. g.parts (moved p x) (has_right st.parts (map (moved p) c.parts) (moved p x) (has_map (moved p) c.parts x h));
     }
 
-put_earlier : (st next last : Stage) (c : Component) (p : ℕ) → Grows st next → IsPut next last c p → IsPut st last c p
+pub put_earlier : (st next last : Stage) (c : Component) (p : ℕ) → Grows st next → IsPut next last c p → IsPut st last c p
 put_earlier st next last c p g is = record {
   multiple = is.multiple;
   behind = λ e. let f = is.behind e in let d = g.dsize in omega arith;
