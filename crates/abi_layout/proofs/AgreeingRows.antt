@@ -157,7 +157,7 @@ along_agrees h n rows others d (b ∷ path) keeps agree lt leads =
     ∙ ap (λ k. base_place h others d b + k) (along_agrees h n rows others b path keeps agree (omega arith) leads.1)
 
 -- the place of a virtual base
-pub virtual_place_agrees : (h : Classes) (n : ℕ) (rows others : List ClassLayout) (c v : ClassId) → AgreeTo n rows others → c.0 < n → virtual_place h rows c v ≡ virtual_place h others c v
+pub virtual_place_agrees : (h : Classes) (n : ℕ) (rows others : List ClassLayout) (c v : ClassId) → AgreeTo n rows others → c.0 < n → virtual_place rows c v ≡ virtual_place others c v
 virtual_place_agrees h n rows others c v agree lt = ap (λ (o : Option ClassLayout). place_at (virtuals_in o) (position (λ (w : ClassId). nat_eq w.0 v.0) (shared_in o))) (agree.each c.0 lt)
 
 -- the place of a subobject
@@ -166,7 +166,7 @@ place_agrees h n rows others c _ keeps agree lt (whole path leads) = ap (λ k. 0
 place_agrees h n rows others c _ keeps agree lt (shared v path has leads) =
     let f = virtual_below h keeps c v has in
     ap (λ k. k + place_along h rows v path) (virtual_place_agrees h n rows others c v agree lt)
-    ∙ ap (λ k. virtual_place h others c v + k) (along_agrees h n rows others v path keeps agree (omega arith) leads)
+    ∙ ap (λ k. virtual_place others c v + k) (along_agrees h n rows others v path keeps agree (omega arith) leads)
 
 -- the place of a base that is placed in its class
 pub placed_place_agrees : (h : Classes) (n : ℕ) (rows others : List ClassLayout) (c : ClassId) (base : PlacedBase) → AgreeTo n rows others → c.0 < n → placed_place h rows c base ≡ placed_place h others c base

@@ -21,7 +21,7 @@ use Rattle.abi_layout.specs.Chains.{IsPrimaryPart, by_direct, by_holder}
 use Rattle.abi_layout.specs.Holding.{virtual_bases, virtual_primary, is_holder, holds_base}
 use Rattle.abi_layout.specs.PlacedBases.{free_bases}
 use Rattle.abi_layout.specs.DynamicLaid.{primary_of, fronts, placed_place}
-use Rattle.abi_layout.specs.SoundLayouts.{places_in}
+use Rattle.abi_layout.specs.Places.{places_of}
 use Rattle.abi_layout.proofs.Lists.{number}
 use Rattle.abi_layout.proofs.Stages.{Has, has_left, has_right, has_map, split}
 use Rattle.abi_layout.proofs.KindLemmas.{has_of, in_filter}
@@ -55,7 +55,7 @@ chain_some contents l c _ _ _ (last_step n s x k to node start) e = cc
 chain_some contents l c _ _ _ (next_step n s t d x k rest to node start primary chain) e = cc
 
 -- the primary base and the holders that the rows tell
-pub primary_told : (h : Classes) (rows : List ClassLayout) (nearly : List Bool) (ps : List Primary) → IsLaidOut h rows nearly ps → (d : ClassId) → d.0 < length h → (places_in h rows).primary d ≡ primary_of ps d
+pub primary_told : (h : Classes) (rows : List ClassLayout) (nearly : List Bool) (ps : List Primary) → IsLaidOut h rows nearly ps → (d : ClassId) → d.0 < length h → (places_of h rows).primary d ≡ primary_of ps d
 primary_told h rows nearly ps known d lt = let r = row_of h rows nearly ps known d lt in ap primary_in r.row_there ∙ r.laid.primary
 
 get_mapped : {X Y : Type 0} (f : X → Y) (xs : List X) (i : ℕ) (x : X) (d : Y) → slice_get xs i ≡ Some x → get_or (map f xs) i d ≡ f x
@@ -63,7 +63,7 @@ get_mapped f [] i x d e = let g : None ≡ Some x = e in cc
 get_mapped f (y ∷ xs) zero x d e = let same : y ≡ x = cc in ap f same
 get_mapped f (y ∷ xs) (suc i) x d e = get_mapped f xs i x d e
 
-pub holder_told : (h : Classes) (rows : List ClassLayout) (nearly : List Bool) (ps : List Primary) → IsLaidOut h rows nearly ps → (c v : ClassId) → c.0 < length h → HasVirtualBase h c v → (places_in h rows).holder c v ≡ holder_of h ps c v
+pub holder_told : (h : Classes) (rows : List ClassLayout) (nearly : List Bool) (ps : List Primary) → IsLaidOut h rows nearly ps → (c v : ClassId) → c.0 < length h → HasVirtualBase h c v → (places_of h rows).holder c v ≡ holder_of h ps c v
 holder_told h rows nearly ps known c v lt has =
     let r = row_of h rows nearly ps known c lt in
     let test : ClassId → Bool = λ w. nat_eq w.0 v.0 in
@@ -86,7 +86,7 @@ record IsAtStart (h : Classes) (rows : List ClassLayout) (ps : List Primary) (n 
 -- a chain from a part
 pub record StartsChain (h : Classes) (rows : List ClassLayout) (ps : List Primary) (c : ClassId) (n : Node) (s : Subobject) : Type 0 where
   pub steps : List Step
-  pub chain : IsChain (contents_of h rows ps) (places_in h rows) c n s steps
+  pub chain : IsChain (contents_of h rows ps) (places_of h rows) c n s steps
 
 start_zero : (place stride : ℕ) → place ≡ 0 → place + 0 * stride ≡ 0
 start_zero place stride e = let z : 0 * stride ≡ 0 = omega arith in omega arith
@@ -99,7 +99,7 @@ pointer_chain h rows ps c n s x =
       chain = last_step n s (record { number = k.0; copy = 0 }) (one_at Pointer x.place x.stride) (record { there = k.1; within = omega arith }) refl (start_zero x.place x.stride x.at);
     }
 
-base_chain : (h : Classes) (rows : List ClassLayout) (ps : List Primary) (c : ClassId) (n : Node) (s t : Subobject) (e : ClassId) → IsAtStart h rows ps n (Within c t e) → IsPrimaryPart (places_in h rows) c s t → StartsChain h rows ps c (Within c t e) t → StartsChain h rows ps c n s
+base_chain : (h : Classes) (rows : List ClassLayout) (ps : List Primary) (c : ClassId) (n : Node) (s t : Subobject) (e : ClassId) → IsAtStart h rows ps n (Within c t e) → IsPrimaryPart (places_of h rows) c s t → StartsChain h rows ps c (Within c t e) t → StartsChain h rows ps c n s
 base_chain h rows ps c n s t e x primary rest =
     let k = index_of (contents_of h rows ps n) (one_at (Within c t e) x.place x.stride) x.there in
     record {
@@ -166,7 +166,7 @@ holder_by_test (Some t) s e = ap (λ (x : Subobject). Some x) (subobject_same t 
 abbrev HaveChains : Classes → List ClassLayout → List Primary → (c d : ClassId) → Type 0
 HaveChains h rows ps c d = (t : Subobject) (e : ClassId) → e.0 < d.0 → IsSubobject h c t → class_of t ≡ Some e → IsDynamic h e → StartsChain h rows ps c (Within c t e) t
 
-told_is : (h : Classes) (rows : List ClassLayout) (nearly : List Bool) (ps : List Primary) → IsLaidOut h rows nearly ps → (d : ClassId) (p : Primary) → d.0 < length h → primary_of ps d ≡ p → (places_in h rows).primary d ≡ p
+told_is : (h : Classes) (rows : List ClassLayout) (nearly : List Bool) (ps : List Primary) → IsLaidOut h rows nearly ps → (d : ClassId) (p : Primary) → d.0 < length h → primary_of ps d ≡ p → (places_of h rows).primary d ≡ p
 told_is h rows nearly ps known d p inside e = primary_told h rows nearly ps known d inside ∙ e
 
 direct_chain : (h : Classes) (rows : List ClassLayout) (nearly : List Bool) (ps : List Primary) → IsLaidOut h rows nearly ps → (c d b : ClassId) (n : Node) (s : Subobject) → c.0 < length h → IsPart h c n s d → primary_of ps d ≡ Direct b → HaveChains h rows ps c d → StartsChain h rows ps c n s

@@ -17,7 +17,7 @@ use Rattle.abi_layout.specs.Places.{size_of_value, number_in, members_in}
 use Rattle.abi_layout.specs.Locations.{Hop, Inherit, Element, count_of, IsElement, IsAt, at_base, at_value, at_inner}
 use Rattle.abi_layout.specs.Laid.{size_of_type, member_component, after_all}
 use Rattle.abi_layout.specs.DynamicLaid.{place_of, fronts, object_parts, front_components, start_stage, placed_place}
-use Rattle.abi_layout.specs.SoundLayouts.{places_in}
+use Rattle.abi_layout.specs.Places.{places_of}
 use Rattle.abi_layout.proofs.Lists.{get_within, has_at}
 use Rattle.abi_layout.proofs.Stages.{Has, has_left, has_right}
 use Rattle.abi_layout.proofs.Listed.{placed_length}
@@ -101,7 +101,7 @@ pub record IsElementStep (h : Classes) (rows : List ClassLayout) (ps : List Prim
   pub copy : step.copy ≡ i
   pub number : to.member ≡ m
   pub node : to.node ≡ node_of_type type
-  pub start : start_of to step.copy ≡ (places_in h rows).member d m + i * size_of_type rows type
+  pub start : start_of to step.copy ≡ (places_of h rows).member d m + i * size_of_type rows type
 
 pub element_step : (h : Classes) (rows : List ClassLayout) (nearly : List Bool) (ps : List Primary) → IsLaidOut h rows nearly ps → (c d : ClassId) (n : Node) (s : Subobject) (m i : ℕ) (type : FieldType ClassId) → c.0 < length h → IsPart h c n s d → IsElement h d m i type → IsElementStep h rows ps n d m i type
 element_step h rows nearly ps known c d n s m i type lt part e =
@@ -114,7 +114,7 @@ element_step h rows nearly ps known c d n s m i type lt part e =
     let to = member_placement rows e.member p.0 m in
     let listed : Has (members_at h rows d) to = subst (λ k. Has (members_at h rows d) (member_placement rows e.member p.0 k)) (let z : 0 + m ≡ m = omega arith in z) (member_has rows 0 (members_of h d) (members_in (slice_get rows d.0)) m e.member p.0 e.there place) in
     let k = index_of (contents_of h rows ps n) to (members_there h rows nearly ps c d n s to known lt part listed) in
-    let at : (places_in h rows).member d m ≡ p.0 = ap number_in place in
+    let at : (places_of h rows).member d m ≡ p.0 = ap number_in place in
     record {
       step = record { number = k.0; copy = i };
       to = to;
@@ -150,13 +150,13 @@ step_down contents n j m s p q at k to node start x = subst (λ z. Reaches conte
 
 -- what lies in an element is reached from the whole
 through_element : (h : Classes) (rows : List ClassLayout) (nearly : List Bool) (ps : List Primary) → IsLaidOut h rows nearly ps → (c d : ClassId) (s : Subobject) (m i : ℕ) (type : FieldType ClassId) (rest : List Step) (r : ℕ) (j : Node) → c.0 < length h → IsSubobject h c s → class_of s ≡ Some d → IsElement h d m i type → Reaches (contents_of h rows ps) (node_of_type type) rest r j
-    → HasSteps (contents_of h rows ps) c (Inherit s ∷ Element m i ∷ decode (contents_of h rows ps) rest (node_of_type type)) (place_of h rows c s + ((places_in h rows).member d m + i * size_of_type rows type) + r) j
+    → HasSteps (contents_of h rows ps) c (Inherit s ∷ Element m i ∷ decode (contents_of h rows ps) rest (node_of_type type)) (place_of h rows c s + ((places_of h rows).member d m + i * size_of_type rows type) + r) j
 through_element h rows nearly ps known c d s m i type rest r j lt valid class e x =
     let contents = contents_of h rows ps in
     let part = part_of h c s d valid class in
     let way = subobject_reached h rows nearly ps known c s d lt valid class in
     let k = element_step h rows nearly ps known c d (node_of c s d) s m i type lt part e in
-    let at = (places_in h rows).member d m + i * size_of_type rows type in
+    let at = (places_of h rows).member d m + i * size_of_type rows type in
     let y = step_down contents (node_of c s d) j (node_of_type type) k.step rest r at k.to k.steps k.node k.start x in
     let z = ways_joined contents (Complete c) (node_of c s d) j way.steps (k.step ∷ rest) (place_of h rows c s) (at + r) way.reaches y in
     let sum : place_of h rows c s + (at + r) ≡ place_of h rows c s + at + r = omega arith in
@@ -186,7 +186,7 @@ pub record IsLocated (h : Classes) (rows : List ClassLayout) (ps : List Primary)
 steps_along : (contents : Contents) (c : ClassId) (hops others : List Hop) (q r : ℕ) (node : Node) → hops ≡ others → q ≡ r → HasSteps contents c hops q node → HasSteps contents c others r node
 steps_along contents c hops others q r node e f x = subst (λ (t : List Hop). HasSteps contents c t r node) e (subst (λ z. HasSteps contents c hops z node) f x)
 
-pub located : (h : Classes) (rows : List ClassLayout) (nearly : List Bool) (ps : List Primary) → IsLaidOut h rows nearly ps → (c : ClassId) (hops : List Hop) (type : FieldType ClassId) (q : ℕ) → c.0 < length h → IsAt h (places_in h rows) c hops type q → IsLocated h rows ps c hops type q
+pub located : (h : Classes) (rows : List ClassLayout) (nearly : List Bool) (ps : List Primary) → IsLaidOut h rows nearly ps → (c : ClassId) (hops : List Hop) (type : FieldType ClassId) (q : ℕ) → c.0 < length h → IsAt h (places_of h rows) c hops type q → IsLocated h rows ps c hops type q
 located h rows nearly ps known _ _ _ _ lt (at_base c d s valid class) =
     let way = subobject_reached h rows nearly ps known c s d lt valid class in
     let part = part_of h c s d valid class in

@@ -204,7 +204,7 @@ from_holder h rows ps c v t d e primary =
     (has_right (members_at h rows d) _ _ (has_right (map (inner_base h rows c t d) (filter is_plain_base (bases_of h d))) _ _ (has_left (shared_start h rows ps c t (virtual_primary ps d)) _ _ there)))
 
 -- a virtual base is reached where no subobject holds it, and else through the one that does
-shared_reached : (h : Classes) (rows : List ClassLayout) (nearly : List Bool) (ps : List Primary) → IsLaidOut h rows nearly ps → (n : ℕ) (c v : ClassId) → c.0 < length h → HasVirtualBase h c v → c.0 ≤ v.0 + n → IsReached (contents_of h rows ps) (Complete c) (Within c (shared_base v) v) (virtual_place h rows c v)
+shared_reached : (h : Classes) (rows : List ClassLayout) (nearly : List Bool) (ps : List Primary) → IsLaidOut h rows nearly ps → (n : ℕ) (c v : ClassId) → c.0 < length h → HasVirtualBase h c v → c.0 ≤ v.0 + n → IsReached (contents_of h rows ps) (Complete c) (Within c (shared_base v) v) (virtual_place rows c v)
 shared_reached h rows nearly ps known zero c v lt has le = let f = virtual_below h known.keeps c v has in absurd (omega arith)
 shared_reached h rows nearly ps known (suc n) c v lt has le = by_holder (holder_of h ps c v) refl (λ w base less. shared_reached h rows nearly ps known n c w lt base (omega arith))
   where
@@ -215,26 +215,26 @@ shared_reached h rows nearly ps known (suc n) c v lt has le = by_holder (holder_
     listed = has_virtual h known.keeps c v has
 
     -- a base that is placed lies at its own place
-    placed : Has (contents_of h rows ps (Complete c)) (placed_base h rows c (SharedBase v)) → IsReached contents (Complete c) (Within c (shared_base v) v) (virtual_place h rows c v)
+    placed : Has (contents_of h rows ps (Complete c)) (placed_base h rows c (SharedBase v)) → IsReached contents (Complete c) (Within c (shared_base v) v) (virtual_place rows c v)
     placed there = reached_place contents (Complete c) (Within c (shared_base v) v) _ _ (omega arith) (reached_base h rows ps c (SharedBase v) there)
 
-    through_holder : (t : Subobject) (d : ClassId) → holder_of h ps c v ≡ Some t → virtual_primary ps d ≡ Some v → IsReached contents (Complete c) (Within c t d) (place_of h rows c t) → IsReached contents (Complete c) (Within c (shared_base v) v) (virtual_place h rows c v)
+    through_holder : (t : Subobject) (d : ClassId) → holder_of h ps c v ≡ Some t → virtual_primary ps d ≡ Some v → IsReached contents (Complete c) (Within c t d) (place_of h rows c t) → IsReached contents (Complete c) (Within c (shared_base v) v) (virtual_place rows c v)
     through_holder t d e primary way =
         let r = row_of h rows nearly ps known c lt in
         let at = r.laid.held v t (contains_of (virtual_bases h c) v listed) e in
-        reached_place contents (Complete c) (Within c (shared_base v) v) (place_of h rows c t + 0) (virtual_place h rows c v) (omega arith)
+        reached_place contents (Complete c) (Within c (shared_base v) v) (place_of h rows c t + 0) (virtual_place rows c v) (omega arith)
         (reached_further contents (Complete c) (Within c t d) (Within c (shared_base v) v) (place_of h rows c t) 0 way (from_holder h rows ps c v t d e primary))
 
-    by_root : (t : Subobject) → IsSubobject h c t → holder_of h ps c v ≡ Some t → shared_primary ps t ≡ Some v → ((w : ClassId) → HasVirtualBase h c w → v.0 < w.0 → IsReached contents (Complete c) (Within c (shared_base w) w) (virtual_place h rows c w)) → IsReached contents (Complete c) (Within c (shared_base v) v) (virtual_place h rows c v)
+    by_root : (t : Subobject) → IsSubobject h c t → holder_of h ps c v ≡ Some t → shared_primary ps t ≡ Some v → ((w : ClassId) → HasVirtualBase h c w → v.0 < w.0 → IsReached contents (Complete c) (Within c (shared_base w) w) (virtual_place rows c w)) → IsReached contents (Complete c) (Within c (shared_base v) v) (virtual_place rows c v)
     by_root _ (whole [] l) e primary next = let r = row_of h rows nearly ps known c lt in placed (at_front h rows nearly ps c r (SharedBase v) (shared_front h rows nearly ps c v r (primary_when_virtual ps c v primary)))
     by_root _ (whole (b ∷ path) l) e primary next = through_holder (subobject Whole (c ∷ b ∷ path)) (last_of b path) e primary (whole_reached h rows nearly ps known c (b ∷ path) lt l)
     by_root _ (shared w path base l) e primary next =
         let falls = (before_of h rows nearly ps known).falls (last_of w path) v primary in
         let below = last_below h known.keeps w path l in
         through_holder (subobject (Shared w) (w ∷ path)) (last_of w path) e primary
-        (reached_further contents (Complete c) (Within c (shared_base w) w) (Within c (subobject (Shared w) (w ∷ path)) (last_of w path)) (virtual_place h rows c w) (place_along h rows w path) (next w base (omega arith)) (along_path h rows ps c w (shared_base w) path l))
+        (reached_further contents (Complete c) (Within c (shared_base w) w) (Within c (subobject (Shared w) (w ∷ path)) (last_of w path)) (virtual_place rows c w) (place_along h rows w path) (next w base (omega arith)) (along_path h rows ps c w (shared_base w) path l))
 
-    by_holder : (o : Option Subobject) → holder_of h ps c v ≡ o → ((w : ClassId) → HasVirtualBase h c w → v.0 < w.0 → IsReached contents (Complete c) (Within c (shared_base w) w) (virtual_place h rows c w)) → IsReached contents (Complete c) (Within c (shared_base v) v) (virtual_place h rows c v)
+    by_holder : (o : Option Subobject) → holder_of h ps c v ≡ o → ((w : ClassId) → HasVirtualBase h c w → v.0 < w.0 → IsReached contents (Complete c) (Within c (shared_base w) w) (virtual_place rows c w)) → IsReached contents (Complete c) (Within c (shared_base v) v) (virtual_place rows c v)
     by_holder None e next =
         let r = row_of h rows nearly ps known c lt in
         placed (at_free h rows nearly ps c r (SharedBase v) (has_map (λ (w : ClassId). SharedBase w) _ v (in_filter (λ (w : ClassId). is_free (holder_of h ps c w)) (virtual_bases h c) v listed (ap is_free e))))
@@ -246,5 +246,5 @@ subobject_reached h rows nearly ps known c _ d lt (whole path l) e = let same : 
 subobject_reached h rows nearly ps known c _ d lt (shared v path has l) e =
     let same : last_of v path ≡ d = cc in
     let first = shared_reached h rows nearly ps known c.0 c v lt has (omega arith) in
-    let both = reached_further (contents_of h rows ps) (Complete c) (Within c (shared_base v) v) (Within c (subobject (Shared v) (v ∷ path)) (last_of v path)) (virtual_place h rows c v) (place_along h rows v path) first (along_path h rows ps c v (shared_base v) path l) in
-    subst (λ (x : ClassId). IsReached (contents_of h rows ps) (Complete c) (Within c (subobject (Shared v) (v ∷ path)) x) (virtual_place h rows c v + place_along h rows v path)) same both
+    let both = reached_further (contents_of h rows ps) (Complete c) (Within c (shared_base v) v) (Within c (subobject (Shared v) (v ∷ path)) (last_of v path)) (virtual_place rows c v) (place_along h rows v path) first (along_path h rows ps c v (shared_base v) path l) in
+    subst (λ (x : ClassId). IsReached (contents_of h rows ps) (Complete c) (Within c (subobject (Shared v) (v ∷ path)) x) (virtual_place rows c v + place_along h rows v path)) same both

@@ -8,7 +8,7 @@ use Rattle.abi_primary.specs.Kinds.{IsDynamic}
 use Rattle.abi_layout.specs.declared.class_layout.ClassLayout.{ClassLayout}
 use Rattle.abi_layout.specs.Locations.{Hop, IsAt}
 use Rattle.abi_layout.specs.Chains.{ShareChain}
-use Rattle.abi_layout.specs.SoundLayouts.{places_in}
+use Rattle.abi_layout.specs.Places.{places_of}
 use Rattle.abi_layout.proofs.ObjectTree.{Node, Complete, Pointer, Step, Reaches, contents_of}
 use Rattle.abi_layout.proofs.ObjectKnown.{IsLaidOut}
 use Rattle.abi_layout.proofs.ObjectPaths.{decode, ways_joined}
@@ -25,12 +25,12 @@ pub record HasPointerWay (h : Classes) (rows : List ClassLayout) (ps : List Prim
   pub are : steps ≡ way.steps ++ chained.steps
   pub reaches : Reaches (contents_of h rows ps) (Complete c) steps q Pointer
 
-pub pointer_way : (h : Classes) (rows : List ClassLayout) (nearly : List Bool) (ps : List Primary) → IsLaidOut h rows nearly ps → (c d : ClassId) (hops : List Hop) (q : ℕ) → c.0 < length h → IsDynamic h d → IsAt h (places_in h rows) c hops (Object d) q → HasPointerWay h rows ps c hops q
+pub pointer_way : (h : Classes) (rows : List ClassLayout) (nearly : List Bool) (ps : List Primary) → IsLaidOut h rows nearly ps → (c d : ClassId) (hops : List Hop) (q : ℕ) → c.0 < length h → IsDynamic h d → IsAt h (places_of h rows) c hops (Object d) q → HasPointerWay h rows ps c hops q
 pointer_way h rows nearly ps known c d hops q lt dynamic at =
     let x = located h rows nearly ps known c hops (Object d) q lt at in
     let y = has_chain h rows nearly ps known d x.node dynamic x.ends in
     let contents = contents_of h rows ps in
-    let on = chain_reaches contents (places_in h rows) y.top x.node y.subobject_is y.steps y.chain in
+    let on = chain_reaches contents (places_of h rows) y.top x.node y.subobject_is y.steps y.chain in
     let e : q + 0 ≡ q = omega arith in
     record {
       node = x.node;
@@ -42,9 +42,9 @@ pointer_way h rows nearly ps known c d hops q lt dynamic at =
     }
 
 -- two whose steps to the virtual pointer are the same share it
-pub pointers_shared : (h : Classes) (rows : List ClassLayout) (nearly : List Bool) (ps : List Primary) → IsLaidOut h rows nearly ps → (c : ClassId) (hops others : List Hop) (q r : ℕ) → c.0 < length h → (x : HasPointerWay h rows ps c hops q) (y : HasPointerWay h rows ps c others r) → x.steps ≡ y.steps → ShareChain h (places_in h rows) c hops others
+pub pointers_shared : (h : Classes) (rows : List ClassLayout) (nearly : List Bool) (ps : List Primary) → IsLaidOut h rows nearly ps → (c : ClassId) (hops others : List Hop) (q r : ℕ) → c.0 < length h → (x : HasPointerWay h rows ps c hops q) (y : HasPointerWay h rows ps c others r) → x.steps ≡ y.steps → ShareChain h (places_of h rows) c hops others
 pointers_shared h rows nearly ps known c hops others q r lt x y e =
     let contents = contents_of h rows ps in
     let both : x.way.steps ++ x.chained.steps ≡ y.way.steps ++ y.chained.steps = sym x.are ∙ (e ∙ y.are) in
     let shares = share_or_differ h rows nearly ps known c x.node y.node x.way.steps y.way.steps q r lt x.way.reaches y.way.reaches x.chained y.chained both in
-    subst (λ (t : List Hop). ShareChain h (places_in h rows) c hops t) y.way.decodes (subst (λ (t : List Hop). ShareChain h (places_in h rows) c t (decode contents y.way.steps (Complete c))) x.way.decodes shares)
+    subst (λ (t : List Hop). ShareChain h (places_of h rows) c hops t) y.way.decodes (subst (λ (t : List Hop). ShareChain h (places_of h rows) c t (decode contents y.way.steps (Complete c))) x.way.decodes shares)

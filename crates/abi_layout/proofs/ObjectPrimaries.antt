@@ -213,5 +213,5 @@ pub shared_at_start : (h : Classes) (rows : List ClassLayout) (nearly : List Boo
 shared_at_start h rows nearly primaries d v keeps laid lt e =
     let r = row_of h rows nearly primaries d laid lt in
     let has = (shared_primary h rows nearly primaries d v keeps laid lt e).0 in
-    let f : virtual_place h rows d v ≡ place_of h rows d (whole_of d) = r.laid.held v (whole_of d) (virtual_listed h d v keeps has) (whole_holds h primaries d v e) in
+    let f : virtual_place rows d v ≡ place_of h rows d (whole_of d) = r.laid.held v (whole_of d) (virtual_listed h d v keeps has) (whole_holds h primaries d v e) in
     omega arith

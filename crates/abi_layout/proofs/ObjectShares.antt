@@ -13,7 +13,7 @@ use Rattle.abi_layout.specs.declared.class_layout.ClassLayout.{ClassLayout}
 use Rattle.abi_layout.specs.Places.{Places}
 use Rattle.abi_layout.specs.Locations.{Hop, Inherit, Element, IsElement}
 use Rattle.abi_layout.specs.Chains.{IsInChain, itself, further as further_part, ShareChain, downwards, upwards, in_element}
-use Rattle.abi_layout.specs.SoundLayouts.{places_in}
+use Rattle.abi_layout.specs.Places.{places_of}
 use Rattle.abi_layout.proofs.Lists.{has_at}
 use Rattle.abi_layout.proofs.KindLemmas.{has_of}
 use Rattle.abi_layout.proofs.ObjectTree.{Node, Complete, Within, Placement, Step, Contents, StepsTo, Reaches, here, down, class_of_node, node_of_type, contents_of}
@@ -73,7 +73,7 @@ pub record HasChain (h : Classes) (rows : List ClassLayout) (ps : List Primary) 
   pub subobject_is : Subobject
   pub part : IsPart h top n subobject_is class
   pub steps : List Step
-  pub chain : IsChain (contents_of h rows ps) (places_in h rows) top n subobject_is steps
+  pub chain : IsChain (contents_of h rows ps) (places_of h rows) top n subobject_is steps
 
 -- a dynamic part, by its node, has one
 pub has_chain : (h : Classes) (rows : List ClassLayout) (nearly : List Bool) (ps : List Primary) → IsLaidOut h rows nearly ps → (d : ClassId) (n : Node) → IsDynamic h d → IsObjectNode h d n → HasChain h rows ps n
@@ -82,20 +82,20 @@ has_chain h rows nearly ps known d n dynamic x =
     record { top = x.top; class = d; subobject_is = x.subobject_is; part = x.part; steps = y.steps; chain = y.chain }
 
 -- the first steps of the chain of a part that begins here
-from_here : (h : Classes) (rows : List ClassLayout) (ps : List Primary) (c d : ClassId) (n : Node) (s : Subobject) (o b : List Step) → IsPart h c n s d → (x : HasChain h rows ps n) → x.steps ≡ o ++ b → (b ≡ [] → ⊥) → IsFurtherPart (contents_of h rows ps) (places_in h rows) c n s o
+from_here : (h : Classes) (rows : List ClassLayout) (ps : List Primary) (c d : ClassId) (n : Node) (s : Subobject) (o b : List Step) → IsPart h c n s d → (x : HasChain h rows ps n) → x.steps ≡ o ++ b → (b ≡ [] → ⊥) → IsFurtherPart (contents_of h rows ps) (places_of h rows) c n s o
 from_here h rows ps c d n s o b part x e some =
     let same = parts_same h x.top c x.class d n n x.subobject_is s refl x.part part in
-    let chain : IsChain (contents_of h rows ps) (places_in h rows) c n s x.steps =
-    subst (λ (t : Subobject). IsChain (contents_of h rows ps) (places_in h rows) c n t x.steps) same.subobject_is (subst (λ (e : ClassId). IsChain (contents_of h rows ps) (places_in h rows) e n x.subobject_is x.steps) same.top x.chain) in
-    into_chain (contents_of h rows ps) (places_in h rows) c n s x.steps o b chain (part_hops h c n s d part) e some
+    let chain : IsChain (contents_of h rows ps) (places_of h rows) c n s x.steps =
+    subst (λ (t : Subobject). IsChain (contents_of h rows ps) (places_of h rows) c n t x.steps) same.subobject_is (subst (λ (e : ClassId). IsChain (contents_of h rows ps) (places_of h rows) e n x.subobject_is x.steps) same.top x.chain) in
+    into_chain (contents_of h rows ps) (places_of h rows) c n s x.steps o b chain (part_hops h c n s d part) e some
 
 -- the hops of steps that go through a base, and of steps that go through an element
 share_base : (h : Classes) (rows : List ClassLayout) (ps : List Primary) (c e : ClassId) (n : Node) (t : Subobject) (x y : Step) (k : Placement) (p o : List Step) → slice_get (contents_of h rows ps n) x.number ≡ Some k → slice_get (contents_of h rows ps n) y.number ≡ Some k → k.node ≡ Within c t e
-    → ShareChain h (places_in h rows) c (decode (contents_of h rows ps) p k.node) (decode (contents_of h rows ps) o k.node) → ShareChain h (places_in h rows) c (decode (contents_of h rows ps) (x ∷ p) n) (decode (contents_of h rows ps) (y ∷ o) n)
+    → ShareChain h (places_of h rows) c (decode (contents_of h rows ps) p k.node) (decode (contents_of h rows ps) o k.node) → ShareChain h (places_of h rows) c (decode (contents_of h rows ps) (x ∷ p) n) (decode (contents_of h rows ps) (y ∷ o) n)
 share_base h rows ps c e n t x y k p o at_x at_y node shares =
     let a = hops_are x p at_x in
     let b = hops_are y o at_y in
-    subst (λ (z : List Hop). ShareChain h (places_in h rows) c z (decode (contents_of h rows ps) (y ∷ o) n)) (sym a) (subst (λ (z : List Hop). ShareChain h (places_in h rows) c (decode (contents_of h rows ps) p k.node) z) (sym b) shares)
+    subst (λ (z : List Hop). ShareChain h (places_of h rows) c z (decode (contents_of h rows ps) (y ∷ o) n)) (sym a) (subst (λ (z : List Hop). ShareChain h (places_of h rows) c (decode (contents_of h rows ps) p k.node) z) (sym b) shares)
   where
     by_node : (z : Node) (z_is : z ≡ Within c t e) (m copy : ℕ) (hops : List Hop) → through n m copy z hops ≡ hops
     by_node z z_is m copy hops = ap (λ (w : Node). through n m copy w hops) z_is
@@ -104,11 +104,11 @@ share_base h rows ps c e n t x y k p o at_x at_y node shares =
     hops_are z r at = ap (λ (w : Option Placement). further n z w (decode (contents_of h rows ps) r)) at ∙ by_node k.node node k.member z.copy (decode (contents_of h rows ps) r k.node)
 
 share_element : (h : Classes) (rows : List ClassLayout) (ps : List Primary) (c d e : ClassId) (n : Node) (s : Subobject) (x : Step) (k : Placement) (p o : List Step) → IsPart h c n s d → slice_get (contents_of h rows ps n) x.number ≡ Some k → k.node ≡ Complete e → IsElement h d k.member x.copy (Object e)
-    → ShareChain h (places_in h rows) e (decode (contents_of h rows ps) p k.node) (decode (contents_of h rows ps) o k.node) → ShareChain h (places_in h rows) c (decode (contents_of h rows ps) (x ∷ p) n) (decode (contents_of h rows ps) (x ∷ o) n)
+    → ShareChain h (places_of h rows) e (decode (contents_of h rows ps) p k.node) (decode (contents_of h rows ps) o k.node) → ShareChain h (places_of h rows) c (decode (contents_of h rows ps) (x ∷ p) n) (decode (contents_of h rows ps) (x ∷ o) n)
 share_element h rows ps c d e n s x k p o part at node element shares =
     let a = hops_are p in
     let b = hops_are o in
-    subst (λ (z : List Hop). ShareChain h (places_in h rows) c z (decode (contents_of h rows ps) (x ∷ o) n)) (sym a) (subst (λ (z : List Hop). ShareChain h (places_in h rows) c (Inherit s ∷ Element k.member x.copy ∷ decode (contents_of h rows ps) p k.node) z) (sym b)
+    subst (λ (z : List Hop). ShareChain h (places_of h rows) c z (decode (contents_of h rows ps) (x ∷ o) n)) (sym a) (subst (λ (z : List Hop). ShareChain h (places_of h rows) c (Inherit s ∷ Element k.member x.copy ∷ decode (contents_of h rows ps) p k.node) z) (sym b)
     (in_element c d e s k.member x.copy (decode (contents_of h rows ps) p k.node) (decode (contents_of h rows ps) o k.node) (part_class h c n s d part) element shares))
   where
     hops_are : (r : List Step) → decode (contents_of h rows ps) (x ∷ r) n ≡ Inherit s ∷ Element k.member x.copy ∷ decode (contents_of h rows ps) r k.node
@@ -118,45 +118,45 @@ share_element h rows ps c d e n s x k p o part at node element shares =
 
 -- what is known at the node of a placement
 abbrev SharesBelow : Classes → List ClassLayout → List Primary → Node → List Step → List Step → Type 0
-SharesBelow h rows ps n p o = (c d : ClassId) (s : Subobject) → c.0 < length h → IsPart h c n s d → ShareChain h (places_in h rows) c (decode (contents_of h rows ps) p n) (decode (contents_of h rows ps) o n)
+SharesBelow h rows ps n p o = (c d : ClassId) (s : Subobject) → c.0 < length h → IsPart h c n s d → ShareChain h (places_of h rows) c (decode (contents_of h rows ps) p n) (decode (contents_of h rows ps) o n)
 
 -- two ways that begin with one step
 share_step : (h : Classes) (rows : List ClassLayout) (nearly : List Bool) (ps : List Primary) → IsLaidOut h rows nearly ps → (c d : ClassId) (n m : Node) (s : Subobject) (x : Step) (k : Placement) (p o : List Step) (q : ℕ) → c.0 < length h → IsPart h c n s d → StepsTo (contents_of h rows ps) n x k → Reaches (contents_of h rows ps) k.node p q m → HasChain h rows ps m
-    → SharesBelow h rows ps k.node p o → ShareChain h (places_in h rows) c (decode (contents_of h rows ps) (x ∷ p) n) (decode (contents_of h rows ps) (x ∷ o) n)
+    → SharesBelow h rows ps k.node p o → ShareChain h (places_of h rows) c (decode (contents_of h rows ps) (x ∷ p) n) (decode (contents_of h rows ps) (x ∷ o) n)
 share_step h rows nearly ps known c d n m s x k p o q lt part to way chained next =
     by_kind (step_kind h rows nearly ps known c d n s k lt part (has_of (contents_of h rows ps n) k (has_at (contents_of h rows ps n) x.number k to.there)))
   where
-    by_type : (type : FieldType ClassId) → k.node ≡ node_of_type type → IsElement h d k.member x.copy type → ShareChain h (places_in h rows) c (decode (contents_of h rows ps) (x ∷ p) n) (decode (contents_of h rows ps) (x ∷ o) n)
+    by_type : (type : FieldType ClassId) → k.node ≡ node_of_type type → IsElement h d k.member x.copy type → ShareChain h (places_of h rows) c (decode (contents_of h rows ps) (x ∷ p) n) (decode (contents_of h rows ps) (x ∷ o) n)
     by_type (Value type) node element = absurd (none_below h (contents_of h rows ps) k.node m p q chained.top chained.class chained.subobject_is (ap (contents_of h rows ps) node) (ap class_of_node node) way chained.part)
     by_type (Object e) node element =
         let inside = element_within h d k.member x.copy (Object e) element in
         let falls = known.keeps.objects d e element.member (has_at (members_of h d) k.member element.member element.there) element.type_is in
         share_element h rows ps c d e n s x k p o part to.there node element (next e e (whole_of e) (omega arith) (subst (λ (z : Node). IsPart h e z (whole_of e) e) (sym node) whole_part))
 
-    by_kind : IsStepKind h c d k → ShareChain h (places_in h rows) c (decode (contents_of h rows ps) (x ∷ p) n) (decode (contents_of h rows ps) (x ∷ o) n)
+    by_kind : IsStepKind h c d k → ShareChain h (places_of h rows) c (decode (contents_of h rows ps) (x ∷ p) n) (decode (contents_of h rows ps) (x ∷ o) n)
     by_kind (to_base t e node valid class) = share_base h rows ps c e n t x x k p o to.there to.there node (next c e t lt (subst (λ (z : Node). IsPart h c z t e) (sym node) (inner_part t e valid class)))
     by_kind (to_member type node each) = by_type type node (each x.copy to.within)
     by_kind (to_pointer node) = absurd (none_below h (contents_of h rows ps) k.node m p q chained.top chained.class chained.subobject_is (ap (contents_of h rows ps) node) (ap class_of_node node) way chained.part)
 
 -- two ways from one part that end, with the chains of where they lead, at one virtual pointer
 share_from : (h : Classes) (rows : List ClassLayout) (nearly : List Bool) (ps : List Primary) → IsLaidOut h rows nearly ps → (c d : ClassId) (n m j : Node) (s : Subobject) (p o : List Step) (q r : ℕ) → c.0 < length h → IsPart h c n s d → Reaches (contents_of h rows ps) n p q m → Reaches (contents_of h rows ps) n o r j → (x : HasChain h rows ps m) (y : HasChain h rows ps j) → p ++ x.steps ≡ o ++ y.steps
-    → ShareChain h (places_in h rows) c (decode (contents_of h rows ps) p n) (decode (contents_of h rows ps) o n)
+    → ShareChain h (places_of h rows) c (decode (contents_of h rows ps) p n) (decode (contents_of h rows ps) o n)
 share_from h rows nearly ps known c d _ _ j s _ o _ r lt part (here n) other x y e =
-    let t = from_here h rows ps c d n s o y.steps part x e (chain_some (contents_of h rows ps) (places_in h rows) y.top j y.subobject_is y.steps y.chain) in
-    subst (λ (z : List Hop). ShareChain h (places_in h rows) c z (decode (contents_of h rows ps) o n)) (sym (part_hops h c n s d part)) (subst (λ (z : List Hop). ShareChain h (places_in h rows) c (Inherit s ∷ []) z) (sym t.hops) (downwards c s t.part t.chain))
+    let t = from_here h rows ps c d n s o y.steps part x e (chain_some (contents_of h rows ps) (places_of h rows) y.top j y.subobject_is y.steps y.chain) in
+    subst (λ (z : List Hop). ShareChain h (places_of h rows) c z (decode (contents_of h rows ps) o n)) (sym (part_hops h c n s d part)) (subst (λ (z : List Hop). ShareChain h (places_of h rows) c (Inherit s ∷ []) z) (sym t.hops) (downwards c s t.part t.chain))
 share_from h rows nearly ps known c d _ _ _ s _ _ _ _ lt part (down n m v p q k to way) (here _) x y e =
-    let t = from_here h rows ps c d n s (v ∷ p) x.steps part y (sym e) (chain_some (contents_of h rows ps) (places_in h rows) x.top m x.subobject_is x.steps x.chain) in
-    subst (λ (z : List Hop). ShareChain h (places_in h rows) c z (last_hops n)) (sym t.hops) (subst (λ (z : List Hop). ShareChain h (places_in h rows) c (Inherit t.part ∷ []) z) (sym (part_hops h c n s d part)) (upwards c t.part s t.chain))
+    let t = from_here h rows ps c d n s (v ∷ p) x.steps part y (sym e) (chain_some (contents_of h rows ps) (places_of h rows) x.top m x.subobject_is x.steps x.chain) in
+    subst (λ (z : List Hop). ShareChain h (places_of h rows) c z (last_hops n)) (sym t.hops) (subst (λ (z : List Hop). ShareChain h (places_of h rows) c (Inherit t.part ∷ []) z) (sym (part_hops h c n s d part)) (upwards c t.part s t.chain))
 share_from h rows nearly ps known c d _ _ _ s _ _ _ _ lt part (down n m v p q k to way) (down _ j w o r l on other) x y e =
     let step : v ≡ w = same_step v w (p ++ x.steps) (o ++ y.steps) e in
     let rest : p ++ x.steps ≡ o ++ y.steps = same_rest v w (p ++ x.steps) (o ++ y.steps) e in
     let both : Some k ≡ Some l = sym to.there ∙ (ap (λ (z : Step). slice_get (contents_of h rows ps n) z.number) step ∙ on.there) in
     let same : k ≡ l = cc in
     let there : Reaches (contents_of h rows ps) k.node o r j = subst (λ (z : Placement). Reaches (contents_of h rows ps) z.node o r j) (sym same) other in
-    subst (λ (z : Step). ShareChain h (places_in h rows) c (decode (contents_of h rows ps) (v ∷ p) n) (decode (contents_of h rows ps) (z ∷ o) n)) step
+    subst (λ (z : Step). ShareChain h (places_of h rows) c (decode (contents_of h rows ps) (v ∷ p) n) (decode (contents_of h rows ps) (z ∷ o) n)) step
     (share_step h rows nearly ps known c d n m s v k p o q lt part to way x (λ e2 f t inside below. share_from h rows nearly ps known e2 f k.node m j t p o q r inside below way there x y rest))
 
 -- two parts of one object share a chain where their ways to a virtual pointer are one
 pub share_or_differ : (h : Classes) (rows : List ClassLayout) (nearly : List Bool) (ps : List Primary) → IsLaidOut h rows nearly ps → (c : ClassId) (n m : Node) (p o : List Step) (q r : ℕ) → c.0 < length h → Reaches (contents_of h rows ps) (Complete c) p q n → Reaches (contents_of h rows ps) (Complete c) o r m → (x : HasChain h rows ps n) (y : HasChain h rows ps m) → p ++ x.steps ≡ o ++ y.steps
-    → ShareChain h (places_in h rows) c (decode (contents_of h rows ps) p (Complete c)) (decode (contents_of h rows ps) o (Complete c))
+    → ShareChain h (places_of h rows) c (decode (contents_of h rows ps) p (Complete c)) (decode (contents_of h rows ps) o (Complete c))
 share_or_differ h rows nearly ps known c n m p o q r lt a b x y e = share_from h rows nearly ps known c c (Complete c) n m (whole_of c) p o q r lt whole_part a b x y e

@@ -86,12 +86,12 @@ holder_rises h ps c v w path keeps possible has leads e =
 
 -- the place of a subobject, where those of the direct bases and of its virtual base are the same
 place_same : (h : Classes) (rows others : List ClassLayout) (c : ClassId) (t : Subobject) → IsHierarchy h → AgreeTo c.0 rows others → ((path : List ClassId) → Leads h c path → place_along h rows c path ≡ place_along h others c path)
-    → ((w : ClassId) (path : List ClassId) → t ≡ subobject (Shared w) (w ∷ path) → HasVirtualBase h c w → Leads h w path → virtual_place h rows c w ≡ virtual_place h others c w) → IsSubobject h c t → place_of h rows c t ≡ place_of h others c t
+    → ((w : ClassId) (path : List ClassId) → t ≡ subobject (Shared w) (w ∷ path) → HasVirtualBase h c w → Leads h w path → virtual_place rows c w ≡ virtual_place others c w) → IsSubobject h c t → place_of h rows c t ≡ place_of h others c t
 place_same h rows others c _ keeps agree along virtual (whole path leads) = ap (λ k. 0 + k) (along path leads)
 place_same h rows others c _ keeps agree along virtual (shared w path has leads) =
     let lt = virtual_below h keeps c w has in
     ap (λ k. k + place_along h rows w path) (virtual w path refl has leads)
-    ∙ ap (λ k. virtual_place h others c w + k) (along_agrees h c.0 rows others w path keeps agree lt leads)
+    ∙ ap (λ k. virtual_place others c w + k) (along_agrees h c.0 rows others w path keeps agree lt leads)
 
 -- two rows of one class, by rows and primary bases that agree before it
 pub record AreRows (h : Classes) (rows others : List ClassLayout) (near other : List Bool) (ps qs : List Primary) (c : ClassId) (class : Class) (x y : ClassLayout) : Type 0 where
@@ -148,13 +148,13 @@ along_one h rows others near other ps qs c class x y r (b ∷ path) leads =
     ∙ ap (λ k. base_place h others c b + k) (along_agrees h c.0 rows others b path r.keeps r.agree (omega arith) leads.1)
 
 -- the places of virtual bases, from the greatest number down
-virtual_one : (h : Classes) (rows others : List ClassLayout) (near other : List Bool) (ps qs : List Primary) (c : ClassId) (class : Class) (x y : ClassLayout) → AreRows h rows others near other ps qs c class x y → (k : ℕ) (v : ClassId) → c.0 ≤ v.0 + k → HasVirtualBase h c v → virtual_place h rows c v ≡ virtual_place h others c v
+virtual_one : (h : Classes) (rows others : List ClassLayout) (near other : List Bool) (ps qs : List Primary) (c : ClassId) (class : Class) (x y : ClassLayout) → AreRows h rows others near other ps qs c class x y → (k : ℕ) (v : ClassId) → c.0 ≤ v.0 + k → HasVirtualBase h c v → virtual_place rows c v ≡ virtual_place others c v
 virtual_one h rows others near other ps qs c class x y r zero v le has = let lt = virtual_below h r.keeps c v has in absurd (omega arith)
 virtual_one h rows others near other ps qs c class x y r (suc k) v le has =
     by_holder (holder_of h ps c v) refl (λ w less there. virtual_one h rows others near other ps qs c class x y r k w (omega arith) there)
   where
-    by_holder : (o : Option Subobject) → holder_of h ps c v ≡ o → ((w : ClassId) → v.0 < w.0 → HasVirtualBase h c w → virtual_place h rows c w ≡ virtual_place h others c w) → virtual_place h rows c v ≡ virtual_place h others c v
-    by_holder None e later = added_once (virtual_place h rows c v) (virtual_place h others c v) (free_place_one h rows others near other ps qs c class x y r (SharedBase v) (free_has h ps c v r.keeps has e))
+    by_holder : (o : Option Subobject) → holder_of h ps c v ≡ o → ((w : ClassId) → v.0 < w.0 → HasVirtualBase h c w → virtual_place rows c w ≡ virtual_place others c w) → virtual_place rows c v ≡ virtual_place others c v
+    by_holder None e later = added_once (virtual_place rows c v) (virtual_place others c v) (free_place_one h rows others near other ps qs c class x y r (SharedBase v) (free_has h ps c v r.keeps has e))
     by_holder (Some t) e later =
         let facts = held h ps c v (preorder h c) (Some t) refl (preorder_lists h c r.keeps) e in
         let listed = contains_from_has (virtual_bases h c) v (has_virtual h c v r.keeps has) in
@@ -181,7 +181,7 @@ base_places_one h rows others near other ps qs c class x y r =
     ∙ ap (λ (o : Option ClassLayout). place_at (bases_in o) (position (λ (z : Base ClassId). nat_eq z.class.0 base.class.0) (filter is_plain_base (bases_of h c)))) r.other_there))
 
 -- the place of a virtual base, by its row
-virtual_by_row : (h : Classes) (rows : List ClassLayout) (c v : ClassId) (x : ClassLayout) → slice_get rows c.0 ≡ Some x → x.virtual_bases ≡ virtual_bases h c → virtual_place h rows c v ≡ place_at x.virtual_places (position (λ (w : ClassId). nat_eq w.0 v.0) (virtual_bases h c))
+virtual_by_row : (h : Classes) (rows : List ClassLayout) (c v : ClassId) (x : ClassLayout) → slice_get rows c.0 ≡ Some x → x.virtual_bases ≡ virtual_bases h c → virtual_place rows c v ≡ place_at x.virtual_places (position (λ (w : ClassId). nat_eq w.0 v.0) (virtual_bases h c))
 virtual_by_row h rows c v x there is =
     ap (λ (o : Option ClassLayout). place_at (virtuals_in o) (position (λ (w : ClassId). nat_eq w.0 v.0) (shared_in o))) there
     ∙ ap (λ (vs : List ClassId). place_at x.virtual_places (position (λ (w : ClassId). nat_eq w.0 v.0) vs)) is
