@@ -2,11 +2,9 @@
 
 ghost use Rattle.std.specs.Prelude.{◌≡◌, ◌+◌, ◌^◌, ◌<◌, ◌≤◌, ◌⊎◌, ◌↔◌, IfOk, IfErr, OnOk, IsTrue, length};
 ghost use Rattle.std.specs.List.{list_any};
-ghost use Rattle.cxx_subobject.specs.declared.Subobject.{Subobject};
-ghost use Rattle.cxx_subobject.specs.Subobjects.{IsSubobject, class_of};
-ghost use Rattle.cxx_subobject.specs.Preorder.{preorder};
-ghost use Rattle.abi_layout.specs.Known.{empties_in};
-ghost use Rattle.abi_layout.specs.DynamicLaid.{is_whole, place_of, place_from, HasPointer};
+ghost use Rattle.cxx_subobject.specs.Subobjects.{class_of};
+ghost use Rattle.abi_primary.specs.Kinds.{IsDynamic};
+ghost use Rattle.abi_layout.specs.DynamicLaid.{is_whole, place_from};
 ghost use Rattle.abi_layout.specs.Settled.{IsPath};
 ghost use Rattle.abi_layout.specs.Refusals.{IsWellLaid, StopsAt, IsFirstStop};
 ghost use Rattle.abi_layout.specs.LaidSoFar.{IsLaidSoFar, known_empty, is_shifted_base, ArePaths};
@@ -45,11 +43,13 @@ fn none_laid(alloc: Global, _h: &Hierarchy) -> LaidSoFar
     }
 }
 
-fn is_no_primary(primary: Primary) -> bool
-    ensures { IsTrue result ↔ (primary ≡ Primary.None) }
+/// Whether a class has a virtual pointer of its own: it is dynamic and has no primary base.
+fn has_pointer(h: &Hierarchy, c: ClassId, primary: Primary) -> bool
+    requires { c.0 < length h.now }
+    ensures { IsTrue result ↔ (IsDynamic h.now c × (primary ≡ Primary.None)) }
 {
     match primary {
-        Primary::None => true,
+        Primary::None => is_dynamic(h, c),
         Primary::Direct(_) | Primary::Virtual(_) => false,
     }
 }
@@ -103,7 +103,12 @@ fn is_shifted(h: &Hierarchy, rows: &[ClassLayout], known: &[Known], list: &[Subo
 ///
 /// Errors: the limit L6 exactly where the size of the class is above 500,000 bytes; else the refusal SharedPlace
 /// exactly where a base brings one pair of class and place twice; want of memory.
-fn lay_out_next(alloc: Global, h: &Hierarchy, c: ClassId, so_far: &mut LaidSoFar) -> Result<(), Stop>
+fn lay_out_next(
+    alloc: Global,
+    h: &Hierarchy,
+    c: ClassId,
+    so_far: &mut LaidSoFar,
+) -> Result<(), Stop>
     requires known { c.0 < length h.now }
     requires laid { IsLaidSoFar h.now c.0 so_far.old.rows.items so_far.old.known.items so_far.old.members.items so_far.old.nearly.items so_far.old.primaries.items }
     ensures laid { OnOk result (IsLaidSoFar h.now (c.0 + 1) so_far.new.rows.items so_far.new.known.items so_far.new.members.items so_far.new.nearly.items so_far.new.primaries.items) }
@@ -112,8 +117,7 @@ fn lay_out_next(alloc: Global, h: &Hierarchy, c: ClassId, so_far: &mut LaidSoFar
     h.keeps();
     let list = list_subobjects(alloc, h, c)?;
     let primary = primary_among(h, c, &so_far.nearly, &so_far.primaries, list.as_slice());
-    let dynamic = is_dynamic(h, c);
-    let has_pointer = dynamic && is_no_primary(primary);
+    let has_pointer = has_pointer(h, c, primary);
     so_far.primaries.push(primary)?;
     let ClassFacts { known, members } = lay_out_class(
         alloc,

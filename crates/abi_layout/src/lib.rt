@@ -22,6 +22,8 @@ pub mod hierarchy_layout;
 pub mod holding;
 pub mod known;
 pub mod laid_row;
+#[cfg(test)]
+mod layout_tests;
 mod member;
 pub mod places;
 pub mod placing;
