@@ -33,3 +33,6 @@ pub mod CanSettleLemmas
 pub mod NestedLemmas
 pub mod RoomLemmas
 mod ObjectTree
+pub mod NextPrimary
+pub mod NextKinds
+pub mod NextShifted
