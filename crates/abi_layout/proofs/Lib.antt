@@ -36,3 +36,7 @@ mod ObjectTree
 pub mod NextPrimary
 pub mod NextKinds
 pub mod NextShifted
+pub mod AgreeingRows
+pub mod AgreeingParts
+pub mod AgreeingClasses
+pub mod AgreeingFronts

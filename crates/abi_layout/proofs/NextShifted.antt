@@ -9,7 +9,7 @@ use Rattle.cxx_subobject.specs.declared.Root.TheVariants.{Whole, Shared}
 use Rattle.cxx_subobject.specs.declared.Subobject.{Subobject}
 use Rattle.cxx_subobject.specs.Subobjects.{IsSubobject, whole, shared, class_of, last_of}
 use Rattle.cxx_subobject.specs.Preorder.{preorder}
-use Rattle.cxx_subobject.proofs.TreeLemmas.{preorder_lists}
+use Rattle.cxx_subobject.proofs.TreeLemmas.{preorder_lists, has_preorder}
 use Rattle.abi_primary.specs.declared.Primary.{Primary}
 use Rattle.abi_layout.specs.declared.known.Known.{Known}
 use Rattle.abi_layout.specs.declared.class_layout.ClassLayout.{ClassLayout}
@@ -22,10 +22,7 @@ use Rattle.abi_layout.specs.LaidSoFar.{known_empty, is_shifted_base, ArePaths}
 use Rattle.abi_layout.proofs.Lists.{has_here, has_later}
 use Rattle.abi_layout.proofs.CanSettleLemmas.{AreNested, last_below, along_within, path_of}
 use Rattle.abi_layout.proofs.OpenLemmas.{virtual_below}
-
-any_same : {X : Type 0} (p q : X → Bool) (xs : List X) → ((x : X) → Contains xs x → p x ≡ q x) → list_any p xs ≡ list_any q xs
-any_same p q [] each = refl
-any_same p q (x ∷ xs) each = let a = each x (has_here x xs) in let b = any_same p q xs (λ y h. each y (has_later x xs y h)) in cc
+use Rattle.abi_layout.proofs.AgreeingRows.{any_same}
 
 pub any_at : {X : Type 0} (p : X → Bool) (xs : List X) (i : ℕ) (x : X) → slice_get xs i ≡ Some x → p x ≡ true → list_any p xs ≡ true
 any_at p [] i x e t = cc
@@ -54,7 +51,7 @@ pub shifted_same : (h : Classes) (rows : List ClassLayout) (known : List Known) 
 shifted_same h rows known c list keeps tells is =
     ap (list_any (is_shifted_base h rows known)) is
     ∙ any_same (is_shifted_base h rows known) (λ (s : Subobject). is_whole s.root && (is_empty_in h (class_of s) && not (place_of h rows c s == 0))) (preorder h c)
-    (λ s has. shifted_is h rows known c s keeps tells ((preorder_lists h c keeps).valid s has))
+    (λ s has. shifted_is h rows known c s keeps tells (has_preorder h c s has))
 
 path_small : (h : Classes) (rows : List ClassLayout) (ps : List Primary) (c : ClassId) (s : Subobject) → IsHierarchy h → AreNested h (c.0 + 1) rows ps → IsSubobject h c s → place_from h rows s.path ≤ 500000
 path_small h rows ps c _ keeps nested (whole path leads) = let along = along_within h (c.0 + 1) rows ps keeps nested c path (omega arith) leads in let small = nested.small c.0 in omega arith
