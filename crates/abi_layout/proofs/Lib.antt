@@ -40,3 +40,6 @@ pub mod AgreeingRows
 pub mod AgreeingParts
 pub mod AgreeingClasses
 pub mod AgreeingFronts
+pub mod NextArranged
+pub mod NextComponents
+pub mod NextRefused
