@@ -33,3 +33,6 @@ pub mod CanSettleLemmas
 pub mod NestedLemmas
 pub mod RoomLemmas
 mod ObjectTree
+pub mod RowPlacesTable
+pub mod RowPlacesFree
+pub mod RowPlacesSmall
