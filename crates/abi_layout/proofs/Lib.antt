@@ -43,3 +43,6 @@ pub mod AgreeingFronts
 pub mod NextArranged
 pub mod NextComponents
 pub mod NextRefused
+pub mod RowPlacesTable
+pub mod RowPlacesFree
+pub mod RowPlacesSmall
