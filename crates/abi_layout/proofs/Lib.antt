@@ -46,3 +46,6 @@ pub mod NextRefused
 pub mod RowPlacesTable
 pub mod RowPlacesFree
 pub mod RowPlacesSmall
+pub mod NextScene
+pub mod NextRow
+pub mod NextSoFar

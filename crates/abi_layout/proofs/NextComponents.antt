@@ -43,7 +43,7 @@ pub record IsNextKnown (h : Classes) (c : ClassId) (class : Class) (rows : List 
   pub is_primary : IsPrimary h nearly ps c primary
   pub pointer : IsTrue has_pointer ↔ (IsDynamic h c × (primary ≡ NoPrimary))
 
-take_front : {X : Type 0} (n : ℕ) (xs ys : List X) → n ≡ length xs → take n (xs ++ ys) ≡ xs
+pub take_front : {X : Type 0} (n : ℕ) (xs ys : List X) → n ≡ length xs → take n (xs ++ ys) ≡ xs
 take_front zero [] [] e = refl
 take_front zero [] (y ∷ ys) e = refl
 take_front (suc n) [] ys e = absurd (omega arith)

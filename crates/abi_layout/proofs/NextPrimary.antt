@@ -34,7 +34,7 @@ before_more h ps c primary keeps before count possible = record {
       (old_or_last ps primary d.0 (Virtual v) (virtual_is (slice_get (ps ++ primary ∷ []) d.0) v e));
 }
 
-get_or_last : {X : Type 0} (xs : List X) (x d : X) (i : ℕ) → i ≡ length xs → get_or (xs ++ x ∷ []) i d ≡ x
+pub get_or_last : {X : Type 0} (xs : List X) (x d : X) (i : ℕ) → i ≡ length xs → get_or (xs ++ x ∷ []) i d ≡ x
 get_or_last [] x d zero e = refl
 get_or_last [] x d (suc i) e = absurd (omega arith)
 get_or_last (y ∷ xs) x d zero e = absurd (omega arith)

@@ -41,11 +41,11 @@ pub of_each : (n : ℕ) (parts : List Part) → ((part : Part) → Contains part
 of_each n [] each = tt
 of_each n (part ∷ parts) each = (each part (has_here part parts), of_each n parts (λ x has. each x (has_later part parts x has)))
 
-of_both : (n : ℕ) (xs ys : List Part) → AreOf n xs → AreOf n ys → AreOf n (xs ++ ys)
+pub of_both : (n : ℕ) (xs ys : List Part) → AreOf n xs → AreOf n ys → AreOf n (xs ++ ys)
 of_both n [] ys a b = b
 of_both n (x ∷ xs) ys a b = (a.0, of_both n xs ys a.1 b)
 
-of_moved : (n at : ℕ) (parts : List Part) → AreOf n parts → AreOf n (map (moved at) parts)
+pub of_moved : (n at : ℕ) (parts : List Part) → AreOf n parts → AreOf n (map (moved at) parts)
 of_moved n at [] of = tt
 of_moved n at (part ∷ parts) of = (of.0, of_moved n at parts of.1)
 
@@ -57,7 +57,7 @@ of_type : (n : ℕ) (parts : ClassId → List Part) (type : FieldType ClassId) �
 of_type n parts (Value type) each = tt
 of_type n parts (Object d) each = each d refl
 
-of_members : (n : ℕ) (rows : List ClassLayout) (parts : ClassId → List Part) (ms : List (Member ClassId)) (places : List ℕ) → ((m : Member ClassId) (d : ClassId) → Contains ms m → m.ty ≡ Object d → AreOf n (parts d)) → AreOf n (parts_at (map (member_component rows parts) ms) places)
+pub of_members : (n : ℕ) (rows : List ClassLayout) (parts : ClassId → List Part) (ms : List (Member ClassId)) (places : List ℕ) → ((m : Member ClassId) (d : ClassId) → Contains ms m → m.ty ≡ Object d → AreOf n (parts d)) → AreOf n (parts_at (map (member_component rows parts) ms) places)
 of_members n rows parts [] places each = tt
 of_members n rows parts (m ∷ ms) [] each = tt
 of_members n rows parts (m ∷ ms) (p ∷ places) each =
