@@ -49,3 +49,4 @@ pub mod RowPlacesSmall
 pub mod NextScene
 pub mod NextRow
 pub mod NextSoFar
+pub mod NextSteps

@@ -45,7 +45,7 @@ use Rattle.abi_layout.proofs.NextScene.{next_before, next_nested}
 use Rattle.abi_layout.proofs.NextRow.{last_row, laid_more, row_parts_are, apart_more}
 
 -- what the list tells of the classes before c, and of c with one entry more
-told_more : {A : Type 0} (f : Option Known → A) (g : ClassId → A) (c : ClassId) (known : List Known) (k : Known) → length known ≡ c.0 → ((d : ClassId) → d.0 < c.0 → f (slice_get known d.0) ≡ g d) → f (Some k) ≡ g c → (d : ClassId) → d.0 < c.0 + 1 → f (slice_get (known ++ k ∷ []) d.0) ≡ g d
+pub told_more : {A : Type 0} (f : Option Known → A) (g : ClassId → A) (c : ClassId) (known : List Known) (k : Known) → length known ≡ c.0 → ((d : ClassId) → d.0 < c.0 → f (slice_get known d.0) ≡ g d) → f (Some k) ≡ g c → (d : ClassId) → d.0 < c.0 + 1 → f (slice_get (known ++ k ∷ []) d.0) ≡ g d
 told_more f g c known k count before here d lt = ⊎_elim
     (λ same.
     let id : d ≡ c = ap number same in
