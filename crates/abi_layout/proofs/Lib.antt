@@ -36,3 +36,5 @@ mod ObjectTree
 pub mod RowPlacesTable
 pub mod RowPlacesFree
 pub mod RowPlacesSmall
+pub mod RowPlacesFronts
+pub mod RowPlaces
