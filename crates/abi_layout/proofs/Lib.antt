@@ -38,3 +38,4 @@ pub mod RowPlacesFree
 pub mod RowPlacesSmall
 pub mod RowPlacesFronts
 pub mod RowPlaces
+pub mod RowPlacesFinal

@@ -83,10 +83,13 @@ shared_once h c (s ∷ list) once valid = at (shared_class s) refl (shared_once 
   where
     at : (o : Option ClassId) → shared_class s ≡ o → EachOnce (filter_map shared_class list) → EachOnce (cons_option o (filter_map shared_class list))
     at None e rest = rest
-    at (Some v) e rest = (λ has.
-        let r = from_filter_map list v has in
-        let same : r.0 ≡ s = is_shared_base h c r.0 v (valid r.0 (inr r.1)) r.2 ∙ sym (is_shared_base h c s v (valid s (inl refl)) e) in
-        once.0 (subst (λ (x : Subobject). Has list x) same r.1), rest)
+    at (Some v) e rest = (
+      λ has.
+          let r = from_filter_map list v has in
+          let same : r.0 ≡ s = is_shared_base h c r.0 v (valid r.0 (inr r.1)) r.2 ∙ sym (is_shared_base h c s v (valid s (inl refl)) e) in
+          once.0 (subst (λ (x : Subobject). Has list x) same r.1),
+      rest,
+    )
 
 -- each virtual base is listed once
 pub virtuals_once : (h : Classes) (c : ClassId) → EachOnce (virtual_bases h c)

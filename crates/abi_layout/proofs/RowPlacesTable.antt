@@ -3,9 +3,9 @@ use Rattle.std.proofs.Common.{◌≡◌, ℕ, zero, suc, ◌+◌, ◌<◌, ◌�
 use Rattle.std.specs.Prelude.{Contains, All, filter, position, nat_eq, slice_set, if◌then◌else◌, ◌==◌}
 use Rattle.std.specs.Option.{option_map}
 use Rattle.std.specs.List.{slice_get, find, filter_map, cons_option}
-use Rattle.std.proofs.lemmas.Bool.{eq-eqb, eqb-true}
+use Rattle.std.proofs.lemmas.Bool.{eq-eqb, eqb-true, cases_order}
 use Rattle.std.proofs.lemmas.Option.{slice_get-map, slice_get_read, get_or_from_slice_get}
-use Rattle.std.proofs.lemmas.List.{get_or-set_same, get_or-set_other, length-set}
+use Rattle.std.proofs.lemmas.List.{get_or-set_same, get_or-set_other, length-set, get_or_past}
 use Rattle.std.proofs.lemmas.List.Elements.{All-contains, All-head, All-tail}
 use Rattle.cxx_hierarchy.specs.declared.records.ClassId.{ClassId}
 use Rattle.cxx_hierarchy.specs.declared.records.Base.{Base}
@@ -86,6 +86,16 @@ held_is h ps c list holders v same are lt = at (get_or holders v.0 None) refl
     at (Some n) e =
         let x = get_within list n (holder_below ps list c.0 holders v n are lt e) in
         x.1 ∙ sym (holder_is h ps c list c.0 holders v n x.0 same are lt e (sym (get_or_from_slice_get list n x.0 x.0 x.1)))
+
+-- the number of each holder is below the length of the list
+pub all_below : (ps : List Primary) (list : List Subobject) (count : ℕ) (holders : List (Option ℕ)) (v n : ℕ) → AreHolders ps list count holders → get_or holders v None ≡ Some n → n < length list
+all_below ps list count holders v n are e = ⊎_elim (λ same. past (omega arith)) (λ o. ⊎_elim (λ lt. holder_below ps list count holders (number v) n are lt e) (λ gt. past (omega arith)) o) (cases_order v count)
+  where
+    past : count ≤ v → n < length list
+    past le =
+        let each = are.one_each in
+        let no_holder : get_or holders v None ≡ None = get_or_past holders v None (omega arith) in
+        let f : None ≡ Some n = sym no_holder ∙ e in cc
 
 -- a subobject with nothing put behind its path is the subobject
 pub copied : (s t : Subobject) → t ≡ subobject s.root (s.path ++ []) → t ≡ s
