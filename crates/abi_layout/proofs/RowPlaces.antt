@@ -1,51 +1,37 @@
--- The row of a class whose bases are placed, with the places of its virtual bases, is the row of the class.
-use Rattle.std.proofs.Common.{◌≡◌, ℕ, zero, suc, ◌+◌, ◌<◌, ◌≤◌, ⊎_elim, inl, inr, Bool, true, false, Option, Some, None, List, [], ◌∷◌, ◌++◌, map, length, get_or, refl, ap, subst, sym, ◌∙◌, append_assoc, arith}
-use Rattle.std.specs.Prelude.{Contains, All, filter, if◌then◌else◌, max}
+-- Where the bases of a class are placed, its virtual bases can be settled.
+use Rattle.std.proofs.Common.{◌≡◌, ℕ, zero, suc, ◌+◌, ◌<◌, ◌≤◌, Bool, true, false, Option, Some, None, List, [], ◌∷◌, ◌++◌, get_or, ap, subst, sym, ◌∙◌, arith}
+use Rattle.std.specs.Prelude.{if◌then◌else◌}
 use Rattle.std.specs.List.{slice_get}
 use Rattle.std.proofs.Math.Nat.{le-max_right}
 use Rattle.cxx_hierarchy.specs.declared.records.ClassId.{ClassId}
-use Rattle.cxx_hierarchy.specs.declared.records.Base.{Base}
 use Rattle.cxx_hierarchy.specs.Classes.{Class, Classes, class_at}
 use Rattle.cxx_hierarchy.specs.Hierarchies.{IsHierarchy}
 use Rattle.cxx_subobject.specs.declared.Subobject.{Subobject}
-use Rattle.cxx_subobject.specs.Subobjects.{whole_of}
-use Rattle.cxx_subobject.specs.Preorder.{preorder}
 use Rattle.abi_emptybase.specs.declared.Part.{Part}
 use Rattle.abi_primary.specs.declared.Primary.{Primary}
 use Rattle.abi_primary.specs.declared.Primary.TheVariants.{None as NoPrimary, Direct, Virtual}
-use Rattle.abi_primary.specs.Holder.{holder_of}
 use Rattle.abi_layout.specs.declared.arrangement.Arrangement.{Arrangement}
 use Rattle.abi_layout.specs.declared.component.Component.{Component}
 use Rattle.abi_layout.specs.declared.component.Stage.{Stage}
 use Rattle.abi_layout.specs.declared.known.Known.{Known}
 use Rattle.abi_layout.specs.declared.class_layout.ClassLayout.{ClassLayout}
-use Rattle.abi_layout.specs.declared.dynamic_bases.PlacedBase.{PlacedBase}
-use Rattle.abi_layout.specs.declared.dynamic_bases.PlacedBase.TheVariants.{Own, SharedBase}
-use Rattle.abi_layout.specs.Places.{is_plain_base}
+use Rattle.abi_layout.specs.declared.dynamic_bases.PlacedBase.TheVariants.{SharedBase}
 use Rattle.abi_layout.specs.Kinds.{pod_kind}
-use Rattle.abi_layout.specs.Laid.{nvsize_in, part_at, parts_at, IsPlace, ArePlaced, after_all}
-use Rattle.abi_layout.specs.Alignments.{AreWithin}
-use Rattle.abi_layout.specs.Known.{empties_in, pods_in, parts_in, members_by, AreAllSized, IsSized}
-use Rattle.abi_layout.specs.Holding.{virtual_bases, virtual_primary, virtual_in, AreHolders}
+use Rattle.abi_layout.specs.Laid.{nvsize_in, after_all}
+use Rattle.abi_layout.specs.Known.{empties_in, pods_in, parts_in, members_by, AreAllSized}
+use Rattle.abi_layout.specs.Holding.{virtual_primary, virtual_in}
 use Rattle.abi_layout.specs.Scenes.{IsScene}
-use Rattle.abi_layout.specs.PlacedBases.{class_of_placed, subobject_of, front_bases, is_free, free_bases, placed_component, IsPossible}
+use Rattle.abi_layout.specs.PlacedBases.{front_bases, free_bases, placed_component}
 use Rattle.abi_layout.specs.OwnPlaces.{own_places}
 use Rattle.abi_layout.specs.Arrangements.{row_from, IsArranged, IsWithinLimit, components_by}
-use Rattle.abi_layout.specs.DynamicLaid.{place_of, placed_place, virtual_place, primary_of, fronts, start_stage, IsLayoutBy}
-use Rattle.abi_layout.specs.Settled.{place_by, held_at, HasRoom, CanSettle, AreSettled, free_table, AreVirtualPlaces}
-use Rattle.abi_layout.specs.ClassRows.{AreSmaller, IsOneOrOther, IsClassRow, row_parts}
-use Rattle.abi_layout.proofs.Fronts.{same_before, last_one, longer}
-use Rattle.abi_layout.proofs.Listed.{placed_length}
-use Rattle.abi_layout.proofs.PartLemmas.{stage_parts}
+use Rattle.abi_layout.specs.DynamicLaid.{primary_of, start_stage, IsLayoutBy}
+use Rattle.abi_layout.specs.Settled.{HasRoom, CanSettle, free_table}
+use Rattle.abi_layout.proofs.Fronts.{same_before, longer}
 use Rattle.abi_layout.proofs.PlacingLemmas.{size_grows}
 use Rattle.abi_layout.proofs.CanSettleLemmas.{AreNested, can_settle}
 use Rattle.abi_layout.proofs.NestedLemmas.{nested_more, shared_takes}
 use Rattle.abi_layout.proofs.RoomLemmas.{free_room}
 use Rattle.abi_layout.proofs.OpenLemmas.{frees_below}
-use Rattle.abi_layout.proofs.RowPlacesTable.{virtual_listed, virtual_place_is, held_is, below_of, holders_are, held_place}
-use Rattle.abi_layout.proofs.RowPlacesFree.{free_at, table_length, frees_once, free_facts}
-use Rattle.abi_layout.proofs.RowPlacesSmall.{brought_of, first_at_start}
-use Rattle.abi_layout.proofs.RowPlacesFronts.{map_is, own_front_place, shared_first, first_place, whole_holds}
 
 -- the bases before the members end within the class without its virtual bases
 pub fronts_end : (first : Stage) (fs ms vs : List Component) (ps rs : List ℕ) (pod : Bool) (row : ClassLayout) → IsLayoutBy first fs ms vs ps rs pod row → (after_all first fs ps).size ≤ row.nvsize
@@ -92,6 +78,7 @@ opened_nested h c class rows known members ps list holders primary has_pointer a
     (fronts_end (start_stage c has_pointer) (components_by h rows known ps c (front_bases primary class.bases)) (members_by rows known class) (components_by h rows known ps c (free_bases h ps c)) a.front_places a.free_places (pod_kind (pods_in known) class) row laid)
     (omega arith) (λ v p. sym own ∙ primary_known ps c v p)
 
+-- its virtual bases that are held can be settled
 pub opened_can : (h : Classes) (c : ClassId) (class : Class) (rows : List ClassLayout) (known : List Known) (members : List (List Part)) (ps : List Primary) (list : List Subobject) (holders : List (Option ℕ)) (primary : Primary) (has_pointer : Bool) (a : Arrangement) (base_places : List ℕ)
     → IsHierarchy h → IsScene h c rows known members ps list holders → AreAllSized rows known → class_at h c ≡ Some class → primary_of ps c ≡ primary
     → IsArranged (start_stage c has_pointer) (components_by h rows known ps c (front_bases primary class.bases)) (members_by rows known class) (components_by h rows known ps c (free_bases h ps c)) (pod_kind (pods_in known) class) a
@@ -104,6 +91,7 @@ opened_can h c class rows known members ps list holders primary has_pointer a ba
     (opened_nested h c class rows known members ps list holders primary has_pointer a base_places keeps scene sized e own arranged within are)
     scene.before (omega arith) scene.list_is scene.holders_are
 
+-- and those that no subobject holds end within the limit of sizes
 pub opened_room : (h : Classes) (c : ClassId) (class : Class) (rows : List ClassLayout) (known : List Known) (members : List (List Part)) (ps : List Primary) (list : List Subobject) (holders : List (Option ℕ)) (primary : Primary) (has_pointer : Bool) (a : Arrangement) (base_places : List ℕ)
     → IsHierarchy h → IsScene h c rows known members ps list holders → AreAllSized rows known → class_at h c ≡ Some class → primary_of ps c ≡ primary
     → IsArranged (start_stage c has_pointer) (components_by h rows known ps c (front_bases primary class.bases)) (members_by rows known class) (components_by h rows known ps c (free_bases h ps c)) (pod_kind (pods_in known) class) a

@@ -1,6 +1,6 @@
 -- The row of a class whose bases are placed, with the places of its virtual bases, is the row of the class.
-use Rattle.std.proofs.Common.{◌≡◌, ℕ, zero, suc, ◌+◌, ◌<◌, ◌≤◌, Bool, true, false, Option, Some, None, List, [], ◌∷◌, ◌++◌, map, length, get_or, replicate, refl, ap, subst, sym, ◌∙◌, append_assoc, arith}
-use Rattle.std.specs.Prelude.{Contains, filter, slice_set}
+use Rattle.std.proofs.Common.{◌≡◌, ℕ, zero, suc, ◌+◌, Bool, Option, Some, None, List, [], ◌∷◌, ◌++◌, map, length, get_or, replicate, refl, ap, subst, sym, ◌∙◌, append_assoc, arith}
+use Rattle.std.specs.Prelude.{filter, slice_set}
 use Rattle.std.specs.List.{slice_get}
 use Rattle.std.proofs.lemmas.List.{length-map}
 use Rattle.cxx_hierarchy.specs.declared.records.ClassId.{ClassId}
@@ -19,18 +19,16 @@ use Rattle.abi_layout.specs.declared.component.Component.{Component}
 use Rattle.abi_layout.specs.declared.component.Stage.{Stage}
 use Rattle.abi_layout.specs.declared.known.Known.{Known}
 use Rattle.abi_layout.specs.declared.class_layout.ClassLayout.{ClassLayout}
-use Rattle.abi_layout.specs.declared.laid_row.ClassFacts.{ClassFacts}
 use Rattle.abi_layout.specs.declared.dynamic_bases.PlacedBase.{PlacedBase}
 use Rattle.abi_layout.specs.declared.dynamic_bases.PlacedBase.TheVariants.{Own, SharedBase}
 use Rattle.abi_layout.specs.Places.{is_plain_base}
 use Rattle.abi_layout.specs.Kinds.{empty_kind, pod_kind}
-use Rattle.abi_layout.specs.Laid.{part_at, parts_at, IsPlace, ArePlaced, after_all}
-use Rattle.abi_layout.specs.Alignments.{AreWithin}
-use Rattle.abi_layout.specs.Known.{empties_in, pods_in, parts_in, members_by, AreAllSized, IsSized}
-use Rattle.abi_layout.specs.Holding.{virtual_bases, AreHolders}
+use Rattle.abi_layout.specs.Laid.{part_at, parts_at, IsPlace, after_all}
+use Rattle.abi_layout.specs.Known.{empties_in, pods_in, parts_in, members_by, AreAllSized}
+use Rattle.abi_layout.specs.Holding.{virtual_bases}
 use Rattle.abi_layout.specs.Scenes.{IsScene}
 use Rattle.abi_layout.specs.PlacedBases.{front_bases, is_free, free_bases, placed_component, subobject_of, IsPossible}
-use Rattle.abi_layout.specs.OwnPlaces.{own_places}
+use Rattle.abi_layout.specs.OwnPlaces.{own_place, own_places}
 use Rattle.abi_layout.specs.Repeats.{SomeRepeats}
 use Rattle.abi_layout.specs.Arrangements.{row_from, IsArranged, IsWithinLimit, components_by}
 use Rattle.abi_layout.specs.DynamicLaid.{placed_place, virtual_place, primary_of, fronts, start_stage, IsLayoutBy}
@@ -56,6 +54,7 @@ pub record ArePlacesBy (h : Classes) (c : ClassId) (rows : List ClassLayout) (ps
   pub fronts_are : map (placed_place h rows c) (fronts ps c class) ≡ front_places
   pub frees_are : map (placed_place h rows c) (free_bases h ps c) ≡ free_places
 
+-- a class's row, with the virtual places by the table, gives its bases the places at which they were put
 pub places_by : (h : Classes) (c : ClassId) (class : Class) (rows : List ClassLayout) (known : List Known) (members : List (List Part)) (ps : List Primary) (list : List Subobject) (holders : List (Option ℕ)) (has_pointer : Bool) (a : Arrangement) (r s : ClassLayout)
     → IsHierarchy h → IsScene h c rows known members ps list holders → class_at h c ≡ Some class → IsPossible h c (primary_of ps c) → IsOneOrOther (primary_of ps c) has_pointer → AreSmaller c known
     → IsLayoutBy (start_stage c has_pointer) (components_by h rows known ps c (fronts ps c class)) (members_by rows known class) (components_by h rows known ps c (free_bases h ps c)) a.front_places a.free_places (pod_kind (pods_in known) class) r
@@ -125,6 +124,7 @@ pub record IsRowWithParts (h : Classes) (c : ClassId) (rows : List ClassLayout) 
   pub is : IsClassRow h c rows known ps class has_pointer row
   pub parts_are : parts ≡ row_parts h c rows known ps class row
 
+-- the row with the virtual bases' places is the row of the class
 row_here : (h : Classes) (c : ClassId) (class : Class) (rows : List ClassLayout) (known : List Known) (members : List (List Part)) (ps : List Primary) (list : List Subobject) (holders : List (Option ℕ)) (has_pointer : Bool) (a : Arrangement) (base_places places : List ℕ) (held : List (Option Subobject))
     → IsHierarchy h → IsScene h c rows known members ps list holders → class_at h c ≡ Some class → IsPossible h c (primary_of ps c) → IsOneOrOther (primary_of ps c) has_pointer → AreSmaller c known
     → IsArranged (start_stage c has_pointer) (components_by h rows known ps c (fronts ps c class)) (members_by rows known class) (components_by h rows known ps c (free_bases h ps c)) (pod_kind (pods_in known) class) a
@@ -138,7 +138,7 @@ row_here h c class rows known members ps list holders has_pointer a base_places 
     placed = subst (λ ns. IsLayoutBy first fs ms vs ns (map (placed_place h (rows ++ s ∷ []) c) (free_bases h ps c)) pod s) (sym by.fronts_are)
         (subst (λ ns. IsLayoutBy first fs ms vs a.front_places ns pod s) (sym by.frees_are) (arranged.laid (primary_of ps c) base_places (virtual_bases h c) places held));
     bases = are ∙ ap (λ ns. own_places (fronts ps c class) ns class.bases) (sym by.fronts_are);
-    each_base = ap (λ (ns : List ℕ). length ns) are ∙ length-map (filter is_plain_base class.bases) (λ (base : Base ClassId). Rattle.abi_layout.specs.OwnPlaces.own_place (fronts ps c class) a.front_places base.class);
+    each_base = ap (λ (ns : List ℕ). length ns) are ∙ length-map (filter is_plain_base class.bases) (λ (base : Base ClassId). own_place (fronts ps c class) a.front_places base.class);
     shared = refl;
     each_virtual = ap (λ (ns : List ℕ). length ns) virtuals.are ∙ length-map (virtual_bases h c) (λ (v : ClassId). get_or virtuals.table v.0 0);
     holders = held_are ∙ holders_are h ps c list holders keeps scene.list_is scene.holders_are;
@@ -193,6 +193,7 @@ row_is h c class rows known members ps list holders primary has_pointer a base_p
     → IsRowWithParts h c rows known ps class has_pointer (row_from a p base_places (virtual_bases h c) places held) a.parts) own
     (row_here h c class rows known members ps list holders has_pointer a base_places places held keeps scene e)
 
+-- a write to the last item
 pub set_last : {X : Type 0} (xs : List X) (x y : X) (i : ℕ) → i ≡ length xs → slice_set (xs ++ x ∷ []) i y ≡ xs ++ y ∷ []
 set_last [] x y zero e = refl
 set_last [] x y (suc i) e = absurd (omega arith)
@@ -217,6 +218,7 @@ pushed_row before items a primary base_places vs places held v p q e =
     ∙ (ap (λ (xs : List ℕ). before ++ row_from a primary base_places [] xs held ∷ []) p
     ∙ ap (λ (xs : List (Option Subobject)). before ++ row_from a primary base_places [] [] xs ∷ []) q))
 
+-- what the virtual bases' places need, along equations of lists
 pub can_by : (h : Classes) (c : ClassId) (class : Class) (rows items : List ClassLayout) (known : List Known) (members : List (List Part)) (ps : List Primary) (list : List Subobject) (holders table : List (Option ℕ)) (primary : Primary) (has_pointer : Bool) (a : Arrangement) (base_places : List ℕ)
     → IsOpened h c class rows known members ps list holders primary has_pointer a base_places → items ≡ rows ++ row_from a primary base_places [] [] [] ∷ [] → table ≡ holders → CanSettle h items list table
 can_by h c class rows items known members ps list holders table primary has_pointer a base_places o e t =

@@ -1,17 +1,15 @@
 -- The places of the bases before the members, by the row that has them.
-use Rattle.std.proofs.Common.{◌≡◌, ℕ, zero, suc, ◌+◌, ◌<◌, ⊎_elim, inl, inr, Bool, true, false, Option, Some, None, List, [], ◌∷◌, ◌++◌, map, length, get_or, refl, ap, subst, sym, ◌∙◌, arith}
+use Rattle.std.proofs.Common.{◌≡◌, ℕ, zero, suc, ◌+◌, ⊎_elim, inl, inr, Bool, true, false, Option, Some, None, List, [], ◌∷◌, map, length, refl, ap, subst, sym, ◌∙◌, arith}
 use Rattle.std.specs.Prelude.{Contains, filter, nat_eq, not, ◌&&◌, if◌then◌else◌}
-use Rattle.std.specs.Option.{option_map}
 use Rattle.std.specs.List.{slice_get, find}
 use Rattle.std.proofs.lemmas.Bool.{eq-eqb, eqb-true}
-use Rattle.std.proofs.lemmas.Option.{slice_get-map, slice_get_read}
+use Rattle.std.proofs.lemmas.Option.{slice_get_read}
 use Rattle.cxx_hierarchy.specs.declared.records.ClassId.{ClassId}
 use Rattle.cxx_hierarchy.specs.declared.records.Base.{Base}
-use Rattle.cxx_hierarchy.specs.Classes.{Class, Classes, class_at, bases_of, bases_in}
+use Rattle.cxx_hierarchy.specs.Classes.{Class, Classes, class_at, bases_in}
 use Rattle.cxx_hierarchy.specs.Hierarchies.{IsHierarchy}
-use Rattle.cxx_subobject.specs.declared.Subobject.{Subobject}
 use Rattle.cxx_subobject.specs.Subobjects.{whole_of}
-use Rattle.cxx_subobject.specs.Preorder.{preorder, tree, firsts}
+use Rattle.cxx_subobject.specs.Preorder.{tree, firsts}
 use Rattle.cxx_subobject.proofs.ListLemmas.{Has, has_at, contains_from_has}
 use Rattle.cxx_subobject.proofs.TreeLemmas.{has_filter}
 use Rattle.abi_primary.specs.declared.Primary.{Primary}
@@ -25,7 +23,7 @@ use Rattle.abi_layout.specs.declared.dynamic_bases.PlacedBase.TheVariants.{Own, 
 use Rattle.abi_layout.specs.declared.class_layout.ClassLayout.{ClassLayout}
 use Rattle.abi_layout.specs.Places.{base_place}
 use Rattle.abi_layout.specs.Laid.{IsPlace, ArePlaced}
-use Rattle.abi_layout.specs.PlacedBases.{first_base, is_first_base, is_other_base, front_bases, IsPossible}
+use Rattle.abi_layout.specs.PlacedBases.{is_first_base, is_other_base, front_bases, IsPossible}
 use Rattle.abi_layout.specs.OwnPlaces.{is_own, own_place, own_places}
 use Rattle.abi_layout.specs.DynamicLaid.{primary_of}
 use Rattle.abi_layout.proofs.Locate.{same_class}
