@@ -50,3 +50,6 @@ pub mod NextScene
 pub mod NextRow
 pub mod NextSoFar
 pub mod NextSteps
+pub mod RowPlacesFronts
+pub mod RowPlaces
+pub mod RowPlacesFinal

@@ -6,11 +6,10 @@ use Rattle.std.proofs.lemmas.Bool.{eqb-true}
 use Rattle.std.proofs.lemmas.List.{get_or-set_same, get_or-set_other, length-set}
 use Rattle.cxx_hierarchy.specs.declared.records.ClassId.{ClassId}
 use Rattle.cxx_hierarchy.specs.Classes.{Classes}
-use Rattle.cxx_hierarchy.specs.Hierarchies.{IsHierarchy}
+use Rattle.cxx_subobject.specs.declared.Root.TheVariants.{Shared}
 use Rattle.cxx_subobject.specs.declared.Subobject.{Subobject}
-use Rattle.cxx_subobject.specs.Subobjects.{IsSubobject, whole, shared, shared_base}
+use Rattle.cxx_subobject.specs.Subobjects.{IsSubobject, whole, shared, shared_base, subobject, whole_of}
 use Rattle.cxx_subobject.specs.Preorder.{preorder, tree}
-use Rattle.cxx_subobject.specs.Subobjects.{whole_of}
 use Rattle.cxx_subobject.proofs.ListLemmas.{Has, EachOnce, has_at, contains_from_has}
 use Rattle.cxx_subobject.proofs.TreeLemmas.{has_preorder, firsts_once, has_filter, once_filter}
 use Rattle.abi_primary.specs.declared.Primary.{Primary}
@@ -18,7 +17,7 @@ use Rattle.abi_primary.specs.Holder.{holder_of}
 use Rattle.abi_layout.specs.declared.dynamic_bases.PlacedBase.{PlacedBase}
 use Rattle.abi_layout.specs.declared.dynamic_bases.PlacedBase.TheVariants.{Own, SharedBase}
 use Rattle.abi_layout.specs.Holding.{shared_class, virtual_bases}
-use Rattle.abi_layout.specs.PlacedBases.{is_free, free_bases}
+use Rattle.abi_layout.specs.PlacedBases.{is_free}
 use Rattle.abi_layout.specs.Settled.{with_free, with_frees, free_table}
 use Rattle.abi_layout.proofs.Locate.{same_class}
 use Rattle.abi_layout.proofs.Parts.{split}
@@ -65,7 +64,7 @@ is_shared_base : (h : Classes) (c : ClassId) (s : Subobject) (v : ClassId) → I
 is_shared_base h c _ v (whole path leads) e = let f : None ≡ Some v = e in cc
 is_shared_base h c _ v (shared w [] has leads) e = let f : Some w ≡ Some v = e in let same : w ≡ v = cc in ap shared_base same
 is_shared_base h c _ v (shared w (x ∷ path) has leads) e =
-    split (length (w ∷ (x ∷ path)) == 1) (λ b. (if b then Some w else None) ≡ Some v → length (w ∷ (x ∷ path)) == 1 ≡ b → Rattle.cxx_subobject.specs.Subobjects.subobject (Rattle.cxx_subobject.specs.declared.Root.TheVariants.Shared w) (w ∷ (x ∷ path)) ≡ shared_base v)
+    split (length (w ∷ (x ∷ path)) == 1) (λ b. (if b then Some w else None) ≡ Some v → length (w ∷ (x ∷ path)) == 1 ≡ b → subobject (Shared w) (w ∷ (x ∷ path)) ≡ shared_base v)
     (λ t some is. let two : length (w ∷ (x ∷ path)) ≡ 1 = eqb-true (length (w ∷ (x ∷ path))) 1 t in absurd (omega arith))
     (λ f some is. let g : None ≡ Some v = some in cc) e refl
 
@@ -83,10 +82,13 @@ shared_once h c (s ∷ list) once valid = at (shared_class s) refl (shared_once 
   where
     at : (o : Option ClassId) → shared_class s ≡ o → EachOnce (filter_map shared_class list) → EachOnce (cons_option o (filter_map shared_class list))
     at None e rest = rest
-    at (Some v) e rest = (λ has.
-        let r = from_filter_map list v has in
-        let same : r.0 ≡ s = is_shared_base h c r.0 v (valid r.0 (inr r.1)) r.2 ∙ sym (is_shared_base h c s v (valid s (inl refl)) e) in
-        once.0 (subst (λ (x : Subobject). Has list x) same r.1), rest)
+    at (Some v) e rest = (
+      λ has.
+          let r = from_filter_map list v has in
+          let same : r.0 ≡ s = is_shared_base h c r.0 v (valid r.0 (inr r.1)) r.2 ∙ sym (is_shared_base h c s v (valid s (inl refl)) e) in
+          once.0 (subst (λ (x : Subobject). Has list x) same r.1),
+      rest,
+    )
 
 -- each virtual base is listed once
 pub virtuals_once : (h : Classes) (c : ClassId) → EachOnce (virtual_bases h c)

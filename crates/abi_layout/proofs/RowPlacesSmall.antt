@@ -1,7 +1,7 @@
 -- What the classes before bring is of classes before, so that the first component of a class can lie at its start.
-use Rattle.std.proofs.Common.{◌≡◌, ℕ, zero, suc, ◌+◌, ◌*◌, ◌<◌, ◌≤◌, Bool, true, false, Option, Some, None, List, [], ◌∷◌, ◌++◌, map, length, refl, ap, subst, sym, ◌∙◌, arith}
+use Rattle.std.proofs.Common.{◌≡◌, ℕ, zero, suc, ◌+◌, ◌*◌, ◌<◌, true, false, Option, Some, None, List, [], ◌∷◌, ◌++◌, map, refl, ap, ◌∙◌, arith}
 use Rattle.std.specs.Prelude.{if◌then◌else◌, Contains, nat_eq, ◌&&◌, ◌||◌}
-use Rattle.std.specs.List.{slice_get, flat_map, list_any}
+use Rattle.std.specs.List.{slice_get, flat_map}
 use Rattle.std.proofs.lemmas.Bool.{eqb-true}
 use Rattle.cxx_hierarchy.specs.declared.records.ClassId.{ClassId}
 use Rattle.cxx_hierarchy.specs.declared.records.Base.{Base}
@@ -19,7 +19,6 @@ use Rattle.abi_layout.specs.declared.component.Component.{Component}
 use Rattle.abi_layout.specs.declared.known.Known.{Known}
 use Rattle.abi_layout.specs.declared.class_layout.ClassLayout.{ClassLayout}
 use Rattle.abi_layout.specs.Places.{base_place, members_in}
-use Rattle.abi_layout.specs.Sound.{Divides}
 use Rattle.abi_layout.specs.Laid.{part_at, parts_at, copies, count_of, size_of_type, parts_of_type, member_component, IsPlace, behind}
 use Rattle.abi_layout.specs.Known.{parts_in}
 use Rattle.abi_layout.specs.Holding.{held_base}

@@ -1,36 +1,35 @@
 -- The places of virtual bases by the table, and what the virtual bases' places in a row leave as it was.
-use Rattle.std.proofs.Common.{◌≡◌, ℕ, zero, suc, ◌+◌, ◌<◌, ◌≤◌, ⊎_elim, inl, inr, Bool, true, false, Option, Some, None, List, [], ◌∷◌, ◌++◌, map, length, get_or, refl, ap, subst, sym, ◌∙◌, append-nil, arith}
-use Rattle.std.specs.Prelude.{Contains, All, filter, position, nat_eq, slice_set, if◌then◌else◌, ◌==◌}
+use Rattle.std.proofs.Common.{◌≡◌, ℕ, zero, suc, ◌+◌, ◌<◌, ◌≤◌, ⊎_elim, inl, inr, Bool, true, Option, Some, None, List, [], ◌∷◌, ◌++◌, map, length, get_or, refl, ap, subst, sym, ◌∙◌, append-nil, arith}
+use Rattle.std.specs.Prelude.{Contains, filter, position, nat_eq}
 use Rattle.std.specs.Option.{option_map}
-use Rattle.std.specs.List.{slice_get, find, filter_map, cons_option}
-use Rattle.std.proofs.lemmas.Bool.{eq-eqb, eqb-true}
-use Rattle.std.proofs.lemmas.Option.{slice_get-map, slice_get_read, get_or_from_slice_get}
-use Rattle.std.proofs.lemmas.List.{get_or-set_same, get_or-set_other, length-set}
-use Rattle.std.proofs.lemmas.List.Elements.{All-contains, All-head, All-tail}
+use Rattle.std.specs.List.{slice_get, filter_map, cons_option}
+use Rattle.std.proofs.lemmas.Bool.{eq-eqb, eqb-true, cases_order}
+use Rattle.std.proofs.lemmas.Option.{slice_get-map, get_or_from_slice_get}
+use Rattle.std.proofs.lemmas.List.{get_or_past}
+use Rattle.std.proofs.lemmas.List.Elements.{All-contains}
 use Rattle.cxx_hierarchy.specs.declared.records.ClassId.{ClassId}
 use Rattle.cxx_hierarchy.specs.declared.records.Base.{Base}
 use Rattle.cxx_hierarchy.specs.Classes.{Classes, bases_of}
 use Rattle.cxx_hierarchy.specs.Hierarchies.{IsHierarchy}
 use Rattle.cxx_hierarchy.specs.VirtualBases.{HasVirtualBase}
-use Rattle.cxx_subobject.specs.declared.Root.TheVariants.{Whole, Shared}
 use Rattle.cxx_subobject.specs.declared.Subobject.{Subobject}
 use Rattle.cxx_subobject.specs.Subobjects.{IsSubobject, whole, shared, shared_base, subobject}
-use Rattle.cxx_subobject.specs.Preorder.{preorder}
-use Rattle.cxx_subobject.proofs.ListLemmas.{Has, EachOnce, contains_from_has, has_from_contains}
-use Rattle.cxx_subobject.proofs.TreeLemmas.{preorder_has, has_preorder, preorder_lists}
+use Rattle.cxx_subobject.specs.Preorder.{preorder, ListsSubobjects}
+use Rattle.cxx_subobject.proofs.ListLemmas.{Has, contains_from_has}
+use Rattle.cxx_subobject.proofs.TreeLemmas.{preorder_has, preorder_lists}
 use Rattle.abi_primary.specs.declared.Primary.{Primary}
 use Rattle.abi_primary.specs.Holder.{holder_of}
 use Rattle.abi_primary.proofs.HolderLemmas.{held}
 use Rattle.abi_layout.specs.declared.class_layout.ClassLayout.{ClassLayout}
 use Rattle.abi_layout.specs.Places.{is_plain_base, place_at, number_in, bases_in, base_place, place_along}
 use Rattle.abi_layout.specs.Holding.{shared_class, virtual_bases, AreHolders}
-use Rattle.abi_layout.specs.Settled.{root_by, place_by, held_at, AreSettled}
-use Rattle.abi_layout.specs.DynamicLaid.{virtuals_in, shared_in, virtual_place, place_from, root_place, place_of}
+use Rattle.abi_layout.specs.Settled.{place_by, held_at, AreSettled}
+use Rattle.abi_layout.specs.DynamicLaid.{virtuals_in, shared_in, virtual_place, place_from, place_of}
 use Rattle.abi_layout.proofs.Lists.{number, get_within}
 use Rattle.abi_layout.proofs.Locate.{first_that, position_is}
 use Rattle.abi_layout.proofs.KindLemmas.{has_of}
 use Rattle.abi_layout.proofs.SceneLemmas.{holder_below, holder_is, holder_is_none}
-use Rattle.abi_layout.proofs.OpenLemmas.{virtual_below, virtuals_below}
+use Rattle.abi_layout.proofs.OpenLemmas.{virtuals_below}
 
 -- what the virtual bases' places in the last row leave: the places of direct bases, and along paths
 bases_stay : (before : List ClassLayout) (r s : ClassLayout) → r.base_places ≡ s.base_places → (i : ℕ) → bases_in (slice_get (before ++ r ∷ []) i) ≡ bases_in (slice_get (before ++ s ∷ []) i)
@@ -87,6 +86,16 @@ held_is h ps c list holders v same are lt = at (get_or holders v.0 None) refl
         let x = get_within list n (holder_below ps list c.0 holders v n are lt e) in
         x.1 ∙ sym (holder_is h ps c list c.0 holders v n x.0 same are lt e (sym (get_or_from_slice_get list n x.0 x.0 x.1)))
 
+-- the number of each holder is below the length of the list
+pub all_below : (ps : List Primary) (list : List Subobject) (count : ℕ) (holders : List (Option ℕ)) (v n : ℕ) → AreHolders ps list count holders → get_or holders v None ≡ Some n → n < length list
+all_below ps list count holders v n are e = ⊎_elim (λ same. past (omega arith)) (λ o. ⊎_elim (λ lt. holder_below ps list count holders (number v) n are lt e) (λ gt. past (omega arith)) o) (cases_order v count)
+  where
+    past : count ≤ v → n < length list
+    past le =
+        let each = are.one_each in
+        let no_holder : get_or holders v None ≡ None = get_or_past holders v None (omega arith) in
+        let f : None ≡ Some n = sym no_holder ∙ e in cc
+
 -- a subobject with nothing put behind its path is the subobject
 pub copied : (s t : Subobject) → t ≡ subobject s.root (s.path ++ []) → t ≡ s
 copied s t e = e ∙ ap (subobject s.root) (append-nil s.path)
@@ -118,7 +127,7 @@ pub held_place : (h : Classes) (ps : List Primary) (before : List ClassLayout) (
     → (v : ClassId) (holder : Subobject) → Contains (virtual_bases h c) v → holder_of h ps c v ≡ Some holder → virtual_place h (before ++ s ∷ []) c v ≡ place_of h (before ++ s ∷ []) c holder
 held_place h ps before c r s list holders old table keeps e there bases are same all size settled v holder has is =
     let lt = below_of h c v keeps has in
-    let facts = held h ps c v list (Some holder) same (subst (Rattle.cxx_subobject.specs.Preorder.ListsSubobjects h c) (sym same) (preorder_lists h c keeps)) is in
+    let facts = held h ps c v list (Some holder) same (subst (ListsSubobjects h c) (sym same) (preorder_lists h c keeps)) is in
     virtual_place_is h (before ++ s ∷ []) c s table there bases are v has
     ∙ (settled.held v.0 holder (omega arith) (held_is h ps c list holders v same all lt ∙ is)
     ∙ place_by_is h before c r s table keeps e there bases are holder facts.0)

@@ -73,14 +73,14 @@ fn holder_list(
 
 /// Puts the virtual bases of a class, their places and what holds them into its row.
 fn fill_row(
-    rows: &mut [ClassLayout],
+    rows: &mut Vec<ClassLayout>,
     c: ClassId,
     virtuals: ClassList,
     places: PlaceList,
     held: HolderList,
 )
-    requires { c.0 < length rows.old }
-    ensures { (row : ClassLayout) → slice_get rows.old c.0 ≡ Some row → rows.new ≡ slice_set rows.old c.0 (filled_row row virtuals places held) }
+    requires { c.0 < length rows.old.items }
+    ensures { (row : ClassLayout) → slice_get rows.old.items c.0 ≡ Some row → rows.new.items ≡ slice_set rows.old.items c.0 (filled_row row virtuals places held) }
 {
     let row = &mut rows[c.0 as usize];
     row.virtual_bases = virtuals;

@@ -1,5 +1,4 @@
-use Rattle.std.proofs.Common.{◌≡◌, None, Some, get_or, sym, ap, ◌∙◌}
-use Rattle.abi_layout.specs.Settled.{held_at}
+use Rattle.std.proofs.Common.{Some, sym, ap, ◌∙◌}
 use Rattle.abi_layout.proofs.SettledLemmas.{held_here}
 use Rattle.abi_layout.proofs.RowPlacesTable.{copied}
 use Rattle.abi_layout.proofs.laid_row.holder_at.Goals as goal
