@@ -1,28 +1,24 @@
 -- Primary bases, nearly empty classes and rows of classes, by rows and lists that agree on the first classes.
-use Rattle.std.proofs.Common.{◌≡◌, ℕ, zero, suc, ◌+◌, ◌<◌, ◌≤◌, ⊎_elim, inl, inr, Bool, true, false, cond, Option, Some, None, List, [], ◌∷◌, ◌++◌, map, take, length, get_or, refl, ap, subst, sym, ◌∙◌, arith}
+use Rattle.std.proofs.Common.{◌≡◌, ℕ, ◌+◌, ◌<◌, ◌≤◌, ⊎_elim, inl, inr, Bool, false, cond, Option, Some, None, List, [], ◌∷◌, ◌++◌, map, take, length, refl, ap, subst, sym, ◌∙◌, arith}
 use Rattle.std.specs.Prelude.{IsTrue, ◌↔◌, Contains, ◌&&◌, ◌==◌, not}
-use Rattle.std.specs.List.{slice_get, list_any, find, count_by}
+use Rattle.std.specs.List.{find, count_by}
 use Rattle.std.proofs.lemmas.Bool.{cases_order}
 use Rattle.std.proofs.lemmas.List.Elements.{All-contains, Contains-append_cases}
 use Rattle.cxx_hierarchy.specs.declared.records.ClassId.{ClassId}
 use Rattle.cxx_hierarchy.specs.declared.records.Base.{Base}
 use Rattle.cxx_hierarchy.specs.Classes.{Class, Classes, class_at, bases_of}
 use Rattle.cxx_hierarchy.specs.Hierarchies.{IsHierarchy}
-use Rattle.cxx_hierarchy.specs.VirtualBases.{HasVirtualBase}
-use Rattle.cxx_subobject.specs.declared.Root.{Root}
-use Rattle.cxx_subobject.specs.declared.Root.TheVariants.{Whole, Shared}
 use Rattle.cxx_subobject.specs.declared.Subobject.{Subobject}
 use Rattle.cxx_subobject.specs.Subobjects.{IsSubobject, whole, shared, class_of}
 use Rattle.cxx_subobject.specs.Preorder.{preorder}
-use Rattle.cxx_subobject.proofs.ListLemmas.{Has, has_from_contains, contains_from_has}
+use Rattle.cxx_subobject.proofs.ListLemmas.{Has, contains_from_has}
 use Rattle.cxx_subobject.proofs.SumLemmas.{sum_same}
 use Rattle.cxx_subobject.proofs.TreeLemmas.{has_preorder, preorder_lists}
-use Rattle.abi_emptybase.specs.declared.Part.{Part}
 use Rattle.abi_primary.specs.declared.Primary.{Primary}
-use Rattle.abi_primary.specs.declared.Primary.TheVariants.{None as NoPrimary, Direct, Virtual}
+use Rattle.abi_primary.specs.declared.Primary.TheVariants.{None as NoPrimary}
 use Rattle.abi_primary.specs.Kinds.{IsDynamic}
 use Rattle.abi_primary.specs.NearlyEmpty.{is_nearly, IsLight, is_virtual as by_way, is_empty as by_kind, is_nearly_empty as by_list, is_pointer_base, IsNearlyEmpty}
-use Rattle.abi_primary.specs.PrimaryBase.{is_nearly_root, is_nearly_base, is_taken_root, is_free_base, as_primary, choice, virtual_primary as chosen_virtual, IsPrimary, of_direct, of_virtual}
+use Rattle.abi_primary.specs.PrimaryBase.{is_nearly_base, is_taken_root, is_free_base, as_primary, choice, virtual_primary as chosen_virtual, IsPrimary, of_direct, of_virtual}
 use Rattle.abi_primary.specs.Holder.{holder_of}
 use Rattle.abi_primary.proofs.HolderLemmas.{held}
 use Rattle.abi_layout.specs.declared.component.Component.{Component}
@@ -32,10 +28,9 @@ use Rattle.abi_layout.specs.declared.dynamic_bases.PlacedBase.{PlacedBase}
 use Rattle.abi_layout.specs.Kinds.{is_pod}
 use Rattle.abi_layout.specs.Laid.{member_component}
 use Rattle.abi_layout.specs.Holding.{virtual_bases}
-use Rattle.abi_layout.specs.Brought.{brought_by}
 use Rattle.abi_layout.specs.Repeats.{HasRepeat}
 use Rattle.abi_layout.specs.PlacedBases.{class_of_placed, subobject_of, free_bases, IsPossible}
-use Rattle.abi_layout.specs.DynamicLaid.{virtual_place, place_of, placed_place, primary_of, fronts, front_components, free_components, object_parts, start_stage, IsLayoutBy, IsArrangedBy, HasPointer, IsDynamicRow, is_whole, is_empty_in, is_shifted, IsLaidBy, BringsTwice}
+use Rattle.abi_layout.specs.DynamicLaid.{place_of, placed_place, primary_of, fronts, front_components, free_components, object_parts, start_stage, IsLayoutBy, IsArrangedBy, HasPointer, IsDynamicRow, is_whole, is_empty_in, is_shifted, IsLaidBy, BringsTwice}
 use Rattle.abi_layout.proofs.Lists.{has_at, get_within}
 use Rattle.abi_layout.proofs.PartLemmas.{Agree}
 use Rattle.abi_layout.proofs.Parts.{split}

@@ -1,5 +1,5 @@
 -- Layouts of the first classes: of one class more, and of fewer.
-use Rattle.std.proofs.Common.{◌≡◌, ℕ, zero, suc, ◌+◌, ◌<◌, ◌≤◌, ⊎_elim, Bool, true, false, Option, Some, None, List, [], ◌∷◌, ◌++◌, take, length, get_or, refl, ap, subst, sym, ◌∙◌, arith}
+use Rattle.std.proofs.Common.{◌≡◌, ℕ, zero, suc, ◌+◌, ◌<◌, ◌≤◌, ⊎_elim, Bool, false, Some, None, List, [], ◌∷◌, ◌++◌, take, length, get_or, refl, ap, subst, sym, ◌∙◌, arith}
 use Rattle.std.specs.Prelude.{IsTrue, ◌↔◌}
 use Rattle.std.specs.List.{slice_get}
 use Rattle.std.proofs.lemmas.Bool.{cases_order}
@@ -14,12 +14,12 @@ use Rattle.abi_primary.specs.PrimaryBase.{IsPrimary}
 use Rattle.abi_layout.specs.declared.class_layout.ClassLayout.{ClassLayout}
 use Rattle.abi_layout.specs.Holding.{virtual_in, virtual_primary}
 use Rattle.abi_layout.specs.Scenes.{AreBefore}
-use Rattle.abi_layout.specs.DynamicLaid.{primary_of, IsDynamicRow, is_shifted, TellsNearly, IsLaidBy}
+use Rattle.abi_layout.specs.DynamicLaid.{primary_of, IsDynamicRow, is_shifted, IsLaidBy}
 use Rattle.abi_layout.specs.Refusals.{IsNextClass}
 use Rattle.abi_layout.proofs.Lists.{number, get_within}
 use Rattle.abi_layout.proofs.Fronts.{longer, last_one, old_or_last}
 use Rattle.abi_layout.proofs.AgreeingRows.{AgreeTo, agree_less, agree_turned, agree_item, agree_push, agree_take, primary_agrees, take_agrees}
-use Rattle.abi_layout.proofs.AgreeingParts.{ArePossible, possible_less, possible_agrees, virtual_falls}
+use Rattle.abi_layout.proofs.AgreeingParts.{ArePossible, possible_agrees, virtual_falls}
 use Rattle.abi_layout.proofs.AgreeingClasses.{laid_possible, next_possible, primary_possible, is_primary_agrees, nearly_empty_agrees, shifted_agrees, pointer_agrees, row_agrees}
 
 -- what a list tells of a class, by lists and rows that agree
@@ -27,9 +27,10 @@ tells_agrees : (h : Classes) (n : ℕ) (rows others : List ClassLayout) (near ot
 tells_agrees h n rows others near other c keeps lt agree nearly told =
     let here = agree_item n near other c.0 false nearly lt in
     let shifted = shifted_agrees h rows others c keeps (agree_less (c.0 + 1) n rows others (omega arith) agree) in
-    let before = agree_less c.0 n near other (omega arith) nearly in
-    (λ t. subst (λ b. IsNearlyEmpty h other b c) shifted (nearly_empty_agrees h near other (is_shifted h rows c) c keeps before (told.0 (subst IsTrue (sym here) t))),
-    λ e. subst IsTrue here (told.1 (nearly_empty_agrees h other near (is_shifted h rows c) c keeps (agree_turned c.0 near other before) (subst (λ b. IsNearlyEmpty h other b c) (sym shifted) e))))
+    let before = agree_less c.0 n near other (omega arith) nearly in (
+      λ t. subst (λ b. IsNearlyEmpty h other b c) shifted (nearly_empty_agrees h near other (is_shifted h rows c) c keeps before (told.0 (subst IsTrue (sym here) t))),
+      λ e. subst IsTrue here (told.1 (nearly_empty_agrees h other near (is_shifted h rows c) c keeps (agree_turned c.0 near other before) (subst (λ b. IsNearlyEmpty h other b c) (sym shifted) e))),
+    )
 
 -- one class more is laid out
 pub one_more : (h : Classes) (n : ℕ) (rows : List ClassLayout) (nearly : List Bool) (ps : List Primary) (c : ClassId) (class : Class) (row : ClassLayout) (is : Bool) (primary : Primary) → IsHierarchy h → IsLaidBy h n rows nearly ps → class_at h c ≡ Some class → c.0 ≡ n

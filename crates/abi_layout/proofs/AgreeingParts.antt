@@ -1,12 +1,9 @@
 -- What bases bring, and which class subobjects an object has, by rows and primary bases that agree on the first classes.
-use Rattle.std.proofs.Common.{◌≡◌, ℕ, zero, suc, ◌+◌, ◌<◌, ◌≤◌, ⊎_elim, inl, inr, Bool, Option, Some, None, List, [], ◌∷◌, ◌++◌, map, length, refl, ap, subst, sym, ◌∙◌, arith}
-use Rattle.std.specs.Prelude.{All, Contains, if◌then◌else◌}
+use Rattle.std.proofs.Common.{◌≡◌, ℕ, zero, suc, ◌+◌, ◌<◌, ◌≤◌, Bool, Option, Some, None, List, [], ◌∷◌, ◌++◌, map, refl, ap, subst, sym, ◌∙◌, arith}
+use Rattle.std.specs.Prelude.{if◌then◌else◌, All, Contains}
 use Rattle.std.specs.List.{slice_get, flat_map}
-use Rattle.std.proofs.lemmas.Bool.{cases_order}
 use Rattle.std.proofs.lemmas.List.Elements.{All-contains}
-use Rattle.std.proofs.lemmas.Option.{slice_get-get_or}
 use Rattle.cxx_hierarchy.specs.declared.records.ClassId.{ClassId}
-use Rattle.cxx_hierarchy.specs.declared.records.Base.{Base}
 use Rattle.cxx_hierarchy.specs.declared.records.Member.{Member}
 use Rattle.cxx_hierarchy.specs.declared.records.FieldType.{FieldType}
 use Rattle.cxx_hierarchy.specs.declared.records.FieldType.TheVariants.{Value, Object}
@@ -14,7 +11,7 @@ use Rattle.cxx_hierarchy.specs.Classes.{Class, Classes, class_at, bases_of, base
 use Rattle.cxx_hierarchy.specs.Hierarchies.{IsHierarchy}
 use Rattle.cxx_subobject.specs.declared.Subobject.{Subobject}
 use Rattle.cxx_subobject.specs.Subobjects.{base_subobject, shared_base}
-use Rattle.cxx_subobject.proofs.ListLemmas.{Has, mapped_same, contains_from_has}
+use Rattle.cxx_subobject.proofs.ListLemmas.{mapped_same, contains_from_has}
 use Rattle.abi_emptybase.specs.declared.Part.{Part}
 use Rattle.abi_emptybase.specs.Table.{moved}
 use Rattle.abi_primary.specs.declared.Primary.{Primary}
@@ -30,7 +27,6 @@ use Rattle.abi_layout.specs.Holding.{virtual_in, virtual_primary, held_base}
 use Rattle.abi_layout.specs.Brought.{member_parts, base_brings, shared_brings, brought, brought_by}
 use Rattle.abi_layout.specs.PlacedBases.{class_of_placed, subobject_of, free_bases, placed_component, IsPossible}
 use Rattle.abi_layout.specs.DynamicLaid.{placed_place, primary_of, fronts, front_components, free_components, object_parts_in, object_parts_within, object_parts}
-use Rattle.abi_layout.specs.Scenes.{AreBefore}
 use Rattle.abi_layout.proofs.PartLemmas.{Agree, base_made, members_agree}
 use Rattle.abi_layout.proofs.BroughtLemmas.{held_is_primary}
 use Rattle.abi_layout.proofs.OpenLemmas.{virtual_below, fronts_below, frees_below}

@@ -1,8 +1,8 @@
 -- Rows and primary bases that agree on the first classes, and what depends on these alone.
-use Rattle.std.proofs.Common.{◌≡◌, ℕ, zero, suc, ◌+◌, ◌<◌, ◌≤◌, inl, inr, Bool, cond, Option, Some, None, List, [], ◌∷◌, ◌++◌, map, take, length, get_or, refl, ap, subst, sym, ◌∙◌, arith}
-use Rattle.std.specs.Prelude.{filter, position, nat_eq, ◌||◌, ◌&&◌, if◌then◌else◌}
+use Rattle.std.proofs.Common.{◌≡◌, ℕ, zero, suc, ◌+◌, ◌<◌, ◌≤◌, inl, inr, Bool, cond, Option, Some, None, List, [], ◌∷◌, ◌++◌, map, take, length, get_or, refl, ap, sym, ◌∙◌, arith}
+use Rattle.std.specs.Prelude.{if◌then◌else◌, filter, position, nat_eq, ◌||◌}
 use Rattle.std.specs.Option.{unwrap_or}
-use Rattle.std.specs.List.{slice_get, Contains, list_any, find, count_by, filter_map}
+use Rattle.std.specs.List.{slice_get, list_any, find}
 use Rattle.std.proofs.lemmas.Option.{unwrap_or-slice_get}
 use Rattle.cxx_hierarchy.specs.declared.records.ClassId.{ClassId}
 use Rattle.cxx_hierarchy.specs.declared.records.Base.{Base}
@@ -23,7 +23,7 @@ use Rattle.abi_layout.specs.declared.dynamic_bases.PlacedBase.TheVariants.{Own, 
 use Rattle.abi_layout.specs.Places.{is_plain_base, place_at, bases_in, base_place, place_along}
 use Rattle.abi_layout.specs.Holding.{virtual_bases, virtual_in, virtual_primary, is_holder, holds_base, kept_if, held_base}
 use Rattle.abi_layout.specs.PlacedBases.{front_bases, is_free, free_bases}
-use Rattle.abi_layout.specs.DynamicLaid.{virtuals_in, shared_in, virtual_place, place_from, place_of, placed_place, primary_of, fronts}
+use Rattle.abi_layout.specs.DynamicLaid.{virtuals_in, shared_in, virtual_place, place_of, placed_place, primary_of, fronts}
 use Rattle.abi_layout.proofs.SettledLemmas.{base_below}
 use Rattle.abi_layout.proofs.OpenLemmas.{virtual_below}
 

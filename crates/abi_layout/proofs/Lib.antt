@@ -53,3 +53,7 @@ pub mod NextSteps
 pub mod RowPlacesFronts
 pub mod RowPlaces
 pub mod RowPlacesFinal
+pub mod OneLayoutLists
+pub mod OneLayoutRows
+pub mod OneLayoutFronts
+pub mod OneLayoutStops
