@@ -33,7 +33,7 @@ pub record AreNested (h : Classes) (count : ℕ) (rows : List ClassLayout) (ps :
   pub by_primary : (d v : ClassId) → d.0 < count → virtual_primary ps d ≡ Some v → nvsize_in (slice_get rows v.0) ≤ nvsize_in (slice_get rows d.0)
   pub small : (d : ℕ) → nvsize_in (slice_get rows d) ≤ 500000
 
-last_below : (h : Classes) → IsHierarchy h → (d : ClassId) (path : List ClassId) → Leads h d path → (last_of d path).0 ≤ d.0
+pub last_below : (h : Classes) → IsHierarchy h → (d : ClassId) (path : List ClassId) → Leads h d path → (last_of d path).0 ≤ d.0
 last_below h keeps d [] leads = omega arith
 last_below h keeps d (b ∷ path) leads = let f = base_below h d b keeps leads.0 in let r = last_below h keeps b path leads.1 in omega arith
 
@@ -98,7 +98,7 @@ room_of h rows ps c v class _ table keeps nested (shared u path has leads) prima
     let e : nvsize_in (slice_get rows class.0) ≡ nvsize_in (slice_get rows v) = ap (λ n. nvsize_in (slice_get rows n)) same in
     omega arith
 
-path_of : (h : Classes) (c : ClassId) (t : Subobject) (count : ℕ) → IsHierarchy h → IsSubobject h c t → c.0 < count → IsPath h count t.path
+pub path_of : (h : Classes) (c : ClassId) (t : Subobject) (count : ℕ) → IsHierarchy h → IsSubobject h c t → c.0 < count → IsPath h count t.path
 path_of h c _ count keeps (whole path leads) lt = (lt, leads)
 path_of h c _ count keeps (shared u path has leads) lt = let f = virtual_below h keeps c u has in (omega arith, leads)
 

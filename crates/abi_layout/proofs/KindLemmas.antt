@@ -36,7 +36,7 @@ pub from_map : {X Y : Type 0} (f : X → Y) (xs : List X) (y : Y) → Has (map f
 from_map f [] y h = absurd h
 from_map f (x ∷ xs) y h = ⊎_elim (λ e. (x, inl refl, e)) (λ r. let t = from_map f xs y r in (t.0, inr t.1, t.2)) h
 
-both_true : (a b : Bool) → (a && b) ≡ true → (a ≡ true) × (b ≡ true)
+pub both_true : (a b : Bool) → (a && b) ≡ true → (a ≡ true) × (b ≡ true)
 both_true true b e = (refl, e)
 both_true false b e = cc
 

@@ -18,3 +18,5 @@ pub mod Scenes
 pub mod Arrangements
 pub mod OwnPlaces
 pub mod Settled
+pub mod ClassRows
+pub mod LaidSoFar

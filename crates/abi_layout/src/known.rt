@@ -30,7 +30,7 @@ pub struct LaidClass {
 }
 
 /// Whether an earlier class is empty.
-fn is_empty_at(known: &[Known], c: ClassId) -> bool
+pub(crate) fn is_empty_at(known: &[Known], c: ClassId) -> bool
     ensures { result ≡ empties_in known.now c }
 {
     match known.get(c.0 as usize) {

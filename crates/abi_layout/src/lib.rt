@@ -14,12 +14,16 @@ pub mod arrangement;
 mod base_places;
 mod brought;
 pub mod class_layout;
+pub mod class_layouts;
 pub mod component;
 pub mod dynamic_bases;
 pub mod dynamic_rows;
 pub mod hierarchy_layout;
 pub mod holding;
 pub mod known;
+pub mod laid_row;
+#[cfg(test)]
+mod layout_tests;
 mod member;
 pub mod places;
 pub mod placing;
@@ -33,6 +37,7 @@ mod tests;
 mod virtual_places;
 
 pub use crate::class_layout::{AbiLayout, ClassLayout, ClassList, HolderList, PlaceList};
+pub use crate::class_layouts::lay_out_first;
 pub use crate::hierarchy_layout::{lay_out, lay_out_front, one_layout, some_layout};
 pub use crate::soundness::laid_is_sound;
 pub use crate::statics::is_static;

@@ -13,12 +13,16 @@ use foundation::{NoMemory, Sequence};
 use std::alloc::Global;
 use std::test::Fail;
 
-fn name(alloc: Global, text: &str) -> Result<Name, NoMemory> {
+pub(crate) fn name(alloc: Global, text: &str) -> Result<Name, NoMemory> {
     Ok(Sequence::from_vec(Vec::from_slice(alloc, text.as_bytes())?))
 }
 
 /// `struct NAME {};`, with a declared constructor where asked for.
-fn class(alloc: Global, text: &str, has_constructor: bool) -> Result<ClassRec<Name>, NoMemory>
+pub(crate) fn class(
+    alloc: Global,
+    text: &str,
+    has_constructor: bool,
+) -> Result<ClassRec<Name>, NoMemory>
     ensures { IfOk result IsInOrder }
 {
     Ok(ClassRec {
@@ -34,7 +38,11 @@ fn class(alloc: Global, text: &str, has_constructor: bool) -> Result<ClassRec<Na
 }
 
 /// The class with one more public base.
-fn with_base(alloc: Global, class: ClassRec<Name>, base: &str) -> Result<ClassRec<Name>, NoMemory>
+pub(crate) fn with_base(
+    alloc: Global,
+    class: ClassRec<Name>,
+    base: &str,
+) -> Result<ClassRec<Name>, NoMemory>
     requires { IsInOrder class }
     ensures { IfOk result IsInOrder }
 {
@@ -49,7 +57,7 @@ fn with_base(alloc: Global, class: ClassRec<Name>, base: &str) -> Result<ClassRe
 }
 
 /// The class with one more public field.
-fn with_field(
+pub(crate) fn with_field(
     alloc: Global,
     class: ClassRec<Name>,
     ty: FieldType<Name>,
@@ -81,7 +89,7 @@ fn with_field(
 }
 
 /// The records with one more.
-fn with_class(records: RecordList, class: ClassRec<Name>) -> Result<RecordList, NoMemory>
+pub(crate) fn with_class(records: RecordList, class: ClassRec<Name>) -> Result<RecordList, NoMemory>
     requires records { All IsInOrder records }
     requires class { IsInOrder class }
     ensures { IfOk result (All IsInOrder) }
@@ -91,13 +99,13 @@ fn with_class(records: RecordList, class: ClassRec<Name>) -> Result<RecordList, 
     Ok(records)
 }
 
-fn none(alloc: Global) -> RecordList
+pub(crate) fn none(alloc: Global) -> RecordList
     ensures { All IsInOrder result }
 {
     Sequence::new(alloc)
 }
 
-fn number(scalar: Scalar) -> FieldType<Name> {
+pub(crate) fn number(scalar: Scalar) -> FieldType<Name> {
     FieldType::Value(ValueType::Number(scalar))
 }
 

@@ -32,7 +32,7 @@ fn path_place(h: &Hierarchy, rows: &[ClassLayout], d: ClassId, path: &[ClassId])
 }
 
 /// The sum of the places along a path and below its first class, in bytes.
-fn whole_path_place(h: &Hierarchy, rows: &[ClassLayout], path: &[ClassId]) -> u32
+pub(crate) fn whole_path_place(h: &Hierarchy, rows: &[ClassLayout], path: &[ClassId]) -> u32
     requires rows { length rows.now ≤ length h.now }
     requires path { IsPath h.now (length rows.now) path.now }
     requires bounded { place_from h.now rows.now path.now < 2 ^ 32 }

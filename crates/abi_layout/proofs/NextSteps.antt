@@ -1,0 +1,136 @@
+-- The steps by which the next class is laid out, where each list is told by an equation.
+use Rattle.std.proofs.Common.{◌≡◌, ℕ, ◌+◌, ◌<◌, ◌⊎◌, ⊎_elim, inl, inr, Bool, Option, Some, List, [], ◌∷◌, ◌++◌, length, refl, ap, subst, sym, ◌∙◌, arith}
+use Rattle.std.specs.Prelude.{IsTrue, ◌↔◌}
+use Rattle.std.specs.List.{slice_get, list_any}
+use Rattle.std.proofs.lemmas.Option.{slice_get_within}
+use Rattle.cxx_hierarchy.specs.declared.records.ClassId.{ClassId}
+use Rattle.cxx_hierarchy.specs.declared.stop.Stop.{Stop}
+use Rattle.cxx_hierarchy.specs.declared.stop.Stop.TheVariants.{NoMemory, Refused, Limit}
+use Rattle.cxx_hierarchy.specs.declared.stop.Rule.TheVariants.{SharedPlace}
+use Rattle.cxx_hierarchy.specs.declared.stop.LimitNo.TheVariants.{L6}
+use Rattle.cxx_hierarchy.specs.Classes.{Class, Classes, class_at}
+use Rattle.cxx_hierarchy.specs.Hierarchies.{IsHierarchy}
+use Rattle.cxx_subobject.specs.declared.Subobject.{Subobject}
+use Rattle.cxx_subobject.specs.Preorder.{preorder}
+use Rattle.abi_emptybase.specs.declared.Part.{Part}
+use Rattle.abi_primary.specs.declared.Primary.{Primary}
+use Rattle.abi_primary.specs.declared.Primary.TheVariants.{None as NoPrimary}
+use Rattle.abi_primary.specs.Kinds.{IsDynamic}
+use Rattle.abi_primary.specs.PrimaryBase.{IsPrimary}
+use Rattle.abi_primary.specs.NearlyEmpty.{IsNearlyEmpty}
+use Rattle.abi_layout.specs.declared.known.Known.{Known}
+use Rattle.abi_layout.specs.declared.laid_row.ClassFacts.{ClassFacts}
+use Rattle.abi_layout.specs.declared.class_layout.ClassLayout.{ClassLayout}
+use Rattle.abi_layout.specs.Kinds.{pod_kind, is_empty}
+use Rattle.abi_layout.specs.Laid.{AreSmall}
+use Rattle.abi_layout.specs.Known.{is_empty_in, empties_in, pods_in, members_by}
+use Rattle.abi_layout.specs.Holding.{AreHolders}
+use Rattle.abi_layout.specs.PlacedBases.{free_bases}
+use Rattle.abi_layout.specs.DynamicLaid.{fronts, start_stage, is_shifted}
+use Rattle.abi_layout.specs.Arrangements.{IsTooLargeBy, IsShared, components_by}
+use Rattle.abi_layout.specs.Scenes.{IsScene}
+use Rattle.abi_layout.specs.Refusals.{StopsAt, IsWellLaid, IsFirstStop}
+use Rattle.abi_layout.specs.ClassRows.{IsRowAdded}
+use Rattle.abi_layout.specs.LaidSoFar.{IsLaidSoFar, is_shifted_base, ArePaths}
+use Rattle.abi_layout.proofs.Lists.{number, get_within}
+use Rattle.abi_layout.proofs.Fronts.{longer}
+use Rattle.abi_layout.proofs.NextKinds.{next_empty}
+use Rattle.abi_layout.proofs.NextShifted.{shifted_same, paths_are}
+use Rattle.abi_layout.proofs.NextComponents.{IsNextKnown}
+use Rattle.abi_layout.proofs.NextRefused.{stops_by}
+use Rattle.abi_layout.proofs.NextScene.{next_scene, next_nested}
+use Rattle.abi_layout.proofs.NextSoFar.{told_more, so_far_more}
+
+-- what is known of the next class, by lists that are those of the classes so far
+pub next_by : (h : Classes) (c : ClassId) (class : Class) (rows : List ClassLayout) (known : List Known) (members : List (List Part)) (nearly : List Bool) (ps : List Primary) (primary : Primary) (has_pointer : Bool) (near : List Bool) (earlier : List Primary) → IsHierarchy h → class_at h c ≡ Some class
+    → IsLaidSoFar h c.0 rows known members nearly ps → near ≡ nearly → earlier ≡ ps → IsPrimary h near earlier c primary → (IsTrue has_pointer ↔ (IsDynamic h c × (primary ≡ NoPrimary))) → IsNextKnown h c class rows known members nearly ps primary has_pointer
+next_by h c class rows known members nearly ps primary has_pointer near earlier keeps there so_far n e is_primary pointer = record {
+  keeps = keeps;
+  there = there;
+  so_far = so_far;
+  is_primary = subst (λ (xs : List Primary). IsPrimary h nearly xs c primary) e (subst (λ (xs : List Bool). IsPrimary h xs earlier c primary) n is_primary);
+  pointer = pointer;
+}
+
+-- the scene, by lists that are those of the classes so far
+pub scene_by : (h : Classes) (c : ClassId) (class : Class) (rows : List ClassLayout) (known : List Known) (members : List (List Part)) (nearly : List Bool) (ps : List Primary) (primary : Primary) (has_pointer : Bool) → IsNextKnown h c class rows known members nearly ps primary has_pointer
+    → (ks : List Known) (ms : List (List Part)) (qs : List Primary) (list : List Subobject) → ks ≡ known → ms ≡ members → qs ≡ ps ++ primary ∷ [] → list ≡ preorder h c → (holders : List (Option ℕ)) → AreHolders qs list c.0 holders → IsScene h c rows ks ms qs list holders
+scene_by h c class rows known members nearly ps primary has_pointer next ks ms qs list k m q l holders are =
+    subst (λ (xs : List Known). IsScene h c rows xs ms qs list holders) (sym k)
+    (subst (λ (xs : List (List Part)). IsScene h c rows known xs qs list holders) (sym m)
+    (subst (λ (xs : List Primary). IsScene h c rows known members xs list holders) (sym q)
+    (next_scene h c class rows known members nearly ps primary has_pointer next list holders l (subst (λ (xs : List Primary). AreHolders xs list c.0 holders) q are))))
+
+-- what an error tells of the class
+abbrev pub IsRefusedBy : Classes → ClassId → List ClassLayout → List Known → List Primary → Class → Bool → Stop → Type 0
+IsRefusedBy h c rows known qs class has_pointer stop =
+    (stop ≡ NoMemory)
+    ⊎ (((stop ≡ Limit L6) × IsTooLargeBy (start_stage c has_pointer) (components_by h rows known qs c (fronts qs c class)) (members_by rows known class) (components_by h rows known qs c (free_bases h qs c)) (pod_kind (pods_in known) class))
+    ⊎ ((stop ≡ Refused SharedPlace class.at) × IsShared (start_stage c has_pointer) (components_by h rows known qs c (fronts qs c class)) (members_by rows known class) (components_by h rows known qs c (free_bases h qs c)) (pod_kind (pods_in known) class)))
+
+-- the error of the class, by lists that are those of the classes so far
+pub refused_by : (h : Classes) (c : ClassId) (class : Class) (rows : List ClassLayout) (known : List Known) (members : List (List Part)) (nearly : List Bool) (ps : List Primary) (primary : Primary) (has_pointer : Bool) → IsNextKnown h c class rows known members nearly ps primary has_pointer
+    → (ks : List Known) (qs : List Primary) (stop : Stop) → ks ≡ known → qs ≡ ps ++ primary ∷ [] → IsRefusedBy h c rows ks qs class has_pointer stop → (stop ≡ NoMemory) ⊎ StopsAt h c stop
+refused_by h c class rows known members nearly ps primary has_pointer next ks qs stop k q refused =
+    stops_by h c class rows known members nearly ps primary has_pointer stop next
+    (subst (λ (xs : List Primary). IsRefusedBy h c rows known xs class has_pointer stop) q (subst (λ (xs : List Known). IsRefusedBy h c rows xs qs class has_pointer stop) k refused))
+
+added_by : (h : Classes) (c : ClassId) (class : Class) (rows : List ClassLayout) (known ks : List Known) (ps qs : List Primary) (has_pointer : Bool) (more : List ClassLayout) (facts : ClassFacts) → ks ≡ known → qs ≡ ps → IsRowAdded h c rows ks qs class has_pointer more facts → IsRowAdded h c rows known ps class has_pointer more facts
+added_by h c class rows known ks ps qs has_pointer more facts k q added = subst (λ (xs : List Primary). IsRowAdded h c rows known xs class has_pointer more facts) q (subst (λ (xs : List Known). IsRowAdded h c rows xs qs class has_pointer more facts) k added)
+
+-- the paths of the subobjects, once the class has its row
+pub paths_by : (h : Classes) (c : ClassId) (class : Class) (rows : List ClassLayout) (known : List Known) (members : List (List Part)) (nearly : List Bool) (ps : List Primary) (primary : Primary) (has_pointer : Bool) → IsNextKnown h c class rows known members nearly ps primary has_pointer
+    → (ks : List Known) (qs : List Primary) (more all : List ClassLayout) (facts : ClassFacts) (list : List Subobject) → ks ≡ known → qs ≡ ps ++ primary ∷ [] → all ≡ more → list ≡ preorder h c → IsRowAdded h c rows ks qs class has_pointer more facts → ArePaths h all list
+paths_by h c class rows known members nearly ps primary has_pointer next ks qs more all facts list k q a l added =
+    let here = added_by h c class rows known ks (ps ++ primary ∷ []) qs has_pointer more facts k q added in
+    let nested = next_nested h c class rows known members nearly ps primary has_pointer next here.row here.is (let x = here.sized.nvsize in let y = here.sized.size in omega arith) in
+    let count = next.so_far.by.one_each in
+    let one = longer rows here.row in
+    subst (λ (xs : List ClassLayout). ArePaths h xs list) (sym (a ∙ here.rows_are)) (paths_are h (rows ++ here.row ∷ []) (ps ++ primary ∷ []) c list next.keeps nested (omega arith) l)
+
+-- so many rows are no more than the classes
+pub rows_few : (h : Classes) (c : ClassId) (class : Class) (rows : List ClassLayout) (known : List Known) (members : List (List Part)) (nearly : List Bool) (ps : List Primary) (primary : Primary) (has_pointer : Bool) → IsNextKnown h c class rows known members nearly ps primary has_pointer
+    → (ks : List Known) (qs : List Primary) (more : List ClassLayout) (facts : ClassFacts) → IsRowAdded h c rows ks qs class has_pointer more facts → length more ≡ c.0 + 1
+rows_few h c class rows known members nearly ps primary has_pointer next ks qs more facts added =
+    let count = next.so_far.by.one_each in
+    ap length added.rows_are ∙ (let one = longer rows added.row in omega arith)
+
+-- one class more is known
+pub known_by : (h : Classes) (c : ClassId) (class : Class) (rows : List ClassLayout) (known : List Known) (members : List (List Part)) (nearly : List Bool) (ps : List Primary) (primary : Primary) (has_pointer : Bool) → IsNextKnown h c class rows known members nearly ps primary has_pointer
+    → (ks : List Known) (qs : List Primary) (more all : List ClassLayout) (facts : ClassFacts) (list : List Subobject) → ks ≡ known → qs ≡ ps ++ primary ∷ [] → all ≡ more → list ≡ preorder h c → IsRowAdded h c rows ks qs class has_pointer more facts
+    → (near : List Bool) (told : List Known) (is shifted : Bool) → near ≡ nearly → told ≡ known ++ facts.known ∷ [] → shifted ≡ list_any (is_shifted_base h all told) list → (IsTrue is ↔ IsNearlyEmpty h near shifted c)
+    → IsLaidSoFar h (c.0 + 1) more (known ++ facts.known ∷ []) (members ++ facts.members ∷ []) (nearly ++ is ∷ []) (ps ++ primary ∷ [])
+known_by h c class rows known members nearly ps primary has_pointer next ks qs more all facts list k q a l added near told is shifted n t s nearly_is =
+    let here = added_by h c class rows known ks (ps ++ primary ∷ []) qs has_pointer more facts k q added in
+    let after = known ++ facts.known ∷ [] in
+    let tells = told_more is_empty_in (is_empty h) c known facts.known next.so_far.known_each next.so_far.empties
+    (here.is_empty ∙ next_empty h next.keeps c class (empties_in known) next.there next.so_far.empties) in
+    let test : shifted ≡ is_shifted h more c =
+    s ∙ (ap (λ (xs : List ClassLayout). list_any (is_shifted_base h xs told) list) a
+    ∙ (ap (λ (xs : List Known). list_any (is_shifted_base h more xs) list) t
+    ∙ shifted_same h more after c list next.keeps tells l)) in
+    so_far_more h c class rows known members nearly ps primary has_pointer next more facts is here
+    (subst (λ b. IsTrue is ↔ IsNearlyEmpty h nearly b c) test (subst (λ (xs : List Bool). IsTrue is ↔ IsNearlyEmpty h xs shifted c) n nearly_is))
+
+-- the classes so far are laid out
+pub well_laid : (h : Classes) (n : ℕ) (rows : List ClassLayout) (known : List Known) (members : List (List Part)) (nearly : List Bool) (ps : List Primary) → IsLaidSoFar h n rows known members nearly ps → IsWellLaid h n rows
+well_laid h n rows known members nearly ps so_far = record {
+  nearly = nearly;
+  primaries = ps;
+  by = so_far.by;
+  small = record {
+    each = λ i row e.
+        let lt = slice_get_within rows i row e in
+        let a = so_far.by.one_each in
+        let b = so_far.known_each in
+        let k = get_within known i (omega arith) in
+        (so_far.sized.each i row k.0 e k.1).size;
+  };
+  apart = so_far.apart;
+}
+
+-- the first class that is refused
+pub first_stop : (h : Classes) (n count : ℕ) (rows : List ClassLayout) (known : List Known) (members : List (List Part)) (nearly : List Bool) (ps : List Primary) (stop : Stop) → n < count → IsLaidSoFar h n rows known members nearly ps → (stop ≡ NoMemory) ⊎ StopsAt h (number n) stop → (stop ≡ NoMemory) ⊎ IsFirstStop h count stop
+first_stop h n count rows known members nearly ps stop lt so_far refused = ⊎_elim (λ e. inl e)
+    (λ stops. inr (record { class = number n; known = lt; rows = rows; before = well_laid h n rows known members nearly ps so_far; stops = stops }))
+    refused

@@ -1,0 +1,54 @@
+use Rattle.std.proofs.Common.{◌≡◌, ◌∙◌, List, [], ◌∷◌, ◌++◌, Bool, ap, subst, sym}
+use Rattle.std.proofs.lemmas.Result.{err_from_is_err_and}
+use Rattle.abi_primary.specs.declared.Primary.{Primary}
+use Rattle.abi_primary.specs.PrimaryBase.{IsPrimary}
+use Rattle.abi_layout.specs.declared.known.Known.{Known}
+use Rattle.abi_layout.specs.ClassRows.{AreSmaller}
+use Rattle.abi_layout.proofs.AgreeingClasses.{primary_possible}
+use Rattle.abi_layout.proofs.NextComponents.{IsNextKnown}
+use Rattle.abi_layout.proofs.NextSteps.{next_by, scene_by, refused_by, paths_by, known_by}
+use Rattle.abi_layout.proofs.class_layouts.lay_out_next.Goals as goal
+
+pub lay_out_class-requires-clause-scene : goal.lay_out_class-requires-clause-scene
+lay_out_class-requires-clause-scene c =
+    let s = c.args.so_far.now in
+    let primary = c.primary_among-primary.result in
+    let next = next_by c.args.h.now c.args.c c.class.result.now s.rows.items s.known.items s.members.items s.nearly.items s.primaries.items primary c.has_pointer-has_pointer.result c.deref.result.now c.deref-2.result.now c.keeps.ensures c.class.ensures c.requires.laid c.deref.ensures.value c.deref-2.ensures.value c.primary_among-primary.ensures c.has_pointer-has_pointer.ensures in
+    scene_by c.args.h.now c.args.c c.class.result.now s.rows.items s.known.items s.members.items s.nearly.items s.primaries.items primary c.has_pointer-has_pointer.result next
+    c.deref-3.result.now c.deref-4.result.now c.deref-5.result.now c.as_slice-2.result.now c.deref-3.ensures.value c.deref-4.ensures.value (c.deref-5.ensures.value ∙ c.in_ok-push.ensures.items) (c.as_slice-2.ensures ∙ c.in_ok-list.ensures.preorder)
+
+pub lay_out_class-requires-clause-primary : goal.lay_out_class-requires-clause-primary
+lay_out_class-requires-clause-primary c = primary_possible c.args.h.now c.deref.result.now c.deref-2.result.now c.args.c c.primary_among-primary.result c.primary_among-primary.ensures
+
+pub lay_out_class-requires-clause-smaller : goal.lay_out_class-requires-clause-smaller
+lay_out_class-requires-clause-smaller c = subst (λ (ks : List Known). AreSmaller c.args.c ks) (sym c.deref-3.ensures.value) c.requires.laid.smaller
+
+pub returns-in_err-known-clause-stop : goal.returns-in_err-known-clause-stop
+returns-in_err-known-clause-stop c =
+    let p = err_from_is_err_and c.from_residual-in_err-known.result c.from_residual-in_err-known.ensures.1 in
+    let s = c.args.so_far.now in
+    let primary = c.primary_among-primary.result in
+    let next = next_by c.args.h.now c.args.c c.class.result.now s.rows.items s.known.items s.members.items s.nearly.items s.primaries.items primary c.has_pointer-has_pointer.result c.deref.result.now c.deref-2.result.now c.keeps.ensures c.class.ensures c.requires.laid c.deref.ensures.value c.deref-2.ensures.value c.primary_among-primary.ensures c.has_pointer-has_pointer.ensures in
+    rw (p.1, p.2)
+    (refused_by c.args.h.now c.args.c c.class.result.now s.rows.items s.known.items s.members.items s.nearly.items s.primaries.items primary c.has_pointer-has_pointer.result next
+    c.deref-3.result.now c.deref-5.result.now c.in_err-known.field-0.0 c.deref-3.ensures.value (c.deref-5.ensures.value ∙ c.in_ok-push.ensures.items) c.in_err-known.ensures.refused)
+
+pub is_shifted-shifted-requires-clause-paths : goal.is_shifted-shifted-requires-clause-paths
+is_shifted-shifted-requires-clause-paths c =
+    let s = c.args.so_far.now in
+    let primary = c.primary_among-primary.result in
+    let next = next_by c.args.h.now c.args.c c.class.result.now s.rows.items s.known.items s.members.items s.nearly.items s.primaries.items primary c.has_pointer-has_pointer.result c.deref.result.now c.deref-2.result.now c.keeps.ensures c.class.ensures c.requires.laid c.deref.ensures.value c.deref-2.ensures.value c.primary_among-primary.ensures c.has_pointer-has_pointer.ensures in
+    paths_by c.args.h.now c.args.c c.class.result.now s.rows.items s.known.items s.members.items s.nearly.items s.primaries.items primary c.has_pointer-has_pointer.result next
+    c.deref-3.result.now c.deref-5.result.now c.lay_out_class.new.rows.items c.deref-6.result.now c.in_ok-known.field-0 c.as_slice-3.result.now
+    c.deref-3.ensures.value (c.deref-5.ensures.value ∙ c.in_ok-push.ensures.items) c.deref-6.ensures.value (c.as_slice-3.ensures ∙ c.in_ok-list.ensures.preorder) c.in_ok-known.ensures.laid
+
+pub returns-clause-laid : goal.returns-clause-laid
+returns-clause-laid c =
+    let s = c.args.so_far.now in
+    let primary = c.primary_among-primary.result in
+    let next = next_by c.args.h.now c.args.c c.class.result.now s.rows.items s.known.items s.members.items s.nearly.items s.primaries.items primary c.has_pointer-has_pointer.result c.deref.result.now c.deref-2.result.now c.keeps.ensures c.class.ensures c.requires.laid c.deref.ensures.value c.deref-2.ensures.value c.primary_among-primary.ensures c.has_pointer-has_pointer.ensures in
+    let made = known_by c.args.h.now c.args.c c.class.result.now s.rows.items s.known.items s.members.items s.nearly.items s.primaries.items primary c.has_pointer-has_pointer.result next
+    c.deref-3.result.now c.deref-5.result.now c.lay_out_class.new.rows.items c.deref-6.result.now c.in_ok-known.field-0 c.as_slice-3.result.now
+    c.deref-3.ensures.value (c.deref-5.ensures.value ∙ c.in_ok-push.ensures.items) c.deref-6.ensures.value (c.as_slice-3.ensures ∙ c.in_ok-list.ensures.preorder) c.in_ok-known.ensures.laid
+    c.deref-8.result.now c.deref-7.result.now c.is_nearly_empty-is_nearly.result c.is_shifted-shifted.result c.deref-8.ensures.value (c.deref-7.ensures.value ∙ c.in_ok-push-2.ensures.items) c.is_shifted-shifted.ensures c.is_nearly_empty-is_nearly.ensures in
+    rw (c.in_ok-push.ensures.items, c.in_ok-push-2.ensures.items, c.in_ok-push-3.ensures.items, c.in_ok-push-4.ensures.items) made

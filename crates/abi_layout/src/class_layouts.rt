@@ -1,0 +1,165 @@
+//! The layout of the first classes of a hierarchy (Itanium C++ ABI 2.4).
+
+ghost use Rattle.std.specs.Prelude.{◌≡◌, ◌+◌, ◌^◌, ◌<◌, ◌≤◌, ◌⊎◌, ◌↔◌, IfOk, IfErr, OnOk, IsTrue, length};
+ghost use Rattle.std.specs.List.{list_any};
+ghost use Rattle.cxx_subobject.specs.Subobjects.{class_of};
+ghost use Rattle.abi_primary.specs.Kinds.{IsDynamic};
+ghost use Rattle.abi_layout.specs.DynamicLaid.{is_whole, place_from};
+ghost use Rattle.abi_layout.specs.Settled.{IsPath};
+ghost use Rattle.abi_layout.specs.Refusals.{IsWellLaid, StopsAt, IsFirstStop};
+ghost use Rattle.abi_layout.specs.LaidSoFar.{IsLaidSoFar, known_empty, is_shifted_base, ArePaths};
+
+use crate::class_layout::{AbiLayout, ClassLayout};
+use crate::component::PartList;
+use crate::known::{Known, is_empty_at};
+use crate::laid_row::{ClassFacts, lay_out_class};
+use crate::virtual_places::whole_path_place;
+use abi_primary::{Primary, is_dynamic, is_nearly_empty, primary_among};
+use cxx_hierarchy::{ClassId, Hierarchy, Stop};
+use cxx_subobject::{Root, Subobject, class_of, list_subobjects};
+use std::alloc::Global;
+
+/// The first classes of a hierarchy, as far as they are laid out: their rows, what else is known of them, what their
+/// members bring, which of them are nearly empty, and their primary bases.
+#[derive(Drop)]
+pub struct LaidSoFar {
+    pub rows: Vec<ClassLayout>,
+    pub known: Vec<Known>,
+    pub members: Vec<PartList>,
+    pub nearly: Vec<bool>,
+    pub primaries: Vec<Primary>,
+}
+
+/// No class.
+fn none_laid(alloc: Global, _h: &Hierarchy) -> LaidSoFar
+    ensures { IsLaidSoFar _h.now 0 result.rows.items result.known.items result.members.items result.nearly.items result.primaries.items }
+{
+    LaidSoFar {
+        rows: Vec::new(alloc),
+        known: Vec::new(alloc),
+        members: Vec::new(alloc),
+        nearly: Vec::new(alloc),
+        primaries: Vec::new(alloc),
+    }
+}
+
+/// Whether a class has a virtual pointer of its own: it is dynamic and has no primary base.
+fn has_pointer(h: &Hierarchy, c: ClassId, primary: Primary) -> bool
+    requires { c.0 < length h.now }
+    ensures { IsTrue result ↔ (IsDynamic h.now c × (primary ≡ Primary.None)) }
+{
+    match primary {
+        Primary::None => is_dynamic(h, c),
+        Primary::Direct(_) | Primary::Virtual(_) => false,
+    }
+}
+
+/// Whether the class of a subobject is known to be empty.
+fn has_empty_class(known: &[Known], s: &Subobject) -> bool
+    ensures { result ≡ known_empty known.now (class_of s.now) }
+{
+    match class_of(s) {
+        Some(d) => is_empty_at(known, d),
+        None => false,
+    }
+}
+
+fn is_whole(root: Root) -> bool
+    ensures { result ≡ is_whole root }
+{
+    match root {
+        Root::Whole => true,
+        Root::Shared(_) => false,
+    }
+}
+
+/// Whether a subobject is an empty base that lies in no virtual base and elsewhere than at the start.
+fn is_shifted_base(h: &Hierarchy, rows: &[ClassLayout], known: &[Known], s: &Subobject) -> bool
+    requires rows { length rows.now ≤ length h.now }
+    requires path { IsPath h.now (length rows.now) s.now.path }
+    requires bounded { place_from h.now rows.now s.now.path < 2 ^ 32 }
+    ensures { result ≡ is_shifted_base h.now rows.now known.now s.now }
+{
+    is_whole(s.root)
+        && has_empty_class(known, s)
+        && whole_path_place(h, rows, s.path.as_slice()) != 0
+}
+
+/// Whether one of the subobjects is such a base.
+fn is_shifted(h: &Hierarchy, rows: &[ClassLayout], known: &[Known], list: &[Subobject]) -> bool
+    requires rows { length rows.now ≤ length h.now }
+    requires paths { ArePaths h.now rows.now list.now }
+    ensures { result ≡ list_any (is_shifted_base h.now rows.now known.now) list.now }
+{
+    for s in list {
+        if is_shifted_base(h, rows, known, s) {
+            return true;
+        }
+    }
+    false
+}
+
+/// Lays out one class more.
+///
+/// Errors: the limit L6 exactly where the size of the class is above 500,000 bytes; else the refusal SharedPlace
+/// exactly where a base brings one pair of class and place twice; want of memory.
+fn lay_out_next(
+    alloc: Global,
+    h: &Hierarchy,
+    c: ClassId,
+    so_far: &mut LaidSoFar,
+) -> Result<(), Stop>
+    requires known { c.0 < length h.now }
+    requires laid { IsLaidSoFar h.now c.0 so_far.old.rows.items so_far.old.known.items so_far.old.members.items so_far.old.nearly.items so_far.old.primaries.items }
+    ensures laid { OnOk result (IsLaidSoFar h.now (c.0 + 1) so_far.new.rows.items so_far.new.known.items so_far.new.members.items so_far.new.nearly.items so_far.new.primaries.items) }
+    ensures stop { IfErr result (λ e. (e ≡ Stop.NoMemory) ⊎ StopsAt h.now c e) }
+{
+    h.keeps();
+    let list = list_subobjects(alloc, h, c)?;
+    let primary = primary_among(h, c, &so_far.nearly, &so_far.primaries, list.as_slice());
+    let has_pointer = has_pointer(h, c, primary);
+    so_far.primaries.push(primary)?;
+    let ClassFacts { known, members } = lay_out_class(
+        alloc,
+        h,
+        c,
+        h.class(c),
+        primary,
+        has_pointer,
+        list.as_slice(),
+        &mut so_far.rows,
+        &so_far.known,
+        &so_far.members,
+        &so_far.primaries,
+    )?;
+    so_far.known.push(known)?;
+    so_far.members.push(members)?;
+    let shifted = is_shifted(h, &so_far.rows, &so_far.known, list.as_slice());
+    let is_nearly = is_nearly_empty(h, c, &so_far.nearly, shifted);
+    so_far.nearly.push(is_nearly)?;
+    Ok(())
+}
+
+/// Lays out the first classes of a hierarchy, as many as are asked for (Itanium C++ ABI 2.4).
+///
+/// Errors: of the first class, in order, for which one of the two holds: the limit L6 exactly where its size is above
+/// 500,000 bytes, else the refusal SharedPlace exactly where a base of it brings one pair of class and place twice;
+/// want of memory.
+pub fn lay_out_first(alloc: Global, h: &Hierarchy, count: u32) -> Result<AbiLayout, Stop>
+    requires { count ≤ length h.now }
+    ensures laid { IfOk result (λ l. IsWellLaid h.now count l) }
+    ensures stop { IfErr result (λ e. (e ≡ Stop.NoMemory) ⊎ IsFirstStop h.now count e) }
+{
+    let mut so_far = none_laid(alloc, h);
+    for n in 0..count {
+        lay_out_next(alloc, h, ClassId(n), &mut so_far)?;
+    }
+    let LaidSoFar {
+        rows,
+        known: _,
+        members: _,
+        nearly: _,
+        primaries: _,
+    } = so_far;
+    Ok(AbiLayout::from_rows(rows))
+}
