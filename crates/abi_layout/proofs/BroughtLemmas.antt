@@ -80,9 +80,6 @@ held_is_primary h ps c s d v e = held_is h ps c s (virtual_primary ps d) v e
 pub moved_more : (at : ℕ) (old now xs ys : List Part) → now ≡ old ++ map (moved at) xs → now ++ map (moved at) ys ≡ old ++ map (moved at) (xs ++ ys)
 moved_more at old now xs ys e = ap (λ t. t ++ map (moved at) ys) e ∙ (append_assoc old (map (moved at) xs) (map (moved at) ys) ∙ ap (λ t. old ++ t) (sym (map-append (moved at) xs ys)))
 
-pub flat_more : {X Y : Type 0} (f : X → List Y) (xs : List X) (i : ℕ) (x : X) → i < length xs → x ≡ get_or xs i x → flat_map f (take (i + 1) xs) ≡ flat_map f (take i xs) ++ f x
-flat_more f xs i x lt is = ap (flat_map f) (take_more xs i x lt ∙ ap (λ y. take i xs ++ y ∷ []) (sym is)) ∙ (flat_map-append f (take i xs) (x ∷ []) ∙ ap (λ t. flat_map f (take i xs) ++ t) (append-nil (f x)))
-
 -- a class and its members are put behind the others
 pub begun : (at : ℕ) (d : ClassId) (old pushed now slice mine : List Part) → pushed ≡ old ++ (let x : Part = record { class = d.0; place = at } in x) ∷ [] → now ≡ pushed ++ map (moved at) slice → slice ≡ mine → now ≡ old ++ map (moved at) ((part_at d 0 ∷ mine) ++ [])
 begun at d old pushed now slice mine push rest same =

@@ -102,20 +102,3 @@ pub align_grows : (stage : Stage) (cs : List Component) (ps : List ℕ) → stag
 align_grows stage [] ps = omega arith
 align_grows stage (c ∷ cs) [] = omega arith
 align_grows stage (c ∷ cs) (p ∷ ps) = let r = align_grows (after stage c p) cs ps in omega arith
-
-pub record HasLayout (first : Stage) (bases members : List Component) (pod : Bool) : Type 0 where
-  pub row : ClassLayout
-  pub laid : IsLayoutOf first bases members pod row
-
-pub layout_exists : (first : Stage) (bases members : List Component) (pod : Bool) → 1 ≤ first.align → ArePositive bases → ArePositive members → HasLayout first bases members pod
-layout_exists first bases members pod positive b m =
-    let base_places = places_exist first bases b in
-    let mid = after_all first bases base_places.places in
-    let member_places = places_exist mid members m in
-    let last = after_all mid members member_places.places in
-    let above : 1 ≤ last.align = let x = align_grows first bases base_places.places in let y = align_grows mid members member_places.places in omega arith in
-    let size = rounded (max 1 last.size) last.align in
-    record {
-      row = record { size = size; align = last.align; dsize = if pod then size else last.dsize; nvsize = if pod then size else last.size; nvalign = last.align; primary = NoPrimary; base_places = base_places.places; virtual_bases = []; virtual_places = []; holders = []; member_places = member_places.places };
-      laid = record { bases_placed = base_places.placed; members_placed = member_places.placed; align = refl; size = rounded_is_next (max 1 last.size) last.align above; dsize = refl; nvsize = refl; nvalign = refl; primary = refl; shared = refl; virtual = refl; holders = refl };
-    }

@@ -74,21 +74,6 @@ pub record AreFirst (ps : List Primary) (list : List Subobject) (count n : ℕ) 
   pub one_each : length holders ≡ count
   pub first : (v : ClassId) → v.0 < count → IsFirstOf (has_primary ps v) list n (get_or holders v.0 None)
 
-get_replicate : {X : Type 0} (n i : ℕ) (x d : X) → i < n → get_or (replicate n x) i d ≡ x
-get_replicate zero i x d lt = absurd (omega arith)
-get_replicate (suc n) zero x d lt = refl
-get_replicate (suc n) (suc i) x d lt = get_replicate n i x d (omega arith)
-
-length_replicate : {X : Type 0} (n : ℕ) (x : X) → length (replicate n x) ≡ n
-length_replicate zero x = refl
-length_replicate (suc n) x = ap suc (length_replicate n x)
-
-pub none_first : (ps : List Primary) (list : List Subobject) (count : ℕ) (holders : List (Option ℕ)) → holders ≡ replicate count None → AreFirst ps list count 0 holders
-none_first ps list count holders e = subst (AreFirst ps list count 0) (sym e) (record {
-  one_each = length_replicate count None;
-  first = λ v lt. subst (IsFirstOf (has_primary ps v) list 0) (sym (get_replicate count v.0 None None lt)) (λ k d less. absurd (omega arith));
-})
-
 eqb-refl : (a : ℕ) → nat_eq a a ≡ true
 eqb-refl a = grind (arith, nat_tests)
 
@@ -115,31 +100,24 @@ one_more_first ps list count n holders s (Some w) lt is e before =
   where
     fails : (v : ClassId) → (v.0 ≡ w.0 → ⊥) → has_primary ps v s ≡ false
     fails v differ = test_is ps v s ∙ (ap (λ (x : Option ClassId). is_class x v) (sym e) ∙ same_false w.0 v.0 (λ same. differ (sym same)))
-
     passes : (v : ClassId) → v.0 ≡ w.0 → has_primary ps v s ≡ true
     passes v same = test_is ps v s ∙ (ap (λ (x : Option ClassId). is_class x v) (sym e) ∙ (ap (λ i. nat_eq w.0 i) same ∙ eqb-refl w.0))
-
     and_left : (a b : Bool) → (a && b) ≡ true → a ≡ true
     and_left true b t = refl
     and_left false b t = t
-
     and_right : (a b : Bool) → (a && b) ≡ true → b ≡ true
     and_right true b t = t
     and_right false b t = let f : false ≡ true = t in cc
-
     none_is : (x : Option ℕ) → is_none x ≡ true → x ≡ None
     none_is None t = refl
     none_is (Some m) t = let f : false ≡ true = t in cc
-
     put_at : (v : ClassId) → v.0 < count → v.0 ≡ w.0 → nat_lt w.0 (length holders) ≡ true → is_none (get_or holders w.0 None) ≡ true → IsFirstOf (has_primary ps v) list (n + 1) (get_or (slice_set holders w.0 (Some n)) v.0 None)
     put_at v less same within free =
         let old : get_or holders v.0 None ≡ None = ap (λ i. get_or holders i None) same ∙ none_is (get_or holders w.0 None) free in
         let new : get_or (slice_set holders w.0 (Some n)) v.0 None ≡ Some n = ap (λ i. get_or (slice_set holders w.0 (Some n)) i None) same ∙ get_or-set_same holders w.0 (Some n) None (ltb-true w.0 (length holders) within) in
         subst (IsFirstOf (has_primary ps v) list (n + 1)) (sym new) (passes_here (has_primary ps v) list n s lt is (passes v same) (subst (IsFirstOf (has_primary ps v) list n) old (before.first v less)))
-
     other_at : (v : ClassId) → v.0 < count → (v.0 ≡ w.0 → ⊥) → IsFirstOf (has_primary ps v) list (n + 1) (get_or (slice_set holders w.0 (Some n)) v.0 None)
     other_at v less differ = subst (IsFirstOf (has_primary ps v) list (n + 1)) (sym (get_or-set_other holders w.0 v.0 (Some n) None differ)) (fails_more (has_primary ps v) list n s (get_or holders v.0 None) lt is (fails v differ) (before.first v less))
-
     kept_at : (v : ClassId) → v.0 < count → v.0 ≡ w.0 → (nat_lt w.0 (length holders) && is_none (get_or holders w.0 None)) ≡ false → IsFirstOf (has_primary ps v) list (n + 1) (get_or holders v.0 None)
     kept_at v less same f = by_holder (get_or holders v.0 None) refl (before.first v less)
       where

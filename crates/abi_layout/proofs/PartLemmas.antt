@@ -91,26 +91,6 @@ pub record Agree (n : ℕ) (rows others : List ClassLayout) (parts brought : Cla
 abbrev pub base_made : Bool → Option ClassLayout → List Part → Component
 base_made empty row parts = record { is_empty = empty; align = nvalign_in row; takes = if empty then size_in row else nvsize_in row; parts = parts }
 
-pub bases_agree : (n : ℕ) (f g : ClassId → Bool) (rows others : List ClassLayout) (parts brought : ClassId → List Part) (class : Class) → AreEarlier n class → ((d : ClassId) → d.0 < n → f d ≡ g d) → Agree n rows others parts brought
-    → base_components f rows parts class ≡ base_components g others brought class
-bases_agree n f g rows others parts brought class earlier same agree = walk class.bases (λ base has. one base (earlier.bases base has))
-  where
-    one : (base : Base ClassId) → base.class.0 < n → base_component f rows parts base ≡ base_component g others brought base
-    one base lt =
-        ap (λ e. base_made e (slice_get rows base.class.0) (parts base.class)) (same base.class lt)
-        ∙ (ap (λ (o : Option ClassLayout). base_made (g base.class) o (parts base.class)) (agree.row base.class lt)
-        ∙ ap (base_made (g base.class) (slice_get others base.class.0)) (agree.of_class base.class lt))
-
-    walk : (bases : List (Base ClassId)) → ((base : Base ClassId) → Contains bases base → base_component f rows parts base ≡ base_component g others brought base)
-        → map (base_component f rows parts) (filter is_plain_base bases) ≡ map (base_component g others brought) (filter is_plain_base bases)
-    walk [] each = refl
-    walk (base ∷ bases) each = kept (is_plain_base base) (each base (has_here base bases)) (walk bases (λ b h. each b (has_later base bases b h)))
-      where
-        kept : (b : Bool) → base_component f rows parts base ≡ base_component g others brought base → map (base_component f rows parts) (filter is_plain_base bases) ≡ map (base_component g others brought) (filter is_plain_base bases)
-            → map (base_component f rows parts) (if b then base ∷ filter is_plain_base bases else filter is_plain_base bases) ≡ map (base_component g others brought) (if b then base ∷ filter is_plain_base bases else filter is_plain_base bases)
-        kept true here rest = cc
-        kept false here rest = rest
-
 abbrev pub member_made : ℕ → ℕ → ℕ → List Part → Component
 member_made count size align parts = record { is_empty = false; align = align; takes = count * size; parts = copies count size parts }
 
@@ -121,55 +101,17 @@ members_agree n rows others parts brought class earlier agree = same_map (member
     size : (type : FieldType ClassId) → IsEarlierType n type → size_of_type rows type ≡ size_of_type others type
     size (Value type) e = refl
     size (Object d) e = ap size_in (agree.row d e)
-
     align : (type : FieldType ClassId) → IsEarlierType n type → align_of_type rows type ≡ align_of_type others type
     align (Value type) e = refl
     align (Object d) e = ap align_in (agree.row d e)
-
     of_type : (type : FieldType ClassId) → IsEarlierType n type → parts_of_type parts type ≡ parts_of_type brought type
     of_type (Value type) e = refl
     of_type (Object d) e = agree.of_class d e
-
     one : (member : Member ClassId) → IsEarlierType n member.ty → member_component rows parts member ≡ member_component others brought member
     one member e =
         ap (λ s. member_made (count_of member.count) s (align_of_type rows member.ty) (parts_of_type parts member.ty)) (size member.ty e)
         ∙ (ap (λ a. member_made (count_of member.count) (size_of_type others member.ty) a (parts_of_type parts member.ty)) (align member.ty e)
         ∙ ap (member_made (count_of member.count) (size_of_type others member.ty) (align_of_type others member.ty)) (of_type member.ty e))
-
--- the parts of a class by two layouts that agree up to it
-parts_by_steps : (h : Classes) → IsStatic h → (rows others : List ClassLayout) (n m : ℕ) (c : ClassId) → c.0 < n → c.0 < m → ((d : ClassId) → d.0 ≤ c.0 → slice_get rows d.0 ≡ slice_get others d.0) → parts_below h rows n c ≡ parts_below h others m c
-parts_by_steps h static rows others zero m c lt gt agree = absurd (omega arith)
-parts_by_steps h static rows others (suc n) zero c lt gt agree = absurd (omega arith)
-parts_by_steps h static rows others (suc n) (suc m) c lt gt agree = by_cases (class_at h c) refl (λ b below. parts_by_steps h static rows others n m b (omega arith) (omega arith) (λ d le. agree d (omega arith)))
-  where
-    by_cases : (o : Option Class) → class_at h c ≡ o → ((b : ClassId) → b.0 < c.0 → parts_below h rows n b ≡ parts_below h others m b) → parts_in_class h rows (parts_below h rows n) c o ≡ parts_in_class h others (parts_below h others m) c o
-    by_cases None e low = refl
-    by_cases (Some class) e low =
-        let earlier = earlier_classes h static c class e in
-        let same : Agree c.0 rows others (parts_below h rows n) (parts_below h others m) = record { row = λ d lt. agree d (omega arith); of_class = low } in
-        let bases = bases_agree c.0 (is_empty h) (is_empty h) rows others (parts_below h rows n) (parts_below h others m) class earlier (λ d lt. refl) same in
-        let members = members_agree c.0 rows others (parts_below h rows n) (parts_below h others m) class earlier same in
-        let here = agree c (omega arith) in
-        ap (λ (cs : List Component). part_at c 0 ∷ (parts_at cs (bases_in (slice_get rows c.0)) ++ parts_at (member_components rows (parts_below h rows n) class) (members_in (slice_get rows c.0)))) bases
-        ∙ (ap (λ (cs : List Component). part_at c 0 ∷ (parts_at (base_components (is_empty h) others (parts_below h others m) class) (bases_in (slice_get rows c.0)) ++ parts_at cs (members_in (slice_get rows c.0)))) members
-        ∙ ap (λ (o : Option ClassLayout). part_at c 0 ∷ (parts_at (base_components (is_empty h) others (parts_below h others m) class) (bases_in o) ++ parts_at (member_components others (parts_below h others m) class) (members_in o))) here)
-
-pub parts_agree : (h : Classes) → IsStatic h → (rows others : List ClassLayout) (c : ClassId) → ((d : ClassId) → d.0 ≤ c.0 → slice_get rows d.0 ≡ slice_get others d.0) → parts_of h rows c ≡ parts_of h others c
-parts_agree h static rows others c agree = parts_by_steps h static rows others (c.0 + 1) (c.0 + 1) c (omega arith) (omega arith) agree
-
--- the parts of a class by those of the classes before it
-pub parts_here : (h : Classes) → IsStatic h → (rows : List ClassLayout) (c : ClassId) (class : Class) → class_at h c ≡ Some class → parts_of h rows c ≡ parts_in_class h rows (parts_of h rows) c (Some class)
-parts_here h static rows c class e =
-    let earlier = earlier_classes h static c class e in
-    let same : Agree c.0 rows rows (parts_below h rows c.0) (parts_of h rows) = record { row = λ d lt. refl; of_class = λ d lt. parts_by_steps h static rows rows c.0 (d.0 + 1) d lt (omega arith) (λ b le. refl) } in
-    let bases = bases_agree c.0 (is_empty h) (is_empty h) rows rows (parts_below h rows c.0) (parts_of h rows) class earlier (λ d lt. refl) same in
-    let members = members_agree c.0 rows rows (parts_below h rows c.0) (parts_of h rows) class earlier same in
-    steps (c.0 + 1) (omega arith)
-    ∙ (ap (λ (cs : List Component). part_at c 0 ∷ (parts_at cs (bases_in (slice_get rows c.0)) ++ parts_at (member_components rows (parts_below h rows c.0) class) (members_in (slice_get rows c.0)))) bases
-    ∙ ap (λ (cs : List Component). part_at c 0 ∷ (parts_at (base_components (is_empty h) rows (parts_of h rows) class) (bases_in (slice_get rows c.0)) ++ parts_at cs (members_in (slice_get rows c.0)))) members)
-  where
-    steps : (n : ℕ) → n ≡ suc c.0 → parts_below h rows n c ≡ parts_in_class h rows (parts_below h rows c.0) c (Some class)
-    steps n same = rw same (ap (parts_in_class h rows (parts_below h rows c.0) c) e)
 
 -- the parts of a stage are those before, and what the components bring
 pub stage_parts : (stage : Stage) (cs : List Component) (ps : List ℕ) → (after_all stage cs ps).parts ≡ stage.parts ++ parts_at cs ps

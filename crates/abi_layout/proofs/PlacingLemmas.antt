@@ -91,9 +91,6 @@ pub record Completes (first : Stage) (cs : List Component) (places : List ℕ) (
   pub ends : (rest : List ℕ) → ArePlaced stage todo rest → after_all first cs (places ++ rest) ≡ after_all stage todo rest
   pub only : (all : List ℕ) → ArePlaced first cs all → HasRest stage todo (after_all first cs all)
 
-pub completes_first : (first : Stage) (cs : List Component) → Completes first cs [] first cs
-completes_first first cs = record { whole = λ rest a. a; ends = λ rest a. refl; only = λ all a. record { rest = all; placed = a; ends = refl } }
-
 pub completes_more : (first : Stage) (cs : List Component) (places : List ℕ) (stage : Stage) (c : Component) (todo : List Component) (place : ℕ) → Completes first cs places stage (c ∷ todo) → IsPlace stage c place → Completes first cs (places ++ place ∷ []) (after stage c place) todo
 completes_more first cs places stage c todo place k here = record {
   whole = λ rest a. subst (λ xs. ArePlaced first cs xs) (sym (append_assoc places (place ∷ []) rest)) (k.whole (place ∷ rest) (here, a));
@@ -110,7 +107,6 @@ completes_more first cs places stage c todo place k here = record {
           placed = subst (λ z. ArePlaced (after stage c z) todo rest) same a.1;
           ends = ap (λ z. after_all (after stage c z) todo rest) (sym same) ∙ e;
         }
-
     shorter : (last : Stage) → HasRest stage (c ∷ todo) last → HasRest (after stage c place) todo last
     shorter last h = split_rest last h.rest h.placed h.ends
 

@@ -69,13 +69,6 @@ pub record AreSingle (parts : List Part) (i : ℕ) (table : List Part) : Type 0 
   pub same : (q : Part) → holds table q ≡ holds (take i parts) q
   pub once : (j k : ℕ) (part : Part) → j < k → k < i → slice_get parts j ≡ Some part → slice_get parts k ≡ Some part → ⊥
 
-pub single_first : (parts table : List Part) → table ≡ [] → AreSingle parts 0 table
-single_first parts table e = record { same = λ q. ap (λ t. holds t q) e ∙ first parts q; once = λ j k part a b x y. absurd (omega arith) }
-  where
-    first : (xs : List Part) (q : Part) → false ≡ holds (take 0 xs) q
-    first [] q = refl
-    first (x ∷ xs) q = refl
-
 pub repeated : (parts table : List Part) (i : ℕ) (part : Part) → i < length parts → part ≡ get_or parts i part → AreSingle parts i table → holds table part ≡ true → HasRepeat parts
 repeated parts table i part lt is single taken =
     let earlier = stands (take i parts) part (sym (single.same part) ∙ taken) in

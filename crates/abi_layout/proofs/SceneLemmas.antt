@@ -32,6 +32,3 @@ holds_by h ps c list count holders v n t s same are lt e is = sym (ap (λ o. is_
 
 pub holder_is_none : (h : Classes) (ps : List Primary) (c : ClassId) (list : List Subobject) (count : ℕ) (holders : List (Option ℕ)) (v : ClassId) → list ≡ preorder h c → AreHolders ps list count holders → v.0 < count → get_or holders v.0 None ≡ None → holder_of h ps c v ≡ None
 holder_is_none h ps c list count holders v same are lt e = subst (λ xs. find (has_primary ps v) xs ≡ None) same (not_found (has_primary ps v) list (sym (are.first v lt) ∙ e))
-
-pub held_when : (h : Classes) (ps : List Primary) (c : ClassId) (s : Subobject) (d v : ClassId) (b : Bool) → virtual_primary ps d ≡ Some v → holds_base h ps c s v ≡ b → held_base h ps c s d ≡ (if b then Some v else None)
-held_when h ps c s d v b e t = ap (kept_if (holds_base h ps c s)) e ∙ ap (λ x. if x then Some v else None) t

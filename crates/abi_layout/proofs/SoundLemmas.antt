@@ -23,66 +23,6 @@ use Rattle.abi_layout.proofs.Locate.{no_virtual_base, steps_of, reach}
 use Rattle.abi_layout.proofs.Decode.{same_hops}
 use Rattle.abi_layout.proofs.Shallow.{below, distinct, inside, aligned, apart}
 
--- without virtual bases a class is aligned as a base as it is as an object
-one_align : (h : Classes) (rows : List ClassLayout) → IsKnown h rows → (d : ClassId) → nvalign_in (slice_get rows d.0) ≡ align_in (slice_get rows d.0)
-one_align h rows k d = ⊎_elim (λ lt. (fine_of h rows k d lt).same_align)
-    (λ past. let count = k.laid.one_each in let none : slice_get rows d.0 ≡ None = slice_get_past rows d.0 (omega arith) in subst (λ (o : Option ClassLayout). nvalign_in o ≡ align_in o) (sym none) refl)
-    (within_or_past d.0 (length h))
-
-pub deep_sound : (h : Classes) (rows : List ClassLayout) → IsKnown h rows → IsSoundInDepth h (places_of h rows)
-deep_sound h rows k =
-    let l = places_of h rows in
-    let tree : IsSoundTree (contents_of h rows) (measures_of h rows) = tree_is_sound (contents_of h rows) (measures_of h rows) (arranged h rows k) in
-    record {
-      begins_inside = λ c d hops q lt x.
-          let i = tree.inside (Complete c) (AsBase d) (steps_of h c hops) q (reach h rows k c hops (Object d) q lt x) in
-          let m = le-max_left 1 (nvsize_in (slice_get rows d.0)) in
-          let s = most (size_in (slice_get rows c.0)) (fine_of h rows k c lt).positive in
-          omega (arith, i, m, s);
-      base_multiple = λ c d hops q lt x. tree.aligned (Complete c) (AsBase d) (steps_of h c hops) q (reach h rows k c hops (Object d) q lt x);
-      object_multiple = λ c d front hops q lt x ends.
-          subst (λ a. Divides a q) (one_align h rows k d) (tree.aligned (Complete c) (AsBase d) (steps_of h c hops) q (reach h rows k c hops (Object d) q lt x));
-      one_place = λ c d hops others q lt x y.
-          same_hops h l k.static c hops others (Object d) (Object d) q q x y
-          (tree.distinct (Complete c) (steps_of h c hops) (steps_of h c others) q d (reach h rows k c hops (Object d) q lt x) (reach h rows k c others (Object d) q lt y));
-      value_inside = λ c type hops q lt x.
-          let i = tree.inside (Complete c) (Bytes (size_of_value type)) (steps_of h c hops) q (reach h rows k c hops (Value type) q lt x) in
-          let m = le-max_right 1 (size_of_value type) in
-          let s = most (size_in (slice_get rows c.0)) (fine_of h rows k c lt).positive in
-          omega (arith, i, m, s);
-      value_multiple = λ c type hops q lt x. tree.aligned (Complete c) (Bytes (size_of_value type)) (steps_of h c hops) q (reach h rows k c hops (Value type) q lt x);
-      values_apart = λ c type other hops others q r lt x y differ.
-          tree.apart (Complete c) (steps_of h c hops) (steps_of h c others) q r (size_of_value type) (size_of_value other) (reach h rows k c hops (Value type) q lt x) (reach h rows k c others (Value other) r lt y)
-          (λ e. differ (same_hops h l k.static c hops others (Value type) (Value other) q r x y e))
-          (align_positive (size_of_value type) (value_align type)) (align_positive (size_of_value other) (value_align other));
-    }
-
 place_join : (h : Classes) (rows : List ClassLayout) (c : ClassId) (p q : List ClassId) → place_along h rows c (p ++ q) ≡ place_along h rows c p + place_along h rows (last_of c p) q
 place_join h rows c [] q = omega arith
 place_join h rows c (b ∷ p) q = let r = place_join h rows b p q in omega arith
-
-joined : (h : Classes) (rows : List ClassLayout) → IsStatic h → (c d : ClassId) (s t : Subobject) → IsSubobject h c s → class_of s ≡ Some d → IsSubobject h d t → t.root ≡ Whole → (places_of h rows).place c (join s t) ≡ (places_of h rows).place c s + (places_of h rows).place d t
-joined h rows static c d _ _ (shared v path has l) e y f = absurd (no_virtual_base h static c v has)
-joined h rows static c d _ _ (whole p l) e (shared v path has m) f = absurd (no_virtual_base h static d v has)
-joined h rows static c d _ _ (whole p l) e (whole q m) f =
-    let same : last_of c p ≡ d = cc in
-    place_join h rows c p q ∙ ap (λ (x : ClassId). place_along h rows c p + place_along h rows x q) same
-
-pub rules_are_sound : (h : Classes) (rows : List ClassLayout) → IsStatic h → IsLaid h rows → AreSmall rows → IsSound h (places_of h rows)
-rules_are_sound h rows static laid small =
-    let k : IsKnown h rows = record { static = static; laid = laid } in
-    let l = places_of h rows in
-    let deep = deep_sound h rows k in
-    record {
-      positive = λ c lt. (fine_of h rows k c lt).positive;
-      bounded = λ c lt. let r = row_of h rows c laid lt in let s : size_in (slice_get rows c.0) ≡ r.row.size = ap size_in r.row_there in let b = small.each c.0 r.row r.row_there in omega (arith, s, b);
-      whole_units = λ c lt. let f = fine_of h rows k c lt in let a = align_positive (nvalign_in (slice_get rows c.0)) f.align in let s = f.same_align in (omega (arith, a, s), f.multiple);
-      deep = deep;
-      root = λ c. refl;
-      joined = joined h rows static;
-      below = below h l deep;
-      distinct = distinct h l deep;
-      inside = inside h l deep;
-      aligned = aligned h l deep;
-      apart = apart h l deep;
-    }

@@ -72,12 +72,3 @@ pub record AreArranged (contents : Contents) (m : Measures) : Type 0 where
   pub node : (n : Node) → IsArranged contents m n
   pub positive : (n : Node) → 0 < m.span n
   pub scalar : (w : ℕ) → contents (Bytes w) ≡ []
-
--- what holds at every depth
-pub record IsSoundTree (contents : Contents) (m : Measures) : Type 0 where
-  pub inside : (n k : Node) (p : List Step) (q : ℕ) → Reaches contents n p q k → q + m.span k ≤ m.span n
-  pub aligned : (n k : Node) (p : List Step) (q : ℕ) → Reaches contents n p q k → Divides (m.align k) q
-  pub coarser : (n k : Node) (p : List Step) (q : ℕ) → Reaches contents n p q k → Divides (m.align k) (m.align n)
-  pub ends : (n k : Node) (p : List Step) (q : ℕ) → Reaches contents n p q k → 0 < m.data_end k → q + m.data_end k ≤ m.data_end n
-  pub apart : (n : Node) (p o : List Step) (q r v w : ℕ) → Reaches contents n p q (Bytes v) → Reaches contents n o r (Bytes w) → (p ≡ o → ⊥) → 0 < m.data_end (Bytes v) → 0 < m.data_end (Bytes w) → (q + m.data_end (Bytes v) ≤ r) ⊎ (r + m.data_end (Bytes w) ≤ q)
-  pub distinct : (n : Node) (p o : List Step) (q : ℕ) (d : ClassId) → Reaches contents n p q (AsBase d) → Reaches contents n o q (AsBase d) → p ≡ o

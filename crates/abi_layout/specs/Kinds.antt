@@ -81,21 +81,3 @@ pub record IsStaticClass (c : ClassId) (class : Class) : Type 0 where
 -- no class is dynamic: none has, or has a base that has, a virtual function or a virtual base
 pub record IsStatic (h : Classes) : Type 0 where
   pub each : (c : ClassId) (class : Class) → class_at h c ≡ Some class → IsStaticClass c class
-
--- the tests of it
-abbrev pub is_static_base : ClassId → Base ClassId → Bool
-is_static_base c base = not base.is_virtual && nat_lt base.class.0 c.0
-
-abbrev pub is_static_type : ClassId → FieldType ClassId → Bool
-is_static_type c (Value type) = true
-is_static_type c (Object d) = nat_lt d.0 c.0
-
-abbrev pub has_elements : Option ℕ → Bool
-has_elements None = true
-has_elements (Some n) = nat_lt 0 n
-
-abbrev pub is_static_member : ClassId → Member ClassId → Bool
-is_static_member c member = is_static_type c member.ty && has_elements member.count
-
-abbrev pub is_static_class : ClassId → Class → Bool
-is_static_class c class = not (has_virtual_function class) && (list_all (is_static_base c) class.bases && list_all (is_static_member c) class.members)

@@ -84,16 +84,6 @@ abbrev pub parts_of_type : (ClassId → List Part) → FieldType ClassId → Lis
 parts_of_type parts (Value type) = []
 parts_of_type parts (Object d) = parts d
 
--- what a direct base is to its class, where `empties` and `parts` tell which earlier classes are empty and which class
--- subobjects they have: it takes its size without virtual bases, and an empty one its size
-abbrev pub base_component : (ClassId → Bool) → List ClassLayout → (ClassId → List Part) → Base ClassId → Component
-base_component empties rows parts base = record {
-  is_empty = empties base.class;
-  align = nvalign_in (slice_get rows base.class.0);
-  takes = if empties base.class then size_in (slice_get rows base.class.0) else nvsize_in (slice_get rows base.class.0);
-  parts = parts base.class;
-}
-
 -- what a member is to its class: it takes its whole size, an array that of all elements
 abbrev pub member_component : List ClassLayout → (ClassId → List Part) → Member ClassId → Component
 member_component rows parts member = record {
@@ -102,10 +92,6 @@ member_component rows parts member = record {
   takes = count_of member.count * size_of_type rows member.ty;
   parts = copies (count_of member.count) (size_of_type rows member.ty) (parts_of_type parts member.ty);
 }
-
--- the direct non-virtual bases in the order of the class head, and the members in theirs
-abbrev pub base_components : (ClassId → Bool) → List ClassLayout → (ClassId → List Part) → Class → List Component
-base_components empties rows parts class = map (base_component empties rows parts) (filter is_plain_base class.bases)
 
 abbrev pub member_components : List ClassLayout → (ClassId → List Part) → Class → List Component
 member_components rows parts class = map (member_component rows parts) class.members
@@ -116,75 +102,9 @@ parts_at [] places = []
 parts_at (component ∷ components) [] = []
 parts_at (component ∷ components) (place ∷ places) = map (moved place) component.parts ++ parts_at components places
 
-abbrev pub parts_in_class : Classes → List ClassLayout → (ClassId → List Part) → ClassId → Option Class → List Part
-parts_in_class h rows parts c None = []
-parts_in_class h rows parts c (Some class) =
-    part_at c 0
-    ∷ (parts_at (base_components (is_empty h) rows parts class) (bases_in (slice_get rows c.0))
-    ++ parts_at (member_components rows parts class) (members_in (slice_get rows c.0)))
-
--- the class subobjects of an object of class c, with their places: itself, and those of its bases, members and elements at
--- every depth. Each step goes down to a class of a smaller number
-abbrev pub parts_below : Classes → List ClassLayout → ℕ → ClassId → List Part
-parts_below h rows zero c = []
-parts_below h rows (suc steps) c = parts_in_class h rows (parts_below h rows steps) c (class_at h c)
-
-abbrev pub parts_of : Classes → List ClassLayout → ClassId → List Part
-parts_of h rows c = parts_below h rows (c.0 + 1) c
-
 -- before the first component: the class itself is at 0
 abbrev pub first_stage : ClassId → Stage
 first_stage c = record { dsize = 0; size = 0; align = 1; parts = part_at c 0 ∷ [] }
-
--- behind the bases, and behind the members
-abbrev pub bases_stage : Stage → List Component → ClassLayout → Stage
-bases_stage first bases row = after_all first bases row.base_places
-
-abbrev pub last_stage : Stage → (bases members : List Component) → ClassLayout → Stage
-last_stage first bases members row = after_all (bases_stage first bases row) members row.member_places
-
--- the layout of a class of these bases and members: the bases lie in the order of the class head, the members behind
--- them in theirs, and the size is the least multiple of the alignment that they fit in and that is not 0. What comes
--- behind a POD class keeps out of its tail padding; any other class ends, as a base, where its last component ends
-pub record IsLayoutOf (first : Stage) (bases members : List Component) (is_pod : Bool) (row : ClassLayout) : Type 0 where
-  pub bases_placed : ArePlaced first bases row.base_places
-  pub members_placed : ArePlaced (bases_stage first bases row) members row.member_places
-  pub align : row.align ≡ (last_stage first bases members row).align
-  pub size : IsNext (max 1 (last_stage first bases members row).size) row.align row.size
-  pub dsize : row.dsize ≡ (if is_pod then row.size else (last_stage first bases members row).dsize)
-  pub nvsize : row.nvsize ≡ (if is_pod then row.size else (last_stage first bases members row).size)
-  pub nvalign : row.nvalign ≡ row.align
-  pub primary : row.primary ≡ NoPrimary
-  pub shared : row.virtual_bases ≡ []
-  pub virtual : row.virtual_places ≡ []
-  pub holders : row.holders ≡ []
-
--- the row is the layout of the class, by the rows of the classes before it
-abbrev pub IsRow : Classes → List ClassLayout → ClassId → Class → ClassLayout → Type 0
-IsRow h rows c class row =
-    IsLayoutOf (first_stage c) (base_components (is_empty h) rows (parts_of h rows) class) (member_components rows (parts_of h rows) class) (is_pod h c) row
-
--- the rows are the layout of the first `count` classes
-pub record IsLaidFront (h : Classes) (count : ℕ) (rows : List ClassLayout) : Type 0 where
-  pub one_each : length rows ≡ count
-  pub row : (c : ClassId) (class : Class) (row : ClassLayout) → class_at h c ≡ Some class → slice_get rows c.0 ≡ Some row → IsRow h rows c class row
-
--- the rows are the layout of the classes
-abbrev pub IsLaid : Classes → List ClassLayout → Type 0
-IsLaid h rows = IsLaidFront h (length h) rows
-
--- some of the first `count` classes has, by the rules, a size above 500,000 bytes
-pub record HasTooLargeFront (h : Classes) (count : ℕ) : Type 0 where
-  pub rows : List ClassLayout
-  pub laid : IsLaidFront h count rows
-  pub number : ℕ
-  pub row : ClassLayout
-  pub there : slice_get rows number ≡ Some row
-  pub large : 500000 < row.size
-
--- some class has
-abbrev pub HasTooLarge : Classes → Type 0
-HasTooLarge h = HasTooLargeFront h (length h)
 
 -- no size of the rows is above 500,000 bytes
 pub record AreSmall (rows : List ClassLayout) : Type 0 where

@@ -9,7 +9,6 @@ ghost use Rattle.cxx_hierarchy.specs.declared.records.Function.{Function};
 ghost use Rattle.abi_layout.specs.Kinds.{empty_kind, pod_kind, has_virtual_function, is_virtual_destructor, is_implicit, is_pod_type};
 ghost use Rattle.abi_layout.specs.Known.{empties_in, pods_in};
 
-use crate::class_layout::ClassLayout;
 use crate::component::PartList;
 use cxx_hierarchy::{ClassId, ClassRec, Destructor, FieldType, Function};
 
@@ -20,13 +19,6 @@ pub struct Known {
     pub is_empty: bool,
     pub is_pod: bool,
     pub parts: PartList,
-}
-
-/// A class that is laid out.
-#[derive(Drop)]
-pub struct LaidClass {
-    pub row: ClassLayout,
-    pub known: Known,
 }
 
 /// Whether an earlier class is empty.

@@ -1,13 +1,14 @@
 //! The layout of classes in bytes (Itanium C++ ABI 2.2 and 2.4, on LP64).
 //!
-//! This crate owns three definitions. `IsStatic` says which hierarchies have no dynamic class. `IsLaid` says which
-//! layout the ABI gives them: POD classes, members of class type, arrays, empty bases, tail padding. `IsSound` says
-//! what any layout has to keep: leaves are disjoint and lie inside, subobjects of one class lie at different places,
-//! all lie aligned. `lay_out` gives the layout of `IsLaid`, and its contract says that it is sound; `lay_out_front`
-//! gives that of the first classes alone.
+//! This crate owns the definition of the layout that the rules of the ABI give to every hierarchy (`IsLaid`): primary
+//! bases and virtual pointers, the places of bases, members and virtual bases, and which subobject holds a virtual base;
+//! which classes are refused, for their size or for a shared place (`Refusals`); and the laws of any layout
+//! (`IsSoundLayout`): leaves and virtual pointers are disjoint and lie inside, subobjects of one class lie at
+//! different places, all lie aligned, and a virtual base that is held lies at its holder. `lay_out` gives the layout
+//! or the first refusal, and its contract says that the layout is sound.
 //!
-//! The layers above may rely on `IsSound` alone, over `Places`: the sizes of classes, the places of subobjects
-//! in their complete object and of members in their class, in bytes.
+//! The layers above may rely on the trait `SoundLayout` and its laws alone, over `Places`: sizes of classes, and places
+//! of subobjects in their complete object and of members in their class, in bytes.
 #![tactic(auto)]
 
 pub mod arrangement;
@@ -30,15 +31,15 @@ pub mod placing;
 mod repeats;
 mod rows;
 pub mod scene;
+pub mod sound_layout;
 pub mod soundness;
-pub mod statics;
 #[cfg(test)]
 mod tests;
 mod virtual_places;
 
 pub use crate::class_layout::{AbiLayout, ClassLayout, ClassList, HolderList, PlaceList};
 pub use crate::class_layouts::lay_out_first;
-pub use crate::hierarchy_layout::{lay_out, lay_out_front, one_layout, some_layout};
+pub use crate::hierarchy_layout::{lay_out, one_layout};
+pub use crate::sound_layout::SoundLayout;
 pub use crate::soundness::laid_is_sound;
-pub use crate::statics::is_static;
 pub use abi_primary::Primary;

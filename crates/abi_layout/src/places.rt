@@ -42,11 +42,18 @@ pub(crate) fn place_of_number(places: &[u32], number: Option<usize>) -> u32
     }
 }
 
+/// The number of a class among virtual bases.
+fn number_of_virtual(virtuals: &[ClassId], v: ClassId) -> Option<usize>
+    ensures { result ≡ position (λ (w : ClassId). nat_eq w.0 v.0) virtuals.now }
+{
+    virtuals.iter().position(|w| w.0 == v.0)
+}
+
 /// The place of a virtual base in a class, by its row; 0 where it is none.
 fn virtual_place(row: &ClassLayout, v: ClassId) -> u32
     ensures { result ≡ place_at row.now.virtual_places (position (λ (w : ClassId). nat_eq w.0 v.0) row.now.virtual_bases) }
 {
-    let number = row.virtual_bases.as_slice().iter().position(|w| w.0 == v.0);
+    let number = number_of_virtual(row.virtual_bases.as_slice(), v);
     place_of_number(row.virtual_places.as_slice(), number)
 }
 
@@ -133,7 +140,7 @@ impl AbiLayout {
             return None;
         }
         let row = self.layout(c);
-        let number = row.virtual_bases.as_slice().iter().position(|w| w.0 == v.0);
+        let number = number_of_virtual(row.virtual_bases.as_slice(), v);
         nth_holder(row.holders.as_slice(), number)
     }
 

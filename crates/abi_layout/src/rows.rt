@@ -1,95 +1,22 @@
-//! The layout of a class by the layouts of the classes before it (Itanium C++ ABI 2.4).
+//! What the members of a class are to it, by the layouts of the classes before it (Itanium C++ ABI 2.4).
 
-ghost use Rattle.std.specs.Prelude.{◌≡◌, ◌+◌, ◌*◌, ◌++◌, ◌<◌, ◌≤◌, ◌-◌, ◌∷◌, [], ◌⊎◌, IfOk, IfErr, OnOk, Contains, Some, List, length, map, filter, max, if◌then◌else◌};
-ghost use Rattle.cxx_hierarchy.specs.Classes.{Class};
+ghost use Rattle.std.specs.Prelude.{◌≡◌, ◌*◌, ◌<◌, ◌≤◌, ◌⊎◌, IfOk, IfErr, Contains, length, map};
 ghost use Rattle.cxx_hierarchy.specs.declared.records.ClassId.{ClassId};
-ghost use Rattle.cxx_hierarchy.specs.declared.records.Base.{Base};
 ghost use Rattle.cxx_hierarchy.specs.declared.records.Member.{Member};
-ghost use Rattle.cxx_hierarchy.specs.declared.records.FieldType.{FieldType};
 ghost use Rattle.cxx_hierarchy.specs.declared.stop.LimitNo.{LimitNo};
-ghost use Rattle.abi_emptybase.specs.Table.{moved};
-ghost use Rattle.abi_layout.specs.Places.{is_plain_base};
-ghost use Rattle.abi_layout.specs.Laid.{base_component, member_component, copies, count_of, size_of_type, align_of_type, parts_of_type, first_stage};
-ghost use Rattle.abi_layout.specs.Alignments.{IsAlignment, AreWithin, AreLittle, IsPlacing};
-ghost use Rattle.abi_layout.specs.Known.{empties_in, pods_in, parts_in, AreAllWithin, AreAllSized, bases_by, members_by, empty_stage, AreEarlier, IsEarlierType, IsRowOf, HasLarge, IsLaidClass, IsTooLarge};
+ghost use Rattle.abi_layout.specs.Laid.{member_component, copies, count_of, size_of_type, align_of_type, parts_of_type, first_stage};
+ghost use Rattle.abi_layout.specs.Alignments.{AreWithin, AreLittle, IsPlacing};
+ghost use Rattle.abi_layout.specs.Known.{parts_in, AreAllSized, empty_stage, IsEarlierType, HasLarge};
 
-use crate::class_layout::{ClassLayout, PlaceList};
+use crate::class_layout::ClassLayout;
 use crate::component::{Component, PartList, Stage, push_moved};
-use crate::known::{Known, LaidClass, is_empty_class, is_pod_class};
+use crate::known::Known;
 use crate::member::size_of_value;
-use crate::placing::{Placing, SIZE_LIMIT, add_parts, place_all, round_up};
+use crate::placing::{Placing, SIZE_LIMIT, add_parts};
 use abi_emptybase::{Part, PlaceTable};
-use abi_primary::Primary;
-use cxx_hierarchy::{Base, ClassId, ClassRec, FieldType, LimitNo, Member, Stop};
+use cxx_hierarchy::{ClassId, FieldType, LimitNo, Member, Stop};
 use foundation::{NoMemory, Sequence};
 use std::alloc::Global;
-
-fn copied_parts(alloc: Global, parts: &PartList) -> Result<PartList, NoMemory>
-    ensures { IfOk result (λ copy. copy ≡ parts.now) }
-{
-    Ok(Sequence::from_vec(Vec::from_slice(alloc, parts.as_slice())?))
-}
-
-/// What a direct base is to its class.
-fn base_component(
-    alloc: Global,
-    rows: &[ClassLayout],
-    known: &[Known],
-    base: &Base<ClassId>,
-) -> Result<Component, NoMemory>
-    requires row { base.now.class.0 < length rows.now }
-    requires known { base.now.class.0 < length known.now }
-    ensures { IfOk result (λ component. component ≡ base_component (empties_in known.now) rows.now (parts_in known.now) base.now) }
-{
-    let row = &rows[base.class.0 as usize];
-    let earlier = &known[base.class.0 as usize];
-    Ok(Component {
-        is_empty: earlier.is_empty,
-        align: row.nvalign,
-        takes: if earlier.is_empty {
-            row.size
-        } else {
-            row.nvsize
-        },
-        parts: copied_parts(alloc, &earlier.parts)?,
-    })
-}
-
-/// Puts a base that is not virtual behind the other components.
-fn push_base(
-    alloc: Global,
-    rows: &[ClassLayout],
-    known: &[Known],
-    base: &Base<ClassId>,
-    components: &mut Vec<Component>,
-) -> Result<(), NoMemory>
-    requires row { base.now.class.0 < length rows.now }
-    requires known { base.now.class.0 < length known.now }
-    ensures { OnOk result (components.new.items ≡ components.old.items ++ map (base_component (empties_in known.now) rows.now (parts_in known.now)) (filter is_plain_base (base.now ∷ []))) }
-{
-    if !base.is_virtual {
-        components.push(base_component(alloc, rows, known, base)?)?;
-    }
-    Ok(())
-}
-
-/// The direct bases that are not virtual, in the order of the class head.
-fn base_components(
-    alloc: Global,
-    rows: &[ClassLayout],
-    known: &[Known],
-    bases: &[Base<ClassId>],
-) -> Result<Vec<Component>, NoMemory>
-    requires rows { (base : Base ClassId) → Contains bases.now base → base.class.0 < length rows.now }
-    requires known { length known.now ≡ length rows.now }
-    ensures { IfOk result (λ components. components.items ≡ map (base_component (empties_in known.now) rows.now (parts_in known.now)) (filter is_plain_base bases.now)) }
-{
-    let mut components = Vec::new(alloc);
-    for base in bases {
-        push_base(alloc, rows, known, base, &mut components)?;
-    }
-    Ok(components)
-}
 
 /// The size of a member or of an array's element, in bytes.
 fn size_of_type(rows: &[ClassLayout], ty: &FieldType<ClassId>) -> u32
@@ -239,67 +166,4 @@ pub(crate) fn first_placing(alloc: Global, c: ClassId) -> Result<Placing, NoMemo
     }];
     add_parts(&mut placing, &whole, 0)?;
     Ok(placing)
-}
-
-/// The row of a class whose components are placed.
-fn row_of(
-    alloc: Global,
-    stage: &Stage,
-    is_pod: bool,
-    base_places: PlaceList,
-    member_places: PlaceList,
-) -> ClassLayout
-    requires align { IsAlignment stage.now.align }
-    requires size { stage.now.size ≤ 500000 }
-    ensures { IsRowOf stage.now is_pod base_places member_places result }
-{
-    let size = round_up(stage.size.max(1), stage.align);
-    ClassLayout {
-        size,
-        align: stage.align,
-        dsize: if is_pod { size } else { stage.dsize },
-        nvsize: if is_pod { size } else { stage.size },
-        nvalign: stage.align,
-        primary: Primary::None,
-        base_places,
-        virtual_bases: Sequence::new(alloc),
-        virtual_places: Sequence::new(alloc),
-        holders: Sequence::new(alloc),
-        member_places,
-    }
-}
-
-/// The layout of a class, by the layouts of the classes before it.
-///
-/// Errors: the limit L6 exactly where its size is above 500,000 bytes, or want of memory.
-pub(crate) fn class_layout(
-    alloc: Global,
-    rows: &[ClassLayout],
-    known: &[Known],
-    c: ClassId,
-    class: &ClassRec<ClassId>,
-) -> Result<LaidClass, Stop>
-    requires earlier { AreEarlier (length rows.now) class.now }
-    requires known { length known.now ≡ length rows.now }
-    requires within { AreAllWithin rows.now known.now }
-    ensures laid { IfOk result (λ laid. IsLaidClass rows.now known.now c class.now laid) }
-    ensures limit { IfErr result (λ e. (e ≡ Stop.NoMemory) ⊎ ((e ≡ Stop.Limit LimitNo.L6) × IsTooLarge rows.now known.now c class.now)) }
-{
-    let is_empty = is_empty_class(known, class);
-    let is_pod = is_pod_class(known, class);
-    let bases = base_components(alloc, rows, known, class.bases.as_slice())?;
-    let members = member_components(alloc, rows, known, class.members.as_slice())?;
-    let mut placing = first_placing(alloc, c)?;
-    let base_places = place_all(alloc, &mut placing, &bases)?;
-    let member_places = place_all(alloc, &mut placing, &members)?;
-    let row = row_of(alloc, &placing.stage, is_pod, base_places, member_places);
-    let Placing { stage, table: _ } = placing;
-    Ok(LaidClass {
-        row,
-        known: Known {
-            is_empty,
-            is_pod,
-            parts: stage.parts,
-        },
-    })
 }

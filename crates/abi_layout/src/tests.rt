@@ -4,7 +4,6 @@ ghost use Rattle.std.specs.Prelude.{All, IfOk};
 ghost use Rattle.cxx_hierarchy.specs.ClassPass.{IsInOrder};
 
 use crate::hierarchy_layout::lay_out;
-use crate::statics::is_static;
 use cxx_hierarchy::{
     Base, ClassId, ClassRec, Destructor, FieldType, Member, Name, PartAt, PartKind, RecordList,
     Scalar, ValueType, build,
@@ -118,7 +117,6 @@ fn field_over_an_empty_base(rt: HostRuntime) -> Result<(), Fail> {
     let f = with_field(alloc, f, FieldType::Object(name(alloc, "E")?), None, "e")?;
     let f = with_field(alloc, f, number(Scalar::Int), None, "x")?;
     let h = build(alloc, &with_class(records, f)?)?;
-    assert!(rt; is_static(&h));
     let layout = lay_out(alloc, &h)?;
     assert_eq!(rt; layout.len(), 2);
     let row = layout.layout(ClassId(1));

@@ -10,8 +10,8 @@ use Rattle.cxx_hierarchy.specs.Hierarchies.{IsHierarchy}
 use Rattle.cxx_overrider.specs.Faults.{Spot, spot, size_part, place_part, IsBefore, by_class, by_part, by_item, by_test, Fault as MeaningFault, IsFirstFault as IsFirstMeaning, HasNoFault as HasNoMeaning, StopsIn}
 use Rattle.cxx_overrider.proofs.PassLemmas.{fault_known}
 use Rattle.abi_layout.specs.declared.class_layout.ClassLayout.{ClassLayout}
-use Rattle.abi_layout.specs.Refusals.{IsWellLaid, IsLargeClass, HasSize, StopsAt, by_size, by_place, IsFirstStop}
-use Rattle.abi_layout.proofs.OneLayout.{not_large, not_shared, one_size}
+use Rattle.abi_layout.specs.Refusals.{IsWellLaid, IsLargeClass, StopsAt, by_size, by_place, IsFirstStop}
+use Rattle.abi_layout.proofs.OneLayoutFronts.{not_large, not_shared, not_large_small}
 use Rattle.cxxabi_cmd.specs.Verdict.{Fault, of_meaning, large, shared, IsFirstFault, HasNoFault}
 use Rattle.cxxabi_cmd.proofs.MeaningFaults.{part_below}
 
@@ -38,8 +38,8 @@ front_before c d part (by_test _ _ class equal item lower) same = omega arith
 -- a fault at a class that is well laid is one of its meaning
 laid_fine : (h : Classes) (count : ℕ) (rows : List ClassLayout) → IsHierarchy h → IsWellLaid h count rows → count ≤ length h → (at : Spot) (stop : Stop) → Fault h at stop → at.class.0 < count → MeaningFault h at stop
 laid_fine h count rows keeps well le _ _ (of_meaning at stop fault) lt = fault
-laid_fine h count rows keeps well le _ _ (large c known is) lt = absurd (not_large h count rows c keeps well le lt is)
-laid_fine h count rows keeps well le _ _ (shared c class at is) lt = absurd (not_shared h count rows c keeps well le lt is)
+laid_fine h count rows keeps well le _ _ (large c known is) lt = absurd (not_large h count rows c keeps le lt well is)
+laid_fine h count rows keeps well le _ _ (shared c class at is) lt = absurd (not_shared h count rows c keeps le lt well is)
 
 fault_class : (h : Classes) (at : Spot) (stop : Stop) → Fault h at stop → at.class.0 < length h
 fault_class h _ _ (of_meaning at stop fault) = fault_known h at stop fault
@@ -75,9 +75,6 @@ earlier_or_same h k rows keeps known none well at last stop same fault before he
     (λ differ. ⊎_elim (λ lower. none at stop (laid_fine h k.0 rows keeps well (omega arith) at stop fault lower) le) (λ higher. omega arith) differ)
     (cases_order at.class.0 k.0)
 
-small_class : (h : Classes) (k : ClassId) (size : ℕ) → IsHierarchy h → HasSize h k size → size ≤ 500000 → IsLargeClass h k → ⊥
-small_class h k size keeps has small is = let same = one_size h k size is.size keeps has is.has in let big = is.large in omega arith
-
 stops_first : (h : Classes) (k : ClassId) (rows : List ClassLayout) (stop : Stop) → IsHierarchy h → k.0 < length h → NoMeaningTo h k → IsWellLaid h k.0 rows → StopsAt h k stop → IsFirstFault h stop
 stops_first h k rows _ keeps known none well (by_size is) = record {
   at = spot k size_part 0 0;
@@ -87,7 +84,7 @@ stops_first h k rows _ keeps known none well (by_size is) = record {
 stops_first h k rows _ keeps known none well (by_place class size there has small is) = record {
   at = spot k place_part 0 0;
   fault = shared k class there is;
-  first = λ at stop fault before. earlier_or_same h k rows keeps known none well at (spot k place_part 0 0) stop refl fault before (before_place h k none (small_class h k size keeps has small) at stop fault before);
+  first = λ at stop fault before. earlier_or_same h k rows keeps known none well at (spot k place_part 0 0) stop refl fault before (before_place h k none (not_large_small h k size keeps has small) at stop fault before);
 }
 
 -- the layout stops where the meanings have no fault

@@ -14,7 +14,7 @@ use Rattle.cxx_resolve.specs.declared.program.SimpleProgram.{SimpleProgram}
 use Rattle.abi_layout.specs.declared.class_layout.ClassLayout.{ClassLayout}
 use Rattle.abi_layout.specs.DynamicLaid.{IsLaid}
 use Rattle.abi_layout.proofs.Lists.{has_at}
-use Rattle.abi_layout.proofs.OneLayout.{layout_is_one}
+use Rattle.abi_layout.proofs.OneLayoutFronts.{layout_is_one}
 use Rattle.cxxabi_cmd.specs.declared.command.Command.{Command}
 use Rattle.cxxabi_cmd.specs.declared.command.Command.TheVariants.{Check, Run, LayoutOf}
 use Rattle.cxxabi_cmd.specs.Commands.{Says, check, run, layout, layout_of, IsCommand}
