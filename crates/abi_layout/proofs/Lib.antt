@@ -58,3 +58,11 @@ pub mod ObjectUnfolds
 pub mod ObjectOnce
 pub mod ObjectPointersSound
 pub mod ObjectPrimariesSound
+pub mod AgreeingRows
+pub mod AgreeingParts
+pub mod AgreeingClasses
+pub mod AgreeingFronts
+pub mod OneLayoutLists
+pub mod OneLayoutRows
+pub mod OneLayoutFronts
+pub mod OneLayoutStops

@@ -1,25 +1,22 @@
 -- The virtual pointers of a laid hierarchy are sound: inside, at multiples of 8, and apart from numbers and from each other.
-use Rattle.std.proofs.Common.{◌≡◌, ℕ, ◌+◌, ◌<◌, ◌≤◌, ◌⊎◌, inl, inr, ⊎_elim, Bool, true, false, Option, Some, None, List, [], ◌∷◌, ◌++◌, length, refl, ap, subst, sym, ◌∙◌, arith}
+use Rattle.std.proofs.Common.{◌≡◌, ℕ, ◌+◌, ◌<◌, ◌≤◌, ◌⊎◌, inl, inr, ⊎_elim, Bool, true, false, Option, Some, None, List, [], ◌∷◌, length, refl, ap, subst, sym, ◌∙◌, arith}
 use Rattle.std.specs.Prelude.{if◌then◌else◌}
 use Rattle.std.specs.List.{slice_get}
-use Rattle.std.proofs.lemmas.Bool.{cases_order}
 use Rattle.cxx_hierarchy.specs.declared.records.ClassId.{ClassId}
-use Rattle.cxx_hierarchy.specs.declared.records.ValueType.{ValueType}
-use Rattle.cxx_hierarchy.specs.declared.records.FieldType.TheVariants.{Value, Object}
+use Rattle.cxx_hierarchy.specs.declared.records.FieldType.TheVariants.{Value}
 use Rattle.cxx_hierarchy.specs.Classes.{Classes}
 use Rattle.cxx_hierarchy.specs.Hierarchies.{IsHierarchy}
 use Rattle.abi_primary.specs.declared.Primary.{Primary}
-use Rattle.abi_primary.specs.Kinds.{IsDynamic}
 use Rattle.abi_layout.specs.declared.class_layout.ClassLayout.{ClassLayout}
 use Rattle.abi_layout.specs.Places.{size_of_value, size_in}
-use Rattle.abi_layout.specs.Locations.{Hop, IsAt}
+use Rattle.abi_layout.specs.Locations.{Hop}
 use Rattle.abi_layout.specs.Kinds.{is_empty}
 use Rattle.abi_layout.specs.Chains.{ShareChain}
 use Rattle.abi_layout.specs.DynamicLaid.{IsLaidBy}
 use Rattle.abi_layout.specs.SoundLayouts.{ArePointersSound, places_in}
-use Rattle.abi_layout.proofs.Stages.{split}
 use Rattle.abi_layout.proofs.FineRows.{value_align, align_positive}
-use Rattle.abi_layout.proofs.ObjectTree.{Node, Complete, Bytes, Pointer, Placement, Step, Contents, Reaches, here, down, IsSoundTree, contents_of, measures_of}
+use Rattle.abi_layout.proofs.ObjectTree.{Node, Complete, Bytes, Pointer, Placement, Step, Contents, Reaches, here, down, contents_of}
+use Rattle.abi_layout.proofs.ObjectSound.{is_same}
 use Rattle.abi_layout.proofs.ObjectKnown.{IsLaidOut}
 use Rattle.abi_layout.proofs.ObjectDecode.{located}
 use Rattle.abi_layout.proofs.ObjectArranged.{object_is_sound}
@@ -43,24 +40,12 @@ pub same_end : (contents : Contents) (n k j : Node) (p o : List Step) (q r : ℕ
 same_end contents n k j p o q r x y e =
     let f : Some k ≡ Some j = sym (reaches_end contents n k p q x) ∙ (ap (λ (t : List Step). end_of contents t n) e ∙ reaches_end contents n j o r y) in cc
 
-step_is : (s t : Step) → s.number ≡ t.number → s.copy ≡ t.copy → s ≡ t
-step_is s t e f = ap (λ z. let x : Step = record { number = z; copy = s.copy } in x) e ∙ ap (λ z. let x : Step = record { number = t.number; copy = z } in x) f
-
-numbers_decided : (m n : ℕ) → (m ≡ n) ⊎ (m ≡ n → ⊥)
-numbers_decided m n = ⊎_elim (λ e. inl e) (λ o. inr (λ e. ⊎_elim (λ lt. absurd (omega arith)) (λ gt. absurd (omega arith)) o)) (cases_order m n)
-
-step_decided : (s t : Step) → (s ≡ t) ⊎ (s ≡ t → ⊥)
-step_decided s t = ⊎_elim
-    (λ e. ⊎_elim (λ f. inl (step_is s t e f)) (λ differ. inr (λ same. differ (ap (λ (x : Step). x.copy) same))) (numbers_decided s.copy t.copy))
-    (λ differ. inr (λ same. differ (ap (λ (x : Step). x.number) same)))
-    (numbers_decided s.number t.number)
-
 -- steps are the same or they are not
 pub same_steps : (p o : List Step) → (p ≡ o) ⊎ (p ≡ o → ⊥)
 same_steps [] [] = inl refl
 same_steps [] (t ∷ o) = inr (λ e. let f : [] ≡ (t ∷ o) = e in cc)
 same_steps (s ∷ p) [] = inr (λ e. let f : (s ∷ p) ≡ [] = e in cc)
-same_steps (s ∷ p) (t ∷ o) = by_rest (step_decided s t) (same_steps p o)
+same_steps (s ∷ p) (t ∷ o) = by_rest (is_same s t) (same_steps p o)
   where
     by_rest : (s ≡ t) ⊎ (s ≡ t → ⊥) → (p ≡ o) ⊎ (p ≡ o → ⊥) → ((s ∷ p) ≡ (t ∷ o)) ⊎ ((s ∷ p) ≡ (t ∷ o) → ⊥)
     by_rest (inl e) (inl f) = inl (cc)

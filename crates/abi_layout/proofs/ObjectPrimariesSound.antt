@@ -1,43 +1,34 @@
 -- The primary bases of a laid hierarchy are sound: each is a dynamic base, and lies where its class does or where its holder does.
-use Rattle.std.proofs.Common.{◌≡◌, ℕ, ◌+◌, ◌<◌, ◌≤◌, inl, inr, Bool, false, cond, Option, Some, None, List, [], ◌∷◌, ◌++◌, length, refl, ap, subst, sym, ◌∙◌, arith}
+use Rattle.std.proofs.Common.{◌≡◌, ◌+◌, ◌<◌, Bool, Option, Some, None, List, [], ◌∷◌, ◌++◌, length, refl, ap, sym, ◌∙◌, arith}
 use Rattle.std.specs.List.{find}
 use Rattle.cxx_hierarchy.specs.declared.records.ClassId.{ClassId}
 use Rattle.cxx_hierarchy.specs.Classes.{Classes}
 use Rattle.cxx_hierarchy.specs.Hierarchies.{IsHierarchy}
 use Rattle.cxx_hierarchy.specs.VirtualBases.{HasVirtualBase}
 use Rattle.cxx_subobject.specs.declared.Subobject.{Subobject}
-use Rattle.cxx_subobject.specs.Subobjects.{subobject, shared_base, IsSubobject, last_of, class_of_path, class_of}
+use Rattle.cxx_subobject.specs.Subobjects.{subobject, IsSubobject, last_of, class_of_path, class_of}
 use Rattle.cxx_subobject.specs.Preorder.{preorder}
-use Rattle.cxx_subobject.proofs.TreeLemmas.{preorder_lists}
+use Rattle.cxx_subobject.proofs.TreeLemmas.{has_preorder}
 use Rattle.abi_primary.specs.declared.Primary.{Primary}
 use Rattle.abi_primary.specs.declared.Primary.TheVariants.{Direct, Virtual}
 use Rattle.abi_primary.specs.PrimaryBase.{is_virtual_primary, has_primary_in, has_primary}
 use Rattle.abi_layout.specs.declared.class_layout.ClassLayout.{ClassLayout}
-use Rattle.abi_layout.specs.Places.{base_place, place_along}
-use Rattle.abi_layout.specs.Holding.{virtual_bases}
+use Rattle.abi_layout.specs.Places.{base_place}
 use Rattle.abi_layout.specs.Chains.{IsPrimaryPart, by_direct, by_holder}
-use Rattle.abi_layout.specs.DynamicLaid.{place_from, root_place, place_of, virtual_place, primary_of, IsLaidBy}
+use Rattle.abi_layout.specs.DynamicLaid.{place_from, place_of, virtual_place, primary_of, IsLaidBy}
 use Rattle.abi_layout.specs.SoundLayouts.{is_primary_of, ArePrimariesSound, places_in}
-use Rattle.abi_layout.proofs.Stages.{Has}
-use Rattle.abi_layout.proofs.KindLemmas.{contains_of}
 use Rattle.abi_layout.proofs.SettledLemmas.{base_below}
 use Rattle.abi_layout.proofs.SoundLemmas.{place_join}
+use Rattle.abi_layout.proofs.AgreeingRows.{find_same, class_low}
 use Rattle.abi_layout.proofs.ObjectPrimaries.{direct_primary, shared_primary, virtual_listed}
 use Rattle.abi_layout.proofs.ObjectKnown.{IsLaidOut, row_of}
-use Rattle.abi_layout.proofs.ObjectPaths.{node_of}
-use Rattle.abi_layout.proofs.ObjectDecode.{part_of}
-use Rattle.abi_layout.proofs.ObjectSteps.{virtual_above, part_below}
+use Rattle.abi_layout.proofs.ObjectSteps.{virtual_above}
 use Rattle.abi_layout.proofs.ObjectStarts.{primary_at_start}
 use Rattle.abi_layout.proofs.ObjectChains.{primary_told, holder_told}
 
--- functions that agree on the items of a list find one item
-find_same : {X : Type 0} (p q : X → Bool) (xs : List X) → ((x : X) → Has xs x → p x ≡ q x) → find p xs ≡ find q xs
-find_same p q [] same = refl
-find_same {X} p q (x ∷ xs) same = ap (λ b. cond b (Some x) (find p xs)) (same x (inl refl)) ∙ ap (λ (o : Option X). cond (q x) (Some x) o) (find_same p q xs (λ y has. same y (inr has)))
-
 -- a subobject of a class of the hierarchy is of one too
 pub class_inside : (h : Classes) (c : ClassId) (s : Subobject) (d : ClassId) → IsHierarchy h → c.0 < length h → IsSubobject h c s → class_of s ≡ Some d → d.0 < length h
-class_inside h c s d keeps lt valid class = let below = part_below h c (node_of c s d) s d keeps (part_of h c s d valid class) in omega arith
+class_inside h c s d keeps lt valid class = let low = class_low h c s d keeps valid class in omega arith
 
 -- the place along a path that is longer by one base
 place_longer : (h : Classes) (rows : List ClassLayout) (path : List ClassId) (d b : ClassId) → class_of_path path ≡ Some d → place_from h rows (path ++ b ∷ []) ≡ place_from h rows path + base_place h rows d b
@@ -82,7 +73,7 @@ pub holder_first : (h : Classes) (rows : List ClassLayout) (nearly : List Bool) 
 holder_first h rows nearly ps known c v lt has =
     holder_told h rows nearly ps known c v lt has
     ∙ find_same (has_primary ps v) (λ (s : Subobject). is_primary_of (places_in h rows) v (class_of s)) (preorder h c)
-    (λ s listed. holder_test h rows nearly ps known c v s lt ((preorder_lists h c known.keeps).valid s (contains_of (preorder h c) s listed)))
+    (λ s listed. holder_test h rows nearly ps known c v s lt (has_preorder h c s listed))
 
 -- the primary bases of a laid hierarchy are sound
 pub primaries_sound : (h : Classes) (rows : List ClassLayout) (nearly : List Bool) (ps : List Primary) → IsHierarchy h → IsLaidBy h (length h) rows nearly ps → ArePrimariesSound h (places_in h rows)
