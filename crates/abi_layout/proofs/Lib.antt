@@ -77,3 +77,5 @@ pub mod ObjectLists
 pub mod ObjectParts
 pub mod ObjectUnfolds
 pub mod ObjectOnce
+pub mod ObjectPointersSound
+pub mod ObjectPrimariesSound

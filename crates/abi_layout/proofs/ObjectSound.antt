@@ -90,7 +90,7 @@ steps_apart contents m all n s t k l h i differ a b = by_order (order s t)
         ⊎_elim (λ x. inr (omega arith)) (λ y. inl (omega arith)) f
 
 -- two steps are one, or not
-is_same : (s t : Step) → (s ≡ t) ⊎ (s ≡ t → ⊥)
+pub is_same : (s t : Step) → (s ≡ t) ⊎ (s ≡ t → ⊥)
 is_same s t = by_order (order s t)
   where
     by_order : Order s t → (s ≡ t) ⊎ (s ≡ t → ⊥)
