@@ -56,3 +56,4 @@ pub mod ObjectLists
 pub mod ObjectParts
 pub mod ObjectUnfolds
 pub mod ObjectOnce
+pub mod ObjectLaws
