@@ -9,13 +9,13 @@ use Rattle.cxx_hierarchy.specs.Classes.{Classes}
 use Rattle.cxx_hierarchy.specs.Hierarchies.{IsHierarchy}
 use Rattle.cxx_subobject.specs.declared.Root.TheVariants.{Whole}
 use Rattle.cxx_subobject.specs.declared.Subobject.{Subobject}
-use Rattle.cxx_subobject.specs.Subobjects.{subobject, whole_of, IsSubobject, whole, shared, last_of, class_of, join}
+use Rattle.cxx_subobject.specs.Subobjects.{whole_of, IsSubobject, whole, shared, last_of, class_of, join}
 use Rattle.abi_primary.specs.declared.Primary.{Primary}
 use Rattle.abi_layout.specs.declared.class_layout.ClassLayout.{ClassLayout}
 use Rattle.abi_layout.specs.Places.{size_of_value, size_in, align_in, nvalign_in, place_along}
 use Rattle.abi_layout.specs.Locations.{Hop, Inherit, Element, IsAt}
 use Rattle.abi_layout.specs.Sound.{Divides, IsSoundInDepth, IsSound}
-use Rattle.abi_layout.specs.DynamicLaid.{virtual_place, place_of}
+use Rattle.abi_layout.specs.DynamicLaid.{place_of}
 use Rattle.abi_layout.specs.Refusals.{IsWellLaid}
 use Rattle.abi_layout.specs.SoundLayouts.{places_in}
 use Rattle.abi_layout.proofs.TreeSound.{through_divides, itself_divides}
