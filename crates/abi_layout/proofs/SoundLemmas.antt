@@ -57,7 +57,6 @@ deep_sound h rows k =
           (align_positive (size_of_value type) (value_align type)) (align_positive (size_of_value other) (value_align other));
     }
 
--- the place along two paths, one behind the other
 pub place_join : (h : Classes) (rows : List ClassLayout) (c : ClassId) (p q : List ClassId) → place_along h rows c (p ++ q) ≡ place_along h rows c p + place_along h rows (last_of c p) q
 place_join h rows c [] q = omega arith
 place_join h rows c (b ∷ p) q = let r = place_join h rows b p q in omega arith
