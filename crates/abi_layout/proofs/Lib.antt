@@ -79,3 +79,4 @@ pub mod ObjectUnfolds
 pub mod ObjectOnce
 pub mod ObjectPointersSound
 pub mod ObjectPrimariesSound
+pub mod ObjectLaws

@@ -172,6 +172,7 @@ pub record IsObjectNode (h : Classes) (d : ClassId) (node : Node) : Type 0 where
   pub subobject_is : Subobject
   pub within : top.0 < length h
   pub part : IsPart h top node subobject_is d
+  pub node_is : node ≡ node_of top subobject_is d
 
 abbrev pub IsEnd : Classes → FieldType ClassId → Node → Type 0
 IsEnd h (Value type) node = node ≡ Bytes (size_of_value type)
@@ -197,7 +198,7 @@ located h rows nearly ps known _ _ _ _ lt (at_base c d s valid class) =
         reaches = way.reaches;
         decodes = ap (λ (t : List Step). decode (contents_of h rows ps) t (Complete c)) (sym (append-nil way.steps)) ∙ (way.decodes [] ∙ part_hops h c (node_of c s d) s d part);
       };
-      ends = record { top = c; subobject_is = s; within = lt; part = part };
+      ends = record { top = c; subobject_is = s; within = lt; part = part; node_is = refl };
     }
 located h rows nearly ps known _ _ _ _ lt (at_value c d s m i type valid class element) =
     let x = through_element h rows nearly ps known c d s m i (Value type) [] 0 (Bytes (size_of_value type)) lt valid class element (here (Bytes (size_of_value type))) in

@@ -61,6 +61,9 @@ deep_sound h rows k =
     }
 
 pub place_join : (h : Classes) (rows : List ClassLayout) (c : ClassId) (p q : List ClassId) → place_along h rows c (p ++ q) ≡ place_along h rows c p + place_along h rows (last_of c p) q
+<<<<<<< HEAD
 >>>>>>> 9342eadf29c9d6149140b8a6cdfe3ea673cd0b32
+=======
+>>>>>>> 23392111b300c00896588d503a704bbcf0caf380
 place_join h rows c [] q = omega arith
 place_join h rows c (b ∷ p) q = let r = place_join h rows b p q in omega arith
