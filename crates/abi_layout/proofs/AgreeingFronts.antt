@@ -17,7 +17,7 @@ use Rattle.abi_layout.specs.Scenes.{AreBefore}
 use Rattle.abi_layout.specs.DynamicLaid.{primary_of, IsDynamicRow, is_shifted, IsLaidBy}
 use Rattle.abi_layout.specs.Refusals.{IsNextClass}
 use Rattle.abi_layout.proofs.Lists.{number, get_within}
-use Rattle.abi_layout.proofs.Fronts.{longer, last_one, old_or_last}
+use Rattle.abi_layout.proofs.LastItems.{longer, last_one, old_or_last}
 use Rattle.abi_layout.proofs.AgreeingRows.{AgreeTo, agree_less, agree_turned, agree_item, agree_push, agree_take, primary_agrees, take_agrees}
 use Rattle.abi_layout.proofs.AgreeingParts.{ArePossible, possible_agrees, virtual_falls}
 use Rattle.abi_layout.proofs.AgreeingClasses.{laid_possible, next_possible, primary_possible, is_primary_agrees, nearly_empty_agrees, shifted_agrees, pointer_agrees, row_agrees}

@@ -8,10 +8,8 @@ use Rattle.abi_emptybase.specs.declared.Part.{Part}
 use Rattle.abi_emptybase.specs.Table.{same_part, holds, moved, has_conflict}
 use Rattle.abi_layout.specs.declared.component.Component.{Component}
 use Rattle.abi_layout.specs.declared.component.Stage.{Stage}
-use Rattle.abi_layout.specs.declared.class_layout.ClassLayout.{ClassLayout}
-use Rattle.abi_primary.specs.declared.Primary.TheVariants.{None as NoPrimary}
 use Rattle.abi_layout.specs.Sound.{Divides}
-use Rattle.abi_layout.specs.Laid.{IsNext, IsCandidate, IsPlace, ArePlaced, after, after_all, IsLayoutOf}
+use Rattle.abi_layout.specs.Laid.{IsNext, IsCandidate, IsPlace, ArePlaced, after, after_all}
 use Rattle.abi_layout.proofs.Parts.{split, opposed}
 use Rattle.abi_layout.proofs.PlacingLemmas.{place_at_start, first_least, place_behind, next_least, multiple_more}
 

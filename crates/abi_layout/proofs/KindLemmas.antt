@@ -3,15 +3,8 @@ use Rattle.std.proofs.Common.{◌≡◌, ℕ, zero, suc, ◌+◌, ◌<◌, inl, 
 use Rattle.std.specs.Prelude.{filter, not, ◌&&◌, ◌==◌, cond}
 use Rattle.std.specs.List.{Contains, list_all}
 use Rattle.std.proofs.lemmas.Bool.{eqb-true}
-use Rattle.cxx_hierarchy.specs.declared.records.ClassId.{ClassId}
-use Rattle.cxx_hierarchy.specs.declared.records.Base.{Base}
-use Rattle.cxx_hierarchy.specs.declared.records.Member.{Member}
-use Rattle.cxx_hierarchy.specs.Classes.{Class, Classes, class_at}
-use Rattle.abi_layout.specs.Places.{is_plain_base}
-use Rattle.abi_layout.specs.Kinds.{in_class, is_kind_in, empty_kind, has_virtual_function, is_empty, IsStatic}
 use Rattle.abi_layout.proofs.Lists.{has_here, has_later}
-use Rattle.abi_layout.proofs.Stages.{Has, split, has_left, has_right, has_map, has_cases}
-use Rattle.abi_layout.proofs.RowTree.{Item, a_base, a_member, items}
+use Rattle.abi_layout.proofs.Stages.{Has, split}
 
 pub contains_of : {X : Type 0} (xs : List X) (x : X) → Has xs x → Contains xs x
 contains_of [] x h = absurd h

@@ -29,7 +29,7 @@ use Rattle.abi_layout.specs.Holding.{virtual_primary}
 use Rattle.abi_layout.specs.Scenes.{IsScene}
 use Rattle.abi_layout.specs.Arrangements.{components_by}
 use Rattle.abi_layout.proofs.Stages.{Has}
-use Rattle.abi_layout.proofs.Locate.{first_that, position_is}
+use Rattle.abi_layout.proofs.Searches.{first_that, position_is}
 use Rattle.abi_layout.proofs.CanSettleLemmas.{AreNested}
 use Rattle.abi_layout.proofs.Lists.{number}
 use Rattle.abi_layout.proofs.Parts.{split}

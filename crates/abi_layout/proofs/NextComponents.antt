@@ -22,11 +22,11 @@ use Rattle.abi_layout.specs.Laid.{nvsize_in, member_component}
 use Rattle.abi_layout.specs.Known.{empties_in, pods_in, parts_in, members_by}
 use Rattle.abi_layout.specs.Brought.{brought_by}
 use Rattle.abi_layout.specs.PlacedBases.{class_of_placed, subobject_of, free_bases, placed_component, IsPossible}
-use Rattle.abi_layout.specs.DynamicLaid.{primary_of, fronts, object_parts, HasPointer, IsLaidBy}
+use Rattle.abi_layout.specs.DynamicLaid.{primary_of, fronts, object_parts, IsLaidBy}
 use Rattle.abi_layout.specs.Arrangements.{components_by}
 use Rattle.abi_layout.specs.Refusals.{IsNextClass}
 use Rattle.abi_layout.specs.LaidSoFar.{IsLaidSoFar}
-use Rattle.abi_layout.proofs.Fronts.{longer}
+use Rattle.abi_layout.proofs.LastItems.{longer}
 use Rattle.abi_layout.proofs.PartLemmas.{Agree}
 use Rattle.abi_layout.proofs.OpenLemmas.{fronts_below, frees_below}
 use Rattle.abi_layout.proofs.AgreeingRows.{AgreeTo, agree_less, agree_push}

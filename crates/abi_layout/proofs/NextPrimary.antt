@@ -12,7 +12,7 @@ use Rattle.abi_layout.specs.PlacedBases.{IsPossible}
 use Rattle.abi_layout.specs.DynamicLaid.{primary_of}
 use Rattle.abi_layout.specs.Scenes.{AreBefore}
 use Rattle.abi_layout.specs.ClassRows.{IsOneOrOther}
-use Rattle.abi_layout.proofs.Fronts.{old_or_last}
+use Rattle.abi_layout.proofs.LastItems.{old_or_last}
 use Rattle.abi_layout.proofs.OpenLemmas.{virtual_below}
 
 -- a virtual primary base stands before its class

@@ -26,7 +26,7 @@ use Rattle.abi_layout.specs.Arrangements.{components_by}
 use Rattle.abi_layout.specs.Refusals.{AreApart}
 use Rattle.abi_layout.specs.ClassRows.{IsClassRow, row_parts}
 use Rattle.abi_layout.proofs.Lists.{number}
-use Rattle.abi_layout.proofs.Fronts.{last_one}
+use Rattle.abi_layout.proofs.LastItems.{last_one}
 use Rattle.abi_layout.proofs.AgreeingRows.{AgreeTo, agree_less, agree_turned, agree_push}
 use Rattle.abi_layout.proofs.AgreeingParts.{ArePossible, possible_less, object_parts_is}
 use Rattle.abi_layout.proofs.AgreeingClasses.{is_primary_agrees, nearly_empty_agrees, components_agree, arranged_agrees, brings_twice_agrees}

@@ -5,7 +5,6 @@ use Rattle.std.specs.List.{list_any, slice_get}
 use Rattle.cxx_hierarchy.specs.declared.records.ClassId.{ClassId}
 use Rattle.cxx_hierarchy.specs.Classes.{Classes}
 use Rattle.cxx_hierarchy.specs.Hierarchies.{IsHierarchy}
-use Rattle.cxx_subobject.specs.declared.Root.TheVariants.{Whole, Shared}
 use Rattle.cxx_subobject.specs.declared.Subobject.{Subobject}
 use Rattle.cxx_subobject.specs.Subobjects.{IsSubobject, whole, shared, class_of, last_of}
 use Rattle.cxx_subobject.specs.Preorder.{preorder}
@@ -16,9 +15,8 @@ use Rattle.abi_layout.specs.declared.class_layout.ClassLayout.{ClassLayout}
 use Rattle.abi_layout.specs.Kinds.{is_empty}
 use Rattle.abi_layout.specs.Places.{place_along}
 use Rattle.abi_layout.specs.Known.{empties_in}
-use Rattle.abi_layout.specs.Laid.{nvsize_in}
 use Rattle.abi_layout.specs.DynamicLaid.{place_of, place_from, is_whole, is_empty_in, is_shifted}
-use Rattle.abi_layout.specs.LaidSoFar.{known_empty, is_shifted_base, ArePaths}
+use Rattle.abi_layout.specs.LaidSoFar.{is_shifted_base, ArePaths}
 use Rattle.abi_layout.proofs.Lists.{has_here, has_later}
 use Rattle.abi_layout.proofs.CanSettleLemmas.{AreNested, last_below, along_within, path_of}
 use Rattle.abi_layout.proofs.OpenLemmas.{virtual_below}

@@ -22,7 +22,6 @@ use Rattle.abi_layout.specs.declared.known.Known.{Known}
 use Rattle.abi_layout.specs.declared.laid_row.ClassFacts.{ClassFacts}
 use Rattle.abi_layout.specs.declared.class_layout.ClassLayout.{ClassLayout}
 use Rattle.abi_layout.specs.Kinds.{pod_kind, is_empty}
-use Rattle.abi_layout.specs.Laid.{AreSmall}
 use Rattle.abi_layout.specs.Known.{is_empty_in, empties_in, pods_in, members_by}
 use Rattle.abi_layout.specs.Holding.{AreHolders}
 use Rattle.abi_layout.specs.PlacedBases.{free_bases}
@@ -33,7 +32,7 @@ use Rattle.abi_layout.specs.Refusals.{StopsAt, IsWellLaid, IsFirstStop}
 use Rattle.abi_layout.specs.ClassRows.{IsRowAdded}
 use Rattle.abi_layout.specs.LaidSoFar.{IsLaidSoFar, is_shifted_base, ArePaths}
 use Rattle.abi_layout.proofs.Lists.{number, get_within}
-use Rattle.abi_layout.proofs.Fronts.{longer}
+use Rattle.abi_layout.proofs.LastItems.{longer}
 use Rattle.abi_layout.proofs.NextKinds.{next_empty}
 use Rattle.abi_layout.proofs.NextShifted.{shifted_same, paths_are}
 use Rattle.abi_layout.proofs.NextComponents.{IsNextKnown}

@@ -15,7 +15,7 @@ use Rattle.abi_layout.specs.Kinds.{is_kind_in, in_class}
 use Rattle.abi_layout.specs.Laid.{nvsize_in}
 use Rattle.abi_layout.specs.Holding.{virtual_in, virtual_primary}
 use Rattle.abi_layout.specs.DynamicLaid.{primary_of, IsLaidBy}
-use Rattle.abi_layout.proofs.Arranged.{within_or_past}
+use Rattle.abi_layout.proofs.Bounds.{within_or_past}
 use Rattle.abi_layout.proofs.ObjectTree.{Node, Complete, Within, Bytes, Pointer, Placement, Contents, Measures, IsArranged, AreArranged, IsSoundTree, dynamic_kind, is_no_primary, one_at, own_pointer, inner_base, placed_members, shared_start, contents_of_object, contents_of, span_of, measures_of}
 use Rattle.abi_layout.proofs.ObjectSound.{tree_is_sound}
 use Rattle.abi_layout.proofs.ObjectRows.{complete_arranged}

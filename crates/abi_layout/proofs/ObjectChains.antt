@@ -25,7 +25,7 @@ use Rattle.abi_layout.specs.Places.{places_of}
 use Rattle.abi_layout.proofs.Lists.{number}
 use Rattle.abi_layout.proofs.Stages.{Has, has_left, has_right, has_map, split}
 use Rattle.abi_layout.proofs.KindLemmas.{has_of, in_filter}
-use Rattle.abi_layout.proofs.Locate.{first_that, position_is}
+use Rattle.abi_layout.proofs.Searches.{first_that, position_is}
 use Rattle.abi_layout.proofs.SettledLemmas.{base_below}
 use Rattle.abi_layout.proofs.ObjectTree.{Node, Complete, Within, Pointer, Placement, Step, Contents, start_of, StepsTo, Reaches, here, down, one_at, is_no_primary, owns_pointer, own_pointer, placed_base, inner_base, members_at, shared_start, contents_of_object, contents_of}
 use Rattle.abi_layout.proofs.ObjectKinds.{dynamic_test}

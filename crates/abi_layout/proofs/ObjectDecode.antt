@@ -20,7 +20,7 @@ use Rattle.abi_layout.specs.DynamicLaid.{place_of, fronts, object_parts, front_c
 use Rattle.abi_layout.specs.Places.{places_of}
 use Rattle.abi_layout.proofs.Lists.{get_within, has_at}
 use Rattle.abi_layout.proofs.Stages.{Has, has_left, has_right}
-use Rattle.abi_layout.proofs.Listed.{placed_length}
+use Rattle.abi_layout.proofs.PlacedCounts.{placed_length}
 use Rattle.abi_layout.proofs.ObjectTree.{Node, Complete, Within, Bytes, Placement, Step, Contents, start_of, StepsTo, Reaches, here, down, class_of_node, placed_base, node_of_type, placed_members, members_at, contents_of_object, contents_of}
 use Rattle.abi_layout.proofs.ObjectPrimaries.{HasRow}
 use Rattle.abi_layout.proofs.ObjectKnown.{IsLaidOut, row_of}

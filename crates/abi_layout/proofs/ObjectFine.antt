@@ -34,11 +34,11 @@ use Rattle.abi_layout.specs.Alignments.{IsAlignment, byte, eight_bytes}
 use Rattle.abi_layout.proofs.Lists.{number}
 use Rattle.abi_layout.proofs.Stages.{Has, split, has_left, has_right, has_map, has_cases, grows}
 use Rattle.abi_layout.proofs.KindLemmas.{contains_of, in_filter}
-use Rattle.abi_layout.proofs.FineRows.{value_align, align_positive, last_align, count_positive, product_positive}
-use Rattle.abi_layout.proofs.TreeSound.{itself_divides}
+use Rattle.abi_layout.proofs.Positives.{value_align, align_positive, last_align, count_positive, product_positive}
+use Rattle.abi_layout.proofs.Divisions.{itself_divides}
 use Rattle.abi_layout.proofs.SettledLemmas.{base_below}
 use Rattle.abi_layout.proofs.OpenLemmas.{virtual_below}
-use Rattle.abi_layout.proofs.Locate.{same_class}
+use Rattle.abi_layout.proofs.Searches.{same_class}
 use Rattle.abi_layout.proofs.Pairs.{has_mapped}
 use Rattle.abi_layout.proofs.ObjectKinds.{dynamic_has_data, HasData, by_member, by_kind, by_base, has_data}
 use Rattle.abi_layout.proofs.ObjectPrimaries.{HasRow, row_of, primary_possible, direct_primary, shared_primary, listed_virtual}

@@ -17,11 +17,11 @@ use Rattle.abi_layout.specs.Locations.{Hop, Inherit, Element, IsAt}
 use Rattle.abi_layout.specs.Sound.{Divides, IsSoundInDepth, IsSound}
 use Rattle.abi_layout.specs.DynamicLaid.{place_of}
 use Rattle.abi_layout.specs.Refusals.{IsWellLaid}
-use Rattle.abi_layout.specs.SoundLayouts.{places_in}
-use Rattle.abi_layout.proofs.TreeSound.{through_divides, itself_divides}
-use Rattle.abi_layout.proofs.FineRows.{value_align, align_positive}
-use Rattle.abi_layout.proofs.Arranged.{align_divides, most}
-use Rattle.abi_layout.proofs.SoundLemmas.{place_join}
+use Rattle.abi_layout.specs.Places.{places_of}
+use Rattle.abi_layout.proofs.Divisions.{through_divides, itself_divides}
+use Rattle.abi_layout.proofs.Positives.{value_align, align_positive}
+use Rattle.abi_layout.proofs.Bounds.{align_divides, most}
+use Rattle.abi_layout.proofs.PathPlaces.{place_join}
 use Rattle.abi_layout.proofs.Shallow.{below, distinct, inside, aligned, apart}
 use Rattle.abi_layout.proofs.ObjectTree.{Node, Complete, Within, Bytes, Pointer, Placement, Step, Contents, Reaches, here, down, AreArranged, IsSoundTree, contents_of, align_of, span_of, measures_of}
 use Rattle.abi_layout.proofs.ObjectFine.{IsFine, fine}
@@ -94,13 +94,13 @@ found_at h rows nearly ps known c hops q n lt way =
     }
 
 -- a number or a pointer at a location
-value_found : (h : Classes) (rows : List ClassLayout) (nearly : List Bool) (ps : List Primary) → IsLaidOut h rows nearly ps → (c : ClassId) (type : ValueType ClassId) (hops : List Hop) (q : ℕ) → c.0 < length h → IsAt h (places_in h rows) c hops (Value type) q → IsFound h rows ps c hops q (Bytes (size_of_value type))
+value_found : (h : Classes) (rows : List ClassLayout) (nearly : List Bool) (ps : List Primary) → IsLaidOut h rows nearly ps → (c : ClassId) (type : ValueType ClassId) (hops : List Hop) (q : ℕ) → c.0 < length h → IsAt h (places_of h rows) c hops (Value type) q → IsFound h rows ps c hops q (Bytes (size_of_value type))
 value_found h rows nearly ps known c type hops q lt at =
     let x = located h rows nearly ps known c hops (Value type) q lt at in
     found_at h rows nearly ps known c hops q (Bytes (size_of_value type)) lt (subst (λ (n : Node). HasSteps (contents_of h rows ps) c hops q n) x.ends x.way)
 
 -- what holds at every depth
-pub deep_sound : (h : Classes) (rows : List ClassLayout) → IsHierarchy h → IsWellLaid h (length h) rows → IsSoundInDepth h (places_in h rows)
+pub deep_sound : (h : Classes) (rows : List ClassLayout) → IsHierarchy h → IsWellLaid h (length h) rows → IsSoundInDepth h (places_of h rows)
 deep_sound h rows keeps well = record {
   begins_inside = λ c d hops q lt x.
       let o = located h rows nearly ps known c hops (Object d) q lt x in
@@ -165,9 +165,9 @@ joined h rows c d _ _ (shared v p has l) e (whole q m) f =
     omega (arith, r)
 
 -- a layout that is not refused is sound
-pub rules_are_sound : (h : Classes) (rows : List ClassLayout) → IsHierarchy h → IsWellLaid h (length h) rows → IsSound h (places_in h rows)
+pub rules_are_sound : (h : Classes) (rows : List ClassLayout) → IsHierarchy h → IsWellLaid h (length h) rows → IsSound h (places_of h rows)
 rules_are_sound h rows keeps well =
-    let l = places_in h rows in
+    let l = places_of h rows in
     let deep = deep_sound h rows keeps well in
     let known : IsLaidOut h rows well.nearly well.primaries = record { keeps = keeps; laid = well.by } in
     let fine_of : (c : ClassId) → c.0 < length h → IsFine h rows c = λ c lt. fine h rows well.nearly well.primaries c keeps well.by lt in

@@ -21,9 +21,9 @@ use Rattle.abi_layout.specs.Kinds.{is_empty}
 use Rattle.abi_layout.specs.Laid.{nvsize_in, count_of, size_of_type, align_of_type, member_component}
 use Rattle.abi_layout.specs.Alignments.{eight_bytes}
 use Rattle.abi_layout.proofs.Stages.{Has, split, has_cases, IsPut}
-use Rattle.abi_layout.proofs.TreeSound.{sum_divides, through_divides, itself_divides, zero_divides, copy_ends}
-use Rattle.abi_layout.proofs.Arranged.{align_divides, times_divides, most}
-use Rattle.abi_layout.proofs.Listed.{no_copies}
+use Rattle.abi_layout.proofs.Divisions.{sum_divides, through_divides, itself_divides, zero_divides, copy_ends}
+use Rattle.abi_layout.proofs.Bounds.{align_divides, times_divides, most}
+use Rattle.abi_layout.proofs.PlacedCounts.{no_copies}
 use Rattle.abi_layout.proofs.Pairs.{Pairs, has_get, pairs_get, pairs_append, pairs_map, has_mapped}
 use Rattle.abi_layout.proofs.ObjectTree.{Node, Within, Pointer, Placement, Contents, Measures, IsInPlace, AreClear, IsArranged, one_at, node_of_type, rank_of, span_of, data_end_of, align_of, measures_of}
 use Rattle.abi_layout.proofs.ObjectItems.{AreApart}

@@ -13,8 +13,9 @@ use Rattle.abi_layout.specs.Locations.{Hop}
 use Rattle.abi_layout.specs.Kinds.{is_empty}
 use Rattle.abi_layout.specs.Chains.{ShareChain}
 use Rattle.abi_layout.specs.DynamicLaid.{IsLaidBy}
-use Rattle.abi_layout.specs.SoundLayouts.{ArePointersSound, places_in}
-use Rattle.abi_layout.proofs.FineRows.{value_align, align_positive}
+use Rattle.abi_layout.specs.Places.{places_of}
+use Rattle.abi_layout.specs.SoundLayouts.{ArePointersSound}
+use Rattle.abi_layout.proofs.Positives.{value_align, align_positive}
 use Rattle.abi_layout.proofs.ObjectTree.{Node, Complete, Bytes, Pointer, Placement, Step, Contents, Reaches, here, down, contents_of}
 use Rattle.abi_layout.proofs.ObjectSound.{is_same}
 use Rattle.abi_layout.proofs.ObjectKnown.{IsLaidOut}
@@ -72,7 +73,7 @@ value_beside h rows nearly ps known c n p o q r width some is way other =
     (λ e. let same : Pointer ≡ Bytes width = same_end contents (Complete c) Pointer (Bytes width) p o q r way to e in cc) (omega arith) some
 
 -- two virtual pointers are one and shared, or lie apart
-pointers_beside : (h : Classes) (rows : List ClassLayout) (nearly : List Bool) (ps : List Primary) → IsLaidOut h rows nearly ps → (c : ClassId) (hops others : List Hop) (q r : ℕ) → c.0 < length h → HasPointerWay h rows ps c hops q → HasPointerWay h rows ps c others r → ShareChain h (places_in h rows) c hops others ⊎ ((q + 8 ≤ r) ⊎ (r + 8 ≤ q))
+pointers_beside : (h : Classes) (rows : List ClassLayout) (nearly : List Bool) (ps : List Primary) → IsLaidOut h rows nearly ps → (c : ClassId) (hops others : List Hop) (q r : ℕ) → c.0 < length h → HasPointerWay h rows ps c hops q → HasPointerWay h rows ps c others r → ShareChain h (places_of h rows) c hops others ⊎ ((q + 8 ≤ r) ⊎ (r + 8 ≤ q))
 pointers_beside h rows nearly ps known c hops others q r lt x y =
     let tree = object_is_sound h rows nearly ps known.keeps known.laid in
     ⊎_elim
@@ -81,7 +82,7 @@ pointers_beside h rows nearly ps known c hops others q r lt x y =
     (same_steps x.steps y.steps)
 
 -- the virtual pointers of a laid hierarchy are sound
-pub pointers_sound : (h : Classes) (rows : List ClassLayout) (nearly : List Bool) (ps : List Primary) → IsHierarchy h → IsLaidBy h (length h) rows nearly ps → ArePointersSound h (places_in h rows)
+pub pointers_sound : (h : Classes) (rows : List ClassLayout) (nearly : List Bool) (ps : List Primary) → IsHierarchy h → IsLaidBy h (length h) rows nearly ps → ArePointersSound h (places_of h rows)
 pointers_sound h rows nearly ps keeps laid =
     let known : IsLaidOut h rows nearly ps = record { keeps = keeps; laid = laid } in
     record {

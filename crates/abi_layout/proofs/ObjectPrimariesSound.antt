@@ -16,9 +16,10 @@ use Rattle.abi_layout.specs.declared.class_layout.ClassLayout.{ClassLayout}
 use Rattle.abi_layout.specs.Places.{base_place}
 use Rattle.abi_layout.specs.Chains.{IsPrimaryPart, by_direct, by_holder}
 use Rattle.abi_layout.specs.DynamicLaid.{place_from, place_of, virtual_place, primary_of, IsLaidBy}
-use Rattle.abi_layout.specs.SoundLayouts.{is_primary_of, ArePrimariesSound, places_in}
+use Rattle.abi_layout.specs.Places.{places_of}
+use Rattle.abi_layout.specs.SoundLayouts.{is_primary_of, ArePrimariesSound}
 use Rattle.abi_layout.proofs.SettledLemmas.{base_below}
-use Rattle.abi_layout.proofs.SoundLemmas.{place_join}
+use Rattle.abi_layout.proofs.PathPlaces.{place_join}
 use Rattle.abi_layout.proofs.AgreeingRows.{find_same, class_low}
 use Rattle.abi_layout.proofs.ObjectPrimaries.{direct_primary, shared_primary, virtual_listed}
 use Rattle.abi_layout.proofs.ObjectKnown.{IsLaidOut, row_of}
@@ -44,7 +45,7 @@ pub direct_place : (h : Classes) (rows : List ClassLayout) (c d b : ClassId) (s 
 direct_place h rows c d b s class = let longer = place_longer h rows s.path d b class in omega arith
 
 -- a primary base lies where its subobject does
-pub primary_place : (h : Classes) (rows : List ClassLayout) (nearly : List Bool) (ps : List Primary) → IsLaidOut h rows nearly ps → (c : ClassId) (s t : Subobject) → c.0 < length h → IsSubobject h c s → IsPrimaryPart (places_in h rows) c s t → place_of h rows c t ≡ place_of h rows c s
+pub primary_place : (h : Classes) (rows : List ClassLayout) (nearly : List Bool) (ps : List Primary) → IsLaidOut h rows nearly ps → (c : ClassId) (s t : Subobject) → c.0 < length h → IsSubobject h c s → IsPrimaryPart (places_of h rows) c s t → place_of h rows c t ≡ place_of h rows c s
 primary_place h rows nearly ps known c _ _ lt valid (by_direct s d b class primary) =
     let inside = class_inside h c s d known.keeps lt valid class in
     let is : primary_of ps d ≡ Direct b = sym (primary_told h rows nearly ps known d inside) ∙ primary in
@@ -57,26 +58,26 @@ primary_place h rows nearly ps known c _ _ lt valid (by_holder s d v class prima
     let is : primary_of ps d ≡ Virtual v = sym (primary_told h rows nearly ps known d inside) ∙ primary in
     let has = virtual_above h c s d v valid class (shared_primary h rows nearly ps d v known.keeps known.laid inside is).0 in
     let r = row_of h rows nearly ps known c lt in
-    let at : virtual_place h rows c v ≡ place_of h rows c s = r.laid.held v s (virtual_listed h c v known.keeps has) (sym (holder_told h rows nearly ps known c v lt has) ∙ holder) in
+    let at : virtual_place rows c v ≡ place_of h rows c s = r.laid.held v s (virtual_listed h c v known.keeps has) (sym (holder_told h rows nearly ps known c v lt has) ∙ holder) in
     omega arith
 
 -- the test of a holder by the rows is that by the primary bases
-holder_test : (h : Classes) (rows : List ClassLayout) (nearly : List Bool) (ps : List Primary) → IsLaidOut h rows nearly ps → (c v : ClassId) (s : Subobject) → c.0 < length h → IsSubobject h c s → has_primary ps v s ≡ is_primary_of (places_in h rows) v (class_of s)
+holder_test : (h : Classes) (rows : List ClassLayout) (nearly : List Bool) (ps : List Primary) → IsLaidOut h rows nearly ps → (c v : ClassId) (s : Subobject) → c.0 < length h → IsSubobject h c s → has_primary ps v s ≡ is_primary_of (places_of h rows) v (class_of s)
 holder_test h rows nearly ps known c v s lt valid = by_class (class_of s) refl
   where
-    by_class : (o : Option ClassId) → class_of s ≡ o → has_primary_in ps v o ≡ is_primary_of (places_in h rows) v o
+    by_class : (o : Option ClassId) → class_of s ≡ o → has_primary_in ps v o ≡ is_primary_of (places_of h rows) v o
     by_class None e = refl
     by_class (Some d) e = ap (λ (p : Primary). is_virtual_primary p v) (sym (primary_told h rows nearly ps known d (class_inside h c s d known.keeps lt valid e)))
 
 -- the holder of a virtual base is the first subobject whose primary base it is, by the rows
-pub holder_first : (h : Classes) (rows : List ClassLayout) (nearly : List Bool) (ps : List Primary) → IsLaidOut h rows nearly ps → (c v : ClassId) → c.0 < length h → HasVirtualBase h c v → (places_in h rows).holder c v ≡ find (λ (s : Subobject). is_primary_of (places_in h rows) v (class_of s)) (preorder h c)
+pub holder_first : (h : Classes) (rows : List ClassLayout) (nearly : List Bool) (ps : List Primary) → IsLaidOut h rows nearly ps → (c v : ClassId) → c.0 < length h → HasVirtualBase h c v → (places_of h rows).holder c v ≡ find (λ (s : Subobject). is_primary_of (places_of h rows) v (class_of s)) (preorder h c)
 holder_first h rows nearly ps known c v lt has =
     holder_told h rows nearly ps known c v lt has
-    ∙ find_same (has_primary ps v) (λ (s : Subobject). is_primary_of (places_in h rows) v (class_of s)) (preorder h c)
+    ∙ find_same (has_primary ps v) (λ (s : Subobject). is_primary_of (places_of h rows) v (class_of s)) (preorder h c)
     (λ s listed. holder_test h rows nearly ps known c v s lt (has_preorder h c s listed))
 
 -- the primary bases of a laid hierarchy are sound
-pub primaries_sound : (h : Classes) (rows : List ClassLayout) (nearly : List Bool) (ps : List Primary) → IsHierarchy h → IsLaidBy h (length h) rows nearly ps → ArePrimariesSound h (places_in h rows)
+pub primaries_sound : (h : Classes) (rows : List ClassLayout) (nearly : List Bool) (ps : List Primary) → IsHierarchy h → IsLaidBy h (length h) rows nearly ps → ArePrimariesSound h (places_of h rows)
 primaries_sound h rows nearly ps keeps laid =
     let known : IsLaidOut h rows nearly ps = record { keeps = keeps; laid = laid } in
     record {

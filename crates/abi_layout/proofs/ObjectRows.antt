@@ -29,7 +29,7 @@ use Rattle.abi_layout.proofs.Stages.{Has, split, IsPut}
 use Rattle.abi_layout.proofs.Each.{not_both}
 use Rattle.abi_layout.proofs.SettledLemmas.{base_below}
 use Rattle.abi_layout.proofs.OpenLemmas.{virtual_below}
-use Rattle.abi_layout.proofs.Arranged.{align_divides}
+use Rattle.abi_layout.proofs.Bounds.{align_divides}
 use Rattle.abi_layout.proofs.Pairs.{Pairs, pairs_weaker}
 use Rattle.abi_layout.proofs.ObjectTree.{Complete, Pointer, Placement, Measures, IsInPlace, AreClear, IsArranged, dynamic_kind, is_no_primary, owns_pointer, one_at, own_pointer, placed_base, placed_members, members_at, contents_of_object, contents_of, rank_of, measures_of, node_of_type}
 use Rattle.abi_layout.proofs.ObjectKinds.{empty_test, empty_by_test, dynamic_not_empty, virtual_dynamic, dynamic_by_test, dynamic_has_data}

@@ -3,7 +3,7 @@ use Rattle.std.proofs.Common.{◌≡◌, ℕ, ◌+◌, ◌*◌, ◌<◌, ◌≤�
 use Rattle.std.specs.List.{slice_get}
 use Rattle.std.proofs.lemmas.Bool.{cases_order}
 use Rattle.abi_layout.specs.Sound.{Divides}
-use Rattle.abi_layout.proofs.TreeSound.{sum_divides, through_divides, itself_divides, zero_divides, copy_ends}
+use Rattle.abi_layout.proofs.Divisions.{sum_divides, through_divides, itself_divides, zero_divides, copy_ends}
 use Rattle.abi_layout.proofs.ObjectTree.{Node, Placement, Step, Contents, start_of, StepsTo, Reaches, here, down, Measures, IsInPlace, AreArranged, IsSoundTree}
 
 in_place : (contents : Contents) (m : Measures) → AreArranged contents m → (n : Node) (s : Step) (k : Placement) → StepsTo contents n s k → IsInPlace m n k

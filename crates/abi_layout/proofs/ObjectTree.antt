@@ -17,7 +17,7 @@ use Rattle.abi_primary.specs.declared.Primary.TheVariants.{None as NoPrimary, Di
 use Rattle.abi_layout.specs.declared.class_layout.ClassLayout.{ClassLayout}
 use Rattle.abi_layout.specs.declared.dynamic_bases.PlacedBase.{PlacedBase}
 use Rattle.abi_layout.specs.Places.{size_of_value, size_in, align_in, nvalign_in, members_in, is_plain_base, base_place}
-use Rattle.abi_layout.specs.Laid.{nvsize_in, count_of, size_of_type, part_at, copies}
+use Rattle.abi_layout.specs.Laid.{nvsize_in, count_of, size_of_type, copies}
 use Rattle.abi_layout.specs.Sound.{Divides}
 use Rattle.abi_layout.specs.Kinds.{Kind, is_kind, has_virtual_function, is_empty}
 use Rattle.abi_layout.specs.Holding.{virtual_primary, holds_base}

@@ -33,7 +33,7 @@ use Rattle.abi_layout.proofs.Stages.{Has, split, has_left, has_right, has_map, h
 use Rattle.abi_layout.proofs.KindLemmas.{from_filter}
 use Rattle.abi_layout.proofs.SettledLemmas.{base_below}
 use Rattle.abi_layout.proofs.OpenLemmas.{virtual_below}
-use Rattle.abi_layout.proofs.Arranged.{align_divides}
+use Rattle.abi_layout.proofs.Bounds.{align_divides}
 use Rattle.abi_layout.proofs.Pairs.{Pairs, pairs_among, pairs_append, pairs_weaker, pairs_map, pairs_by_number, has_mapped}
 use Rattle.abi_layout.proofs.ObjectTree.{Within, Pointer, Placement, Measures, IsInPlace, AreClear, IsArranged, one_at, own_pointer, inner_base, placed_members, members_at, shared_start, contents_of, rank_of, measures_of}
 use Rattle.abi_layout.proofs.ObjectKinds.{dynamic_has_data}

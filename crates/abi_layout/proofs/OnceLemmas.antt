@@ -8,7 +8,7 @@ use Rattle.abi_emptybase.specs.Table.{moved}
 use Rattle.abi_layout.specs.Laid.{copies}
 use Rattle.abi_layout.specs.Repeats.{HasRepeat}
 use Rattle.abi_layout.proofs.Stages.{has_map}
-use Rattle.abi_layout.proofs.TreeSound.{copy_ends}
+use Rattle.abi_layout.proofs.Divisions.{copy_ends}
 
 pub once_left : {X : Type 0} (xs ys : List X) → EachOnce (xs ++ ys) → EachOnce xs
 once_left [] ys once = tt

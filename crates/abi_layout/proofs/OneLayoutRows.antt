@@ -30,7 +30,7 @@ use Rattle.abi_layout.specs.Holding.{virtual_bases}
 use Rattle.abi_layout.specs.PlacedBases.{is_free, free_bases, IsPossible}
 use Rattle.abi_layout.specs.DynamicLaid.{virtuals_in, shared_in, virtual_place, place_of, placed_place, primary_of, fronts, front_components, free_components, object_parts, start_stage, IsArrangedBy, IsDynamicRow}
 use Rattle.abi_layout.proofs.Lists.{has_at}
-use Rattle.abi_layout.proofs.Unique.{same_row}
+use Rattle.abi_layout.proofs.SameRow.{same_row}
 use Rattle.abi_layout.proofs.OpenLemmas.{virtual_below}
 use Rattle.abi_layout.proofs.NestedLemmas.{front_has}
 use Rattle.abi_layout.proofs.AgreeingRows.{AgreeTo, map_same, class_low, primary_agrees, fronts_agree, holder_agrees, free_agree, along_agrees}

@@ -14,9 +14,9 @@ use Rattle.abi_emptybase.specs.Table.{moved}
 use Rattle.abi_layout.specs.declared.component.Component.{Component}
 use Rattle.abi_layout.specs.declared.component.Stage.{Stage}
 use Rattle.abi_layout.specs.declared.class_layout.ClassLayout.{ClassLayout}
-use Rattle.abi_layout.specs.Places.{is_plain_base, size_in, align_in, nvalign_in, bases_in, members_in}
+use Rattle.abi_layout.specs.Places.{size_in, align_in, nvalign_in}
 use Rattle.abi_layout.specs.Kinds.{Kind, in_class, is_kind_in, is_kind, empty_kind, pod_kind, has_virtual_function, is_implicit, is_pod_type, is_empty, IsStatic}
-use Rattle.abi_layout.specs.Laid.{copies, count_of, nvsize_in, size_of_type, align_of_type, parts_of_type, base_component, member_component, base_components, member_components, part_at, parts_at, parts_in_class, parts_below, parts_of, after, after_all}
+use Rattle.abi_layout.specs.Laid.{copies, count_of, nvsize_in, size_of_type, align_of_type, parts_of_type, member_component, member_components, parts_at, after, after_all}
 use Rattle.abi_layout.specs.Known.{IsEarlierType, AreEarlier}
 use Rattle.abi_layout.proofs.Lists.{has_here, has_later}
 

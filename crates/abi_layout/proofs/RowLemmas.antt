@@ -7,7 +7,6 @@ use Rattle.std.proofs.lemmas.Option.{slice_get-map, slice_get_read}
 use Rattle.std.specs.List.{slice_get, Contains}
 use Rattle.std.proofs.Math.Nat.{mul-le-mul_right}
 use Rattle.cxx_hierarchy.specs.declared.records.ClassId.{ClassId}
-use Rattle.cxx_hierarchy.specs.declared.records.Base.{Base}
 use Rattle.cxx_hierarchy.specs.declared.records.Member.{Member}
 use Rattle.cxx_hierarchy.specs.declared.records.FieldType.{FieldType}
 use Rattle.cxx_hierarchy.specs.declared.records.FieldType.TheVariants.{Value, Object}
@@ -16,22 +15,19 @@ use Rattle.cxx_hierarchy.specs.declared.records.Scalar.TheVariants.{Bool as TheB
 use Rattle.cxx_hierarchy.specs.declared.records.ValueType.{ValueType}
 use Rattle.cxx_hierarchy.specs.declared.records.ValueType.TheVariants.{Number, Pointer}
 use Rattle.cxx_hierarchy.specs.Scalars.{size_of}
-use Rattle.cxx_hierarchy.specs.Classes.{Class}
 use Rattle.abi_emptybase.specs.declared.Part.{Part}
 use Rattle.abi_emptybase.specs.Table.{moved}
 use Rattle.abi_layout.specs.declared.component.Component.{Component}
 use Rattle.abi_layout.specs.declared.component.Stage.{Stage}
 use Rattle.abi_layout.specs.declared.known.Known.{Known}
-use Rattle.abi_layout.specs.declared.known.LaidClass.{LaidClass}
 use Rattle.abi_layout.specs.declared.class_layout.ClassLayout.{ClassLayout}
-use Rattle.abi_layout.specs.Places.{size_of_value, is_plain_base}
-use Rattle.abi_layout.specs.Kinds.{empty_kind, pod_kind}
-use Rattle.abi_layout.specs.Laid.{IsNext, ArePlaced, after, after_all, copies, count_of, size_of_type, align_of_type, parts_of_type, base_component, member_component, first_stage, bases_stage, last_stage, IsLayoutOf}
-use Rattle.abi_layout.specs.Alignments.{IsAlignment, byte, two_bytes, four_bytes, eight_bytes, AreWithin, IsFit, AreFit, AreLittle, IsPastLimit}
-use Rattle.abi_layout.specs.Known.{empties_in, pods_in, parts_in, IsWithin, AreAllWithin, IsSized, AreAllSized, IsEarlierType, bases_by, members_by, IsRowOf, HasLarge, IsLaidClass, IsTooLarge}
+use Rattle.abi_layout.specs.Places.{size_of_value}
+use Rattle.abi_layout.specs.Laid.{ArePlaced, after, after_all, copies, count_of, size_of_type, align_of_type, parts_of_type, member_component}
+use Rattle.abi_layout.specs.Alignments.{IsAlignment, byte, two_bytes, four_bytes, eight_bytes, AreWithin, IsFit, AreFit, AreLittle}
+use Rattle.abi_layout.specs.Known.{parts_in, IsSized, AreAllSized, IsEarlierType}
 use Rattle.abi_layout.proofs.Lists.{get_within, has_here, has_later}
 use Rattle.abi_layout.proofs.Parts.{within_further, within_moved, within_both}
-use Rattle.abi_layout.proofs.PlacingLemmas.{size_grows, places_are_one, next_within}
+use Rattle.abi_layout.proofs.PlacingLemmas.{size_grows}
 
 pub copies_more : (n stride : ℕ) → suc n * stride ≡ n * stride + stride
 copies_more n stride = grind arith
@@ -115,6 +111,7 @@ members_fit rows known [] all same earlier little = tt
 members_fit rows known (member ∷ members) all same earlier little = (
   member_fit rows known member all (earlier member (has_here member members)) same little.0,
   members_fit rows known members all same (λ m h. earlier m (has_later member members m h)) little.1,
+)
 
 -- one more of a list's images
 pub map_more : {X Y : Type 0} (f : X → Y) (xs : List X) (i : ℕ) (item : X) → i < length xs → item ≡ get_or xs i item → map f (take (i + 1) xs) ≡ map f (take i xs) ++ f item ∷ []

@@ -26,7 +26,7 @@ use Rattle.abi_layout.specs.OwnPlaces.{own_places}
 use Rattle.abi_layout.specs.Arrangements.{row_from, IsArranged, IsWithinLimit, components_by}
 use Rattle.abi_layout.specs.DynamicLaid.{primary_of, start_stage, IsLayoutBy}
 use Rattle.abi_layout.specs.Settled.{HasRoom, CanSettle, free_table}
-use Rattle.abi_layout.proofs.Fronts.{same_before, longer}
+use Rattle.abi_layout.proofs.LastItems.{same_before, longer}
 use Rattle.abi_layout.proofs.PlacingLemmas.{size_grows}
 use Rattle.abi_layout.proofs.CanSettleLemmas.{AreNested, can_settle}
 use Rattle.abi_layout.proofs.NestedLemmas.{nested_more, shared_takes}

@@ -34,8 +34,8 @@ use Rattle.abi_layout.specs.Arrangements.{row_from, IsArranged, IsWithinLimit, c
 use Rattle.abi_layout.specs.DynamicLaid.{placed_place, virtual_place, primary_of, fronts, start_stage, IsLayoutBy}
 use Rattle.abi_layout.specs.Settled.{held_at, HasRoom, CanSettle, free_table, AreVirtualPlaces}
 use Rattle.abi_layout.specs.ClassRows.{filled_row, AreSmaller, IsOneOrOther, IsClassRow, row_parts, IsRowAdded}
-use Rattle.abi_layout.proofs.Fronts.{last_one}
-use Rattle.abi_layout.proofs.Listed.{placed_length}
+use Rattle.abi_layout.proofs.LastItems.{last_one}
+use Rattle.abi_layout.proofs.PlacedCounts.{placed_length}
 use Rattle.abi_layout.proofs.PartLemmas.{stage_parts}
 use Rattle.abi_layout.proofs.OpenLemmas.{virtual_below}
 use Rattle.abi_layout.proofs.RowPlaces.{opened_can, opened_room}

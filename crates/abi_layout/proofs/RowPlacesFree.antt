@@ -19,7 +19,7 @@ use Rattle.abi_layout.specs.declared.dynamic_bases.PlacedBase.TheVariants.{Own, 
 use Rattle.abi_layout.specs.Holding.{shared_class, virtual_bases}
 use Rattle.abi_layout.specs.PlacedBases.{is_free}
 use Rattle.abi_layout.specs.Settled.{with_free, with_frees, free_table}
-use Rattle.abi_layout.proofs.Locate.{same_class}
+use Rattle.abi_layout.proofs.Searches.{same_class}
 use Rattle.abi_layout.proofs.Parts.{split}
 
 -- a place among others is kept

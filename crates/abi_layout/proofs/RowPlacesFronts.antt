@@ -26,7 +26,7 @@ use Rattle.abi_layout.specs.Laid.{IsPlace, ArePlaced}
 use Rattle.abi_layout.specs.PlacedBases.{is_first_base, is_other_base, front_bases, IsPossible}
 use Rattle.abi_layout.specs.OwnPlaces.{is_own, own_place, own_places}
 use Rattle.abi_layout.specs.DynamicLaid.{primary_of}
-use Rattle.abi_layout.proofs.Locate.{same_class}
+use Rattle.abi_layout.proofs.Searches.{same_class}
 use Rattle.abi_layout.proofs.Parts.{split}
 use Rattle.abi_layout.proofs.NestedLemmas.{base_place_own, own_place_at}
 

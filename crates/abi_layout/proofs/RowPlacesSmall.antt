@@ -28,7 +28,7 @@ use Rattle.abi_layout.specs.DynamicLaid.{start_stage}
 use Rattle.abi_layout.specs.ClassRows.{AreSmaller}
 use Rattle.abi_layout.proofs.Lists.{has_here, has_later}
 use Rattle.abi_layout.proofs.Parts.{split}
-use Rattle.abi_layout.proofs.TreeSound.{zero_divides}
+use Rattle.abi_layout.proofs.Divisions.{zero_divides}
 use Rattle.abi_layout.proofs.BroughtLemmas.{held_is_primary}
 
 -- all parts are of classes of a smaller number

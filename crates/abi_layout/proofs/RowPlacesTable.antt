@@ -26,7 +26,7 @@ use Rattle.abi_layout.specs.Holding.{shared_class, virtual_bases, AreHolders}
 use Rattle.abi_layout.specs.Settled.{place_by, held_at, AreSettled}
 use Rattle.abi_layout.specs.DynamicLaid.{virtuals_in, shared_in, virtual_place, place_from, place_of}
 use Rattle.abi_layout.proofs.Lists.{number, get_within}
-use Rattle.abi_layout.proofs.Locate.{first_that, position_is}
+use Rattle.abi_layout.proofs.Searches.{first_that, position_is}
 use Rattle.abi_layout.proofs.KindLemmas.{has_of}
 use Rattle.abi_layout.proofs.SceneLemmas.{holder_below, holder_is, holder_is_none}
 use Rattle.abi_layout.proofs.OpenLemmas.{virtuals_below}

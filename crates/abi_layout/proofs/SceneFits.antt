@@ -99,6 +99,7 @@ placed_all_fit h c rows known members ps list holders keeps scene sized [] all =
 placed_all_fit h c rows known members ps list holders keeps scene sized (base ∷ bases) all = (
   placed_fit h c rows known members ps list holders keeps scene sized base (All-head (λ (base : PlacedBase). (class_of_placed base).0 < c.0) base bases all),
   placed_all_fit h c rows known members ps list holders keeps scene sized bases (All-tail (λ (base : PlacedBase). (class_of_placed base).0 < c.0) base bases all),
+)
 
 -- a class before is of a size that moves
 pub nvsize_small : (rows : List ClassLayout) (known : List Known) (d : ClassId) → AreAllSized rows known → d.0 < length rows → d.0 < length known → nvsize_in (slice_get rows d.0) ≤ 1000000

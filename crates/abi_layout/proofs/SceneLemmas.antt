@@ -12,7 +12,7 @@ use Rattle.abi_primary.specs.declared.Primary.{Primary}
 use Rattle.abi_primary.specs.PrimaryBase.{has_primary}
 use Rattle.abi_primary.specs.Holder.{holder_of}
 use Rattle.abi_primary.proofs.PrimaryLemmas.{found, not_found}
-use Rattle.abi_layout.specs.Holding.{is_holder, holds_base, kept_if, held_base, virtual_primary, AreHolders}
+use Rattle.abi_layout.specs.Holding.{is_holder, holds_base, AreHolders}
 use Rattle.abi_layout.proofs.Parts.{split}
 
 pub position_below : {X : Type 0} (p : X → Bool) (xs : List X) (n : ℕ) → position p xs ≡ Some n → n < length xs

@@ -10,8 +10,7 @@ use Rattle.abi_layout.specs.declared.component.Component.{Component}
 use Rattle.abi_layout.specs.declared.component.Stage.{Stage}
 use Rattle.abi_layout.specs.Sound.{Divides}
 use Rattle.abi_layout.specs.Laid.{IsCandidate, at_start, behind, IsPlace, after, ArePlaced, after_all}
-use Rattle.abi_layout.proofs.Tree.{Placement}
-use Rattle.abi_layout.proofs.TreeSound.{zero_divides}
+use Rattle.abi_layout.proofs.Divisions.{zero_divides}
 
 -- x stands in the list
 abbrev pub Has : {X : Type 0} → List X → X → Type 0

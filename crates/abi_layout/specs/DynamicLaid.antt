@@ -10,7 +10,7 @@ use Rattle.cxx_subobject.specs.Subobjects.{class_of}
 use Rattle.cxx_subobject.specs.Preorder.{preorder}
 use Rattle.abi_emptybase.specs.declared.Part.{Part}
 use Rattle.abi_primary.specs.declared.Primary.{Primary}
-use Rattle.abi_primary.specs.declared.Primary.TheVariants.{None as NoPrimary, Direct, Virtual}
+use Rattle.abi_primary.specs.declared.Primary.TheVariants.{None as NoPrimary}
 use Rattle.abi_primary.specs.Kinds.{IsDynamic}
 use Rattle.abi_primary.specs.NearlyEmpty.{IsNearlyEmpty}
 use Rattle.abi_primary.specs.PrimaryBase.{IsPrimary}

@@ -9,12 +9,9 @@ use Rattle.cxx_hierarchy.specs.Classes.{Class}
 use Rattle.abi_emptybase.specs.declared.Part.{Part}
 use Rattle.abi_layout.specs.declared.component.Component.{Component}
 use Rattle.abi_layout.specs.declared.component.Stage.{Stage}
-use Rattle.abi_primary.specs.declared.Primary.TheVariants.{None as NoPrimary}
 use Rattle.abi_layout.specs.declared.known.Known.{Known}
-use Rattle.abi_layout.specs.declared.known.LaidClass.{LaidClass}
 use Rattle.abi_layout.specs.declared.class_layout.ClassLayout.{ClassLayout}
-use Rattle.abi_layout.specs.Kinds.{empty_kind, pod_kind}
-use Rattle.abi_layout.specs.Laid.{base_components, member_components, last_stage, IsNext, first_stage, IsLayoutOf}
+use Rattle.abi_layout.specs.Laid.{member_components}
 use Rattle.abi_layout.specs.Alignments.{IsAlignment, AreWithin}
 
 abbrev pub is_empty_in : Option Known → Bool

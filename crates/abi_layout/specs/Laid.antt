@@ -1,19 +1,17 @@
 -- Which layout the rules of the ABI give (Itanium C++ ABI 2.4, and 2.2 for a class that is POD).
 use Rattle.std.specs.Prelude.{◌≡◌, ℕ, zero, suc, ◌+◌, ◌*◌, ◌<◌, ◌≤◌, Bool, true, false, if◌then◌else◌, max, Option, Some, None, List, [], ◌∷◌, ◌++◌, map, filter, length, slice_get}
 use Rattle.cxx_hierarchy.specs.declared.records.ClassId.{ClassId}
-use Rattle.cxx_hierarchy.specs.declared.records.Base.{Base}
 use Rattle.cxx_hierarchy.specs.declared.records.Member.{Member}
 use Rattle.cxx_hierarchy.specs.declared.records.FieldType.{FieldType}
 use Rattle.cxx_hierarchy.specs.declared.records.FieldType.TheVariants.{Value, Object}
-use Rattle.cxx_hierarchy.specs.Classes.{Class, Classes, class_at}
+use Rattle.cxx_hierarchy.specs.Classes.{Class}
 use Rattle.abi_emptybase.specs.declared.Part.{Part}
 use Rattle.abi_emptybase.specs.Table.{moved, has_conflict}
 use Rattle.abi_layout.specs.declared.component.Component.{Component}
 use Rattle.abi_layout.specs.declared.component.Stage.{Stage}
-use Rattle.abi_primary.specs.declared.Primary.TheVariants.{None as NoPrimary}
 use Rattle.abi_layout.specs.declared.class_layout.ClassLayout.{ClassLayout}
-use Rattle.abi_layout.specs.Kinds.{is_empty, is_pod}
-use Rattle.abi_layout.specs.Places.{size_of_value, size_in, align_in, bases_in, members_in, is_plain_base}
+use Rattle.abi_layout.specs.Kinds.{is_empty}
+use Rattle.abi_layout.specs.Places.{size_of_value, size_in, align_in}
 use Rattle.abi_layout.specs.Sound.{Divides}
 pub use Rattle.abi_layout.specs.Places.{nvalign_in}
 pub use Rattle.abi_layout.specs.Locations.{count_of}

@@ -70,6 +70,14 @@ fn nth_holder(holders: &[Option<Subobject>], number: Option<usize>) -> Option<&S
     }
 }
 
+/// The subobject that holds a virtual base, by the row of the class.
+fn holder_of_row(row: &ClassLayout, v: ClassId) -> Option<&Subobject>
+    ensures { option_copied result ≡ nth_holder row.now.holders (position (λ (w : ClassId). nat_eq w.0 v.0) row.now.virtual_bases) }
+{
+    let number = number_of_virtual(row.virtual_bases.as_slice(), v);
+    nth_holder(row.holders.as_slice(), number)
+}
+
 impl AbiLayout {
     /// The place of a direct non-virtual base in its class, in bytes.
     fn base_place(&self, h: &Hierarchy, c: ClassId, b: ClassId) -> u32
@@ -139,9 +147,7 @@ impl AbiLayout {
         if c.0 as usize >= self.len() {
             return None;
         }
-        let row = self.layout(c);
-        let number = number_of_virtual(row.virtual_bases.as_slice(), v);
-        nth_holder(row.holders.as_slice(), number)
+        holder_of_row(self.layout(c), v)
     }
 
     /// The place of a member in an object of the class that declares it, in bytes; 0 where there is no such member.

@@ -1,21 +1,13 @@
--- At most one layout meets the rules.
+-- Two rows with the same numbers are one.
 use Rattle.std.proofs.Common.{◌≡◌, ℕ, zero, suc, ◌+◌, ◌<◌, ◌≤◌, ◌⊎◌, inl, inr, Bool, Option, Some, List, [], ◌∷◌, length, refl, ap, subst, sym, ◌∙◌, arith}
 use Rattle.std.specs.Prelude.{if◌then◌else◌, max}
 use Rattle.std.specs.List.{slice_get}
 use Rattle.std.proofs.lemmas.Bool.{cases_order}
 use Rattle.std.proofs.lemmas.Option.{slice_get_past}
 use Rattle.cxx_hierarchy.specs.declared.records.ClassId.{ClassId}
-use Rattle.cxx_hierarchy.specs.Classes.{Class, Classes, class_at}
-use Rattle.abi_layout.specs.declared.component.Component.{Component}
-use Rattle.abi_layout.specs.declared.component.Stage.{Stage}
 use Rattle.cxx_subobject.specs.declared.Subobject.{Subobject}
 use Rattle.abi_primary.specs.declared.Primary.{Primary}
 use Rattle.abi_layout.specs.declared.class_layout.ClassLayout.{ClassLayout}
-use Rattle.abi_layout.specs.Kinds.{is_empty, is_pod, IsStatic}
-use Rattle.abi_layout.specs.Laid.{IsNext, ArePlaced, after_all, base_components, member_components, parts_of, first_stage, last_stage, IsLayoutOf, IsRow, IsLaidFront, IsLaid}
-use Rattle.abi_layout.proofs.Lists.{number, get_within}
-use Rattle.abi_layout.proofs.PlacingLemmas.{next_is_one, places_are_one}
-use Rattle.abi_layout.proofs.PartLemmas.{earlier_classes, Agree, bases_agree, members_agree, parts_agree}
 
 abbrev pub row_with : ℕ → ℕ → ℕ → ℕ → ℕ → Primary → List ℕ → List ClassId → List ℕ → List (Option Subobject) → List ℕ → ClassLayout
 row_with size align dsize nvsize nvalign primary bases shared virtuals holders members = record { size = size; align = align; dsize = dsize; nvsize = nvsize; nvalign = nvalign; primary = primary; base_places = bases; virtual_bases = shared; virtual_places = virtuals; holders = holders; member_places = members }

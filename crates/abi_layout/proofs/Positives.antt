@@ -1,31 +1,21 @@
--- What the rules give of each row alone: its sizes are in order, its alignment is one, and what is not empty takes a byte.
+-- Alignments, counts and products are at least 1.
 use Rattle.std.proofs.Common.{◌≡◌, ℕ, zero, suc, ◌+◌, ◌*◌, ◌<◌, ◌≤◌, inl, inr, ⊎_elim, Bool, true, false, Option, Some, None, List, [], ◌∷◌, ◌++◌, map, length, refl, subst, sym, ◌∙◌, arith}
 use Rattle.std.specs.Prelude.{if◌then◌else◌, max, filter}
 use Rattle.std.specs.List.{slice_get}
 use Rattle.std.proofs.lemmas.Bool.{cases_order}
 use Rattle.std.proofs.Math.Nat.{le-max_left, le-max_right, max-eq_left, max-eq_right, mul-le-mul_right}
 use Rattle.cxx_hierarchy.specs.declared.records.ClassId.{ClassId}
-use Rattle.cxx_hierarchy.specs.declared.records.Base.{Base}
-use Rattle.cxx_hierarchy.specs.declared.records.Member.{Member}
 use Rattle.cxx_hierarchy.specs.declared.records.Scalar.{Scalar}
 use Rattle.cxx_hierarchy.specs.declared.records.Scalar.TheVariants.{Bool as TheBool, Char, SChar, UChar, Short, UShort, Int, UInt, Long, ULong, LongLong, ULongLong}
 use Rattle.cxx_hierarchy.specs.declared.records.ValueType.{ValueType}
 use Rattle.cxx_hierarchy.specs.declared.records.ValueType.TheVariants.{Number, Pointer}
-use Rattle.cxx_hierarchy.specs.declared.records.FieldType.{FieldType}
-use Rattle.cxx_hierarchy.specs.declared.records.FieldType.TheVariants.{Value, Object}
 use Rattle.cxx_hierarchy.specs.Scalars.{size_of}
-use Rattle.cxx_hierarchy.specs.Classes.{Class, Classes, class_at}
 use Rattle.abi_layout.specs.declared.component.Component.{Component}
 use Rattle.abi_layout.specs.declared.component.Stage.{Stage}
-use Rattle.abi_layout.specs.declared.class_layout.ClassLayout.{ClassLayout}
-use Rattle.abi_layout.specs.Places.{size_of_value, size_in, align_in, is_plain_base}
-use Rattle.abi_layout.specs.Sound.{Divides}
-use Rattle.abi_layout.specs.Kinds.{is_empty, is_pod, IsStatic}
-use Rattle.abi_layout.specs.Laid.{nvsize_in, nvalign_in, count_of, size_of_type, align_of_type, base_components, member_components, parts_of, first_stage, last_stage, after, after_all, IsRow, IsLaid}
+use Rattle.abi_layout.specs.Places.{size_of_value}
+use Rattle.abi_layout.specs.Laid.{count_of, after, after_all}
 use Rattle.abi_layout.specs.Alignments.{IsAlignment, byte, two_bytes, four_bytes, eight_bytes}
-use Rattle.abi_layout.proofs.Stages.{Has, split, has_cases, put_of}
-use Rattle.abi_layout.proofs.RowTree.{Item, a_base, a_member, items, component_in_row, dsize_in, HasRow, row_of, last_of_items, items_placed, last_is}
-use Rattle.abi_layout.proofs.KindLemmas.{contains_of, from_filter, from_map, is_empty_item, other_has_some}
+use Rattle.abi_layout.proofs.Stages.{Has}
 
 scalar_align : (t : Scalar) → IsAlignment (size_of t)
 scalar_align TheBool = byte

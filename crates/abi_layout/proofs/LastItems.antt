@@ -1,0 +1,24 @@
+-- A list with one item more.
+use Rattle.std.proofs.Common.{◌≡◌, ℕ, zero, suc, ◌+◌, ◌-◌, ◌<◌, ◌≤◌, ◌⊎◌, inl, inr, ⊎_elim, Bool, true, false, Option, Some, None, List, [], ◌∷◌, ◌++◌, map, length, refl, ap, subst, sym, ◌∙◌, arith}
+use Rattle.std.specs.Prelude.{filter, if◌then◌else◌}
+use Rattle.std.specs.List.{slice_get}
+use Rattle.std.proofs.lemmas.Option.{slice_get_within}
+
+pub longer : {X : Type 0} (xs : List X) (x : X) → length (xs ++ x ∷ []) ≡ length xs + 1
+longer [] x = refl
+longer (y ∷ xs) x = let r = longer xs x in omega arith
+
+pub same_before : {X : Type 0} (xs : List X) (x : X) (i : ℕ) → i < length xs → slice_get xs i ≡ slice_get (xs ++ x ∷ []) i
+same_before [] x i lt = absurd (omega arith)
+same_before (y ∷ xs) x zero lt = refl
+same_before (y ∷ xs) x (suc i) lt = same_before xs x i (omega arith)
+
+pub last_one : {X : Type 0} (xs : List X) (x : X) → slice_get (xs ++ x ∷ []) (length xs) ≡ Some x
+last_one [] x = refl
+last_one (y ∷ xs) x = last_one xs x
+
+pub old_or_last : {X : Type 0} (xs : List X) (x : X) (i : ℕ) (y : X) → slice_get (xs ++ x ∷ []) i ≡ Some y → (slice_get xs i ≡ Some y) ⊎ ((i ≡ length xs) × (x ≡ y))
+old_or_last [] x zero y e = inr (refl, cc)
+old_or_last [] x (suc i) y e = cc
+old_or_last (z ∷ xs) x zero y e = inl e
+old_or_last (z ∷ xs) x (suc i) y e = ⊎_elim (λ l. inl l) (λ p. let q = p.0 in inr (omega arith, p.1)) (old_or_last xs x i y e)
