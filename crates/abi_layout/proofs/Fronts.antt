@@ -102,8 +102,8 @@ next_same h static n rows known class front at =
     record {
       bases = bases_agree n (empties_in known) (is_empty h) rows rows (parts_in known) (parts_of h rows) class earlier (empties_known h n rows known front) agree;
       members = members_agree n rows rows (parts_in known) (parts_of h rows) class earlier agree;
-      empty = empty_agrees n (empties_in known) (is_empty h) class earlier (empties_known h n rows known front) ∙ sym (kind_here empty_kind empty_by_earlier h static (number n) class at);
-      pod = pod_agrees n (pods_in known) (is_pod h) class earlier (pods_known h n rows known front) ∙ sym (kind_here pod_kind pod_by_earlier h static (number n) class at);
+      empty = empty_agrees n (empties_in known) (is_empty h) class earlier (empties_known h n rows known front) ∙ sym (kind_here empty_kind empty_by_earlier h (earlier_classes h static) (number n) class at);
+      pod = pod_agrees n (pods_in known) (is_pod h) class earlier (pods_known h n rows known front) ∙ sym (kind_here pod_kind pod_by_earlier h (earlier_classes h static) (number n) class at);
     }
 
 row_by_rules : (h : Classes) (n : ℕ) (rows : List ClassLayout) (known : List Known) (class : Class) (row : ClassLayout) → IsSame h n rows known class → IsRowBy rows known (number n) class row → IsRow h rows (number n) class row
