@@ -1,5 +1,5 @@
 -- The components of the next class by what is known of the classes before it are those of the rules.
-use Rattle.std.proofs.Common.{◌≡◌, ℕ, zero, suc, ◌+◌, ◌<◌, ◌≤◌, Bool, Some, List, [], ◌∷◌, ◌++◌, map, take, length, refl, ap, subst, sym, ◌∙◌, arith}
+use Rattle.std.proofs.Common.{◌≡◌, ℕ, zero, suc, ◌+◌, ◌<◌, Bool, Some, List, [], ◌∷◌, ◌++◌, map, take, length, refl, ap, subst, sym, ◌∙◌, arith}
 use Rattle.std.specs.Prelude.{All, IsTrue, ◌↔◌, if◌then◌else◌}
 use Rattle.std.specs.List.{slice_get}
 use Rattle.std.proofs.lemmas.Option.{slice_get_within}
@@ -22,7 +22,7 @@ use Rattle.abi_layout.specs.Laid.{nvsize_in, member_component}
 use Rattle.abi_layout.specs.Known.{empties_in, pods_in, parts_in, members_by}
 use Rattle.abi_layout.specs.Brought.{brought_by}
 use Rattle.abi_layout.specs.PlacedBases.{class_of_placed, subobject_of, free_bases, placed_component, IsPossible}
-use Rattle.abi_layout.specs.DynamicLaid.{primary_of, fronts, object_parts, HasPointer, IsLaidBy}
+use Rattle.abi_layout.specs.DynamicLaid.{primary_of, fronts, object_parts, IsLaidBy}
 use Rattle.abi_layout.specs.Arrangements.{components_by}
 use Rattle.abi_layout.specs.Refusals.{IsNextClass}
 use Rattle.abi_layout.specs.LaidSoFar.{IsLaidSoFar}

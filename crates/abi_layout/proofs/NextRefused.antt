@@ -1,5 +1,5 @@
 -- A class that is refused is too large by the rules, or brings one pair of class and place twice.
-use Rattle.std.proofs.Common.{◌≡◌, ℕ, ◌+◌, ◌<◌, ◌≤◌, ◌⊎◌, ⊎_elim, inl, inr, Bool, Some, None, Option, List, [], ◌∷◌, ◌++◌, map, length, refl, ap, subst, sym, ◌∙◌, arith}
+use Rattle.std.proofs.Common.{◌≡◌, ℕ, ◌⊎◌, ⊎_elim, inl, inr, Bool, Some, None, Option, List, [], ◌∷◌, ◌++◌, map, length, refl, subst, sym, ◌∙◌}
 use Rattle.std.specs.Prelude.{Contains}
 use Rattle.std.specs.Option.{option_map}
 use Rattle.std.specs.List.{slice_get}
@@ -9,23 +9,21 @@ use Rattle.cxx_hierarchy.specs.declared.stop.Stop.{Stop}
 use Rattle.cxx_hierarchy.specs.declared.stop.Stop.TheVariants.{NoMemory, Refused, Limit}
 use Rattle.cxx_hierarchy.specs.declared.stop.Rule.TheVariants.{SharedPlace}
 use Rattle.cxx_hierarchy.specs.declared.stop.LimitNo.TheVariants.{L6}
-use Rattle.cxx_hierarchy.specs.Classes.{Class, Classes, class_at}
+use Rattle.cxx_hierarchy.specs.Classes.{Class, Classes}
 use Rattle.abi_emptybase.specs.declared.Part.{Part}
 use Rattle.abi_primary.specs.declared.Primary.{Primary}
 use Rattle.abi_layout.specs.declared.component.Component.{Component}
-use Rattle.abi_layout.specs.declared.component.Stage.{Stage}
 use Rattle.abi_layout.specs.declared.known.Known.{Known}
 use Rattle.abi_layout.specs.declared.class_layout.ClassLayout.{ClassLayout}
 use Rattle.abi_layout.specs.declared.dynamic_bases.PlacedBase.{PlacedBase}
-use Rattle.abi_layout.specs.Kinds.{pod_kind, is_empty, is_pod}
+use Rattle.abi_layout.specs.Kinds.{pod_kind, is_empty}
 use Rattle.abi_layout.specs.Laid.{member_component}
 use Rattle.abi_layout.specs.Known.{pods_in, members_by}
-use Rattle.abi_layout.specs.Brought.{brought_by}
-use Rattle.abi_layout.specs.PlacedBases.{class_of_placed, subobject_of, free_bases, placed_component}
+use Rattle.abi_layout.specs.PlacedBases.{free_bases, placed_component}
 use Rattle.abi_layout.specs.Repeats.{HasRepeat, SomeRepeats}
 use Rattle.abi_layout.specs.DynamicLaid.{fronts, object_parts, start_stage, front_components, free_components, IsLayoutBy, IsArrangedBy, BringsTwice}
 use Rattle.abi_layout.specs.Arrangements.{row_from, IsTooLargeBy, IsShared, components_by}
-use Rattle.abi_layout.specs.Refusals.{HasSize, IsLargeClass, HasSharedPlace, StopsAt, by_size, by_place}
+use Rattle.abi_layout.specs.Refusals.{IsLargeClass, StopsAt, by_size, by_place}
 use Rattle.abi_layout.proofs.Lists.{has_at}
 use Rattle.abi_layout.proofs.KindLemmas.{contains_of, has_of}
 use Rattle.abi_layout.proofs.Stages.{has_left, has_right}

@@ -1,16 +1,14 @@
 -- What is known while the next class is laid out, and where classes end once it is.
-use Rattle.std.proofs.Common.{◌≡◌, ℕ, zero, suc, ◌+◌, ◌<◌, ◌≤◌, ⊎_elim, Bool, true, false, Option, Some, None, List, [], ◌∷◌, ◌++◌, map, length, get_or, refl, ap, subst, sym, ◌∙◌, arith}
-use Rattle.std.specs.Prelude.{position, max, if◌then◌else◌}
-use Rattle.std.specs.List.{slice_get}
+use Rattle.std.proofs.Common.{◌≡◌, ℕ, zero, suc, ◌+◌, ◌≤◌, ⊎_elim, Bool, true, false, Option, None, List, [], ◌∷◌, ◌++◌, map, refl, ap, sym, ◌∙◌, arith}
+use Rattle.std.specs.Prelude.{position, if◌then◌else◌}
 use Rattle.std.proofs.lemmas.Bool.{cases_order}
 use Rattle.std.proofs.lemmas.Option.{slice_get_within}
 use Rattle.cxx_hierarchy.specs.declared.records.ClassId.{ClassId}
-use Rattle.cxx_hierarchy.specs.Classes.{Class, Classes, class_at}
+use Rattle.cxx_hierarchy.specs.Classes.{Class, Classes}
 use Rattle.cxx_subobject.specs.declared.Subobject.{Subobject}
 use Rattle.cxx_subobject.specs.Preorder.{preorder}
 use Rattle.abi_emptybase.specs.declared.Part.{Part}
 use Rattle.abi_primary.specs.declared.Primary.{Primary}
-use Rattle.abi_primary.specs.declared.Primary.TheVariants.{None as NoPrimary}
 use Rattle.abi_primary.specs.PrimaryBase.{has_primary}
 use Rattle.abi_layout.specs.declared.component.Component.{Component}
 use Rattle.abi_layout.specs.declared.component.Stage.{Stage}
@@ -18,7 +16,7 @@ use Rattle.abi_layout.specs.declared.known.Known.{Known}
 use Rattle.abi_layout.specs.declared.class_layout.ClassLayout.{ClassLayout}
 use Rattle.abi_layout.specs.Laid.{after_all}
 use Rattle.abi_layout.specs.Holding.{AreHolders}
-use Rattle.abi_layout.specs.Scenes.{AreBefore, AreInside, IsScene}
+use Rattle.abi_layout.specs.Scenes.{AreBefore, IsScene}
 use Rattle.abi_layout.specs.DynamicLaid.{primary_of, placed_place, fronts, start_stage, IsLayoutBy}
 use Rattle.abi_layout.specs.ClassRows.{IsClassRow}
 use Rattle.abi_layout.proofs.Lists.{number}

@@ -1,38 +1,26 @@
 -- Whether an empty base of the next class lies elsewhere than at its start.
-use Rattle.std.proofs.Common.{◌≡◌, ℕ, zero, suc, ◌+◌, ◌<◌, ◌≤◌, Bool, true, false, Option, Some, None, List, [], ◌∷◌, length, refl, ap, subst, sym, ◌∙◌, arith}
-use Rattle.std.specs.Prelude.{Contains, IsTrue, ◌↔◌, not, ◌&&◌, ◌||◌, ◌==◌}
-use Rattle.std.specs.List.{list_any, slice_get}
+use Rattle.std.proofs.Common.{◌≡◌, ℕ, ◌+◌, ◌<◌, ◌≤◌, Bool, false, List, [], ◌∷◌, length, refl, ap, subst, ◌∙◌, arith}
+use Rattle.std.specs.Prelude.{Contains, not, ◌&&◌, ◌||◌, ◌==◌}
+use Rattle.std.specs.List.{list_any}
 use Rattle.cxx_hierarchy.specs.declared.records.ClassId.{ClassId}
 use Rattle.cxx_hierarchy.specs.Classes.{Classes}
 use Rattle.cxx_hierarchy.specs.Hierarchies.{IsHierarchy}
-use Rattle.cxx_subobject.specs.declared.Root.TheVariants.{Whole, Shared}
 use Rattle.cxx_subobject.specs.declared.Subobject.{Subobject}
 use Rattle.cxx_subobject.specs.Subobjects.{IsSubobject, whole, shared, class_of, last_of}
 use Rattle.cxx_subobject.specs.Preorder.{preorder}
 use Rattle.cxx_subobject.proofs.TreeLemmas.{preorder_lists, has_preorder}
 use Rattle.abi_primary.specs.declared.Primary.{Primary}
-use Rattle.abi_primary.specs.NearlyEmpty.{IsNearlyEmpty}
 use Rattle.abi_layout.specs.declared.known.Known.{Known}
 use Rattle.abi_layout.specs.declared.class_layout.ClassLayout.{ClassLayout}
 use Rattle.abi_layout.specs.Kinds.{is_empty}
 use Rattle.abi_layout.specs.Places.{place_along}
 use Rattle.abi_layout.specs.Known.{empties_in}
-use Rattle.abi_layout.specs.Laid.{nvsize_in}
 use Rattle.abi_layout.specs.DynamicLaid.{place_of, place_from, is_whole, is_empty_in, is_shifted}
-use Rattle.abi_layout.specs.LaidSoFar.{known_empty, is_shifted_base, ArePaths}
+use Rattle.abi_layout.specs.LaidSoFar.{is_shifted_base, ArePaths}
 use Rattle.abi_layout.proofs.Lists.{has_here, has_later}
 use Rattle.abi_layout.proofs.CanSettleLemmas.{AreNested, last_below, along_within, path_of}
 use Rattle.abi_layout.proofs.OpenLemmas.{virtual_below}
 use Rattle.abi_layout.proofs.AgreeingRows.{any_same}
-
-pub any_at : {X : Type 0} (p : X → Bool) (xs : List X) (i : ℕ) (x : X) → slice_get xs i ≡ Some x → p x ≡ true → list_any p xs ≡ true
-any_at p [] i x e t = cc
-any_at p (y ∷ xs) zero x e t = let same : y ≡ x = cc in ap (λ b. b || list_any p xs) (ap p same ∙ t)
-any_at p (y ∷ xs) (suc i) x e t = or_true (p y) (list_any p xs) (any_at p xs i x e t)
-  where
-    or_true : (a b : Bool) → b ≡ true → (a || b) ≡ true
-    or_true true b f = refl
-    or_true false b f = f
 
 pub any_none : {X : Type 0} (p : X → Bool) (xs : List X) → ((x : X) → Contains xs x → p x ≡ false) → list_any p xs ≡ false
 any_none p [] each = refl
@@ -64,21 +52,3 @@ paths_are h rows ps c list keeps nested count is = record {
   each = λ s has. path_of h c s (length rows) keeps ((preorder_lists h c keeps).valid s (subst (λ (xs : List Subobject). Contains xs s) is has)) (omega arith);
   small = λ s has. path_small h rows ps c s keeps nested ((preorder_lists h c keeps).valid s (subst (λ (xs : List Subobject). Contains xs s) is has));
 }
-
--- a class is nearly empty where all else is so, and no base of it is shifted
-pub nearly_empty_when : (h : Classes) (nearly : List Bool) (shifted : Bool) (c : ClassId) → IsNearlyEmpty h nearly false c → shifted ≡ false → IsNearlyEmpty h nearly shifted c
-nearly_empty_when h nearly shifted c all_else e = subst (λ b. IsNearlyEmpty h nearly b c) (sym e) all_else
-
-pub all_else_is : (h : Classes) (nearly : List Bool) (shifted : Bool) (c : ClassId) → IsNearlyEmpty h nearly shifted c → IsNearlyEmpty h nearly false c
-all_else_is h nearly shifted c is = record { dynamic = is.dynamic; no_member = is.no_member; light = is.light; one = is.one; unshifted = refl }
-
--- the test in two steps
-pub nearly_by_steps : (h : Classes) (nearly : List Bool) (shifted : Bool) (c : ClassId) (told test : Bool) → (IsTrue told ↔ IsNearlyEmpty h nearly false c) → told ≡ true → test ≡ shifted → IsTrue (not test) ↔ IsNearlyEmpty h nearly shifted c
-nearly_by_steps h nearly shifted c told test all_else yes_told same = by_test test same
-  where
-    by_test : (b : Bool) → b ≡ shifted → IsTrue (not b) ↔ IsNearlyEmpty h nearly shifted c
-    by_test true e = (λ t. let f : false ≡ true = t in cc, λ is. let f : true ≡ false = e ∙ is.unshifted in cc)
-    by_test false e = (λ t. nearly_empty_when h nearly shifted c (all_else.0 yes_told) (sym e), λ is. refl)
-
-pub not_nearly : (h : Classes) (nearly : List Bool) (shifted : Bool) (c : ClassId) (told : Bool) → (IsTrue told ↔ IsNearlyEmpty h nearly false c) → told ≡ false → IsTrue false ↔ IsNearlyEmpty h nearly shifted c
-not_nearly h nearly shifted c told all_else is_not = (λ t. let f : false ≡ true = t in cc, λ is. let t : told ≡ true = all_else.1 (all_else_is h nearly shifted c is) in let f : false ≡ true = sym is_not ∙ t in cc)

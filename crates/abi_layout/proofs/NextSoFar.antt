@@ -1,13 +1,12 @@
 -- With the next class one class more is known.
-use Rattle.std.proofs.Common.{◌≡◌, ℕ, zero, suc, ◌+◌, ◌<◌, ◌≤◌, ◌⊎◌, ⊎_elim, inl, inr, Bool, Option, Some, None, List, [], ◌∷◌, ◌++◌, map, length, refl, ap, subst, sym, ◌∙◌, arith}
+use Rattle.std.proofs.Common.{◌≡◌, ℕ, ◌+◌, ◌<◌, ◌⊎◌, ⊎_elim, inl, inr, Bool, Option, Some, None, List, [], ◌∷◌, ◌++◌, map, length, refl, ap, subst, sym, ◌∙◌, arith}
 use Rattle.std.specs.Prelude.{Contains, IsTrue, ◌↔◌, All}
 use Rattle.std.specs.List.{slice_get}
 use Rattle.std.proofs.lemmas.Bool.{cases_order}
 use Rattle.std.proofs.lemmas.Option.{slice_get_within}
 use Rattle.std.proofs.lemmas.List.Elements.{All-head, All-tail}
 use Rattle.cxx_hierarchy.specs.declared.records.ClassId.{ClassId}
-use Rattle.cxx_hierarchy.specs.declared.records.Member.{Member}
-use Rattle.cxx_hierarchy.specs.Classes.{Class, Classes, class_at, members_in as members_named}
+use Rattle.cxx_hierarchy.specs.Classes.{Class, Classes, members_in as members_named}
 use Rattle.abi_emptybase.specs.declared.Part.{Part}
 use Rattle.abi_primary.specs.declared.Primary.{Primary}
 use Rattle.abi_primary.specs.NearlyEmpty.{IsNearlyEmpty}
@@ -25,8 +24,7 @@ use Rattle.abi_layout.specs.Brought.{member_parts, brought_by}
 use Rattle.abi_layout.specs.PlacedBases.{class_of_placed, subobject_of, free_bases}
 use Rattle.abi_layout.specs.DynamicLaid.{primary_of, placed_place, fronts, object_parts, is_shifted}
 use Rattle.abi_layout.specs.Arrangements.{components_by}
-use Rattle.abi_layout.specs.Scenes.{AreInside}
-use Rattle.abi_layout.specs.ClassRows.{AreSmaller, IsClassRow, row_parts, IsRowAdded}
+use Rattle.abi_layout.specs.ClassRows.{row_parts, IsRowAdded}
 use Rattle.abi_layout.specs.LaidSoFar.{IsLaidSoFar}
 use Rattle.abi_layout.proofs.Lists.{number}
 use Rattle.abi_layout.proofs.Fronts.{longer, same_before, last_one, old_or_last}

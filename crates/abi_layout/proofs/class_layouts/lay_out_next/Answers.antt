@@ -1,13 +1,10 @@
-use Rattle.std.proofs.Common.{◌≡◌, ◌∙◌, List, [], ◌∷◌, ◌++◌, refl, subst, sym}
+use Rattle.std.proofs.Common.{◌∙◌, List, refl, subst, sym}
 use Rattle.std.specs.List.{list_any}
 use Rattle.std.proofs.lemmas.Result.{err_from_is_err_and}
-use Rattle.abi_primary.specs.declared.Primary.{Primary}
-use Rattle.abi_primary.specs.PrimaryBase.{IsPrimary}
 use Rattle.abi_layout.specs.declared.known.Known.{Known}
 use Rattle.abi_layout.specs.ClassRows.{AreSmaller}
 use Rattle.abi_layout.specs.LaidSoFar.{is_shifted_base}
 use Rattle.abi_layout.proofs.AgreeingClasses.{primary_possible}
-use Rattle.abi_layout.proofs.NextComponents.{IsNextKnown}
 use Rattle.abi_layout.proofs.NextSteps.{next_by, scene_by, refused_by, paths_by, known_by}
 use Rattle.abi_layout.proofs.class_layouts.lay_out_next.Goals as goal
 
