@@ -6,6 +6,9 @@
 //! all lie aligned. `lay_out` gives the layout of `IsLaid`, and its contract says that it is sound; `lay_out_front`
 //! gives that of the first classes alone.
 //!
+//! `IsWellLaid` says which layout the first classes of any hierarchy have, with virtual bases and virtual pointers, and
+//! `IsFirstStop` which class is the first that has none, and why. `lay_out_first` gives the one or the other.
+//!
 //! The layers above may rely on `IsSound` alone, over `Places`: the sizes of classes, the places of subobjects
 //! in their complete object and of members in their class, in bytes.
 #![tactic(auto)]
