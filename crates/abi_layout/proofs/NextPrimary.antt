@@ -1,6 +1,5 @@
 -- The primary base of the next class stands before it.
-use Rattle.std.proofs.Common.{◌≡◌, ℕ, zero, suc, ◌<◌, ⊎_elim, Bool, true, false, Option, Some, None, List, [], ◌∷◌, ◌++◌, length, get_or, refl, ap, subst, sym, ◌∙◌, arith}
-use Rattle.std.specs.Prelude.{IsTrue}
+use Rattle.std.proofs.Common.{◌≡◌, ℕ, zero, suc, ◌<◌, ⊎_elim, Option, Some, None, List, [], ◌∷◌, ◌++◌, length, get_or, refl, ap, subst, sym, arith}
 use Rattle.std.specs.List.{slice_get}
 use Rattle.cxx_hierarchy.specs.declared.records.ClassId.{ClassId}
 use Rattle.cxx_hierarchy.specs.Classes.{Classes}
@@ -11,7 +10,6 @@ use Rattle.abi_layout.specs.Holding.{virtual_in}
 use Rattle.abi_layout.specs.PlacedBases.{IsPossible}
 use Rattle.abi_layout.specs.DynamicLaid.{primary_of}
 use Rattle.abi_layout.specs.Scenes.{AreBefore}
-use Rattle.abi_layout.specs.ClassRows.{IsOneOrOther}
 use Rattle.abi_layout.proofs.LastItems.{old_or_last}
 use Rattle.abi_layout.proofs.OpenLemmas.{virtual_below}
 
@@ -43,11 +41,3 @@ get_or_last (y ∷ xs) x d (suc i) e = get_or_last xs x d i (omega arith)
 -- the primary base of the last class
 pub last_primary : (ps : List Primary) (c : ClassId) (primary : Primary) → length ps ≡ c.0 → primary_of (ps ++ primary ∷ []) c ≡ primary
 last_primary ps c primary count = get_or_last ps primary NoPrimary c.0 (sym count)
-
--- a class whose primary base is virtual has no virtual pointer of its own
-pub one_or_other : (primary : Primary) (has_pointer : Bool) → (IsTrue has_pointer → primary ≡ NoPrimary) → IsOneOrOther primary has_pointer
-one_or_other primary has_pointer only = record { without = λ v e. by_flag has_pointer (λ t. let f : NoPrimary ≡ Virtual v = sym (only t) ∙ e in cc) }
-  where
-    by_flag : (b : Bool) → (IsTrue b → ⊥) → b ≡ false
-    by_flag true f = absurd (f refl)
-    by_flag false f = refl

@@ -1,7 +1,7 @@
 -- The steps by which the next class is laid out, where each list is told by an equation.
-use Rattle.std.proofs.Common.{◌≡◌, ℕ, ◌+◌, ◌<◌, ◌⊎◌, ⊎_elim, inl, inr, Bool, Option, Some, List, [], ◌∷◌, ◌++◌, length, refl, ap, subst, sym, ◌∙◌, arith}
+use Rattle.std.proofs.Common.{◌≡◌, ℕ, ◌+◌, ◌<◌, ◌⊎◌, ⊎_elim, inl, inr, Bool, Option, Some, List, [], ◌∷◌, ◌++◌, ap, subst, sym, ◌∙◌, arith}
 use Rattle.std.specs.Prelude.{IsTrue, ◌↔◌}
-use Rattle.std.specs.List.{slice_get, list_any}
+use Rattle.std.specs.List.{list_any}
 use Rattle.std.proofs.lemmas.Option.{slice_get_within}
 use Rattle.cxx_hierarchy.specs.declared.records.ClassId.{ClassId}
 use Rattle.cxx_hierarchy.specs.declared.stop.Stop.{Stop}
@@ -86,13 +86,6 @@ paths_by h c class rows known members nearly ps primary has_pointer next ks qs m
     let count = next.so_far.by.one_each in
     let one = longer rows here.row in
     subst (λ (xs : List ClassLayout). ArePaths h xs list) (sym (a ∙ here.rows_are)) (paths_are h (rows ++ here.row ∷ []) (ps ++ primary ∷ []) c list next.keeps nested (omega arith) l)
-
--- so many rows are no more than the classes
-pub rows_few : (h : Classes) (c : ClassId) (class : Class) (rows : List ClassLayout) (known : List Known) (members : List (List Part)) (nearly : List Bool) (ps : List Primary) (primary : Primary) (has_pointer : Bool) → IsNextKnown h c class rows known members nearly ps primary has_pointer
-    → (ks : List Known) (qs : List Primary) (more : List ClassLayout) (facts : ClassFacts) → IsRowAdded h c rows ks qs class has_pointer more facts → length more ≡ c.0 + 1
-rows_few h c class rows known members nearly ps primary has_pointer next ks qs more facts added =
-    let count = next.so_far.by.one_each in
-    ap length added.rows_are ∙ (let one = longer rows added.row in omega arith)
 
 -- one class more is known
 pub known_by : (h : Classes) (c : ClassId) (class : Class) (rows : List ClassLayout) (known : List Known) (members : List (List Part)) (nearly : List Bool) (ps : List Primary) (primary : Primary) (has_pointer : Bool) → IsNextKnown h c class rows known members nearly ps primary has_pointer

@@ -66,19 +66,23 @@ empty_by_earlier = record { agrees = empty_agrees }
 pub pod_by_earlier : IsByEarlier pod_kind
 pod_by_earlier = record { agrees = pod_agrees }
 
+-- the classes that each class names are of smaller numbers
+abbrev pub AllEarlier : Classes → Type 0
+AllEarlier h = (c : ClassId) (class : Class) → class_at h c ≡ Some class → AreEarlier c.0 class
+
 -- as many steps as the number of a class, and more, say one thing of it
-kind_by_steps : (kind : Kind) → IsByEarlier kind → (h : Classes) → IsStatic h → (n m : ℕ) (c : ClassId) → c.0 < n → c.0 < m → is_kind_in kind h n c ≡ is_kind_in kind h m c
-kind_by_steps kind by h static zero m c lt gt = absurd (omega arith)
-kind_by_steps kind by h static (suc n) zero c lt gt = absurd (omega arith)
-kind_by_steps kind by h static (suc n) (suc m) c lt gt = by_cases (class_at h c) refl (λ b below. kind_by_steps kind by h static n m b (omega arith) (omega arith))
+kind_by_steps : (kind : Kind) → IsByEarlier kind → (h : Classes) → AllEarlier h → (n m : ℕ) (c : ClassId) → c.0 < n → c.0 < m → is_kind_in kind h n c ≡ is_kind_in kind h m c
+kind_by_steps kind by h all_before zero m c lt gt = absurd (omega arith)
+kind_by_steps kind by h all_before (suc n) zero c lt gt = absurd (omega arith)
+kind_by_steps kind by h all_before (suc n) (suc m) c lt gt = by_cases (class_at h c) refl (λ b below. kind_by_steps kind by h all_before n m b (omega arith) (omega arith))
   where
     by_cases : (o : Option Class) → class_at h c ≡ o → ((b : ClassId) → b.0 < c.0 → is_kind_in kind h n b ≡ is_kind_in kind h m b) → in_class (kind (is_kind_in kind h n)) o ≡ in_class (kind (is_kind_in kind h m)) o
     by_cases None e low = refl
-    by_cases (Some class) e low = by.agrees c.0 (is_kind_in kind h n) (is_kind_in kind h m) class (earlier_classes h static c class e) low
+    by_cases (Some class) e low = by.agrees c.0 (is_kind_in kind h n) (is_kind_in kind h m) class (all_before c class e) low
 
 -- a class is of the kind by the kinds of the classes before it
-pub kind_here : (kind : Kind) → IsByEarlier kind → (h : Classes) → IsStatic h → (c : ClassId) (class : Class) → class_at h c ≡ Some class → is_kind kind h c ≡ kind (is_kind kind h) class
-kind_here kind by h static c class e = steps (c.0 + 1) (omega arith) ∙ by.agrees c.0 (is_kind_in kind h c.0) (is_kind kind h) class (earlier_classes h static c class e) (λ d lt. kind_by_steps kind by h static c.0 (d.0 + 1) d lt (omega arith))
+pub kind_here : (kind : Kind) → IsByEarlier kind → (h : Classes) → AllEarlier h → (c : ClassId) (class : Class) → class_at h c ≡ Some class → is_kind kind h c ≡ kind (is_kind kind h) class
+kind_here kind by h all_before c class e = steps (c.0 + 1) (omega arith) ∙ by.agrees c.0 (is_kind_in kind h c.0) (is_kind kind h) class (all_before c class e) (λ d lt. kind_by_steps kind by h all_before c.0 (d.0 + 1) d lt (omega arith))
   where
     steps : (n : ℕ) → n ≡ suc c.0 → is_kind_in kind h n c ≡ kind (is_kind_in kind h c.0) class
     steps n same = rw same (ap (in_class (kind (is_kind_in kind h c.0))) e)

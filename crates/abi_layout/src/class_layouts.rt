@@ -4,6 +4,7 @@ ghost use Rattle.std.specs.Prelude.{◌≡◌, ◌+◌, ◌^◌, ◌<◌, ◌≤
 ghost use Rattle.std.specs.List.{list_any};
 ghost use Rattle.cxx_subobject.specs.Subobjects.{class_of};
 ghost use Rattle.abi_primary.specs.Kinds.{IsDynamic};
+ghost use Rattle.abi_primary.specs.NearlyEmpty.{IsNearlyEmpty};
 ghost use Rattle.abi_layout.specs.DynamicLaid.{is_whole, place_from};
 ghost use Rattle.abi_layout.specs.Settled.{IsPath};
 ghost use Rattle.abi_layout.specs.Refusals.{IsWellLaid, StopsAt, IsFirstStop};
@@ -99,6 +100,28 @@ fn is_shifted(h: &Hierarchy, rows: &[ClassLayout], known: &[Known], list: &[Subo
     false
 }
 
+/// Whether a class that has its row is nearly empty. The places of its subobjects are looked at only where all else is
+/// so.
+fn is_nearly(
+    h: &Hierarchy,
+    c: ClassId,
+    nearly: &[bool],
+    rows: &[ClassLayout],
+    known: &[Known],
+    list: &[Subobject],
+) -> bool
+    requires class { c.0 < length h.now }
+    requires before { c.0 ≤ length nearly.now }
+    requires rows { length rows.now ≤ length h.now }
+    requires paths { ArePaths h.now rows.now list.now }
+    ensures { IsTrue result ↔ IsNearlyEmpty h.now nearly.now (list_any (is_shifted_base h.now rows.now known.now) list.now) c }
+{
+    if !is_nearly_empty(h, c, nearly, false) {
+        return false;
+    }
+    !is_shifted(h, rows, known, list)
+}
+
 /// Lays out one class more.
 ///
 /// Errors: the limit L6 exactly where the size of the class is above 500,000 bytes; else the refusal SharedPlace
@@ -134,8 +157,14 @@ fn lay_out_next(
     )?;
     so_far.known.push(known)?;
     so_far.members.push(members)?;
-    let shifted = is_shifted(h, &so_far.rows, &so_far.known, list.as_slice());
-    let is_nearly = is_nearly_empty(h, c, &so_far.nearly, shifted);
+    let is_nearly = is_nearly(
+        h,
+        c,
+        &so_far.nearly,
+        &so_far.rows,
+        &so_far.known,
+        list.as_slice(),
+    );
     so_far.nearly.push(is_nearly)?;
     Ok(())
 }
