@@ -1,5 +1,5 @@
 -- A layout by the rules is sound, and its rows have its numbers.
-use Rattle.std.proofs.Common.{◌≡◌, ◌+◌, List, length, refl, arith}
+use Rattle.std.proofs.Common.{◌≡◌, List, length, refl, arith}
 use Rattle.cxx_hierarchy.specs.Classes.{Classes}
 use Rattle.cxx_hierarchy.specs.Hierarchies.{IsHierarchy}
 use Rattle.abi_layout.specs.declared.class_layout.ClassLayout.{ClassLayout}

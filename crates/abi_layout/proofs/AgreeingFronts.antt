@@ -4,7 +4,7 @@ use Rattle.std.specs.Prelude.{IsTrue, ◌↔◌}
 use Rattle.std.specs.List.{slice_get}
 use Rattle.std.proofs.lemmas.Bool.{cases_order}
 use Rattle.std.proofs.lemmas.List.{length-take-le}
-use Rattle.std.proofs.lemmas.Option.{slice_get_within, slice_get_past, get_or_from_slice_get}
+use Rattle.std.proofs.lemmas.Option.{slice_get_within, get_or_from_slice_get}
 use Rattle.cxx_hierarchy.specs.declared.records.ClassId.{ClassId}
 use Rattle.cxx_hierarchy.specs.Classes.{Class, Classes, class_at}
 use Rattle.cxx_hierarchy.specs.Hierarchies.{IsHierarchy}
@@ -12,15 +12,12 @@ use Rattle.abi_primary.specs.declared.Primary.{Primary}
 use Rattle.abi_primary.specs.NearlyEmpty.{IsNearlyEmpty}
 use Rattle.abi_primary.specs.PrimaryBase.{IsPrimary}
 use Rattle.abi_layout.specs.declared.class_layout.ClassLayout.{ClassLayout}
-use Rattle.abi_layout.specs.Holding.{virtual_in, virtual_primary}
-use Rattle.abi_layout.specs.Scenes.{AreBefore}
 use Rattle.abi_layout.specs.DynamicLaid.{primary_of, IsDynamicRow, is_shifted, IsLaidBy}
 use Rattle.abi_layout.specs.Refusals.{IsNextClass}
 use Rattle.abi_layout.proofs.Lists.{number, get_within}
 use Rattle.abi_layout.proofs.LastItems.{longer, last_one, old_or_last}
 use Rattle.abi_layout.proofs.AgreeingRows.{AgreeTo, agree_less, agree_turned, agree_item, agree_push, agree_take, primary_agrees, take_agrees}
-use Rattle.abi_layout.proofs.AgreeingParts.{ArePossible, possible_agrees, virtual_falls}
-use Rattle.abi_layout.proofs.AgreeingClasses.{laid_possible, next_possible, primary_possible, is_primary_agrees, nearly_empty_agrees, shifted_agrees, pointer_agrees, row_agrees}
+use Rattle.abi_layout.proofs.AgreeingClasses.{laid_possible, is_primary_agrees, nearly_empty_agrees, shifted_agrees, pointer_agrees, row_agrees}
 
 -- what a list tells of a class, by lists and rows that agree
 tells_agrees : (h : Classes) (n : ℕ) (rows others : List ClassLayout) (near other : List Bool) (c : ClassId) → IsHierarchy h → c.0 < n → AgreeTo n rows others → AgreeTo n near other → (IsTrue (get_or near c.0 false) ↔ IsNearlyEmpty h near (is_shifted h rows c) c) → (IsTrue (get_or other c.0 false) ↔ IsNearlyEmpty h other (is_shifted h others c) c)
@@ -104,26 +101,6 @@ taken h count n rows nearly ps keeps laid le = record {
       row_agrees h rows (take n rows) nearly (take n nearly) ps (take n ps) d k r keeps at_d (agree_less (d.0 + 1) n rows (take n rows) (omega arith) (agree_take n rows)) (agree_less d.0 n nearly (take n nearly) (omega arith) (agree_take n nearly)) (agree_less (d.0 + 1) n ps (take n ps) (omega arith) (agree_take n ps))
       (laid_possible h count (d.0 + 1) rows nearly ps (omega arith) (omega arith) laid) (laid.row d k r at_d old.1);
 }
-
--- virtual primary bases of classes that are laid out stand before these
-pub laid_before : (h : Classes) (count : ℕ) (rows : List ClassLayout) (nearly : List Bool) (ps : List Primary) → IsHierarchy h → count ≤ length h → IsLaidBy h count rows nearly ps → AreBefore ps
-laid_before h count rows nearly ps keeps within laid = record {
-  falls = λ d v e. ⊎_elim
-      (λ same. past d v e (omega arith))
-      (λ o. ⊎_elim (λ l. virtual_falls h count ps d v keeps (laid_possible h count count rows nearly ps (omega arith) within laid) l e) (λ g. past d v e (omega arith)) o)
-      (cases_order d.0 count);
-}
-  where
-    past : (d v : ClassId) → virtual_primary ps d ≡ Some v → count ≤ d.0 → v.0 < d.0
-    past d v e le = let a = laid.primary_each in let f : None ≡ Some v = sym (ap virtual_in (slice_get_past ps d.0 (omega arith))) ∙ e in cc
-
--- the primary bases of the classes up to the next one are bases
-pub next_are_possible : (h : Classes) (c : ClassId) → (next : IsNextClass h c) → ArePossible h (c.0 + 1) next.primaries
-next_are_possible h c next =
-    let lt = slice_get_within h c.0 next.class next.there in
-    next_possible h c next.primaries
-    (possible_agrees h c.0 (take c.0 next.primaries) next.primaries (agree_turned c.0 next.primaries (take c.0 next.primaries) (agree_take c.0 next.primaries)) (laid_possible h c.0 c.0 next.rows next.nearly (take c.0 next.primaries) (omega arith) (omega arith) next.laid))
-    (primary_possible h next.nearly (take c.0 next.primaries) c (primary_of next.primaries c) next.is_primary)
 
 -- what a layout says of one of its classes, as the next one of those before it
 pub record IsOneOf (h : Classes) (rows : List ClassLayout) (ps : List Primary) (c : ClassId) : Type 0 where

@@ -1,7 +1,5 @@
 -- Multiples, and where copies end.
-use Rattle.std.proofs.Common.{◌≡◌, ℕ, ◌+◌, ◌*◌, ◌<◌, ◌≤◌, ◌⊎◌, inl, inr, ⊎_elim, Some, List, [], ◌∷◌, refl, ap, subst, sym, ◌∙◌, arith, add-mul, mul_assoc}
-use Rattle.std.specs.List.{slice_get}
-use Rattle.std.proofs.lemmas.Bool.{cases_order}
+use Rattle.std.proofs.Common.{◌≡◌, ℕ, ◌+◌, ◌*◌, ◌<◌, ◌≤◌, ap, sym, ◌∙◌, arith, add-mul, mul_assoc}
 use Rattle.std.proofs.Math.Nat.{mul-le-mul_right}
 use Rattle.abi_layout.specs.Sound.{Divides}
 

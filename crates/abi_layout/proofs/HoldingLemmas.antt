@@ -1,5 +1,5 @@
 -- Lemmas on the table of holders.
-use Rattle.std.proofs.Common.{◌≡◌, ℕ, zero, suc, ◌+◌, ◌<◌, ⊎_elim, Bool, true, false, cond, ltb, Option, Some, None, List, [], ◌∷◌, length, get_or, replicate, refl, ap, subst, sym, ◌∙◌, arith}
+use Rattle.std.proofs.Common.{◌≡◌, ℕ, zero, suc, ◌+◌, ◌<◌, ⊎_elim, Bool, true, false, cond, ltb, Option, Some, None, List, [], ◌∷◌, length, get_or, refl, ap, subst, sym, ◌∙◌, arith}
 use Rattle.std.specs.Prelude.{nat_eq, nat_lt, ◌&&◌, slice_set, position, if◌then◌else◌}
 use Rattle.std.specs.Option.{is_none}
 use Rattle.std.specs.List.{slice_get, position_or_len}
@@ -100,24 +100,31 @@ one_more_first ps list count n holders s (Some w) lt is e before =
   where
     fails : (v : ClassId) → (v.0 ≡ w.0 → ⊥) → has_primary ps v s ≡ false
     fails v differ = test_is ps v s ∙ (ap (λ (x : Option ClassId). is_class x v) (sym e) ∙ same_false w.0 v.0 (λ same. differ (sym same)))
+
     passes : (v : ClassId) → v.0 ≡ w.0 → has_primary ps v s ≡ true
     passes v same = test_is ps v s ∙ (ap (λ (x : Option ClassId). is_class x v) (sym e) ∙ (ap (λ i. nat_eq w.0 i) same ∙ eqb-refl w.0))
+
     and_left : (a b : Bool) → (a && b) ≡ true → a ≡ true
     and_left true b t = refl
     and_left false b t = t
+
     and_right : (a b : Bool) → (a && b) ≡ true → b ≡ true
     and_right true b t = t
     and_right false b t = let f : false ≡ true = t in cc
+
     none_is : (x : Option ℕ) → is_none x ≡ true → x ≡ None
     none_is None t = refl
     none_is (Some m) t = let f : false ≡ true = t in cc
+
     put_at : (v : ClassId) → v.0 < count → v.0 ≡ w.0 → nat_lt w.0 (length holders) ≡ true → is_none (get_or holders w.0 None) ≡ true → IsFirstOf (has_primary ps v) list (n + 1) (get_or (slice_set holders w.0 (Some n)) v.0 None)
     put_at v less same within free =
         let old : get_or holders v.0 None ≡ None = ap (λ i. get_or holders i None) same ∙ none_is (get_or holders w.0 None) free in
         let new : get_or (slice_set holders w.0 (Some n)) v.0 None ≡ Some n = ap (λ i. get_or (slice_set holders w.0 (Some n)) i None) same ∙ get_or-set_same holders w.0 (Some n) None (ltb-true w.0 (length holders) within) in
         subst (IsFirstOf (has_primary ps v) list (n + 1)) (sym new) (passes_here (has_primary ps v) list n s lt is (passes v same) (subst (IsFirstOf (has_primary ps v) list n) old (before.first v less)))
+
     other_at : (v : ClassId) → v.0 < count → (v.0 ≡ w.0 → ⊥) → IsFirstOf (has_primary ps v) list (n + 1) (get_or (slice_set holders w.0 (Some n)) v.0 None)
     other_at v less differ = subst (IsFirstOf (has_primary ps v) list (n + 1)) (sym (get_or-set_other holders w.0 v.0 (Some n) None differ)) (fails_more (has_primary ps v) list n s (get_or holders v.0 None) lt is (fails v differ) (before.first v less))
+
     kept_at : (v : ClassId) → v.0 < count → v.0 ≡ w.0 → (nat_lt w.0 (length holders) && is_none (get_or holders w.0 None)) ≡ false → IsFirstOf (has_primary ps v) list (n + 1) (get_or holders v.0 None)
     kept_at v less same f = by_holder (get_or holders v.0 None) refl (before.first v less)
       where

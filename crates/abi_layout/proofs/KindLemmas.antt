@@ -1,8 +1,7 @@
 -- An empty class has empty bases alone, and one that is not has a member or a base that is not empty.
-use Rattle.std.proofs.Common.{◌≡◌, ℕ, zero, suc, ◌+◌, ◌<◌, inl, inr, ⊎_elim, Bool, true, false, Option, Some, None, List, [], ◌∷◌, map, length, refl, ap, subst, sym, ◌∙◌, arith}
-use Rattle.std.specs.Prelude.{filter, not, ◌&&◌, ◌==◌, cond}
+use Rattle.std.proofs.Common.{◌≡◌, zero, suc, inl, inr, ⊎_elim, Bool, true, false, List, [], ◌∷◌, map, refl, ap, subst, sym, ◌∙◌, arith}
+use Rattle.std.specs.Prelude.{filter, ◌&&◌, cond}
 use Rattle.std.specs.List.{Contains, list_all}
-use Rattle.std.proofs.lemmas.Bool.{eqb-true}
 use Rattle.abi_layout.proofs.Lists.{has_here, has_later}
 use Rattle.abi_layout.proofs.Stages.{Has, split}
 

@@ -1,5 +1,5 @@
 -- Lemmas on lists and on class numbers.
-use Rattle.std.proofs.Common.{◌≡◌, ℕ, zero, suc, ◌<◌, Some, List, [], ◌∷◌, ◌++◌, length, refl, subst, arith}
+use Rattle.std.proofs.Common.{◌≡◌, ℕ, zero, suc, ◌<◌, Some, List, [], ◌∷◌, length, refl, subst, arith}
 use Rattle.std.specs.List.{slice_get, Contains}
 use Rattle.cxx_hierarchy.specs.declared.records.ClassId.{ClassId}
 

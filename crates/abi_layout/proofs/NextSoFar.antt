@@ -1,5 +1,5 @@
 -- With the next class one class more is known.
-use Rattle.std.proofs.Common.{◌≡◌, ℕ, ◌+◌, ◌<◌, ◌⊎◌, ⊎_elim, inl, inr, Bool, Option, Some, None, List, [], ◌∷◌, ◌++◌, map, length, refl, ap, subst, sym, ◌∙◌, arith}
+use Rattle.std.proofs.Common.{◌≡◌, ℕ, ◌+◌, ◌<◌, ◌⊎◌, ⊎_elim, inl, inr, Bool, Option, Some, List, [], ◌∷◌, ◌++◌, map, length, ap, subst, sym, ◌∙◌, arith}
 use Rattle.std.specs.Prelude.{Contains, IsTrue, ◌↔◌, All}
 use Rattle.std.specs.List.{slice_get}
 use Rattle.std.proofs.lemmas.Bool.{cases_order}
@@ -222,20 +222,3 @@ so_far_more h c class rows known members nearly ps primary has_pointer next rows
       };
       smaller = record { smaller = smaller };
     }
-
--- no class is known
-pub none_known : (h : Classes) → IsLaidSoFar h 0 [] [] [] [] []
-none_known h = record {
-  by = record { one_each = refl; tells = record { one_each = refl; each = λ c lt. absurd (omega arith) }; primary_each = refl; row = λ c class row at e. cc };
-  apart = record { each = λ c class lt e twice. absurd (omega arith) };
-  known_each = refl;
-  member_each = refl;
-  empties = λ d lt. absurd (omega arith);
-  pods = λ d lt. absurd (omega arith);
-  parts = λ d lt. absurd (omega arith);
-  brings = λ d parts e. cc;
-  sized = record { each = λ i row k e f. cc };
-  before = record { falls = λ d v e. let f : None ≡ Some v = e in cc };
-  inside = record { by_members = λ d parts e. cc; by_bases = λ d base lt has way. absurd (omega arith); by_primary = λ d v lt e. absurd (omega arith) };
-  smaller = record { smaller = λ d part lt has. absurd (omega arith) };
-}

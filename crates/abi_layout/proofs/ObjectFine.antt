@@ -31,7 +31,6 @@ use Rattle.abi_layout.specs.Holding.{virtual_bases}
 use Rattle.abi_layout.specs.PlacedBases.{first_base, is_first_base, is_other_base, front_bases, is_free, free_bases, IsPossible}
 use Rattle.abi_layout.specs.DynamicLaid.{primary_of, fronts, object_parts, start_stage, IsLaidBy}
 use Rattle.abi_layout.specs.Alignments.{IsAlignment, byte, eight_bytes}
-use Rattle.abi_layout.proofs.Lists.{number}
 use Rattle.abi_layout.proofs.Stages.{Has, split, has_left, has_right, has_map, has_cases, grows}
 use Rattle.abi_layout.proofs.KindLemmas.{contains_of, in_filter}
 use Rattle.abi_layout.proofs.Positives.{value_align, align_positive, last_align, count_positive, product_positive}

@@ -1,5 +1,5 @@
 -- What a layout of a whole hierarchy says of one class: its row, its primary base, and its virtual bases.
-use Rattle.std.proofs.Common.{◌≡◌, ◌<◌, ◌⊎◌, inl, inr, ⊎_elim, Bool, false, Option, Some, None, List, [], ◌∷◌, length, refl, ap, subst, ◌∙◌}
+use Rattle.std.proofs.Common.{◌≡◌, ◌<◌, inl, inr, ⊎_elim, Bool, false, Option, Some, None, List, [], ◌∷◌, length, refl, ap, subst, ◌∙◌}
 use Rattle.std.specs.Prelude.{◌==◌, if◌then◌else◌}
 use Rattle.std.specs.List.{filter_map, cons_option}
 use Rattle.cxx_hierarchy.specs.declared.records.ClassId.{ClassId}

@@ -1,5 +1,5 @@
 -- A placement and what it is to its class: where it lies, that it fits, and that two of them lie apart.
-use Rattle.std.proofs.Common.{◌≡◌, ℕ, ◌+◌, ◌*◌, ◌<◌, ◌≤◌, ◌⊎◌, inl, inr, ⊎_elim, false, Some, List, ◌++◌, map, refl, ap, subst, sym, ◌∙◌, arith, append_assoc}
+use Rattle.std.proofs.Common.{◌≡◌, ℕ, ◌+◌, ◌*◌, ◌<◌, ◌≤◌, inl, inr, ⊎_elim, false, Some, List, ◌++◌, map, refl, ap, subst, sym, ◌∙◌, arith, append_assoc}
 use Rattle.std.specs.Prelude.{if◌then◌else◌, max}
 use Rattle.std.specs.List.{slice_get}
 use Rattle.std.proofs.lemmas.List.{map-append}
@@ -65,9 +65,6 @@ clear_of m component place x y k l s t apart a b =
     let f = s.all u in
     let g = t.all v in
     ⊎_elim (λ r. inl (omega (arith, p, q, f, g, r))) (λ r. inr (omega (arith, p, q, f, g, r))) (apart u v)
-
-pub clear_back : (m : Measures) (k l : Placement) → AreClear m k l → AreClear m l k
-clear_back m k l r = λ a b. ⊎_elim (λ x. inr x) (λ y. inl y) (r b a)
 
 data_le : (h : Classes) (rows : List ClassLayout) (b : ClassId) → (if is_empty h b then 0 else nvsize_in (slice_get rows b.0)) ≤ nvsize_in (slice_get rows b.0)
 data_le h rows b = split (is_empty h b) (λ t. (if t then 0 else nvsize_in (slice_get rows b.0)) ≤ nvsize_in (slice_get rows b.0)) (λ e. omega arith) (λ e. omega arith)

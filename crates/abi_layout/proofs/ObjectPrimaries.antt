@@ -1,6 +1,6 @@
 -- Primary bases: each is a dynamic base, and a virtual one of a class lies at its start.
 use Rattle.std.proofs.Common.{◌≡◌, ℕ, zero, suc, ◌+◌, ◌<◌, ◌≤◌, inl, inr, ⊎_elim, Bool, true, false, cond, Option, Some, None, List, [], ◌∷◌, length, get_or, refl, ap, subst, sym, ◌∙◌, arith}
-use Rattle.std.specs.Prelude.{Contains, not, ◌&&◌, ◌==◌, nat_eq, if◌then◌else◌}
+use Rattle.std.specs.Prelude.{Contains, not, ◌==◌, nat_eq, if◌then◌else◌}
 use Rattle.std.specs.List.{slice_get, find, filter_map, cons_option}
 use Rattle.std.proofs.lemmas.Bool.{eq-eqb, and_parts, cases_order}
 use Rattle.std.proofs.lemmas.List.{get_or_past}

@@ -1,7 +1,7 @@
 -- An object as a tree of placed parts: a node is a list of placements, each of a part with placements of its own.
-use Rattle.std.proofs.Common.{◌≡◌, ℕ, zero, suc, ◌+◌, ◌*◌, ◌<◌, ◌≤◌, ◌⊎◌, Bool, true, false, Option, Some, None, List, [], ◌∷◌, ◌++◌, map, arith}
+use Rattle.std.proofs.Common.{◌≡◌, ℕ, suc, ◌+◌, ◌*◌, ◌<◌, ◌≤◌, ◌⊎◌, Bool, true, false, Option, Some, None, List, [], ◌∷◌, ◌++◌, map}
 use Rattle.std.specs.Prelude.{◌&&◌, ◌||◌, if◌then◌else◌, max, filter}
-use Rattle.std.specs.List.{slice_get, list_any, flat_map}
+use Rattle.std.specs.List.{slice_get, list_any}
 use Rattle.cxx_hierarchy.specs.declared.records.ClassId.{ClassId}
 use Rattle.cxx_hierarchy.specs.declared.records.Base.{Base}
 use Rattle.cxx_hierarchy.specs.declared.records.Member.{Member}

@@ -1,6 +1,6 @@
 -- In a layout by the rules of any hierarchy each subobject is arranged.
-use Rattle.std.proofs.Common.{◌≡◌, ℕ, ◌+◌, ◌*◌, ◌<◌, ◌⊎◌, ⊎_elim, Bool, true, false, Option, Some, None, List, [], ◌∷◌, ◌++◌, map, length, refl, ap, subst, sym, ◌∙◌, arith}
-use Rattle.std.specs.Prelude.{if◌then◌else◌, filter, not}
+use Rattle.std.proofs.Common.{◌≡◌, ℕ, ◌+◌, ◌*◌, ◌<◌, ⊎_elim, Bool, false, Option, Some, None, List, [], ◌∷◌, ◌++◌, map, length, refl, ap, subst, sym, ◌∙◌, arith}
+use Rattle.std.specs.Prelude.{if◌then◌else◌, filter}
 use Rattle.std.specs.List.{slice_get}
 use Rattle.std.proofs.Math.Nat.{le-max_right}
 use Rattle.std.proofs.lemmas.Bool.{not-true}

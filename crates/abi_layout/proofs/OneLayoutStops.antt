@@ -1,7 +1,6 @@
 -- The first class that is refused is one, and so is how it is refused.
-use Rattle.std.proofs.Common.{◌≡◌, ℕ, ◌+◌, ◌<◌, ◌≤◌, ⊎_elim, Some, List, take, length, refl, ap, subst, sym, ◌∙◌, arith}
+use Rattle.std.proofs.Common.{◌≡◌, ℕ, ◌<◌, ◌≤◌, ⊎_elim, Some, List, length, refl, ap, subst, sym, ◌∙◌, arith}
 use Rattle.std.proofs.lemmas.Bool.{cases_order}
-use Rattle.std.proofs.lemmas.Option.{slice_get_within}
 use Rattle.cxx_hierarchy.specs.declared.records.ClassId.{ClassId}
 use Rattle.cxx_hierarchy.specs.declared.stop.Stop.{Stop}
 use Rattle.cxx_hierarchy.specs.declared.stop.Stop.TheVariants.{Refused}
@@ -10,10 +9,6 @@ use Rattle.cxx_hierarchy.specs.Classes.{Class, Classes}
 use Rattle.cxx_hierarchy.specs.Hierarchies.{IsHierarchy}
 use Rattle.abi_layout.specs.declared.class_layout.ClassLayout.{ClassLayout}
 use Rattle.abi_layout.specs.Refusals.{IsWellLaid, StopsAt, by_size, by_place, IsFirstStop}
-use Rattle.abi_layout.proofs.AgreeingRows.{AgreeTo, agree_less, agree_turned, agree_take}
-use Rattle.abi_layout.proofs.AgreeingParts.{ArePossible, possible_agrees}
-use Rattle.abi_layout.proofs.AgreeingClasses.{laid_possible, brings_twice_agrees}
-use Rattle.abi_layout.proofs.AgreeingFronts.{taken_item, taken}
 use Rattle.abi_layout.proofs.OneLayoutLists.{same_class}
 use Rattle.abi_layout.proofs.OneLayoutFronts.{not_large_small, not_large, not_shared}
 
@@ -46,22 +41,3 @@ stop_is_one h count stop other keeps within x y =
     (λ l. absurd (not_stopped h y.class.0 y.rows x.class stop keeps (omega arith) l y.before x.stops))
     (λ g. absurd (not_stopped h x.class.0 x.rows y.class other keeps (omega arith) g x.before y.stops)) o)
     (cases_order x.class.0 y.class.0)
-
--- the first n classes of a layout that is not refused
-pub well_taken : (h : Classes) (count n : ℕ) (rows : List ClassLayout) → IsHierarchy h → IsWellLaid h count rows → n ≤ count → IsWellLaid h n (take n rows)
-well_taken h count n rows keeps well le = record {
-  nearly = take n well.nearly;
-  primaries = take n well.primaries;
-  by = taken h count n rows well.nearly well.primaries keeps well.by le;
-  small = record { each = λ number row e. well.small.each number row (taken_item n rows number row e).1 };
-  apart = record {
-    each = λ c class lt there twice.
-        let less = slice_get_within h c.0 class there in
-        let alike : AgreeTo (c.0 + 1) well.primaries (take n well.primaries) = agree_less (c.0 + 1) n well.primaries (take n well.primaries) (omega arith) (agree_take n well.primaries) in
-        let possible : ArePossible h (c.0 + 1) well.primaries = laid_possible h count (c.0 + 1) rows well.nearly well.primaries (omega arith) (omega arith) well.by in
-        well.apart.each c class (omega arith) there
-        (brings_twice_agrees h (take n rows) rows (take n well.primaries) well.primaries c class keeps there
-        (agree_turned c.0 rows (take n rows) (agree_less c.0 n rows (take n rows) (omega arith) (agree_take n rows))) (agree_turned (c.0 + 1) well.primaries (take n well.primaries) alike)
-        (possible_agrees h (c.0 + 1) well.primaries (take n well.primaries) alike possible) twice);
-  };
-}

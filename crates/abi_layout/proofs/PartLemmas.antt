@@ -1,6 +1,6 @@
 -- What the rules say of a class depends on the classes before it alone.
-use Rattle.std.proofs.Common.{◌≡◌, ℕ, zero, suc, ◌+◌, ◌*◌, ◌<◌, ◌≤◌, Bool, true, false, Option, Some, None, List, [], ◌∷◌, ◌++◌, map, length, refl, ap, sym, ◌∙◌, arith, append_assoc}
-use Rattle.std.specs.Prelude.{filter, not, ◌&&◌, ◌==◌, if◌then◌else◌}
+use Rattle.std.proofs.Common.{◌≡◌, ℕ, zero, suc, ◌+◌, ◌*◌, ◌<◌, Bool, false, Option, Some, None, List, [], ◌∷◌, ◌++◌, map, length, refl, ap, sym, ◌∙◌, arith, append_assoc}
+use Rattle.std.specs.Prelude.{not, ◌&&◌, ◌==◌, if◌then◌else◌}
 use Rattle.std.specs.List.{slice_get, Contains, list_all}
 use Rattle.std.proofs.lemmas.List.{append-nil}
 use Rattle.cxx_hierarchy.specs.declared.records.ClassId.{ClassId}
@@ -15,21 +15,10 @@ use Rattle.abi_layout.specs.declared.component.Component.{Component}
 use Rattle.abi_layout.specs.declared.component.Stage.{Stage}
 use Rattle.abi_layout.specs.declared.class_layout.ClassLayout.{ClassLayout}
 use Rattle.abi_layout.specs.Places.{size_in, align_in, nvalign_in}
-use Rattle.abi_layout.specs.Kinds.{Kind, in_class, is_kind_in, is_kind, empty_kind, pod_kind, has_virtual_function, is_implicit, is_pod_type, is_empty, IsStatic}
+use Rattle.abi_layout.specs.Kinds.{Kind, in_class, is_kind_in, is_kind, empty_kind, pod_kind, has_virtual_function, is_implicit, is_pod_type}
 use Rattle.abi_layout.specs.Laid.{copies, count_of, nvsize_in, size_of_type, align_of_type, parts_of_type, member_component, member_components, parts_at, after, after_all}
 use Rattle.abi_layout.specs.Known.{IsEarlierType, AreEarlier}
 use Rattle.abi_layout.proofs.Lists.{has_here, has_later}
-
--- the classes that a class names are of smaller numbers
-pub earlier_classes : (h : Classes) → IsStatic h → (c : ClassId) (class : Class) → class_at h c ≡ Some class → AreEarlier c.0 class
-earlier_classes h static c class at = record {
-  bases = λ base has. (static.each c class at).bases base has;
-  objects = λ member has. of_type member member.ty refl has;
-}
-  where
-    of_type : (member : Member ClassId) (type : FieldType ClassId) → member.ty ≡ type → Contains class.members member → IsEarlierType c.0 type
-    of_type member (Value type) is has = tt
-    of_type member (Object d) is has = (static.each c class at).objects member d has is
 
 same_all : {X : Type 0} (p q : X → Bool) (xs : List X) → ((x : X) → Contains xs x → p x ≡ q x) → list_all p xs ≡ list_all q xs
 same_all p q [] each = refl
@@ -105,12 +94,15 @@ members_agree n rows others parts brought class earlier agree = same_map (member
     size : (type : FieldType ClassId) → IsEarlierType n type → size_of_type rows type ≡ size_of_type others type
     size (Value type) e = refl
     size (Object d) e = ap size_in (agree.row d e)
+
     align : (type : FieldType ClassId) → IsEarlierType n type → align_of_type rows type ≡ align_of_type others type
     align (Value type) e = refl
     align (Object d) e = ap align_in (agree.row d e)
+
     of_type : (type : FieldType ClassId) → IsEarlierType n type → parts_of_type parts type ≡ parts_of_type brought type
     of_type (Value type) e = refl
     of_type (Object d) e = agree.of_class d e
+
     one : (member : Member ClassId) → IsEarlierType n member.ty → member_component rows parts member ≡ member_component others brought member
     one member e =
         ap (λ s. member_made (count_of member.count) s (align_of_type rows member.ty) (parts_of_type parts member.ty)) (size member.ty e)

@@ -107,6 +107,7 @@ completes_more first cs places stage c todo place k here = record {
           placed = subst (λ z. ArePlaced (after stage c z) todo rest) same a.1;
           ends = ap (λ z. after_all (after stage c z) todo rest) (sym same) ∙ e;
         }
+
     shorter : (last : Stage) → HasRest stage (c ∷ todo) last → HasRest (after stage c place) todo last
     shorter last h = split_rest last h.rest h.placed h.ends
 

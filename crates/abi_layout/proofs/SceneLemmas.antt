@@ -1,6 +1,6 @@
 -- Lemmas on what is known while a class is laid out.
 use Rattle.std.proofs.Common.{◌≡◌, ℕ, ◌<◌, Bool, cond, ltb, Option, Some, None, List, length, get_or, ap, subst, sym, ◌∙◌, arith}
-use Rattle.std.specs.Prelude.{position, if◌then◌else◌}
+use Rattle.std.specs.Prelude.{position}
 use Rattle.std.specs.List.{position_or_len, find}
 use Rattle.std.proofs.lemmas.Bool.{ltb-true}
 use Rattle.cxx_hierarchy.specs.declared.records.ClassId.{ClassId}

@@ -1,10 +1,9 @@
 -- The first element of a list that passes a test.
-use Rattle.std.proofs.Common.{◌≡◌, ℕ, zero, suc, ◌+◌, ◌*◌, ◌<◌, ◌≤◌, ⊎_elim, Bool, true, false, Option, Some, None, List, [], ◌∷◌, ◌++◌, map, length, refl, ap, subst, sym, ◌∙◌, arith}
-use Rattle.std.specs.Prelude.{not, nat_eq, filter, position}
-use Rattle.std.specs.List.{slice_get, Contains, position_or_len}
-use Rattle.std.specs.Option.{option_map}
-use Rattle.std.proofs.lemmas.Bool.{eq-eqb, eqb-true, lt-ltb}
-use Rattle.std.proofs.lemmas.Option.{slice_get_within, slice_get-map}
+use Rattle.std.proofs.Common.{◌≡◌, ℕ, zero, suc, ◌<◌, ⊎_elim, Bool, true, false, Some, List, [], ◌∷◌, length, refl, ap, sym, ◌∙◌, arith}
+use Rattle.std.specs.Prelude.{position}
+use Rattle.std.specs.List.{slice_get, position_or_len}
+use Rattle.std.proofs.lemmas.Bool.{lt-ltb}
+use Rattle.std.proofs.lemmas.Option.{slice_get_within}
 use Rattle.cxx_hierarchy.specs.declared.records.ClassId.{ClassId}
 use Rattle.abi_layout.proofs.Lists.{number}
 use Rattle.abi_layout.proofs.Stages.{Has, split}
@@ -28,6 +27,7 @@ first_that {X} p (y ∷ xs) x has e = split (p y) (λ b. p y ≡ b → HasFirst 
   where
     clash : p y ≡ false → y ≡ x → ⊥
     clash f same = let g : p y ≡ true = ap p same ∙ e in let h : true ≡ false = sym g ∙ f in cc
+
     later : p y ≡ false → HasFirst p xs → HasFirst p (y ∷ xs)
     later f r = record { index = suc r.index; item = r.item; there = r.there; passes = r.passes; is = let i = r.is in rw f (omega arith) }
 

@@ -1,5 +1,5 @@
 -- Which layout the rules of the ABI give to any hierarchy (Itanium C++ ABI 2.4, and 2.2 for a class that is POD).
-use Rattle.std.specs.Prelude.{◌≡◌, ℕ, zero, suc, ◌+◌, ◌<◌, ◌↔◌, IsTrue, Bool, true, false, not, ◌&&◌, ◌==◌, nat_eq, if◌then◌else◌, max, Option, Some, None, List, [], ◌∷◌, ◌++◌, map, filter, length, take, get_or, slice_get, position, Contains}
+use Rattle.std.specs.Prelude.{◌≡◌, ℕ, zero, suc, ◌+◌, ◌<◌, ◌↔◌, IsTrue, Bool, true, false, not, ◌&&◌, ◌==◌, if◌then◌else◌, max, Option, Some, None, List, [], ◌∷◌, ◌++◌, map, filter, length, take, get_or, slice_get, Contains}
 use Rattle.std.specs.List.{list_any}
 use Rattle.cxx_hierarchy.specs.declared.records.ClassId.{ClassId}
 use Rattle.cxx_hierarchy.specs.Classes.{Class, Classes, class_at}

@@ -1,5 +1,5 @@
 -- Kinds of classes (Itanium C++ ABI 1.1 and 2.2; ISO C++03 9).
-use Rattle.std.specs.Prelude.{◌≡◌, ℕ, zero, suc, ◌+◌, ◌<◌, ◌≤◌, Bool, true, false, not, ◌&&◌, ◌||◌, ◌==◌, nat_lt, Option, Some, None, Contains, length}
+use Rattle.std.specs.Prelude.{ℕ, zero, suc, ◌+◌, Bool, true, false, not, ◌&&◌, ◌||◌, ◌==◌, Option, Some, None, length}
 use Rattle.std.specs.List.{list_all, list_any}
 use Rattle.cxx_hierarchy.specs.declared.records.ClassId.{ClassId}
 use Rattle.cxx_hierarchy.specs.declared.records.Base.{Base}
@@ -68,16 +68,3 @@ pod_kind is_pod class =
 
 abbrev pub is_pod : Classes → ClassId → Bool
 is_pod = is_kind pod_kind
-
--- a class of number c that declares no virtual function and has no virtual base. Its bases and the classes of its
--- member objects stand before it, and an array has an element
-pub record IsStaticClass (c : ClassId) (class : Class) : Type 0 where
-  pub functions : has_virtual_function class ≡ false
-  pub ways : (base : Base ClassId) → Contains class.bases base → base.is_virtual ≡ false
-  pub bases : (base : Base ClassId) → Contains class.bases base → base.class.0 < c.0
-  pub objects : (member : Member ClassId) (d : ClassId) → Contains class.members member → member.ty ≡ Object d → d.0 < c.0
-  pub counts : (member : Member ClassId) (n : ℕ) → Contains class.members member → member.count ≡ Some n → 1 ≤ n
-
--- no class is dynamic: none has, or has a base that has, a virtual function or a virtual base
-pub record IsStatic (h : Classes) : Type 0 where
-  pub each : (c : ClassId) (class : Class) → class_at h c ≡ Some class → IsStaticClass c class

@@ -1,11 +1,14 @@
 //! The layout of a hierarchy.
 
-ghost use Rattle.std.specs.Prelude.{◌≡◌, ◌⊎◌, IfOk, IfErr, List, length};
+ghost use Rattle.std.specs.Prelude.{◌≡◌, ◌≤◌, ◌⊎◌, ℕ, IfOk, IfErr, List, length};
 ghost use Rattle.cxx_hierarchy.specs.Classes.{Classes};
+ghost use Rattle.cxx_hierarchy.specs.declared.stop.Stop.{Stop};
 ghost use Rattle.cxx_hierarchy.specs.Hierarchies.{IsHierarchy};
 ghost use Rattle.abi_layout.specs.declared.class_layout.ClassLayout.{ClassLayout};
+ghost use Rattle.abi_layout.specs.Places.{places_of};
+ghost use Rattle.abi_layout.specs.Sound.{IsSound};
 ghost use Rattle.abi_layout.specs.DynamicLaid.{IsLaid};
-ghost use Rattle.abi_layout.specs.Refusals.{IsFirstStop};
+ghost use Rattle.abi_layout.specs.Refusals.{IsWellLaid, IsFirstStop};
 ghost use Rattle.abi_layout.specs.AbiLayouts.{IsAbiLayout};
 
 use crate::class_layout::AbiLayout;
@@ -19,6 +22,7 @@ use std::alloc::Global;
 /// else the refusal SharedPlace exactly where a base of it brings one pair of class and place twice; want of memory.
 pub fn lay_out(alloc: Global, h: &Hierarchy) -> Result<AbiLayout, Stop>
     ensures layout { IfOk result (IsAbiLayout h.now) }
+    ensures sound { IfOk result (λ l. IsSound h.now (places_of h.now l)) }
     ensures stop { IfErr result (λ e. (e ≡ Stop.NoMemory) ⊎ IsFirstStop h.now (length h.now) e) }
 {
     h.keeps();
@@ -29,4 +33,11 @@ pub fn lay_out(alloc: Global, h: &Hierarchy) -> Result<AbiLayout, Stop>
 /// At most one list of rows is the layout of a hierarchy.
 pub fn one_layout()
     ensures { (h : Classes) → (rows others : List ClassLayout) → IsHierarchy h → IsLaid h rows → IsLaid h others → rows ≡ others }
+{}
+
+/// Of the first classes of a hierarchy at most one is the first that is refused, in one way, and none where they are
+/// laid out.
+pub fn one_answer()
+    ensures stop { (h : Classes) → (count : ℕ) → (first second : Stop) → IsHierarchy h → count ≤ length h → IsFirstStop h count first → IsFirstStop h count second → first ≡ second }
+    ensures apart { (h : Classes) → (count : ℕ) → (rows : List ClassLayout) → (stop : Stop) → IsHierarchy h → count ≤ length h → IsWellLaid h count rows → IsFirstStop h count stop → ⊥ }
 {}

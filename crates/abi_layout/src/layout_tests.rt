@@ -4,6 +4,7 @@ ghost use Rattle.std.specs.Prelude.{IfOk};
 ghost use Rattle.cxx_hierarchy.specs.ClassPass.{IsInOrder};
 
 use crate::class_layouts::lay_out_first;
+use crate::sound_layout::SoundLayout;
 use crate::tests::{class, name, none, number, with_base, with_class, with_field};
 use abi_primary::Primary;
 use cxx_hierarchy::{
@@ -60,6 +61,14 @@ fn diamond(alloc: Global) -> Result<Hierarchy, Stop> {
     build(alloc, &with_class(records, d)?)
 }
 
+/// How long the path of the subobject is that holds a virtual base, if one does.
+fn length_of_holder<L: SoundLayout>(layout: &L, c: ClassId, v: ClassId) -> Option<usize> {
+    match layout.holder(c, v) {
+        Some(holder) => Some(holder.path.len()),
+        None => None,
+    }
+}
+
 #[test]
 fn one_base_of_two_ways(rt: HostRuntime) -> Result<(), Fail> {
     let alloc = rt.alloc();
@@ -73,6 +82,7 @@ fn one_base_of_two_ways(rt: HostRuntime) -> Result<(), Fail> {
     assert_eq!(rt; row.primary, Primary::Direct(ClassId(1)));
     assert_eq!(rt; row.base_places.as_slice(), [0, 16].as_slice());
     assert_eq!(rt; row.virtual_places.as_slice(), [40].as_slice());
+    assert_eq!(rt; length_of_holder(&layout, ClassId(3), ClassId(0)), None);
     assert_eq!(rt; row.member_places.as_slice(), [32].as_slice());
     Ok(())
 }
@@ -106,6 +116,8 @@ fn the_first_base_holds(rt: HostRuntime) -> Result<(), Fail> {
     assert_eq!(rt; row.dsize, 20);
     assert_eq!(rt; row.nvsize, 20);
     assert_eq!(rt; row.base_places.as_slice(), [0, 8].as_slice());
+    assert_eq!(rt; length_of_holder(&layout, ClassId(3), ClassId(0)), Some(2));
+    assert_eq!(rt; length_of_holder(&layout, ClassId(1), ClassId(0)), Some(1));
     assert_eq!(rt; row.virtual_places.as_slice(), [0].as_slice());
     assert_eq!(rt; row.member_places.as_slice(), [16].as_slice());
     Ok(())
