@@ -66,3 +66,10 @@ pub mod OneLayoutLists
 pub mod OneLayoutRows
 pub mod OneLayoutFronts
 pub mod OneLayoutStops
+mod ObjectTree
+pub mod RowPlacesTable
+pub mod RowPlacesFree
+pub mod RowPlacesSmall
+pub mod RowPlacesFronts
+pub mod RowPlaces
+pub mod RowPlacesFinal

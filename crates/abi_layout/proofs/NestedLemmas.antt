@@ -67,7 +67,7 @@ takes_enough h rows known ps c b sized lt_rows lt_known base own =
     by_kind true = least
     by_kind false = omega arith
 
-shared_takes : (h : Classes) (rows : List ClassLayout) (known : List Known) (ps : List Primary) (c v : ClassId) → AreAllSized rows known → v.0 < length rows → v.0 < length known → nvsize_in (slice_get rows v.0) ≤ (placed_component (empties_in known) h rows ps (parts_in known) c (SharedBase v)).takes
+pub shared_takes : (h : Classes) (rows : List ClassLayout) (known : List Known) (ps : List Primary) (c v : ClassId) → AreAllSized rows known → v.0 < length rows → v.0 < length known → nvsize_in (slice_get rows v.0) ≤ (placed_component (empties_in known) h rows ps (parts_in known) c (SharedBase v)).takes
 shared_takes h rows known ps c v sized lt_rows lt_known = by_kind (empties_in known v)
   where
     least : nvsize_in (slice_get rows v.0) ≤ size_in (slice_get rows v.0)

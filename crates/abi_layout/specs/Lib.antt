@@ -17,3 +17,4 @@ pub mod Scenes
 pub mod Arrangements
 pub mod OwnPlaces
 pub mod Settled
+pub mod ClassRows

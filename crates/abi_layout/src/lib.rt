@@ -20,6 +20,7 @@ pub mod dynamic_rows;
 pub mod hierarchy_layout;
 pub mod holding;
 pub mod known;
+pub mod laid_row;
 mod member;
 pub mod places;
 pub mod placing;
