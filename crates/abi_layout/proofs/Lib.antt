@@ -66,10 +66,12 @@ pub mod OneLayoutLists
 pub mod OneLayoutRows
 pub mod OneLayoutFronts
 pub mod OneLayoutStops
-mod ObjectTree
 pub mod RowPlacesTable
 pub mod RowPlacesFree
 pub mod RowPlacesSmall
 pub mod RowPlacesFronts
 pub mod RowPlaces
 pub mod RowPlacesFinal
+pub mod SomeLayoutTests
+pub mod SomeLayoutTable
+pub mod SomeLayoutRows

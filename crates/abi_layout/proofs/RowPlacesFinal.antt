@@ -44,7 +44,7 @@ use Rattle.abi_layout.proofs.RowPlacesFree.{free_at, table_length, frees_once, f
 use Rattle.abi_layout.proofs.RowPlacesSmall.{brought_of, first_at_start}
 use Rattle.abi_layout.proofs.RowPlacesFronts.{map_is, own_front_place, shared_first, first_place, whole_holds}
 
-shared_index : (ws : List ClassId) (i : ℕ) (x : PlacedBase) → slice_get (map (λ (w : ClassId). SharedBase w) ws) i ≡ Some x → (v : ClassId) × (slice_get ws i ≡ Some v) × (SharedBase v ≡ x)
+pub shared_index : (ws : List ClassId) (i : ℕ) (x : PlacedBase) → slice_get (map (λ (w : ClassId). SharedBase w) ws) i ≡ Some x → (v : ClassId) × (slice_get ws i ≡ Some v) × (SharedBase v ≡ x)
 shared_index [] i x e = let f : None ≡ Some x = e in cc
 shared_index (w ∷ ws) zero x e = let same : SharedBase w ≡ x = cc in (w, refl, same)
 shared_index (w ∷ ws) (suc i) x e = shared_index ws i x e

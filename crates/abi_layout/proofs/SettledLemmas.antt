@@ -44,7 +44,7 @@ root_stays : (table : List ℕ) (v place : ℕ) (root : Root) → ((w : ClassId)
 root_stays table v place Whole above = refl
 root_stays table v place (Shared w) above = let lt = above w refl in get_or-set_other table v w.0 place 0 (λ same. absurd (omega arith))
 
-place_stays : (h : Classes) (rows : List ClassLayout) (table : List ℕ) (v place : ℕ) (t : Subobject) → ((w : ClassId) → t.root ≡ Shared w → v < w.0) → place_by h rows (slice_set table v place) t ≡ place_by h rows table t
+pub place_stays : (h : Classes) (rows : List ClassLayout) (table : List ℕ) (v place : ℕ) (t : Subobject) → ((w : ClassId) → t.root ≡ Shared w → v < w.0) → place_by h rows (slice_set table v place) t ≡ place_by h rows table t
 place_stays h rows table v place t above = ap (λ n. n + place_from h rows t.path) (root_stays table v place t.root above)
 
 pub settled_more : (h : Classes) (rows : List ClassLayout) (list : List Subobject) (holders : List (Option ℕ)) (count i u : ℕ) (old new : List ℕ) → CanSettle h rows list holders → i < count → u ≡ count - 1 - i → SettledFrom h rows list holders count i old new
