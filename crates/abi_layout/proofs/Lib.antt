@@ -75,3 +75,4 @@ pub mod RowPlacesFinal
 pub mod SomeLayoutTests
 pub mod SomeLayoutTable
 pub mod SomeLayoutRows
+pub mod SomeLayout
