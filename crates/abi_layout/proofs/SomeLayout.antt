@@ -13,10 +13,10 @@ use Rattle.abi_primary.specs.NearlyEmpty.{IsNearlyEmpty}
 use Rattle.abi_primary.specs.PrimaryBase.{IsPrimary}
 use Rattle.abi_layout.specs.declared.class_layout.ClassLayout.{ClassLayout}
 use Rattle.abi_layout.specs.Places.{align_in, nvalign_in}
-use Rattle.abi_layout.specs.Kinds.{is_kind, is_pod}
+use Rattle.abi_layout.specs.Kinds.{is_kind}
 use Rattle.abi_layout.specs.Laid.{after_all, member_component}
-use Rattle.abi_layout.specs.DynamicLaid.{primary_of, placed_place, fronts, front_components, free_components, object_parts, start_stage, HasPointer, IsDynamicRow, is_shifted, IsLaidBy, IsFrontLaid}
-use Rattle.abi_layout.specs.PlacedBases.{free_bases, IsPossible}
+use Rattle.abi_layout.specs.DynamicLaid.{primary_of, placed_place, fronts, front_components, free_components, object_parts, start_stage, IsDynamicRow, is_shifted, IsLaidBy, IsFrontLaid}
+use Rattle.abi_layout.specs.PlacedBases.{free_bases}
 use Rattle.abi_layout.proofs.Existence.{align_grows}
 use Rattle.abi_layout.proofs.Lists.{number, get_within}
 use Rattle.abi_layout.proofs.Fronts.{longer, last_one}

@@ -1,5 +1,5 @@
 -- A class has a row, by the rows of the classes before it.
-use Rattle.std.proofs.Common.{◌≡◌, ℕ, zero, suc, ◌+◌, ◌<◌, ◌≤◌, ⊎_elim, Bool, true, false, Option, Some, None, List, [], ◌∷◌, ◌++◌, map, take, length, get_or, replicate, refl, ap, subst, sym, ◌∙◌, arith}
+use Rattle.std.proofs.Common.{◌≡◌, ℕ, ◌+◌, ◌<◌, ◌≤◌, ⊎_elim, Bool, true, false, Some, None, List, [], ◌∷◌, ◌++◌, map, take, length, get_or, replicate, refl, ap, subst, sym, ◌∙◌, arith}
 use Rattle.std.specs.Prelude.{if◌then◌else◌, max, filter}
 use Rattle.std.specs.List.{slice_get}
 use Rattle.std.proofs.lemmas.Bool.{cases_order}
@@ -35,7 +35,7 @@ use Rattle.abi_layout.specs.PlacedBases.{is_free, free_bases, placed_component, 
 use Rattle.abi_layout.specs.OwnPlaces.{own_place, own_places}
 use Rattle.abi_layout.specs.Arrangements.{row_from, IsArranged}
 use Rattle.abi_layout.specs.Settled.{free_table}
-use Rattle.abi_layout.specs.DynamicLaid.{placed_place, virtual_place, primary_of, fronts, front_components, free_components, object_parts, start_stage, IsLayoutBy, IsArrangedBy, HasPointer, IsDynamicRow}
+use Rattle.abi_layout.specs.DynamicLaid.{placed_place, virtual_place, primary_of, fronts, front_components, free_components, object_parts, start_stage, IsArrangedBy, HasPointer, IsDynamicRow}
 use Rattle.abi_layout.proofs.Existence.{rounded, rounded_is_next, ArePositive, places_exist, align_grows}
 use Rattle.abi_layout.proofs.PlacingLemmas.{align_small}
 use Rattle.abi_layout.proofs.FineRows.{value_align}
