@@ -4,7 +4,7 @@ use Rattle.std.specs.Prelude.{IsTrue, ◌↔◌}
 use Rattle.std.specs.List.{slice_get}
 use Rattle.std.proofs.lemmas.Bool.{cases_order}
 use Rattle.std.proofs.lemmas.List.{length-take-le}
-use Rattle.std.proofs.lemmas.Option.{slice_get_within, slice_get_past, get_or_from_slice_get}
+use Rattle.std.proofs.lemmas.Option.{slice_get_within, get_or_from_slice_get}
 use Rattle.cxx_hierarchy.specs.declared.records.ClassId.{ClassId}
 use Rattle.cxx_hierarchy.specs.Classes.{Class, Classes, class_at}
 use Rattle.cxx_hierarchy.specs.Hierarchies.{IsHierarchy}
@@ -12,14 +12,13 @@ use Rattle.abi_primary.specs.declared.Primary.{Primary}
 use Rattle.abi_primary.specs.NearlyEmpty.{IsNearlyEmpty}
 use Rattle.abi_primary.specs.PrimaryBase.{IsPrimary}
 use Rattle.abi_layout.specs.declared.class_layout.ClassLayout.{ClassLayout}
-use Rattle.abi_layout.specs.Holding.{virtual_in, virtual_primary}
 use Rattle.abi_layout.specs.Scenes.{AreBefore}
 use Rattle.abi_layout.specs.DynamicLaid.{primary_of, IsDynamicRow, is_shifted, IsLaidBy}
 use Rattle.abi_layout.specs.Refusals.{IsNextClass}
 use Rattle.abi_layout.proofs.Lists.{number, get_within}
 use Rattle.abi_layout.proofs.Fronts.{longer, last_one, old_or_last}
 use Rattle.abi_layout.proofs.AgreeingRows.{AgreeTo, agree_less, agree_turned, agree_item, agree_push, agree_take, primary_agrees, take_agrees}
-use Rattle.abi_layout.proofs.AgreeingParts.{ArePossible, possible_agrees, virtual_falls}
+use Rattle.abi_layout.proofs.AgreeingParts.{ArePossible, possible_agrees, before_by}
 use Rattle.abi_layout.proofs.AgreeingClasses.{laid_possible, next_possible, primary_possible, is_primary_agrees, nearly_empty_agrees, shifted_agrees, pointer_agrees, row_agrees}
 
 -- what a list tells of a class, by lists and rows that agree
@@ -107,15 +106,7 @@ taken h count n rows nearly ps keeps laid le = record {
 
 -- virtual primary bases of classes that are laid out stand before these
 pub laid_before : (h : Classes) (count : ℕ) (rows : List ClassLayout) (nearly : List Bool) (ps : List Primary) → IsHierarchy h → count ≤ length h → IsLaidBy h count rows nearly ps → AreBefore ps
-laid_before h count rows nearly ps keeps within laid = record {
-  falls = λ d v e. ⊎_elim
-      (λ same. past d v e (omega arith))
-      (λ o. ⊎_elim (λ l. virtual_falls h count ps d v keeps (laid_possible h count count rows nearly ps (omega arith) within laid) l e) (λ g. past d v e (omega arith)) o)
-      (cases_order d.0 count);
-}
-  where
-    past : (d v : ClassId) → virtual_primary ps d ≡ Some v → count ≤ d.0 → v.0 < d.0
-    past d v e le = let a = laid.primary_each in let f : None ≡ Some v = sym (ap virtual_in (slice_get_past ps d.0 (omega arith))) ∙ e in cc
+laid_before h count rows nearly ps keeps within laid = before_by h count ps keeps laid.primary_each (laid_possible h count count rows nearly ps (omega arith) within laid)
 
 -- the primary bases of the classes up to the next one are bases
 pub next_are_possible : (h : Classes) (c : ClassId) → (next : IsNextClass h c) → ArePossible h (c.0 + 1) next.primaries

@@ -27,6 +27,7 @@ pub mod PlacedLemmas
 pub mod RepeatLemmas
 pub mod ArrangeLemmas
 pub mod SceneFits
+pub mod TableLemmas
 pub mod SettledLemmas
 pub mod OpenLemmas
 pub mod CanSettleLemmas

@@ -26,16 +26,12 @@ use Rattle.abi_layout.proofs.AgreeingParts.{ArePossible, possible_agrees}
 use Rattle.abi_layout.proofs.AgreeingClasses.{laid_possible, next_possible, primary_possible, is_primary_agrees, nearly_empty_agrees}
 use Rattle.abi_layout.proofs.AgreeingFronts.{one_more}
 use Rattle.abi_layout.proofs.SomeLayoutTests.{HasPrimary, primary_exists, pointer_told, IsTold, nearly_told}
-use Rattle.abi_layout.proofs.SomeLayoutRows.{IsReady, HasNextRow, row_exists}
+use Rattle.abi_layout.proofs.SomeLayoutRows.{start_positive, IsReady, HasNextRow, row_exists}
 
 -- the alignments of a row that is laid out are not 0
 record IsPositiveRow (row : ClassLayout) : Type 0 where
   nvalign : 1 ≤ row.nvalign
   align : 1 ≤ row.align
-
-start_at_least : (c : ClassId) (b : Bool) → 1 ≤ (start_stage c b).align
-start_at_least c true = omega arith
-start_at_least c false = omega arith
 
 row_positive : (h : Classes) (rows : List ClassLayout) (nearly : List Bool) (ps : List Primary) (c : ClassId) (class : Class) (row : ClassLayout) → IsDynamicRow h rows nearly ps c class row → IsPositiveRow row
 row_positive h rows nearly ps c class row is =
@@ -45,7 +41,7 @@ row_positive h rows nearly ps c class row is =
     let vs = free_components h rows ps (object_parts h rows ps) c in
     let front_places = map (placed_place h rows c) (fronts ps c class) in
     let free_places = map (placed_place h rows c) (free_bases h ps c) in
-    let start = start_at_least c is.has_pointer in
+    let start = start_positive c is.has_pointer in
     let x = align_grows first fs front_places in
     let y = align_grows (after_all first fs front_places) ms row.member_places in
     let z = align_grows (after_all (after_all first fs front_places) ms row.member_places) vs free_places in

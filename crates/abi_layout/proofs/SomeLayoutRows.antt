@@ -4,7 +4,6 @@ use Rattle.std.specs.Prelude.{if◌then◌else◌, max, filter}
 use Rattle.std.specs.List.{slice_get}
 use Rattle.std.proofs.lemmas.Bool.{cases_order}
 use Rattle.std.proofs.lemmas.List.{length-map, get_or_past}
-use Rattle.std.proofs.lemmas.Option.{slice_get_past}
 use Rattle.cxx_hierarchy.specs.declared.records.ClassId.{ClassId}
 use Rattle.cxx_hierarchy.specs.declared.records.Base.{Base}
 use Rattle.cxx_hierarchy.specs.declared.records.Member.{Member}
@@ -29,8 +28,7 @@ use Rattle.abi_layout.specs.Sound.{Divides}
 use Rattle.abi_layout.specs.Places.{align_in, nvalign_in, is_plain_base}
 use Rattle.abi_layout.specs.Kinds.{is_empty, is_pod}
 use Rattle.abi_layout.specs.Laid.{IsPlace, behind, after_all, align_of_type, member_component}
-use Rattle.abi_layout.specs.Holding.{virtual_in, virtual_primary, virtual_bases}
-use Rattle.abi_layout.specs.Scenes.{AreBefore}
+use Rattle.abi_layout.specs.Holding.{virtual_bases}
 use Rattle.abi_layout.specs.PlacedBases.{is_free, free_bases, placed_component, subobject_of, IsPossible}
 use Rattle.abi_layout.specs.OwnPlaces.{own_place, own_places}
 use Rattle.abi_layout.specs.Arrangements.{row_from, IsArranged}
@@ -43,14 +41,13 @@ use Rattle.abi_layout.proofs.Fronts.{last_one}
 use Rattle.abi_layout.proofs.Listed.{placed_length}
 use Rattle.abi_layout.proofs.OpenLemmas.{virtual_below}
 use Rattle.abi_layout.proofs.ObjectStarts.{AreUnder, objects_fall, brought_under, no_conflict}
-use Rattle.abi_layout.proofs.RowPlacesTable.{virtual_listed, virtual_place_is, below_of}
-use Rattle.abi_layout.proofs.RowPlacesFree.{free_at, table_length, frees_once, free_facts}
-use Rattle.abi_layout.proofs.RowPlacesFronts.{map_is, own_front_place, shared_first, first_place, whole_holds}
-use Rattle.abi_layout.proofs.RowPlacesFinal.{shared_index, ArePlacesBy}
+use Rattle.abi_layout.proofs.RowPlacesTable.{held_place}
+use Rattle.abi_layout.proofs.RowPlacesFree.{table_length}
+use Rattle.abi_layout.proofs.RowPlacesFinal.{ArePlacesBy, places_from}
 use Rattle.abi_layout.proofs.AgreeingRows.{AgreeTo, agree_push}
-use Rattle.abi_layout.proofs.AgreeingParts.{ArePossible, virtual_falls}
+use Rattle.abi_layout.proofs.AgreeingParts.{ArePossible, before_by}
 use Rattle.abi_layout.proofs.AgreeingClasses.{arranged_agrees}
-use Rattle.abi_layout.proofs.SomeLayoutTable.{IsTableFrom, table_exists, holders_by, holders_rise, held_by_table}
+use Rattle.abi_layout.proofs.SomeLayoutTable.{HasVirtualTable, virtual_table_exists}
 
 -- an arrangement of components
 pub record HasArrangement (first : Stage) (fs ms vs : List Component) (pod : Bool) : Type 0 where
@@ -120,7 +117,7 @@ members_positive : (rows : List ClassLayout) (parts : ClassId → List Part) →
 members_positive rows parts each [] = tt
 members_positive rows parts each (m ∷ ms) = (type_positive rows each m.ty, members_positive rows parts each ms)
 
-start_positive : (c : ClassId) (b : Bool) → 1 ≤ (start_stage c b).align
+pub start_positive : (c : ClassId) (b : Bool) → 1 ≤ (start_stage c b).align
 start_positive c true = omega arith
 start_positive c false = omega arith
 
@@ -145,84 +142,20 @@ each_possible h n ps size possible c = ⊎_elim
     past : n ≤ c.0 → IsPossible h c (primary_of ps c)
     past le = let e : primary_of ps c ≡ NoPrimary = get_or_past ps c.0 NoPrimary (omega arith) in subst (IsPossible h c) (sym e) tt
 
--- virtual primary bases stand before their classes
-pub before_by : (h : Classes) (n : ℕ) (ps : List Primary) → IsHierarchy h → length ps ≡ n → ArePossible h n ps → AreBefore ps
-before_by h n ps keeps size possible = record {
-  falls = λ d v e. ⊎_elim
-      (λ same. past d v e (omega arith))
-      (λ o. ⊎_elim (λ lt. virtual_falls h n ps d v keeps possible lt e) (λ gt. past d v e (omega arith)) o)
-      (cases_order d.0 n);
-}
-  where
-    past : (d v : ClassId) → virtual_primary ps d ≡ Some v → n ≤ d.0 → v.0 < d.0
-    past d v e le = let f : None ≡ Some v = sym (ap virtual_in (slice_get_past ps d.0 (omega arith))) ∙ e in cc
-
--- a class's row, with the virtual places by the table, gives its bases the places at which they were put
-places_by : (h : Classes) (c : ClassId) (class : Class) (rows : List ClassLayout) (ps : List Primary) (has_pointer : Bool) (a : Arrangement) (r s : ClassLayout) (table : List ℕ) → IsReady h c class rows ps has_pointer
-    → IsArrangedBy h rows ps c class has_pointer a.front_places a.free_places r → r.base_places ≡ own_places (fronts ps c class) a.front_places class.bases
-    → IsTableFrom h (rows ++ r ∷ []) (holders_by h ps c) c.0 c.0 (free_table c.0 (free_bases h ps c) a.free_places) table → s.virtual_places ≡ map (λ (v : ClassId). get_or table v.0 0) (virtual_bases h c)
-    → r.base_places ≡ s.base_places → s.virtual_bases ≡ virtual_bases h c → ArePlacesBy h c (rows ++ s ∷ []) ps class a.front_places a.free_places
-places_by h c class rows ps has_pointer a r s table ready laid are settled places same bases = record {
-  fronts_are = map_is (placed_place h (rows ++ s ∷ []) c) (fronts ps c class) a.front_places
-      (placed_length (start_stage c has_pointer) (map f (fronts ps c class)) a.front_places laid.fronts_placed ∙ length-map (fronts ps c class) f)
-      (λ i x p at place. front i x p at place);
-  frees_are = map_is (placed_place h (rows ++ s ∷ []) c) (free_bases h ps c) a.free_places
-      (placed_length (after_all (after_all (start_stage c has_pointer) (map f (fronts ps c class)) a.front_places) (map (member_component rows (object_parts h rows ps)) class.members) r.member_places) (map f (free_bases h ps c)) a.free_places laid.frees_placed ∙ length-map (free_bases h ps c) f)
-      (λ i x p at place. let w = shared_index frees i x at in ap (placed_place h (rows ++ s ∷ []) c) (sym w.2) ∙ free i w.0 p w.1 place);
-}
-  where
-    f : PlacedBase → Component
-    f = placed_component (is_empty h) h rows ps (object_parts h rows ps) c
-
-    frees : List ClassId
-    frees = filter (λ (v : ClassId). is_free (holder_of h ps c v)) (virtual_bases h c)
-
-    possible : IsPossible h c (primary_of ps c)
-    possible = ready.possible.each c (omega arith)
-
-    there : slice_get (rows ++ s ∷ []) c.0 ≡ Some s
-    there = ap (slice_get (rows ++ s ∷ [])) (sym ready.row_each) ∙ last_one rows s
-
-    before : AreBefore ps
-    before = before_by h (c.0 + 1) ps ready.keeps ready.primary_each ready.possible
-
-    shared_place : (v : ClassId) → primary_of ps c ≡ Virtual v → virtual_place h (rows ++ s ∷ []) c v ≡ 0
-    shared_place v is =
-        let has : HasVirtualBase h c v = subst (IsPossible h c) is possible in
-        let listed = virtual_listed h c v ready.keeps has in
-        held_by_table h ps rows c r s (free_table c.0 (free_bases h ps c) a.free_places) table ready.keeps same there bases places settled v (whole_of c) listed (whole_holds h ps c v is)
-
-    at_start : (v : ClassId) (p : ℕ) → primary_of ps c ≡ Virtual v → IsPlace (start_stage c has_pointer) (f (SharedBase v)) p → p ≡ 0
-    at_start v p is place =
-        let has : HasVirtualBase h c v = subst (IsPossible h c) is possible in
-        let lt = virtual_below h ready.keeps c v has in
-        let under : AreUnder (v.0 + 1) (f (SharedBase v)).parts = brought_under h rows ps (object_parts h rows ps) c ready.keeps before
-            (λ d. objects_fall h rows ps ready.keeps before (λ e k at. each_possible h (c.0 + 1) ps ready.primary_each ready.possible e) (d.0 + 1) d) (v.0 + 1) (subobject_of c (SharedBase v)) v in
-        let first = subst (λ b. IsPlace (start_stage c b) (f (SharedBase v)) p) (ready.without v is) place in
-        let multiple : Divides (f (SharedBase v)).align 0 = record { times = 0; is = omega arith } in
-        let le = first.least 0 (behind 0 (omega arith) multiple) (no_conflict c (v.0 + 1) 0 (f (SharedBase v)).parts (omega arith) under) in
-        omega arith
-
-    front : (i : ℕ) (x : PlacedBase) (p : ℕ) → slice_get (fronts ps c class) i ≡ Some x → slice_get a.front_places i ≡ Some p → placed_place h (rows ++ s ∷ []) c x ≡ p
-    front i (Own b) p at place =
-        let is = own_front_place h (rows ++ s ∷ []) c class s (primary_of ps c) a.front_places i b p ready.keeps ready.there possible there (sym same ∙ are) at place in
-        omega arith
-    front i (SharedBase v) p at place =
-        let which = shared_first (primary_of ps c) class.bases i v at in
-        let zero_place = shared_place v which.0 in
-        let first = first_place (start_stage c has_pointer) f (fronts ps c class) a.front_places (SharedBase v) p laid.fronts_placed (subst (λ n. slice_get (fronts ps c class) n ≡ Some (SharedBase v)) which.1 at) (subst (λ n. slice_get a.front_places n ≡ Some p) which.1 place) in
-        let start = at_start v p which.0 first in
-        omega arith
-
-    free : (i : ℕ) (v : ClassId) (p : ℕ) → slice_get frees i ≡ Some v → slice_get a.free_places i ≡ Some p → placed_place h (rows ++ s ∷ []) c (SharedBase v) ≡ p
-    free i v p at place =
-        let facts = free_facts h ps c i v at in
-        let lt = below_of h c v ready.keeps facts.listed in
-        let by_table = virtual_place_is h (rows ++ s ∷ []) c s table there bases places v facts.listed in
-        let kept = settled.kept v.0 facts.unheld in
-        let size = table_length c.0 [] [] in
-        let put : (let n : ℕ = get_or (free_table c.0 (free_bases h ps c) a.free_places) v.0 0 in n) ≡ p = free_at (replicate c.0 0) frees a.free_places i v p (frees_once h ps c) at place (omega arith) in
-        omega arith
+-- a virtual primary base lies at the start of its class
+shared_at_start : (h : Classes) (c : ClassId) (class : Class) (rows : List ClassLayout) (ps : List Primary) (has_pointer : Bool) → IsReady h c class rows ps has_pointer → (v : ClassId) (p : ℕ) → primary_of ps c ≡ Virtual v
+    → IsPlace (start_stage c has_pointer) (placed_component (is_empty h) h rows ps (object_parts h rows ps) c (SharedBase v)) p → p ≡ 0
+shared_at_start h c class rows ps has_pointer ready v p is place =
+    let f : PlacedBase → Component = placed_component (is_empty h) h rows ps (object_parts h rows ps) c in
+    let before = before_by h (c.0 + 1) ps ready.keeps ready.primary_each ready.possible in
+    let has : HasVirtualBase h c v = subst (IsPossible h c) is (ready.possible.each c (omega arith)) in
+    let lt = virtual_below h ready.keeps c v has in
+    let under : AreUnder (v.0 + 1) (f (SharedBase v)).parts = brought_under h rows ps (object_parts h rows ps) c ready.keeps before
+    (λ d. objects_fall h rows ps ready.keeps before (λ e k at. each_possible h (c.0 + 1) ps ready.primary_each ready.possible e) (d.0 + 1) d) (v.0 + 1) (subobject_of c (SharedBase v)) v in
+    let first = subst (λ b. IsPlace (start_stage c b) (f (SharedBase v)) p) (ready.without v is) place in
+    let multiple : Divides (f (SharedBase v)).align 0 = record { times = 0; is = omega arith } in
+    let le = first.least 0 (behind 0 (omega arith) multiple) (no_conflict c (v.0 + 1) 0 (f (SharedBase v)).parts (omega arith) under) in
+    omega arith
 
 -- the row of a class, by the rows of the classes before it
 pub record HasNextRow (h : Classes) (c : ClassId) (class : Class) (rows : List ClassLayout) (nearly : List Bool) (ps : List Primary) : Type 0 where
@@ -244,9 +177,9 @@ row_of_arrangement h c class rows nearly ps has_pointer a ready is_primary point
         (arranged_agrees h rows (rows ++ s ∷ []) ps ps c class has_pointer a.front_places a.free_places s ready.keeps ready.there agree alike ready.possible (arranged.laid (primary_of ps c) base_places (virtual_bases h c) places (map (holder_of h ps c) (virtual_bases h c)))));
     each_base = length-map (filter is_plain_base class.bases) (λ (base : Base ClassId). own_place (fronts ps c class) a.front_places base.class);
     shared = refl;
-    each_virtual = length-map (virtual_bases h c) (λ (v : ClassId). get_or table v.0 0);
+    each_virtual = length-map (virtual_bases h c) (λ (v : ClassId). get_or made.table v.0 0);
     holders = refl;
-    held = λ v holder has is. held_by_table h ps rows c r s old table ready.keeps refl there refl refl settled v holder has is;
+    held = λ v holder has is. held_place h ps rows c r s old made.table ready.keeps refl there refl refl made.is v holder has is;
   };
 }
   where
@@ -259,20 +192,11 @@ row_of_arrangement h c class rows nearly ps has_pointer a ready is_primary point
     r : ClassLayout
     r = row_from a (primary_of ps c) base_places [] [] []
 
-    rising : Rattle.abi_layout.proofs.SomeLayoutTable.DoesRise (holders_by h ps c)
-    rising = holders_rise h ps c ready.keeps ready.possible
-
-    made : Rattle.abi_layout.proofs.SomeLayoutTable.HasTable h (rows ++ r ∷ []) (holders_by h ps c) c.0 c.0 old
-    made = table_exists h (rows ++ r ∷ []) (holders_by h ps c) c.0 old rising (table_length c.0 (free_bases h ps c) a.free_places) c.0 (omega arith)
-
-    table : List ℕ
-    table = made.table
-
-    settled : IsTableFrom h (rows ++ r ∷ []) (holders_by h ps c) c.0 c.0 old table
-    settled = made.is
+    made : HasVirtualTable h ps c (rows ++ r ∷ []) old
+    made = virtual_table_exists h ps c (rows ++ r ∷ []) old ready.keeps ready.possible (table_length c.0 (free_bases h ps c) a.free_places)
 
     places : List ℕ
-    places = map (λ (v : ClassId). get_or table v.0 0) (virtual_bases h c)
+    places = map (λ (v : ClassId). get_or made.table v.0 0) (virtual_bases h c)
 
     s : ClassLayout
     s = row_from a (primary_of ps c) base_places (virtual_bases h c) places (map (holder_of h ps c) (virtual_bases h c))
@@ -281,7 +205,8 @@ row_of_arrangement h c class rows nearly ps has_pointer a ready is_primary point
     there = ap (slice_get (rows ++ s ∷ [])) (sym ready.row_each) ∙ last_one rows s
 
     by : ArePlacesBy h c (rows ++ s ∷ []) ps class a.front_places a.free_places
-    by = places_by h c class rows ps has_pointer a r s table ready (arranged.laid (primary_of ps c) base_places [] [] []) refl settled refl refl refl
+    by = places_from h c class rows ps (start_stage c has_pointer) (placed_component (is_empty h) h rows ps (object_parts h rows ps) c) (map (member_component rows (object_parts h rows ps)) class.members) (is_pod h c) a r s made.table ready.keeps ready.row_each ready.there (ready.possible.each c (omega arith))
+        (shared_at_start h c class rows ps has_pointer ready) (arranged.laid (primary_of ps c) base_places [] [] []) refl made.is refl refl refl
 
     agree : AgreeTo c.0 rows (rows ++ s ∷ [])
     agree = let e = ready.row_each in agree_push c.0 rows s (omega arith)
