@@ -1,5 +1,5 @@
 -- The places of virtual bases by the table, and what the virtual bases' places in a row leave as it was.
-use Rattle.std.proofs.Common.{◌≡◌, ℕ, zero, suc, ◌+◌, ◌<◌, ◌≤◌, ⊎_elim, inl, inr, Bool, true, Option, Some, None, List, [], ◌∷◌, ◌++◌, map, length, get_or, refl, ap, subst, sym, ◌∙◌, append-nil, arith}
+use Rattle.std.proofs.Common.{◌≡◌, ℕ, zero, suc, ◌+◌, ◌<◌, ◌≤◌, ⊎_elim, inl, inr, Bool, Option, Some, None, List, [], ◌∷◌, ◌++◌, map, length, get_or, refl, ap, subst, sym, ◌∙◌, append-nil, arith}
 use Rattle.std.specs.Prelude.{Contains, filter, position, nat_eq}
 use Rattle.std.specs.Option.{option_map}
 use Rattle.std.specs.List.{slice_get, filter_map, cons_option}

@@ -1,5 +1,5 @@
 -- A class has a row, by the rows of the classes before it.
-use Rattle.std.proofs.Common.{◌≡◌, ℕ, ◌+◌, ◌<◌, ◌≤◌, ⊎_elim, Bool, true, false, Some, None, List, [], ◌∷◌, ◌++◌, map, take, length, get_or, replicate, refl, ap, subst, sym, ◌∙◌, arith}
+use Rattle.std.proofs.Common.{◌≡◌, ℕ, ◌+◌, ◌≤◌, ⊎_elim, Bool, true, false, Some, List, [], ◌∷◌, ◌++◌, map, take, length, get_or, refl, ap, subst, sym, ◌∙◌, arith}
 use Rattle.std.specs.Prelude.{if◌then◌else◌, max, filter}
 use Rattle.std.specs.List.{slice_get}
 use Rattle.std.proofs.lemmas.Bool.{cases_order}
@@ -12,7 +12,6 @@ use Rattle.cxx_hierarchy.specs.declared.records.FieldType.TheVariants.{Value, Ob
 use Rattle.cxx_hierarchy.specs.Classes.{Class, Classes, class_at}
 use Rattle.cxx_hierarchy.specs.Hierarchies.{IsHierarchy}
 use Rattle.cxx_hierarchy.specs.VirtualBases.{HasVirtualBase}
-use Rattle.cxx_subobject.specs.Subobjects.{whole_of}
 use Rattle.abi_emptybase.specs.declared.Part.{Part}
 use Rattle.abi_primary.specs.declared.Primary.{Primary}
 use Rattle.abi_primary.specs.declared.Primary.TheVariants.{None as NoPrimary, Virtual}
@@ -29,16 +28,15 @@ use Rattle.abi_layout.specs.Places.{align_in, nvalign_in, is_plain_base}
 use Rattle.abi_layout.specs.Kinds.{is_empty, is_pod}
 use Rattle.abi_layout.specs.Laid.{IsPlace, behind, after_all, align_of_type, member_component}
 use Rattle.abi_layout.specs.Holding.{virtual_bases}
-use Rattle.abi_layout.specs.PlacedBases.{is_free, free_bases, placed_component, subobject_of, IsPossible}
+use Rattle.abi_layout.specs.PlacedBases.{free_bases, placed_component, subobject_of, IsPossible}
 use Rattle.abi_layout.specs.OwnPlaces.{own_place, own_places}
 use Rattle.abi_layout.specs.Arrangements.{row_from, IsArranged}
 use Rattle.abi_layout.specs.Settled.{free_table}
-use Rattle.abi_layout.specs.DynamicLaid.{placed_place, virtual_place, primary_of, fronts, front_components, free_components, object_parts, start_stage, IsArrangedBy, HasPointer, IsDynamicRow}
+use Rattle.abi_layout.specs.DynamicLaid.{placed_place, primary_of, fronts, front_components, free_components, object_parts, start_stage, IsArrangedBy, HasPointer, IsDynamicRow}
 use Rattle.abi_layout.proofs.Existence.{rounded, rounded_is_next, ArePositive, places_exist, align_grows}
 use Rattle.abi_layout.proofs.PlacingLemmas.{align_small}
 use Rattle.abi_layout.proofs.FineRows.{value_align}
 use Rattle.abi_layout.proofs.Fronts.{last_one}
-use Rattle.abi_layout.proofs.Listed.{placed_length}
 use Rattle.abi_layout.proofs.OpenLemmas.{virtual_below}
 use Rattle.abi_layout.proofs.ObjectStarts.{AreUnder, objects_fall, brought_under, no_conflict}
 use Rattle.abi_layout.proofs.RowPlacesTable.{held_place}
