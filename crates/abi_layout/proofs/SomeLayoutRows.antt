@@ -119,8 +119,9 @@ pub start_positive : (c : ClassId) (b : Bool) → 1 ≤ (start_stage c b).align
 start_positive c true = omega arith
 start_positive c false = omega arith
 
-abbrev pub all_arranged : Classes → List ClassLayout → List Primary → ClassId → Class → Bool → Arrangement → Type 0
-all_arranged h rows ps c class has_pointer a =
+-- the components of class c are arranged so
+abbrev pub IsClassArranged : Classes → List ClassLayout → List Primary → ClassId → Class → Bool → Arrangement → Type 0
+IsClassArranged h rows ps c class has_pointer a =
     IsArranged (start_stage c has_pointer) (front_components h rows ps (object_parts h rows ps) c class) (map (member_component rows (object_parts h rows ps)) class.members) (free_components h rows ps (object_parts h rows ps) c) (is_pod h c) a
 
 -- the components of a class can be arranged
@@ -162,7 +163,7 @@ pub record HasNextRow (h : Classes) (c : ClassId) (class : Class) (rows : List C
 
 -- an arrangement gives the row
 pub row_of_arrangement : (h : Classes) (c : ClassId) (class : Class) (rows : List ClassLayout) (nearly : List Bool) (ps : List Primary) (has_pointer : Bool) (a : Arrangement) → IsReady h c class rows ps has_pointer → IsPrimary h nearly (take c.0 ps) c (primary_of ps c) → HasPointer h ps c has_pointer
-    → all_arranged h rows ps c class has_pointer a → HasNextRow h c class rows nearly ps
+    → IsClassArranged h rows ps c class has_pointer a → HasNextRow h c class rows nearly ps
 row_of_arrangement h c class rows nearly ps has_pointer a ready is_primary pointer arranged = record {
   row = s;
   is = record {
