@@ -1,8 +1,10 @@
 -- What bases bring, and which class subobjects an object has, by rows and primary bases that agree on the first classes.
-use Rattle.std.proofs.Common.{◌≡◌, ℕ, zero, suc, ◌+◌, ◌<◌, ◌≤◌, Bool, Option, Some, None, List, [], ◌∷◌, ◌++◌, map, refl, ap, subst, sym, ◌∙◌, arith}
+use Rattle.std.proofs.Common.{◌≡◌, ℕ, zero, suc, ◌+◌, ◌<◌, ◌≤◌, ⊎_elim, Bool, Option, Some, None, List, [], ◌∷◌, ◌++◌, map, length, refl, ap, subst, sym, ◌∙◌, arith}
 use Rattle.std.specs.Prelude.{if◌then◌else◌, All, Contains}
 use Rattle.std.specs.List.{slice_get, flat_map}
+use Rattle.std.proofs.lemmas.Bool.{cases_order}
 use Rattle.std.proofs.lemmas.List.Elements.{All-contains}
+use Rattle.std.proofs.lemmas.Option.{slice_get_past}
 use Rattle.cxx_hierarchy.specs.declared.records.ClassId.{ClassId}
 use Rattle.cxx_hierarchy.specs.declared.records.Member.{Member}
 use Rattle.cxx_hierarchy.specs.declared.records.FieldType.{FieldType}
@@ -24,6 +26,7 @@ use Rattle.abi_layout.specs.Kinds.{is_empty}
 use Rattle.abi_layout.specs.Laid.{part_at, parts_at, member_component}
 use Rattle.abi_layout.specs.Known.{IsEarlierType, AreEarlier}
 use Rattle.abi_layout.specs.Holding.{virtual_in, virtual_primary, held_base}
+use Rattle.abi_layout.specs.Scenes.{AreBefore}
 use Rattle.abi_layout.specs.Brought.{member_parts, base_brings, shared_brings, brought, brought_by}
 use Rattle.abi_layout.specs.PlacedBases.{class_of_placed, subobject_of, free_bases, placed_component, IsPossible}
 use Rattle.abi_layout.specs.DynamicLaid.{placed_place, primary_of, fronts, front_components, free_components, object_parts_in, object_parts_within, object_parts}
@@ -66,6 +69,18 @@ primary_is_virtual ps d v e = in_some (slice_get ps d.0) (primary_of ps d) v e (
 -- stands before its class
 pub virtual_falls : (h : Classes) (n : ℕ) (ps : List Primary) (d v : ClassId) → IsHierarchy h → ArePossible h n ps → d.0 < n → virtual_primary ps d ≡ Some v → v.0 < d.0
 virtual_falls h n ps d v keeps possible lt e = virtual_below h keeps d v (subst (IsPossible h d) (primary_is_virtual ps d v e) (possible.each d lt))
+
+-- virtual primary bases stand before their classes
+pub before_by : (h : Classes) (n : ℕ) (ps : List Primary) → IsHierarchy h → length ps ≡ n → ArePossible h n ps → AreBefore ps
+before_by h n ps keeps size possible = record {
+  falls = λ d v e. ⊎_elim
+      (λ same. past d v e (omega arith))
+      (λ o. ⊎_elim (λ lt. virtual_falls h n ps d v keeps possible lt e) (λ gt. past d v e (omega arith)) o)
+      (cases_order d.0 n);
+}
+  where
+    past : (d v : ClassId) → virtual_primary ps d ≡ Some v → n ≤ d.0 → v.0 < d.0
+    past d v e le = let f : None ≡ Some v = sym (ap virtual_in (slice_get_past ps d.0 (omega arith))) ∙ e in cc
 
 -- the classes that a class names are of smaller numbers
 pub earlier_by : (h : Classes) (c : ClassId) (class : Class) → IsHierarchy h → class_at h c ≡ Some class → AreEarlier c.0 class

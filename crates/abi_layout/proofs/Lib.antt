@@ -23,6 +23,7 @@ pub mod PlacedLemmas
 pub mod RepeatLemmas
 pub mod ArrangeLemmas
 pub mod SceneFits
+pub mod TableLemmas
 pub mod SettledLemmas
 pub mod OpenLemmas
 pub mod CanSettleLemmas
@@ -80,3 +81,7 @@ pub mod ObjectPointersSound
 pub mod ObjectPrimariesSound
 pub mod ObjectLaws
 pub mod AbiLaws
+pub mod SomeLayoutTests
+pub mod SomeLayoutTable
+pub mod SomeLayoutRows
+pub mod SomeLayout

@@ -29,7 +29,7 @@ use Rattle.abi_layout.specs.Laid.{IsPlace, behind, ArePlaced, part_at, parts_at,
 use Rattle.abi_layout.specs.Locations.{count_of}
 use Rattle.abi_layout.specs.Holding.{held_base}
 use Rattle.abi_layout.specs.Brought.{member_parts, base_brings, shared_brings, brought}
-use Rattle.abi_layout.specs.PlacedBases.{class_of_placed, subobject_of, front_bases, free_bases, placed_component}
+use Rattle.abi_layout.specs.PlacedBases.{class_of_placed, subobject_of, front_bases, free_bases, placed_component, IsPossible}
 use Rattle.abi_layout.specs.Kinds.{is_empty}
 use Rattle.abi_layout.specs.DynamicLaid.{primary_of, fronts, placed_place, front_components, object_parts_in, object_parts_within, object_parts, start_stage}
 use Rattle.abi_layout.specs.Scenes.{AreBefore}
@@ -74,7 +74,7 @@ under_mapped : {X : Type 0} (n : ℕ) (f : X → Component) (xs : List X) (place
 under_mapped n f xs places each = under_placed n (map f xs) places (λ c has. let k = from_map f xs c has in subst (λ (d : Component). AreUnder n d.parts) k.2 (each k.0 k.1))
 
 -- what tells the parts of a class tells none of a later one
-abbrev IsFalling : (ClassId → List Part) → Type 0
+abbrev pub IsFalling : (ClassId → List Part) → Type 0
 IsFalling parts = (c : ClassId) → AreUnder (c.0 + 1) (parts c)
 
 members_under : (h : Classes) (rows : List ClassLayout) (parts : ClassId → List Part) (d : ClassId) (members : List (Member ClassId)) (places : List ℕ) → IsFalling parts → ((member : Member ClassId) (e : ClassId) → Has members member → member.ty ≡ Object e → e.0 < d.0) → AreUnder (d.0 + 1) (parts_at (map (member_component rows parts) members) places)
@@ -93,7 +93,7 @@ shared_under n next None each = tt
 shared_under n next (Some v) each = each v (shared_base v) refl
 
 -- a base brings no class behind its own
-brought_under : (h : Classes) (rows : List ClassLayout) (ps : List Primary) (parts : ClassId → List Part) (c : ClassId) → IsHierarchy h → AreBefore ps → IsFalling parts → (n : ℕ) (s : Subobject) (d : ClassId) → AreUnder (d.0 + 1) (brought h rows ps parts c n s d)
+pub brought_under : (h : Classes) (rows : List ClassLayout) (ps : List Primary) (parts : ClassId → List Part) (c : ClassId) → IsHierarchy h → AreBefore ps → IsFalling parts → (n : ℕ) (s : Subobject) (d : ClassId) → AreUnder (d.0 + 1) (brought h rows ps parts c n s d)
 brought_under h rows ps parts c keeps before falling zero s d = tt
 brought_under h rows ps parts c keeps before falling (suc n) s d =
     let here : AreUnder (d.0 + 1) (part_at d 0 ∷ member_parts h rows parts d) = (omega arith, own_members_under h rows parts d keeps falling) in
@@ -114,29 +114,29 @@ placed_under h rows ps parts c bases places keeps before falling all = under_map
     (λ base has. let lt = All-contains (λ (x : PlacedBase). (class_of_placed x).0 < c.0) bases base all (contains_of bases base has) in
     under_more ((class_of_placed base).0 + 1) (c.0 + 1) _ (omega arith) (brought_under h rows ps parts c keeps before falling ((class_of_placed base).0 + 1) (subobject_of c base) (class_of_placed base)))
 
--- an object has no part of a class behind its own
-objects_under : (h : Classes) (rows : List ClassLayout) (nearly : List Bool) (ps : List Primary) → IsLaidOut h rows nearly ps → (n : ℕ) → IsFalling (object_parts_within h rows ps n)
-objects_under h rows nearly ps known zero = λ c. tt
-objects_under h rows nearly ps known (suc n) = λ c. by_class c (class_at h c) refl (objects_under h rows nearly ps known n)
+-- an object has no part of a class behind its own, where each primary base is a base
+pub objects_fall : (h : Classes) (rows : List ClassLayout) (ps : List Primary) → IsHierarchy h → AreBefore ps → ((c : ClassId) (class : Class) → class_at h c ≡ Some class → IsPossible h c (primary_of ps c)) → (n : ℕ) → IsFalling (object_parts_within h rows ps n)
+objects_fall h rows ps keeps before possible zero = λ c. tt
+objects_fall h rows ps keeps before possible (suc n) = λ c. by_class c (class_at h c) refl (objects_fall h rows ps keeps before possible n)
   where
     by_class : (c : ClassId) (o : Option Class) → class_at h c ≡ o → IsFalling (object_parts_within h rows ps n) → AreUnder (c.0 + 1) (object_parts_in h rows ps (object_parts_within h rows ps n) c o)
     by_class c None e falling = tt
     by_class c (Some class) e falling =
         let parts = object_parts_within h rows ps n in
-        let before = before_of h rows nearly ps known in
-        let lt = slice_get_within h c.0 class e in
-        let r = row_of h rows nearly ps known c lt in
-        let possible = primary_possible h nearly _ c (primary_of ps c) known.keeps r.laid.is_primary in
-        let front = placed_under h rows ps parts c (fronts ps c class) (map (placed_place h rows c) (fronts ps c class)) known.keeps before falling (fronts_below h c class (primary_of ps c) known.keeps e possible) in
-        let members = members_under h rows parts c class.members (members_in (slice_get rows c.0)) falling (λ member f has is. known.keeps.objects c f member (subst (λ (o : Option Class). Contains (class_members_in o) member) (sym e) (contains_of class.members member has)) is) in
-        let free = placed_under h rows ps parts c (free_bases h ps c) (map (placed_place h rows c) (free_bases h ps c)) known.keeps before falling (frees_below h ps c known.keeps) in (
+        let front = placed_under h rows ps parts c (fronts ps c class) (map (placed_place h rows c) (fronts ps c class)) keeps before falling (fronts_below h c class (primary_of ps c) keeps e (possible c class e)) in
+        let members = members_under h rows parts c class.members (members_in (slice_get rows c.0)) falling (λ member f has is. keeps.objects c f member (subst (λ (o : Option Class). Contains (class_members_in o) member) (sym e) (contains_of class.members member has)) is) in
+        let free = placed_under h rows ps parts c (free_bases h ps c) (map (placed_place h rows c) (free_bases h ps c)) keeps before falling (frees_below h ps c keeps) in (
           omega arith,
           under_both (c.0 + 1) (parts_at (front_components h rows ps parts c class) (map (placed_place h rows c) (fronts ps c class))) _ front
               (under_both (c.0 + 1) (parts_at (map (member_component rows parts) class.members) (members_in (slice_get rows c.0))) _ members free),
         )
 
+objects_under : (h : Classes) (rows : List ClassLayout) (nearly : List Bool) (ps : List Primary) → IsLaidOut h rows nearly ps → (n : ℕ) → IsFalling (object_parts_within h rows ps n)
+objects_under h rows nearly ps known n = objects_fall h rows ps known.keeps (before_of h rows nearly ps known)
+    (λ c class e. let r = row_of h rows nearly ps known c (slice_get_within h c.0 class e) in primary_possible h nearly _ c (primary_of ps c) known.keeps r.laid.is_primary) n
+
 -- parts of smaller classes meet the class alone nowhere
-no_conflict : (d : ClassId) (n place : ℕ) (parts : List Part) → n ≤ d.0 → AreUnder n parts → has_conflict (part_at d 0 ∷ []) parts place ≡ false
+pub no_conflict : (d : ClassId) (n place : ℕ) (parts : List Part) → n ≤ d.0 → AreUnder n parts → has_conflict (part_at d 0 ∷ []) parts place ≡ false
 no_conflict d n place [] le under = refl
 no_conflict d n place (part ∷ parts) le under =
     let lt = under.0 in

@@ -39,7 +39,7 @@ use Rattle.abi_layout.proofs.PlacedCounts.{placed_length}
 use Rattle.abi_layout.proofs.PartLemmas.{stage_parts}
 use Rattle.abi_layout.proofs.OpenLemmas.{virtual_below}
 use Rattle.abi_layout.proofs.RowPlaces.{opened_can, opened_room}
-use Rattle.abi_layout.proofs.RowPlacesTable.{virtual_listed, virtual_place_is, held_is, below_of, holders_are, held_place}
+use Rattle.abi_layout.proofs.RowPlacesTable.{virtual_listed, virtual_place_is, below_of, holders_are, IsVirtualTable, settled_table, held_place}
 use Rattle.abi_layout.proofs.RowPlacesFree.{free_at, table_length, frees_once, free_facts}
 use Rattle.abi_layout.proofs.RowPlacesSmall.{brought_of, first_at_start}
 use Rattle.abi_layout.proofs.RowPlacesFronts.{map_is, own_front_place, shared_first, first_place, whole_holds}
@@ -55,40 +55,30 @@ pub record ArePlacesBy (h : Classes) (c : ClassId) (rows : List ClassLayout) (ps
   pub frees_are : map (placed_place h rows c) (free_bases h ps c) ≡ free_places
 
 -- a class's row, with the virtual places by the table, gives its bases the places at which they were put
-pub places_by : (h : Classes) (c : ClassId) (class : Class) (rows : List ClassLayout) (known : List Known) (members : List (List Part)) (ps : List Primary) (list : List Subobject) (holders : List (Option ℕ)) (has_pointer : Bool) (a : Arrangement) (r s : ClassLayout)
-    → IsHierarchy h → IsScene h c rows known members ps list holders → class_at h c ≡ Some class → IsPossible h c (primary_of ps c) → IsOneOrOther (primary_of ps c) has_pointer → AreSmaller c known
-    → IsLayoutBy (start_stage c has_pointer) (components_by h rows known ps c (fronts ps c class)) (members_by rows known class) (components_by h rows known ps c (free_bases h ps c)) a.front_places a.free_places (pod_kind (pods_in known) class) r
-    → r.base_places ≡ own_places (fronts ps c class) a.front_places class.bases → AreVirtualPlaces h (rows ++ r ∷ []) list holders (free_table c.0 (free_bases h ps c) a.free_places) (virtual_bases h c) s.virtual_places
+pub places_from : (h : Classes) (c : ClassId) (class : Class) (rows : List ClassLayout) (ps : List Primary) (first : Stage) (f : PlacedBase → Component) (ms : List Component) (pod : Bool) (a : Arrangement) (r s : ClassLayout) (table : List ℕ)
+    → IsHierarchy h → length rows ≡ c.0 → class_at h c ≡ Some class → IsPossible h c (primary_of ps c) → ((v : ClassId) (p : ℕ) → primary_of ps c ≡ Virtual v → IsPlace first (f (SharedBase v)) p → p ≡ 0)
+    → IsLayoutBy first (map f (fronts ps c class)) ms (map f (free_bases h ps c)) a.front_places a.free_places pod r → r.base_places ≡ own_places (fronts ps c class) a.front_places class.bases
+    → IsVirtualTable h ps c (rows ++ r ∷ []) (free_table c.0 (free_bases h ps c) a.free_places) table → s.virtual_places ≡ map (λ (v : ClassId). get_or table v.0 0) (virtual_bases h c)
     → r.base_places ≡ s.base_places → s.virtual_bases ≡ virtual_bases h c → ArePlacesBy h c (rows ++ s ∷ []) ps class a.front_places a.free_places
-places_by h c class rows known members ps list holders has_pointer a r s keeps scene e possible pointer smaller laid are virtuals same bases = record {
+places_from h c class rows ps first f ms pod a r s table keeps size e possible at_start laid are made places same bases = record {
   fronts_are = map_is (placed_place h (rows ++ s ∷ []) c) (fronts ps c class) a.front_places
-      (placed_length (start_stage c has_pointer) (components_by h rows known ps c (fronts ps c class)) a.front_places laid.fronts_placed ∙ length-map (fronts ps c class) f)
+      (placed_length first (map f (fronts ps c class)) a.front_places laid.fronts_placed ∙ length-map (fronts ps c class) f)
       (λ i x p at place. front i x p at place);
   frees_are = map_is (placed_place h (rows ++ s ∷ []) c) (free_bases h ps c) a.free_places
-      (placed_length (after_all (after_all (start_stage c has_pointer) (components_by h rows known ps c (fronts ps c class)) a.front_places) (members_by rows known class) r.member_places) (components_by h rows known ps c (free_bases h ps c)) a.free_places laid.frees_placed ∙ length-map (free_bases h ps c) f)
+      (placed_length (after_all (after_all first (map f (fronts ps c class)) a.front_places) ms r.member_places) (map f (free_bases h ps c)) a.free_places laid.frees_placed ∙ length-map (free_bases h ps c) f)
       (λ i x p at place. let w = shared_index frees i x at in ap (placed_place h (rows ++ s ∷ []) c) (sym w.2) ∙ free i w.0 p w.1 place);
 }
   where
-    f : PlacedBase → Component
-    f = placed_component (empties_in known) h rows ps (parts_in known) c
-
     frees : List ClassId
     frees = filter (λ (v : ClassId). is_free (holder_of h ps c v)) (virtual_bases h c)
 
     there : slice_get (rows ++ s ∷ []) c.0 ≡ Some s
-    there = ap (slice_get (rows ++ s ∷ [])) (sym scene.row_each) ∙ last_one rows s
+    there = ap (slice_get (rows ++ s ∷ [])) (sym size) ∙ last_one rows s
 
     shared_place : (v : ClassId) → primary_of ps c ≡ Virtual v → virtual_place (rows ++ s ∷ []) c v ≡ 0
     shared_place v is =
         let has : HasVirtualBase h c v = subst (IsPossible h c) is possible in
-        let listed = virtual_listed h c v keeps has in
-        held_place h ps rows c r s list holders (free_table c.0 (free_bases h ps c) a.free_places) virtuals.table keeps same there bases virtuals.are scene.list_is scene.holders_are (table_length c.0 (free_bases h ps c) a.free_places) virtuals.settled v (whole_of c) listed (whole_holds h ps c v is)
-
-    at_start : (v : ClassId) (p : ℕ) → primary_of ps c ≡ Virtual v → IsPlace (start_stage c has_pointer) (f (SharedBase v)) p → p ≡ 0
-    at_start v p is place =
-        let has : HasVirtualBase h c v = subst (IsPossible h c) is possible in
-        first_at_start c (f (SharedBase v)) p (brought_of h c rows known ps keeps scene.before smaller (v.0 + 1) (subobject_of c (SharedBase v)) v (virtual_below h keeps c v has))
-        (subst (λ b. IsPlace (start_stage c b) (f (SharedBase v)) p) (pointer.without v is) place)
+        held_place h ps rows c r s (free_table c.0 (free_bases h ps c) a.free_places) table keeps same there bases places made v (whole_of c) (virtual_listed h c v keeps has) (whole_holds h ps c v is)
 
     front : (i : ℕ) (x : PlacedBase) (p : ℕ) → slice_get (fronts ps c class) i ≡ Some x → slice_get a.front_places i ≡ Some p → placed_place h (rows ++ s ∷ []) c x ≡ p
     front i (Own b) p at place =
@@ -97,19 +87,44 @@ places_by h c class rows known members ps list holders has_pointer a r s keeps s
     front i (SharedBase v) p at place =
         let which = shared_first (primary_of ps c) class.bases i v at in
         let zero_place = shared_place v which.0 in
-        let first = first_place (start_stage c has_pointer) f (fronts ps c class) a.front_places (SharedBase v) p laid.fronts_placed (subst (λ n. slice_get (fronts ps c class) n ≡ Some (SharedBase v)) which.1 at) (subst (λ n. slice_get a.front_places n ≡ Some p) which.1 place) in
-        let start = at_start v p which.0 first in
+        let lies = first_place first f (fronts ps c class) a.front_places (SharedBase v) p laid.fronts_placed (subst (λ n. slice_get (fronts ps c class) n ≡ Some (SharedBase v)) which.1 at) (subst (λ n. slice_get a.front_places n ≡ Some p) which.1 place) in
+        let start = at_start v p which.0 lies in
         omega arith
 
     free : (i : ℕ) (v : ClassId) (p : ℕ) → slice_get frees i ≡ Some v → slice_get a.free_places i ≡ Some p → placed_place h (rows ++ s ∷ []) c (SharedBase v) ≡ p
     free i v p at place =
         let facts = free_facts h ps c i v at in
         let lt = below_of h c v keeps facts.listed in
-        let by_table = virtual_place_is h (rows ++ s ∷ []) c s virtuals.table there bases virtuals.are v facts.listed in
-        let kept = virtuals.settled.kept v.0 (held_is h ps c list holders v scene.list_is scene.holders_are lt ∙ facts.unheld) in
-        let size = table_length c.0 [] [] in
+        let by_table = virtual_place_is h (rows ++ s ∷ []) c s table there bases places v facts.listed in
+        let kept = made.kept v lt facts.unheld in
+        let count = table_length c.0 [] [] in
         let put : (let n : ℕ = get_or (free_table c.0 (free_bases h ps c) a.free_places) v.0 0 in n) ≡ p = free_at (replicate c.0 0) frees a.free_places i v p (frees_once h ps c) at place (omega arith) in
         omega arith
+
+-- a table by which the virtual places of a scene are
+scene_table : (h : Classes) (c : ClassId) (rows items : List ClassLayout) (known : List Known) (members : List (List Part)) (ps : List Primary) (list : List Subobject) (holders : List (Option ℕ)) (free_places places : List ℕ) → IsScene h c rows known members ps list holders
+    → (virtuals : AreVirtualPlaces h items list holders (free_table c.0 (free_bases h ps c) free_places) (virtual_bases h c) places) → IsVirtualTable h ps c items (free_table c.0 (free_bases h ps c) free_places) virtuals.table
+scene_table h c rows items known members ps list holders free_places places scene virtuals =
+    settled_table h ps c items list holders (free_table c.0 (free_bases h ps c) free_places) virtuals.table scene.list_is scene.holders_are (table_length c.0 (free_bases h ps c) free_places) virtuals.settled
+
+-- so with the places of a scene
+pub places_by : (h : Classes) (c : ClassId) (class : Class) (rows : List ClassLayout) (known : List Known) (members : List (List Part)) (ps : List Primary) (list : List Subobject) (holders : List (Option ℕ)) (has_pointer : Bool) (a : Arrangement) (r s : ClassLayout)
+    → IsHierarchy h → IsScene h c rows known members ps list holders → class_at h c ≡ Some class → IsPossible h c (primary_of ps c) → IsOneOrOther (primary_of ps c) has_pointer → AreSmaller c known
+    → IsLayoutBy (start_stage c has_pointer) (components_by h rows known ps c (fronts ps c class)) (members_by rows known class) (components_by h rows known ps c (free_bases h ps c)) a.front_places a.free_places (pod_kind (pods_in known) class) r
+    → r.base_places ≡ own_places (fronts ps c class) a.front_places class.bases → AreVirtualPlaces h (rows ++ r ∷ []) list holders (free_table c.0 (free_bases h ps c) a.free_places) (virtual_bases h c) s.virtual_places
+    → r.base_places ≡ s.base_places → s.virtual_bases ≡ virtual_bases h c → ArePlacesBy h c (rows ++ s ∷ []) ps class a.front_places a.free_places
+places_by h c class rows known members ps list holders has_pointer a r s keeps scene e possible pointer smaller laid are virtuals same bases =
+    places_from h c class rows ps (start_stage c has_pointer) f (members_by rows known class) (pod_kind (pods_in known) class) a r s virtuals.table keeps scene.row_each e possible at_start laid are
+    (scene_table h c rows (rows ++ r ∷ []) known members ps list holders a.free_places s.virtual_places scene virtuals) virtuals.are same bases
+  where
+    f : PlacedBase → Component
+    f = placed_component (empties_in known) h rows ps (parts_in known) c
+
+    at_start : (v : ClassId) (p : ℕ) → primary_of ps c ≡ Virtual v → IsPlace (start_stage c has_pointer) (f (SharedBase v)) p → p ≡ 0
+    at_start v p is place =
+        let has : HasVirtualBase h c v = subst (IsPossible h c) is possible in
+        first_at_start c (f (SharedBase v)) p (brought_of h c rows known ps keeps scene.before smaller (v.0 + 1) (subobject_of c (SharedBase v)) v (virtual_below h keeps c v has))
+        (subst (λ b. IsPlace (start_stage c b) (f (SharedBase v)) p) (pointer.without v is) place)
 
 -- the class subobjects of the last stage, by the components
 parts_of_stage : (first : Stage) (fs ms vs : List Component) (ps qs rs : List ℕ) → (after_all (after_all (after_all first fs ps) ms qs) vs rs).parts ≡ first.parts ++ (parts_at fs ps ++ (parts_at ms qs ++ parts_at vs rs))
@@ -142,7 +157,7 @@ row_here h c class rows known members ps list holders has_pointer a base_places 
     shared = refl;
     each_virtual = ap (λ (ns : List ℕ). length ns) virtuals.are ∙ length-map (virtual_bases h c) (λ (v : ClassId). get_or virtuals.table v.0 0);
     holders = held_are ∙ holders_are h ps c list holders keeps scene.list_is scene.holders_are;
-    held = λ v holder has is. held_place h ps rows c r s list holders (free_table c.0 (free_bases h ps c) a.free_places) virtuals.table keeps refl there refl virtuals.are scene.list_is scene.holders_are (table_length c.0 (free_bases h ps c) a.free_places) virtuals.settled v holder has is;
+    held = λ v holder has is. held_place h ps rows c r s (free_table c.0 (free_bases h ps c) a.free_places) virtuals.table keeps refl there refl virtuals.are (scene_table h c rows (rows ++ r ∷ []) known members ps list holders a.free_places places scene virtuals) v holder has is;
   };
   parts_are = arranged.parts ∙ (parts_of_stage first fs ms vs a.front_places a.member_places a.free_places
       ∙ ap (λ ns. part_at c 0 ∷ (parts_at fs ns ++ (parts_at ms a.member_places ++ parts_at vs a.free_places))) (sym by.fronts_are)

@@ -14,7 +14,7 @@ use Rattle.cxx_hierarchy.specs.Hierarchies.{IsHierarchy}
 use Rattle.cxx_hierarchy.specs.VirtualBases.{HasVirtualBase}
 use Rattle.cxx_subobject.specs.declared.Subobject.{Subobject}
 use Rattle.cxx_subobject.specs.Subobjects.{IsSubobject, whole, shared, shared_base, subobject}
-use Rattle.cxx_subobject.specs.Preorder.{preorder, ListsSubobjects}
+use Rattle.cxx_subobject.specs.Preorder.{preorder}
 use Rattle.cxx_subobject.proofs.ListLemmas.{Has, contains_from_has}
 use Rattle.cxx_subobject.proofs.TreeLemmas.{preorder_has, preorder_lists}
 use Rattle.abi_primary.specs.declared.Primary.{Primary}
@@ -121,13 +121,24 @@ place_by_is h before c r s table keeps e there bases are _ (shared w path has le
     ap (λ n. n + place_from h (before ++ r ∷ []) (w ∷ path)) (sym (virtual_place_is h (before ++ s ∷ []) c s table there bases are w (virtual_listed h c w keeps has)))
     ∙ ap (λ n. virtual_place (before ++ s ∷ []) c w + n) (from_stays h before r s e (w ∷ path))
 
+-- a table in which each virtual base of c that is held lies where its holder does, and each other one where it lay
+pub record IsVirtualTable (h : Classes) (ps : List Primary) (c : ClassId) (rows : List ClassLayout) (old table : List ℕ) : Type 0 where
+  pub held : (v : ClassId) (holder : Subobject) → v.0 < c.0 → holder_of h ps c v ≡ Some holder → get_or table v.0 0 ≡ place_by h rows table holder
+  pub kept : (v : ClassId) → v.0 < c.0 → holder_of h ps c v ≡ None → get_or table v.0 0 ≡ get_or old v.0 0
+
+-- one that is settled by the numbers of the holders is one
+pub settled_table : (h : Classes) (ps : List Primary) (c : ClassId) (rows : List ClassLayout) (list : List Subobject) (holders : List (Option ℕ)) (old table : List ℕ) → list ≡ preorder h c → AreHolders ps list c.0 holders → length old ≡ c.0 → AreSettled h rows list holders old table → IsVirtualTable h ps c rows old table
+settled_table h ps c rows list holders old table same all size settled = record {
+  held = λ v holder lt is. settled.held v.0 holder (omega arith) (held_is h ps c list holders v same all lt ∙ is);
+  kept = λ v lt free. settled.kept v.0 (held_is h ps c list holders v same all lt ∙ free);
+}
+
 -- a virtual base that is held lies where its holder does
-pub held_place : (h : Classes) (ps : List Primary) (before : List ClassLayout) (c : ClassId) (r s : ClassLayout) (list : List Subobject) (holders : List (Option ℕ)) (old table : List ℕ) → IsHierarchy h → r.base_places ≡ s.base_places → slice_get (before ++ s ∷ []) c.0 ≡ Some s
-    → s.virtual_bases ≡ virtual_bases h c → s.virtual_places ≡ map (λ (v : ClassId). get_or table v.0 0) (virtual_bases h c) → list ≡ preorder h c → AreHolders ps list c.0 holders → length old ≡ c.0 → AreSettled h (before ++ r ∷ []) list holders old table
+pub held_place : (h : Classes) (ps : List Primary) (before : List ClassLayout) (c : ClassId) (r s : ClassLayout) (old table : List ℕ) → IsHierarchy h → r.base_places ≡ s.base_places → slice_get (before ++ s ∷ []) c.0 ≡ Some s
+    → s.virtual_bases ≡ virtual_bases h c → s.virtual_places ≡ map (λ (v : ClassId). get_or table v.0 0) (virtual_bases h c) → IsVirtualTable h ps c (before ++ r ∷ []) old table
     → (v : ClassId) (holder : Subobject) → Contains (virtual_bases h c) v → holder_of h ps c v ≡ Some holder → virtual_place (before ++ s ∷ []) c v ≡ place_of h (before ++ s ∷ []) c holder
-held_place h ps before c r s list holders old table keeps e there bases are same all size settled v holder has is =
-    let lt = below_of h c v keeps has in
-    let facts = held h ps c v list (Some holder) same (subst (ListsSubobjects h c) (sym same) (preorder_lists h c keeps)) is in
+held_place h ps before c r s old table keeps e there bases are made v holder has is =
+    let facts = held h ps c v (preorder h c) (Some holder) refl (preorder_lists h c keeps) is in
     virtual_place_is h (before ++ s ∷ []) c s table there bases are v has
-    ∙ (settled.held v.0 holder (omega arith) (held_is h ps c list holders v same all lt ∙ is)
+    ∙ (made.held v holder (below_of h c v keeps has) is
     ∙ place_by_is h before c r s table keeps e there bases are holder facts.0)

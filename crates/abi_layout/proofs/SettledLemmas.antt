@@ -3,19 +3,17 @@ use Rattle.std.proofs.Common.{◌≡◌, ℕ, ◌+◌, ◌-◌, ◌<◌, ◌≤�
 use Rattle.std.specs.Prelude.{slice_set}
 use Rattle.std.specs.List.{slice_get}
 use Rattle.std.proofs.lemmas.Bool.{cases_order}
-use Rattle.std.proofs.lemmas.List.{get_or-set_same, get_or-set_other, length-set}
+use Rattle.std.proofs.lemmas.List.{get_or-set_same, get_or-set_other}
 use Rattle.cxx_hierarchy.specs.declared.records.ClassId.{ClassId}
 use Rattle.std.proofs.lemmas.Option.{slice_get_read}
 use Rattle.cxx_hierarchy.specs.Classes.{Classes}
 use Rattle.cxx_hierarchy.specs.Hierarchies.{IsHierarchy}
 use Rattle.cxx_hierarchy.specs.VirtualBases.{IsDirectBase}
-use Rattle.cxx_subobject.specs.declared.Root.{Root}
-use Rattle.cxx_subobject.specs.declared.Root.TheVariants.{Whole, Shared}
 use Rattle.cxx_subobject.specs.declared.Subobject.{Subobject}
 use Rattle.abi_layout.specs.declared.class_layout.ClassLayout.{ClassLayout}
 use Rattle.abi_layout.specs.Laid.{nvsize_in}
-use Rattle.abi_layout.specs.DynamicLaid.{place_from}
-use Rattle.abi_layout.specs.Settled.{root_by, place_by, held_at, with_place, HasRoom, CanSettle, AreSettled}
+use Rattle.abi_layout.specs.Settled.{place_by, held_at, with_place, HasRoom, CanSettle, AreSettled}
+use Rattle.abi_layout.proofs.TableLemmas.{IsTableFrom, table_more}
 
 -- a direct base stands before its class
 pub base_below : (h : Classes) (d b : ClassId) → IsHierarchy h → IsDirectBase h d false b → b.0 < d.0
@@ -39,71 +37,28 @@ pub record SettledFrom (h : Classes) (rows : List ClassLayout) (list : List Subo
 pub settled_none : (h : Classes) (rows : List ClassLayout) (list : List Subobject) (holders : List (Option ℕ)) (count : ℕ) (table : List ℕ) → length table ≡ count → HasRoom rows table → SettledFrom h rows list holders count 0 table table
 settled_none h rows list holders count table e room = record { one_each = e; held = λ v t lt le held. absurd (omega arith); kept = λ v free. refl; room = room }
 
--- a write elsewhere leaves the place of a subobject
-root_stays : (table : List ℕ) (v place : ℕ) (root : Root) → ((w : ClassId) → root ≡ Shared w → v < w.0) → root_by (slice_set table v place) root ≡ root_by table root
-root_stays table v place Whole above = refl
-root_stays table v place (Shared w) above = let lt = above w refl in get_or-set_other table v w.0 place 0 (λ same. absurd (omega arith))
-
-place_stays : (h : Classes) (rows : List ClassLayout) (table : List ℕ) (v place : ℕ) (t : Subobject) → ((w : ClassId) → t.root ≡ Shared w → v < w.0) → place_by h rows (slice_set table v place) t ≡ place_by h rows table t
-place_stays h rows table v place t above = ap (λ n. n + place_from h rows t.path) (root_stays table v place t.root above)
-
 pub settled_more : (h : Classes) (rows : List ClassLayout) (list : List Subobject) (holders : List (Option ℕ)) (count i u : ℕ) (old new : List ℕ) → CanSettle h rows list holders → i < count → u ≡ count - 1 - i → SettledFrom h rows list holders count i old new
     → SettledFrom h rows list holders count (i + 1) old (with_place h rows new u (held_at list (get_or holders u None)))
-settled_more h rows list holders count i u old new can lt u_is before = at (held_at list (get_or holders u None)) refl
+settled_more h rows list holders count i u old new can lt u_is before = record {
+  one_each = more.one_each;
+  held = more.held;
+  kept = more.kept;
+  room = room (held_at list (get_or holders u None)) refl;
+}
   where
-    at : (o : Option Subobject) → held_at list (get_or holders u None) ≡ o → SettledFrom h rows list holders count (i + 1) old (with_place h rows new u o)
-    at None free = record {
-      one_each = before.one_each;
-      held = λ v t less le held. ⊎_elim
-          (λ same. absurd (clash (subst (λ n. held_at list (get_or holders n None) ≡ Some t) same held) free))
-          (λ o. before.held v t less (⊎_elim (λ l. absurd (omega arith)) (λ g. omega arith) o) held)
+    more : IsTableFrom h rows (λ v. held_at list (get_or holders v None)) count (i + 1) old (with_place h rows new u (held_at list (get_or holders u None)))
+    more = table_more h rows (λ v. held_at list (get_or holders v None)) count i u old new (record { rises = can.rises }) lt u_is (record { one_each = before.one_each; held = before.held; kept = before.kept })
+
+    room : (o : Option Subobject) → held_at list (get_or holders u None) ≡ o → HasRoom rows (with_place h rows new u o)
+    room None free = before.room
+    room (Some s) here = record {
+      each = λ v. ⊎_elim
+          (λ same. let e : get_or (slice_set new u (place_by h rows new s)) v 0 ≡ place_by h rows new s = ap (λ n. get_or (slice_set new u (place_by h rows new s)) n 0) same ∙ get_or-set_same new u (place_by h rows new s) 0 (let e = before.one_each in omega arith) in
+          let r : place_by h rows new s + nvsize_in (slice_get rows v) ≤ 500000 = subst (λ n. place_by h rows new s + nvsize_in (slice_get rows n) ≤ 500000) (sym same) (can.roomy u s new here before.room) in omega arith)
+          (λ o. let e : get_or (slice_set new u (place_by h rows new s)) v 0 ≡ get_or new v 0 = get_or-set_other new u v (place_by h rows new s) 0 (λ same. ⊎_elim (λ l. absurd (omega arith)) (λ g. absurd (omega arith)) o) in
+          let r = before.room.each v in omega arith)
           (cases_order v u);
-      kept = before.kept;
-      room = before.room;
     }
-      where
-        clash : {t : Subobject} {o : Option Subobject} → o ≡ Some t → o ≡ None → ⊥
-        clash a b = let e : None ≡ Some _ = sym b ∙ a in cc
-    at (Some s) here = record {
-      one_each = length-set new u (place_by h rows new s) ∙ before.one_each;
-      held = λ v t less le held. ⊎_elim
-          (λ same. at_this v t same held)
-          (λ o. later v t less (⊎_elim (λ l. absurd (omega arith)) (λ g. omega arith) o) held)
-          (cases_order v u);
-      kept = λ v free. get_or-set_other new u v (place_by h rows new s) 0 (λ same. differ (subst (λ n. held_at list (get_or holders n None) ≡ None) same free)) ∙ before.kept v free;
-      room = record {
-        each = λ v. ⊎_elim
-            (λ same. let e : get_or (slice_set new u (place_by h rows new s)) v 0 ≡ place_by h rows new s = ap (λ n. get_or (slice_set new u (place_by h rows new s)) n 0) same ∙ written in
-            let r : place_by h rows new s + nvsize_in (slice_get rows v) ≤ 500000 = subst (λ n. place_by h rows new s + nvsize_in (slice_get rows n) ≤ 500000) (sym same) (can.roomy u s new here before.room) in omega arith)
-            (λ o. let e : get_or (slice_set new u (place_by h rows new s)) v 0 ≡ get_or new v 0 = get_or-set_other new u v (place_by h rows new s) 0 (λ same. ⊎_elim (λ l. absurd (omega arith)) (λ g. absurd (omega arith)) o) in
-            let r = before.room.each v in omega arith)
-            (cases_order v u);
-      };
-    }
-      where
-        within : u < length new
-        within = let e = before.one_each in omega arith
-
-        written : get_or (slice_set new u (place_by h rows new s)) u 0 ≡ place_by h rows new s
-        written = get_or-set_same new u (place_by h rows new s) 0 within
-
-        differ : held_at list (get_or holders u None) ≡ None → ⊥
-        differ free = let e : None ≡ Some s = sym free ∙ here in cc
-
-        at_this : (v : ℕ) (t : Subobject) → v ≡ u → held_at list (get_or holders v None) ≡ Some t → get_or (slice_set new u (place_by h rows new s)) v 0 ≡ place_by h rows (slice_set new u (place_by h rows new s)) t
-        at_this v t same held =
-            let e : Some t ≡ Some s = sym held ∙ (ap (λ n. held_at list (get_or holders n None)) same ∙ here) in
-            let is : t ≡ s = cc in
-            ap (λ n. get_or (slice_set new u (place_by h rows new s)) n 0) same
-            ∙ (written
-            ∙ (sym (place_stays h rows new u (place_by h rows new s) s (λ w root. can.rises u s w here root))
-            ∙ ap (place_by h rows (slice_set new u (place_by h rows new s))) (sym is)))
-
-        later : (v : ℕ) (t : Subobject) → v < count → count ≤ v + i → held_at list (get_or holders v None) ≡ Some t → get_or (slice_set new u (place_by h rows new s)) v 0 ≡ place_by h rows (slice_set new u (place_by h rows new s)) t
-        later v t less le held =
-            get_or-set_other new u v (place_by h rows new s) 0 (λ same. absurd (omega arith))
-            ∙ (before.held v t less le held
-            ∙ sym (place_stays h rows new u (place_by h rows new s) t (λ w root. let rises = can.rises v t w held root in omega arith)))
 
 pub settled_all : (h : Classes) (rows : List ClassLayout) (list : List Subobject) (holders : List (Option ℕ)) (count i : ℕ) (old new : List ℕ) → length old ≡ count → count ≤ i → SettledFrom h rows list holders count i old new → AreSettled h rows list holders old new
 settled_all h rows list holders count i old new e le from = record {

@@ -35,6 +35,11 @@ pub fn one_layout()
     ensures { (h : Classes) → (rows others : List ClassLayout) → IsHierarchy h → IsLaid h rows → IsLaid h others → rows ≡ others }
 {}
 
+/// Each hierarchy has a layout, whatever the sizes.
+pub fn some_layout()
+    ensures { (h : Classes) → IsHierarchy h → (rows : List ClassLayout) × IsLaid h rows }
+{}
+
 /// Of the first classes of a hierarchy at most one is the first that is refused, in one way, and none where they are
 /// laid out.
 pub fn one_answer()

@@ -39,7 +39,7 @@ mod virtual_places;
 
 pub use crate::class_layout::{AbiLayout, ClassLayout, ClassList, HolderList, PlaceList};
 pub use crate::class_layouts::lay_out_first;
-pub use crate::hierarchy_layout::{lay_out, one_answer, one_layout};
+pub use crate::hierarchy_layout::{lay_out, one_answer, one_layout, some_layout};
 pub use crate::sound_layout::SoundLayout;
 pub use crate::soundness::laid_is_sound;
 pub use abi_primary::Primary;

@@ -106,6 +106,12 @@ pub(crate) fn lay_out_one(
         return line_alone(alloc, Status::Refused(Rule::UnknownName, size));
     };
     let mut text = Vec::new(alloc);
-    let within = append_class(alloc, &accepted.hierarchy, &accepted.layout, class, &mut text)?;
+    let within = append_class(
+        alloc,
+        &accepted.hierarchy,
+        &accepted.layout,
+        class,
+        &mut text,
+    )?;
     reply_of(alloc, text, within)
 }

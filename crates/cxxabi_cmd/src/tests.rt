@@ -171,7 +171,8 @@ fn layout_of_a_diamond(rt: HostRuntime) -> Result<(), Fail> {
 // A is the primary base of B and of C, and lies at the first of them.
 #[test]
 fn layout_with_a_holder(rt: HostRuntime) -> Result<(), Fail> {
-    let source = b"struct A { virtual void f() {} }; struct B : virtual A { int b; }; struct C : virtual A { int c; }; struct D : B, C {};";
+    let source =
+        b"struct A { virtual void f() {} }; struct B : virtual A { int b; }; struct C : virtual A { int c; }; struct D : B, C {};";
     let (status, text) = class_text(rt.alloc(), "D", source.as_slice())?;
     assert_eq!(rt; status, Status::Done);
     assert_eq!(rt;
