@@ -187,6 +187,22 @@ fn layout_with_a_holder(rt: HostRuntime) -> Result<(), Fail> {
     Ok(())
 }
 
+// Ios lies once, behind both bases that share it; what it has lies with it.
+#[test]
+fn layout_of_streams(rt: HostRuntime) -> Result<(), Fail> {
+    let (status, text) = class_text(
+        rt.alloc(),
+        "Iostream",
+        b"struct IosBase { long flags; virtual ~IosBase() {} }; struct Ios : IosBase { long state; virtual ~Ios() {} }; struct Istream : virtual Ios { long count; virtual ~Istream() {} }; struct Ostream : virtual Ios { virtual ~Ostream() {} }; struct Iostream : Istream, Ostream { virtual ~Iostream() {} };",
+    )?;
+    assert_eq!(rt; status, Status::Done);
+    assert_eq!(rt;
+        text.as_slice(),
+        b"class Iostream size 48 align 8 dsize 48 nvsize 24 nvalign 8\nprimary Istream\n0 base Istream\n24 base *Ios\n24 base *Ios/IosBase\n16 base Ostream\n".as_slice()
+    );
+    Ok(())
+}
+
 #[test]
 fn layout_of_one_class(rt: HostRuntime) -> Result<(), Fail> {
     let (status, text) = class_text(

@@ -26,7 +26,7 @@ loop-number-preserved g c =
     let member = c.index-members-number.result in
     let members : c.as_slice-members.result.now ≡ members_of h k = c.as_slice-members.ensures ∙ ap members_in (sym c.class.ensures) in
     let there : slice_get (members_of h k) n ≡ Some member = subst (λ (xs : List (Member ClassId)). slice_get xs n ≡ Some member) members (slice_get_read c.as_slice-members.result.now (length c.as_slice-members.result.now) n member refl c.loop-number-test.true c.index-members-number.is) in
-    let places : c.as_slice-places.result.now ≡ places_in (slice_get rows k.0) = c.as_slice-places.ensures ∙ ap places_in (sym c.layout-2.ensures) in
+    let places : c.as_slice-places.result.now ≡ places_in (slice_get rows k.0) = c.as_slice-places.ensures ∙ ap places_in (sym c.layout.ensures) in
     let place : c.place_of.result ≡ member_place rows k n = c.place_of.ensures ∙ ap (λ (ps : List ℕ). number_in (slice_get ps n)) places in
     c.in_ok-append_field.ensures
     ∙ (ap (λ p. c.loop-number.text.items ++ field_text h p member) place
