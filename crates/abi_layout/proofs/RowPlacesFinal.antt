@@ -24,6 +24,7 @@ use Rattle.abi_layout.specs.declared.dynamic_bases.PlacedBase.TheVariants.{Own, 
 use Rattle.abi_layout.specs.Places.{is_plain_base}
 use Rattle.abi_layout.specs.Kinds.{empty_kind, pod_kind}
 use Rattle.abi_layout.specs.Laid.{part_at, parts_at, IsPlace, after_all}
+use Rattle.abi_layout.specs.Alignments.{AreWithin}
 use Rattle.abi_layout.specs.Known.{empties_in, pods_in, parts_in, members_by, AreAllSized}
 use Rattle.abi_layout.specs.Holding.{virtual_bases}
 use Rattle.abi_layout.specs.Scenes.{IsScene}
@@ -225,13 +226,32 @@ pub record IsOpened (h : Classes) (c : ClassId) (class : Class) (rows : List Cla
   pub arranged : IsArranged (start_stage c has_pointer) (components_by h rows known ps c (front_bases primary class.bases)) (members_by rows known class) (components_by h rows known ps c (free_bases h ps c)) (pod_kind (pods_in known) class) a
   pub within : IsWithinLimit a
   pub bases : base_places ≡ own_places (front_bases primary class.bases) a.front_places class.bases
+  pub brings : a.member_parts ≡ parts_at (members_by rows known class) a.member_places
+  pub fronts_apart : SomeRepeats (components_by h rows known ps c (front_bases primary class.bases)) → ⊥
+  pub frees_apart : SomeRepeats (components_by h rows known ps c (free_bases h ps c)) → ⊥
 
--- the row that is pushed first, which has no virtual bases yet
-pub pushed_row : (before items : List ClassLayout) (a : Arrangement) (primary : Primary) (base_places : List ℕ) (vs : List ClassId) (places : List ℕ) (held : List (Option Subobject)) → vs ≡ [] → places ≡ [] → held ≡ [] → items ≡ before ++ row_from a primary base_places vs places held ∷ [] → items ≡ before ++ row_from a primary base_places [] [] [] ∷ []
-pushed_row before items a primary base_places vs places held v p q e =
-    e ∙ (ap (λ (xs : List ClassId). before ++ row_from a primary base_places xs places held ∷ []) v
-    ∙ (ap (λ (xs : List ℕ). before ++ row_from a primary base_places [] xs held ∷ []) p
-    ∙ ap (λ (xs : List (Option Subobject)). before ++ row_from a primary base_places [] [] xs ∷ []) q))
+-- the same where the rows are read through a copy of their list
+pub opened_by : (h : Classes) (c : ClassId) (class : Class) (rows copy : List ClassLayout) (known : List Known) (members : List (List Part)) (ps : List Primary) (list : List Subobject) (holders : List (Option ℕ)) (primary : Primary) (has_pointer : Bool) (a : Arrangement) (base_places : List ℕ)
+    → copy ≡ rows → IsHierarchy h → IsScene h c rows known members ps list holders → AreAllSized rows known → class_at h c ≡ Some class → primary_of ps c ≡ primary
+    → IsArranged (start_stage c has_pointer) (components_by h copy known ps c (front_bases primary class.bases)) (members_by copy known class) (components_by h copy known ps c (free_bases h ps c)) (pod_kind (pods_in known) class) a
+    → IsWithinLimit a → base_places ≡ own_places (front_bases primary class.bases) a.front_places class.bases → a.member_parts ≡ parts_at (members_by copy known class) a.member_places
+    → (SomeRepeats (components_by h copy known ps c (front_bases primary class.bases)) → ⊥) → (SomeRepeats (components_by h copy known ps c (free_bases h ps c)) → ⊥)
+    → IsOpened h c class rows known members ps list holders primary has_pointer a base_places
+opened_by h c class rows copy known members ps list holders primary has_pointer a base_places same keeps scene sized there own arranged within bases brings fronts_apart frees_apart =
+    subst (λ (xs : List ClassLayout). IsScene h c xs known members ps list holders → AreAllSized xs known → IsOpened h c class xs known members ps list holders primary has_pointer a base_places) same
+    (λ scene_here sized_here. record {
+      keeps = keeps;
+      scene = scene_here;
+      sized = sized_here;
+      there = there;
+      own = own;
+      arranged = arranged;
+      within = within;
+      bases = bases;
+      brings = brings;
+      fronts_apart = fronts_apart;
+      frees_apart = frees_apart;
+    }) scene sized
 
 -- what the virtual bases' places need, along equations of lists
 pub can_by : (h : Classes) (c : ClassId) (class : Class) (rows items : List ClassLayout) (known : List Known) (members : List (List Part)) (ps : List Primary) (list : List Subobject) (holders table : List (Option ℕ)) (primary : Primary) (has_pointer : Bool) (a : Arrangement) (base_places : List ℕ)
@@ -258,16 +278,15 @@ virtuals_by h c rows items list holders table free bs free_places ns vs ws place
     (subst (λ (xs : List ClassLayout). AreVirtualPlaces h xs list table (free_table c.0 free free_places) vs places) e are))))
 
 -- the row of the class, and what else is known of it
-pub row_added : (h : Classes) (c : ClassId) (class : Class) (rows items new : List ClassLayout) (known : List Known) (members : List (List Part)) (ps : List Primary) (list : List Subobject) (holders : List (Option ℕ)) (primary : Primary) (has_pointer : Bool) (a : Arrangement) (base_places places : List ℕ) (vs : List ClassId) (held : List (Option Subobject)) (empty pod : Bool)
+pub row_added : (h : Classes) (c : ClassId) (class : Class) (rows items new : List ClassLayout) (known : List Known) (members : List (List Part)) (ps : List Primary) (list : List Subobject) (holders : List (Option ℕ)) (primary : Primary) (has_pointer : Bool) (a : Arrangement) (base_places places : List ℕ) (vs : List ClassId) (held : List (Option Subobject)) (empty pod : Bool) (parts brought : List Part)
     → IsOpened h c class rows known members ps list holders primary has_pointer a base_places → IsPossible h c primary → IsOneOrOther primary has_pointer → AreSmaller c known
     → AreVirtualPlaces h (rows ++ row_from a primary base_places [] [] [] ∷ []) list holders (free_table c.0 (free_bases h ps c) a.free_places) (virtual_bases h c) places
     → vs ≡ virtual_bases h c → held ≡ map (λ (v : ClassId). held_at list (get_or holders v.0 None)) vs
     → items ≡ rows ++ row_from a primary base_places [] [] [] ∷ []
     → ((row : ClassLayout) → slice_get items c.0 ≡ Some row → new ≡ slice_set items c.0 (filled_row row vs places held))
-    → a.member_parts ≡ parts_at (members_by rows known class) a.member_places → empty ≡ empty_kind (empties_in known) class → pod ≡ pod_kind (pods_in known) class
-    → (SomeRepeats (components_by h rows known ps c (front_bases primary class.bases)) → ⊥) → (SomeRepeats (components_by h rows known ps c (free_bases h ps c)) → ⊥)
-    → IsRowAdded h c rows known ps class has_pointer new (record { known = record { is_empty = empty; is_pod = pod; parts = a.parts }; members = a.member_parts })
-row_added h c class rows items new known members ps list holders primary has_pointer a base_places places vs held empty pod o possible pointer smaller virtuals v held_are e filled brings is_empty is_pod fronts_apart frees_apart =
+    → empty ≡ empty_kind (empties_in known) class → pod ≡ pod_kind (pods_in known) class → parts ≡ a.parts → brought ≡ a.member_parts
+    → IsRowAdded h c rows known ps class has_pointer new (record { known = record { is_empty = empty; is_pod = pod; parts = parts }; members = brought })
+row_added h c class rows items new known members ps list holders primary has_pointer a base_places places vs held empty pod parts brought o possible pointer smaller virtuals v held_are e filled is_empty is_pod parts_are brought_are =
     let r = row_from a primary base_places [] [] [] in
     let s = row_from a primary base_places (virtual_bases h c) places held in
     let each = sym o.scene.row_each in
@@ -281,10 +300,10 @@ row_added h c class rows items new known members ps list holders primary has_poi
       is = by.is;
       is_empty = is_empty;
       is_pod = is_pod;
-      parts = by.parts_are;
-      members = brings;
-      sized = record { align = o.within.align; nvalign = o.within.nvalign; nvsize = o.within.nvsize; size = o.within.size; parts = o.within.parts };
-      within = o.within.members;
-      fronts_apart = subst (λ (p : Primary). SomeRepeats (components_by h rows known ps c (front_bases p class.bases)) → ⊥) (sym o.own) fronts_apart;
-      frees_apart = frees_apart;
+      parts = parts_are ∙ by.parts_are;
+      members = brought_are ∙ o.brings;
+      sized = record { align = o.within.align; nvalign = o.within.nvalign; nvsize = o.within.nvsize; size = o.within.size; parts = subst (AreWithin a.size) (sym parts_are) o.within.parts };
+      within = subst (AreWithin a.nvsize) (sym brought_are) o.within.members;
+      fronts_apart = subst (λ (p : Primary). SomeRepeats (components_by h rows known ps c (front_bases p class.bases)) → ⊥) (sym o.own) o.fronts_apart;
+      frees_apart = o.frees_apart;
     }

@@ -2,6 +2,7 @@
 
 ghost use Rattle.std.specs.Prelude.{◌≡◌, ◌+◌, ◌^◌, ◌<◌, ◌≤◌, ◌⊎◌, ◌↔◌, IfOk, IfErr, OnOk, IsTrue, length};
 ghost use Rattle.std.specs.List.{list_any};
+ghost use Rattle.cxx_hierarchy.specs.Classes.{Classes};
 ghost use Rattle.cxx_subobject.specs.Subobjects.{class_of};
 ghost use Rattle.abi_primary.specs.Kinds.{IsDynamic};
 ghost use Rattle.abi_primary.specs.NearlyEmpty.{IsNearlyEmpty};
@@ -32,8 +33,8 @@ pub struct LaidSoFar {
 }
 
 /// No class.
-fn none_laid(alloc: Global, _h: &Hierarchy) -> LaidSoFar
-    ensures { IsLaidSoFar _h.now 0 result.rows.items result.known.items result.members.items result.nearly.items result.primaries.items }
+fn none_laid(alloc: Global) -> LaidSoFar
+    ensures { (h : Classes) → IsLaidSoFar h 0 result.rows.items result.known.items result.members.items result.nearly.items result.primaries.items }
 {
     LaidSoFar {
         rows: Vec::new(alloc),
@@ -179,7 +180,7 @@ pub fn lay_out_first(alloc: Global, h: &Hierarchy, count: u32) -> Result<AbiLayo
     ensures laid { IfOk result (λ l. IsWellLaid h.now count l) }
     ensures stop { IfErr result (λ e. (e ≡ Stop.NoMemory) ⊎ IsFirstStop h.now count e) }
 {
-    let mut so_far = none_laid(alloc, h);
+    let mut so_far = none_laid(alloc);
     for n in 0..count {
         lay_out_next(alloc, h, ClassId(n), &mut so_far)?;
     }

@@ -1,6 +1,6 @@
 //! The finished row of one class, by the layouts of the classes before it (Itanium C++ ABI 2.4).
 
-ghost use Rattle.std.specs.Prelude.{◌≡◌, ℕ, ◌<◌, ◌⊎◌, List, Option, IfOk, IfErr, Some, None, get_or, length, map, slice_get, slice_set};
+ghost use Rattle.std.specs.Prelude.{◌≡◌, ℕ, ◌+◌, ◌<◌, ◌⊎◌, List, [], ◌∷◌, ◌++◌, Option, IfOk, IfErr, OnOk, Some, None, get_or, length, map, slice_get, slice_set};
 ghost use Rattle.cxx_hierarchy.specs.Classes.{class_at};
 ghost use Rattle.cxx_hierarchy.specs.declared.records.ClassId.{ClassId};
 ghost use Rattle.cxx_hierarchy.specs.declared.stop.LimitNo.{LimitNo};
@@ -11,14 +11,15 @@ ghost use Rattle.abi_layout.specs.Holding.{AreHolders};
 ghost use Rattle.abi_layout.specs.Scenes.{IsScene};
 ghost use Rattle.abi_layout.specs.PlacedBases.{free_bases, IsPossible};
 ghost use Rattle.abi_layout.specs.DynamicLaid.{primary_of, fronts, start_stage};
-ghost use Rattle.abi_layout.specs.Arrangements.{IsTooLargeBy, IsShared, components_by};
-ghost use Rattle.abi_layout.specs.Settled.{held_at};
+ghost use Rattle.abi_layout.specs.Arrangements.{row_from, IsTooLargeBy, IsShared, components_by};
+ghost use Rattle.abi_layout.specs.Settled.{held_at, HasRoom, CanSettle, free_table, AreVirtualPlaces};
 ghost use Rattle.abi_layout.specs.ClassRows.{AreSmaller, IsOneOrOther, filled_row, IsRowAdded};
 ghost use Rattle.abi_layout.specs.declared.class_layout.ClassLayout.{ClassLayout};
 
 use crate::arrangement::Arrangement;
 use crate::class_layout::{ClassLayout, ClassList, HolderList, PlaceList};
 use crate::component::PartList;
+use crate::dynamic_bases::PlacedBase;
 use crate::dynamic_rows::{OpenClass, open_class};
 use crate::holding::{holders, virtual_bases};
 use crate::known::Known;
@@ -88,6 +89,95 @@ fn fill_row(
     row.holders = held;
 }
 
+/// What is left of an arrangement whose row stands behind the others: the places of the virtual bases behind the
+/// members, all class subobjects, by their places, and those in the members alone.
+#[derive(Drop)]
+struct PushedRow {
+    free_places: PlaceList,
+    parts: PartList,
+    member_parts: PartList,
+}
+
+/// Puts the row of an arrangement, without virtual bases, behind the others.
+fn push_row(
+    alloc: Global,
+    primary: Primary,
+    base_places: PlaceList,
+    arrangement: Arrangement,
+    rows: &mut Vec<ClassLayout>,
+) -> Result<PushedRow, NoMemory>
+    ensures row { OnOk result (rows.new.items ≡ rows.old.items ++ row_from arrangement primary base_places [] [] [] ∷ []) }
+    ensures free_places { IfOk result (λ pushed. pushed.free_places ≡ arrangement.free_places) }
+    ensures parts { IfOk result (λ pushed. pushed.parts ≡ arrangement.parts) }
+    ensures member_parts { IfOk result (λ pushed. pushed.member_parts ≡ arrangement.member_parts) }
+{
+    let Arrangement {
+        size,
+        align,
+        dsize,
+        nvsize,
+        nvalign,
+        front_places: _,
+        member_places,
+        free_places,
+        parts,
+        member_parts,
+    } = arrangement;
+    rows.push(ClassLayout {
+        size,
+        align,
+        dsize,
+        nvsize,
+        nvalign,
+        primary,
+        base_places,
+        virtual_bases: Sequence::new(alloc),
+        virtual_places: Sequence::new(alloc),
+        holders: Sequence::new(alloc),
+        member_places,
+    })?;
+    Ok(PushedRow {
+        free_places,
+        parts,
+        member_parts,
+    })
+}
+
+/// Puts the virtual bases of a class, their places and what holds them into its row, which has the places of its
+/// direct bases.
+fn place_virtuals(
+    alloc: Global,
+    h: &Hierarchy,
+    c: ClassId,
+    list: &[Subobject],
+    holders: &[Option<usize>],
+    virtuals: Vec<ClassId>,
+    free: &[PlacedBase],
+    pushed: &PushedRow,
+    rows: &mut Vec<ClassLayout>,
+) -> Result<(), NoMemory>
+    requires class { c.0 < length h.now }
+    requires row { length rows.old.items ≡ c.0 + 1 }
+    requires can { CanSettle h.now rows.old.items list.now holders.now }
+    requires room { HasRoom rows.old.items (free_table c.0 free.now pushed.now.free_places) }
+    ensures { OnOk result ((places : List ℕ) × AreVirtualPlaces h.now rows.old.items list.now holders.now (free_table c.0 free.now pushed.now.free_places) virtuals.items places × ((row : ClassLayout) → slice_get rows.old.items c.0 ≡ Some row → rows.new.items ≡ slice_set rows.old.items c.0 (filled_row row virtuals.items places (map (λ (v : ClassId). held_at list.now (get_or holders.now v.0 None)) virtuals.items)))) }
+{
+    let places = virtual_places(
+        alloc,
+        h,
+        rows,
+        list,
+        holders,
+        c.0,
+        &virtuals,
+        free,
+        pushed.free_places.as_slice(),
+    )?;
+    let held = holder_list(alloc, list, holders, &virtuals)?;
+    fill_row(rows, c, Sequence::from_vec(virtuals), places, held);
+    Ok(())
+}
+
 /// Lays out a class whose primary base is known, by the layouts of the classes before it: its row goes behind theirs.
 /// `list` has its subobjects in preorder, `known` and `members` tell what else is known of the classes before, and
 /// `primaries` which primary bases these and the class itself have.
@@ -138,44 +228,13 @@ pub(crate) fn lay_out_class(
         is_empty,
         is_pod,
     } = opened;
-    let Arrangement {
-        size,
-        align,
-        dsize,
-        nvsize,
-        nvalign,
-        front_places: _,
-        member_places,
-        free_places,
+    let pushed = push_row(alloc, primary, base_places, arrangement, rows)?;
+    place_virtuals(alloc, h, c, list, &holders, virtuals, &free, &pushed, rows)?;
+    let PushedRow {
+        free_places: _,
         parts,
         member_parts,
-    } = arrangement;
-    rows.push(ClassLayout {
-        size,
-        align,
-        dsize,
-        nvsize,
-        nvalign,
-        primary,
-        base_places,
-        virtual_bases: Sequence::new(alloc),
-        virtual_places: Sequence::new(alloc),
-        holders: Sequence::new(alloc),
-        member_places,
-    })?;
-    let places = virtual_places(
-        alloc,
-        h,
-        rows,
-        list,
-        &holders,
-        c.0,
-        &virtuals,
-        &free,
-        free_places.as_slice(),
-    )?;
-    let held = holder_list(alloc, list, &holders, &virtuals)?;
-    fill_row(rows, c, Sequence::from_vec(virtuals), places, held);
+    } = pushed;
     Ok(ClassFacts {
         known: Known {
             is_empty,

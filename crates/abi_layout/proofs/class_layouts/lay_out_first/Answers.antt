@@ -5,6 +5,9 @@ use Rattle.abi_layout.specs.Refusals.{IsWellLaid}
 use Rattle.abi_layout.proofs.NextSteps.{well_laid, first_stop}
 use Rattle.abi_layout.proofs.class_layouts.lay_out_first.Goals as goal
 
+pub loop-n-init : goal.loop-n-init
+loop-n-init c = c.none_laid-so_far.ensures c.args.h.now
+
 pub returns-in_err-lay_out_next-clause-stop : goal.returns-in_err-lay_out_next-clause-stop
 returns-in_err-lay_out_next-clause-stop c =
     let p = err_from_is_err_and c.from_residual.result c.from_residual.ensures.1 in
