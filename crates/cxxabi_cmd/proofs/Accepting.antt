@@ -4,7 +4,7 @@ use Rattle.std.specs.Prelude.{slice_get, Some}
 use Rattle.std.specs.List.{AllByRecursion}
 use Rattle.std.proofs.lemmas.List.Elements.{recursion_from_All}
 use Rattle.cxx_hierarchy.specs.Classes.{Classes}
-use Rattle.cxx_hierarchy.specs.ClassPass.{Record, faults_of, IsInOrder}
+use Rattle.cxx_hierarchy.specs.ClassPass.{faults_of, IsInOrder}
 use Rattle.cxx_hierarchy.specs.Resolved.{resolved}
 use Rattle.cxx_hierarchy.specs.Hierarchies.{IsHierarchy}
 use Rattle.cxx_hierarchy.proofs.Kept.{is_hierarchy}

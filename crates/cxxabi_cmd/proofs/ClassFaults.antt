@@ -121,6 +121,9 @@ meaning_first h k stop rows keeps refused well =
           (cases_order at.class.0 k.0);
     }
 
--- the pass over meanings stops past the last class for want of memory alone
-pub memory_alone : (h : Classes) (k : ClassId) (stop : Stop) → StopsIn h k stop → length h ≤ k.0 → stop ≡ NoMemory
-memory_alone h k stop either past = ⊎_elim (λ memory. memory) (λ refused. absurd (let known = fault_known h (spot k refused.part refused.item refused.test) stop refused.fault in omega arith)) either
+-- a pass over meanings that does not stop for want of memory has met a fault, of a class of the hierarchy
+pub refused_meaning : (h : Classes) (k : ClassId) (stop : Stop) → StopsIn h k stop → (stop ≡ NoMemory → ⊥) → IsFirstMeaning h k stop
+refused_meaning h k stop either never = ⊎_elim (λ memory. absurd (never memory)) (λ refused. refused) either
+
+pub class_known : (h : Classes) (k : ClassId) (stop : Stop) → IsFirstMeaning h k stop → k.0 < length h
+class_known h k stop refused = fault_known h (spot k refused.part refused.item refused.test) stop refused.fault

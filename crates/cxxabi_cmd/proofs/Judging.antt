@@ -13,7 +13,7 @@ use Rattle.cxx_hierarchy.specs.ClassPass.{faults_of, StopsAt}
 use Rattle.cxx_hierarchy.specs.Resolved.{resolved}
 use Rattle.cxx_decl_parser.specs.declared.source_text.SourceText.{SourceText}
 use Rattle.cxx_decl_parser.specs.Sources.{SourceReads}
-use Rattle.cxxabi_cmd.specs.Verdict.{AreLexemes, IsSource, StopsText, at_start, IsFirstFault, HasNoFault, Verdict, Stops, Accepts, by_text, by_records, by_classes, accepted}
+use Rattle.cxxabi_cmd.specs.Verdict.{AreLexemes, IsSource, at_start, IsFirstFault, HasNoFault, Verdict, Stops, Accepts, by_text, by_records, by_classes, accepted}
 
 -- what the reader of sources gives
 abbrev pub Reads : List ℕ → List Token → Option ℕ → SourceText → Type 0

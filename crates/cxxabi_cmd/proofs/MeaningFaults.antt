@@ -5,20 +5,13 @@ use Rattle.std.specs.List.{list_any}
 use Rattle.cxx_hierarchy.specs.declared.records.ClassId.{ClassId}
 use Rattle.cxx_hierarchy.specs.declared.records.Function.{Function}
 use Rattle.cxx_hierarchy.specs.declared.records.Member.{Member}
-use Rattle.cxx_hierarchy.specs.declared.records.Destructor.{Destructor}
-use Rattle.cxx_hierarchy.specs.declared.records.Destructor.TheVariants.{Implicit, Plain, Virtual}
 use Rattle.cxx_hierarchy.specs.declared.stop.Stop.{Stop}
 use Rattle.cxx_hierarchy.specs.declared.stop.Stop.TheVariants.{Refused, Limit}
 use Rattle.cxx_hierarchy.specs.declared.stop.Rule.{Rule}
 use Rattle.cxx_hierarchy.specs.declared.stop.Rule.TheVariants.{ReturnMismatch, IncompleteClass, AmbiguousCovariant, TwoFinalOverriders, Abstract}
 use Rattle.cxx_hierarchy.specs.declared.stop.LimitNo.TheVariants.{L5}
 use Rattle.cxx_hierarchy.specs.Classes.{Class, Classes, class_at, members_of, functions_of}
-use Rattle.cxx_subobject.specs.Parts.{IsWithinLimits}
-use Rattle.cxx_overrider.specs.declared.FunctionId.{FunctionId}
-use Rattle.cxx_overrider.specs.Functions.{says_virtual, says_virtual_in, says_virtual_at}
-use Rattle.cxx_overrider.specs.Overriding.{IsVirtual}
-use Rattle.cxx_overrider.specs.Faults.{Spot, spot, limit_part, size_part, Fault as MeaningFault, too_large, mismatch, incomplete, ambiguous, two_overriders, abstract_member}
-use Rattle.abi_layout.specs.Kinds.{IsStatic, IsStaticClass, has_virtual_function, is_virtual_destructor}
+use Rattle.cxx_overrider.specs.Faults.{Spot, spot, size_part, Fault as MeaningFault, too_large, mismatch, incomplete, ambiguous, two_overriders, abstract_member}
 
 abbrev rule_at : ℕ → Rule
 rule_at zero = ReturnMismatch

@@ -4,7 +4,6 @@ use Rattle.std.specs.Prelude.{slice_get, Some, Contains}
 use Rattle.cxx_hierarchy.specs.declared.records.ClassId.{ClassId}
 use Rattle.cxx_hierarchy.specs.declared.stop.Stop.{Stop}
 use Rattle.cxx_hierarchy.specs.declared.stop.Rule.TheVariants.{Syntax, UnknownName}
-use Rattle.cxx_hierarchy.specs.declared.stop.LimitNo.TheVariants.{L9}
 use Rattle.cxx_hierarchy.specs.Classes.{Class, Classes, class_names}
 use Rattle.cxx_hierarchy.specs.Hierarchies.{IsHierarchy}
 use Rattle.cxx_body_parser.specs.declared.tree.BodyTree.{BodyTree}
@@ -17,9 +16,9 @@ use Rattle.abi_layout.proofs.Lists.{has_at}
 use Rattle.abi_layout.proofs.OneLayoutFronts.{layout_is_one}
 use Rattle.cxxabi_cmd.specs.declared.command.Command.{Command}
 use Rattle.cxxabi_cmd.specs.declared.command.Command.TheVariants.{Check, Run, LayoutOf}
-use Rattle.cxxabi_cmd.specs.Commands.{Says, check, run, layout, layout_of, IsCommand}
-use Rattle.cxxabi_cmd.specs.Verdict.{Verdict, Stops, Accepts, Judgement}
-use Rattle.cxxabi_cmd.specs.declared.status.Status.TheVariants.{Refused, Limit}
+use Rattle.cxxabi_cmd.specs.Commands.{Says, check, run, layout, layout_of}
+use Rattle.cxxabi_cmd.specs.Verdict.{Stops, Accepts}
+use Rattle.cxxabi_cmd.specs.declared.status.Status.TheVariants.{Refused}
 use Rattle.cxxabi_cmd.specs.Output.{Output, usage, too_long, stopped, yielded, Yields, counted, no_main, not_taken, ran, unknown_class, laid_out, LaysOut, whole, too_much, AsksFor, all_classes, one_class, IsProgram, Answer, line_alone, text_answer, count_answer, layouts_text, status_of_stop, run_answer, run_by}
 use Rattle.cxxabi_cmd.proofs.OneVerdict.{one_verdict}
 use Rattle.cxxabi_cmd.proofs.OneProgram.{main_missing_left, main_missing_right, program_left, program_right, one_program}

@@ -5,10 +5,9 @@ use Rattle.cxx_text.proofs.Unique.{tokens_same}
 use Rattle.cxx_grammar.specs.declared.sort.Lexeme.{Lexeme}
 use Rattle.cxx_grammar.specs.Grammar.{source_form}
 use Rattle.cxx_grammar.specs.Lexemes.{lexemes, source_start}
-use Rattle.cxx_grammar.specs.Fault.{Fault as Event, FrontIs}
+use Rattle.cxx_grammar.specs.Fault.{Fault as Event}
 use Rattle.cxx_grammar.proofs.OneFault.{fault_same, no_source_fault}
 use Rattle.cxx_hierarchy.specs.declared.stop.Stop.{Stop}
-use Rattle.cxx_hierarchy.specs.Classes.{Classes}
 use Rattle.cxx_hierarchy.specs.ClassPass.{Record, faults_of, first_of}
 use Rattle.cxx_hierarchy.specs.Resolved.{resolved}
 use Rattle.cxx_decl_parser.specs.declared.source_text.SourceText.{SourceText}

@@ -13,17 +13,15 @@ use Rattle.cxx_hierarchy.specs.declared.stop.Stop.TheVariants as stop
 use Rattle.cxx_hierarchy.specs.Classes.{Classes, class_names}
 use Rattle.cxx_body_parser.specs.declared.tree.BodyTree.{BodyTree}
 use Rattle.cxx_decl_parser.specs.declared.source_text.SourceText.{SourceText}
-use Rattle.cxx_resolve.specs.declared.program.SimpleProgram.{SimpleProgram}
 use Rattle.abi_layout.specs.declared.class_layout.ClassLayout.{ClassLayout}
 use Rattle.abi_layout.specs.DynamicLaid.{IsLaid}
 use Rattle.cxxabi_cmd.specs.declared.command.Command.{Command}
 use Rattle.cxxabi_cmd.specs.declared.command.Command.TheVariants.{Run}
 use Rattle.cxxabi_cmd.specs.declared.reply.Reply.{Reply}
-use Rattle.cxxabi_cmd.specs.declared.status.Status.{Status}
 use Rattle.cxxabi_cmd.specs.declared.status.Status.TheVariants.{Limit}
 use Rattle.cxxabi_cmd.specs.Commands.{Says}
 use Rattle.cxxabi_cmd.specs.Verdict.{Verdict, Stops, Accepts}
-use Rattle.cxxabi_cmd.specs.Handed.{HandsOut, HasRun}
+use Rattle.cxxabi_cmd.specs.Handed.{HandsOut}
 use Rattle.cxxabi_cmd.specs.Output.{Answer, AsksFor, IsProgram, Output, stopped, yielded, Yields, counted, no_main, not_taken, ran, unknown_class, laid_out, LaysOut, whole, too_much, IsAnswered, line_alone, text_answer, layouts_text, status_of_stop, run_by}
 use Rattle.cxxabi_cmd.specs.Replies.{answer_of, machine_of, HandsBy}
 use Rattle.abi_layout.specs.AbiLayouts.{IsAbiLayout}

@@ -5,7 +5,6 @@ use Rattle.byte_code.specs.declared.code.Code.{Code}
 use Rattle.byte_machine.specs.Turn.{State}
 use Rattle.byte_machine.specs.MachineState.{code_of, state_of}
 use Rattle.cxx_hierarchy.specs.Classes.{Classes}
-use Rattle.cxx_hierarchy.specs.declared.records.ClassId.{ClassId}
 use Rattle.cxx_decl_parser.specs.declared.source_text.SourceText.{SourceText}
 use Rattle.cxx_resolve.specs.declared.program.SimpleProgram.{SimpleProgram}
 use Rattle.abi_layout.specs.declared.class_layout.ClassLayout.{ClassLayout}

@@ -20,18 +20,28 @@ pub(crate) struct Accepted {
     pub(crate) layout: AbiLayout,
 }
 
-// The first fault of classes whose meaning stops at a class: that of the layout of a class before it, or else its own.
+// The first fault of classes of which the meaning refuses one: that of the layout of a class before it, or else this.
+fn first_refusal(alloc: Global, h: &Hierarchy, refused: ClassStop) -> Stop
+    requires stops { StopsIn h.now refused.class refused.stop }
+    requires refuses { refused.stop ≡ Stop.NoMemory → ⊥ }
+    ensures { (result ≡ Stop.NoMemory) ⊎ IsFirstFault h.now result }
+{
+    h.keeps();
+    match lay_out_first(alloc, h, refused.class.0) {
+        Ok(_) => {}
+        Err(stop) => return stop,
+    }
+    refused.stop
+}
+
+// The first fault of classes whose meanings are not passed, or want of memory.
 fn first_stop(alloc: Global, h: &Hierarchy, refused: ClassStop) -> Stop
     requires { StopsIn h.now refused.class refused.stop }
     ensures { (result ≡ Stop.NoMemory) ⊎ IsFirstFault h.now result }
 {
-    h.keeps();
-    if refused.class.0 >= h.len() {
-        return refused.stop;
-    }
-    match lay_out_first(alloc, h, refused.class.0) {
-        Ok(_) => refused.stop,
-        Err(stop) => stop,
+    match refused.stop {
+        Stop::NoMemory => Stop::NoMemory,
+        Stop::Refused(_, _) | Stop::Limit(_) => first_refusal(alloc, h, refused),
     }
 }
 
@@ -43,12 +53,11 @@ fn check_classes(alloc: Global, h: &Hierarchy) -> Result<AbiLayout, Stop>
 {
     h.keeps();
     match check_by_class(alloc, h) {
-        Ok(_) => {
-            let layout = lay_out(alloc, h)?;
-            Ok(layout)
-        }
-        Err(refused) => Err(first_stop(alloc, h, refused)),
+        Ok(_) => {}
+        Err(refused) => return Err(first_stop(alloc, h, refused)),
     }
+    let layout = lay_out(alloc, h)?;
+    Ok(layout)
 }
 
 // Makes the passes over the bytes of a source.

@@ -1,5 +1,5 @@
 use Rattle.std.proofs.Common.{string_bytes, map, ◌≡◌, ◌∙◌}
-use Rattle.cxxabi_cmd.specs.Commands.{Says, IsCommand}
+use Rattle.cxxabi_cmd.specs.Commands.{Says}
 use Rattle.cxxabi_cmd.proofs.OutputLemmas.{usage_output, usage_machine, told_bytes, no_command, the_command}
 use Rattle.cxxabi_cmd.proofs.run.respond.Goals as goal
 

@@ -7,6 +7,9 @@ use Rattle.cxxabi_cmd.proofs.verdict.check_classes.Goals as goal
 
 pub returns-in_err-layout-clause-err : goal.returns-in_err-layout-clause-err
 returns-in_err-layout-clause-err c =
-    let r : c.from_residual-in_err-layout.result ≡ Err c.in_err-layout.field-0.0 = search rules in
+    let r : c.from_residual.result ≡ Err c.in_err-layout.field-0.0 = search rules in
     subst (λ r. IfErr r (λ e. (e ≡ stop.NoMemory) ⊎ IsFirstFault c.args.h.now e)) (sym r)
-    (⊎_elim (λ memory. inl memory) (λ first. inr (layout_first c.args.h.now c.in_err-layout.field-0.0 c.keeps.ensures c.in_Ok.ensures.fine first)) c.in_err-layout.ensures.stop)
+    (⊎_elim (λ memory. inl memory) (λ first. inr (layout_first c.args.h.now c.in_err-layout.field-0.0 c.keeps.ensures c.in-Ok.ensures.fine first)) c.in_err-layout.ensures.stop)
+
+pub returns-clause-none : goal.returns-clause-none
+returns-clause-none c = none_met c.args.h.now c.in_ok-layout.layout c.keeps.ensures c.in-Ok.ensures.fine c.in_ok-layout.ensures.layout.laid

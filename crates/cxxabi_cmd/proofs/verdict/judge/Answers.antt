@@ -1,7 +1,7 @@
 use Rattle.std.proofs.Common.{◌≡◌, ◌⊎◌, ⊎_elim, inl, inr, Err, sym, subst, rules}
 use Rattle.std.specs.Prelude.{IfErr}
 use Rattle.cxx_hierarchy.specs.declared.stop.Stop.TheVariants as stop
-use Rattle.cxxabi_cmd.specs.Verdict.{Verdict, Stops, Accepts, by_text, by_records, by_classes, accepted}
+use Rattle.cxxabi_cmd.specs.Verdict.{Verdict, Stops}
 use Rattle.cxxabi_cmd.proofs.Judging.{text_stop, records_stop, classes_stop, all_passed}
 use Rattle.cxxabi_cmd.proofs.verdict.judge.Goals as goal
 
