@@ -63,7 +63,7 @@ const ANSWERS: [Answered; 19] = [
         text: "10 classes\n",
     },
     Answered {
-        source: "struct V { virtual void f() {} }; struct A : virtual V { long a[4096]; }; struct B { A a[15]; }; struct C { B b[2]; }; struct L : V { virtual int f() { return 1; } };",
+        source: "struct V { virtual void f() {} }; struct A : virtual V { long a[4096]; }; struct B { A a[15]; long c[2000]; }; struct L : V { virtual int f() { return 1; } };",
         text: "limit L6\n",
     },
     Answered {
