@@ -1,0 +1,1 @@
+class Counter { int count; public: Counter(); ~Counter(); int next(); protected: char flag; };

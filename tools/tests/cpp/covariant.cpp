@@ -1,0 +1,2 @@
+struct A { virtual A* clone() const; virtual ~A(); };
+struct B : A { B* clone() const; int b; };

@@ -1,0 +1,1 @@
+struct M { int M::*field; void (M::*function)(int); };

@@ -1,0 +1,1 @@
+namespace shapes { namespace flat { struct Circle { double radius; }; } }

@@ -1,0 +1,1 @@
+struct Outer { struct Inner { short s; }; Inner first; Inner* second; };

@@ -1,0 +1,1 @@
+struct Late; struct Early { Late* late; }; struct Late { Early early; virtual Late* self(); };

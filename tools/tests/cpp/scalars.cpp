@@ -1,0 +1,1 @@
+struct S { bool b; signed char c; wchar_t w; float f; double d; unsigned long long u; };

@@ -1,0 +1,2 @@
+template <class T> struct Pair { T first; T second; };
+struct Use { Pair<char> small; Pair<long> large; };

@@ -1,0 +1,3 @@
+typedef unsigned short id_t_;
+typedef struct { id_t_ id; } Tagged;
+struct Holder { Tagged tag; id_t_ more[2]; };

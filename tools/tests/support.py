@@ -1,0 +1,28 @@
+"""What the tests share: how a tool is run, and when a test is skipped."""
+import os
+import shutil
+import subprocess
+import sys
+import unittest
+
+TOOLS = os.path.dirname(os.path.dirname(os.path.abspath(__file__)))
+sys.path.insert(0, TOOLS)
+from lib import program  # noqa: E402
+
+
+def run(tool, *words, text="", environment=None):
+    """Runs a tool on words and standard input."""
+    return subprocess.run([sys.executable, os.path.join(TOOLS, tool), *words], input=text, capture_output=True, encoding="utf-8", env=environment)
+
+
+def _is_built():
+    return os.path.basename(program.path()) != "tagymelur" or os.path.dirname(program.path()) != program.TOP
+
+
+needs_program = unittest.skipUnless(_is_built(), "the program is not built: ./tagymelur builds it")
+
+
+def needs(*commands):
+    """Skips a test where a command is missing, and says which."""
+    missing = [command for command in commands if shutil.which(command) is None]
+    return unittest.skipIf(missing, f"{', '.join(missing)} missing")

@@ -1,0 +1,142 @@
+"""tools/cross-check: agreement, planted differences, known differences, random hierarchies."""
+import os
+import re
+import stat
+import tempfile
+import unittest
+
+import support
+from lib import compiled_tables, layout_text, program, source
+
+EXAMPLES = os.path.join(program.TOP, "examples")
+DIAMOND = os.path.join(EXAMPLES, "diamond.cpp")
+
+# An empty base that does not lie at 0 keeps a class from being nearly empty; clang++ looks at the size alone.
+BY_SIZE = "struct E {}; struct B1 : E {}; struct B2 : E {}; struct M : B1, B2 {}; struct X : M { virtual void f() {} }; struct D : virtual X { long d; };"
+
+# B holds P, so that A has none of it, and the place 0 is free for the shared E; g++ takes it for taken.
+LOST = "struct E {}; struct P : E { virtual void f() {} }; struct A : virtual P {}; struct B : virtual E, virtual P {}; struct D : virtual B, A {};"
+
+# A thunk, a covariant result, a destructor and a pure function; the words are those of the ABI.
+TABLED = "struct X { long a; virtual void x() {} }; struct A { long b; virtual A* clone() = 0; }; struct B : X, A { virtual B* clone() {} virtual ~B() {} };"
+WORDS = """group X
+table X@0
+-2 top 0
+-1 typeinfo X
+0 func X::x
+group A
+table A@0
+-2 top 0
+-1 typeinfo A
+0 pure A::clone
+group B
+table B@0
+-2 top 0
+-1 typeinfo B
+0 func X::x
+1 func B::clone
+2 complete B::~B
+3 deleting B::~B
+table A@16
+-2 top -16
+-1 typeinfo B
+0 func B::clone this -16 return 16
+"""
+
+
+def changed(folder, pattern, replacement):
+    """A program that answers as Tagymelur does, but for one text; its path."""
+    path = os.path.join(folder, "planted")
+    with open(path, "w", encoding="utf-8") as file:
+        file.write(f'#!/bin/sh\n"{program.path()}" "$@" | sed "s/{pattern}/{replacement}/"\n')
+    os.chmod(path, os.stat(path).st_mode | stat.S_IXUSR)
+    return dict(os.environ, TAGYMELUR=path)
+
+
+class Reading(unittest.TestCase):
+    def test_a_layout(self):
+        text = "class D size 56 align 8 dsize 56 nvsize 40 nvalign 8\nprimary virtual B1\n0 base B1\n40 base *V/W\n32 field unsigned long[3] d\n"
+        one = layout_text.read(text)["D"]
+        self.assertEqual((one.size, one.align, one.dsize, one.nvsize, one.nvalign, one.primary), (56, 8, 56, 40, 8, "virtual B1"))
+        self.assertEqual([(base.place, base.names, base.shared) for base in one.bases], [(0, ["B1"], False), (40, ["V", "W"], True)])
+        self.assertEqual([(member.place, member.type, member.length, member.name) for member in one.members], [(32, "unsigned long", 3, "d")])
+
+    def test_a_source(self):
+        found = source.classes("class A; // a comment\nstruct A : virtual private B, C { unsigned x[3]; virtual A* f(int p) = 0; A() : x(1) { this->y = 2; } private: ~A() { while (x) { } } A* a; }; long g; int main() { }")
+        one = found["A"]
+        self.assertEqual([(base.name, base.virtual, base.access) for base in one.bases], [("B", True, "private"), ("C", False, "public")])
+        self.assertEqual([(part.type, part.name, part.length, part.access) for part in one.fields], [("unsigned int", "x", 3, "public"), ("A*", "a", None, "private")])
+        self.assertEqual([(part.kind, part.name, part.virtual, part.pure) for part in one.functions], [("function", "f", True, True), ("constructor", "A", False, False), ("destructor", "~A", False, False)])
+
+
+@support.needs("clang++", "g++")
+@support.needs_program
+class CrossCheck(unittest.TestCase):
+    def test_agreement(self):
+        done = support.run("cross-check", DIAMOND, os.path.join(EXAMPLES, "layout.cpp"))
+        self.assertEqual(done.returncode, 0, done.stdout + done.stderr)
+        self.assertIn("7 classes of 2 sources compared, 0 new differences", done.stdout)
+
+    def test_planted_differences_are_found(self):
+        plants = [("40 base \\*V", "48 base *V", "base \\*V at 48, clang\\+\\+ 40"), ("32 field long d", "24 field long d", "member d at 24, g\\+\\+ 32"), ("size 56 align 8 dsize 56", "size 64 align 8 dsize 56", "size 64, g\\+\\+ 56")]
+        for pattern, replacement, said in plants:
+            with tempfile.TemporaryDirectory() as folder:
+                done = support.run("cross-check", DIAMOND, environment=changed(folder, pattern, replacement))
+                self.assertEqual(done.returncode, 1, said)
+                self.assertTrue(re.search(said, done.stdout), done.stdout)
+                self.assertIn("D, clang++: a new difference", done.stdout)
+
+    def test_a_known_difference_is_told_apart(self):
+        done = support.run("cross-check", "-", text=BY_SIZE)
+        self.assertEqual(done.returncode, 0, done.stdout)
+        self.assertIn("clang++: 1 classes differ: clang++ takes a class for nearly empty by its size alone", done.stdout)
+        done = support.run("cross-check", "-", text=LOST)
+        self.assertEqual(done.returncode, 0, done.stdout)
+        self.assertIn("g++: 1 classes differ: g++ keeps room for a primary base that lies elsewhere", done.stdout)
+
+    def test_random_hierarchies(self):
+        done = support.run("cross-check", "--random", "60", "--seed", "5")
+        self.assertEqual(done.returncode, 0, done.stdout)
+        self.assertGreaterEqual(int(re.search(r"(\d+) classes of", done.stdout)[1]), 60)
+        again = support.run("cross-check", "--random", "60", "--seed", "5")
+        self.assertEqual(done.stdout, again.stdout)
+
+    def test_bad_input(self):
+        for words, text, said in ((["-"], "struct A { int x;", "refused E2 Syntax at 17"), (["/nowhere"], "", "cannot be read"), ([], "", "give a source")):
+            done = support.run("cross-check", *words, text=text)
+            self.assertIn(done.returncode, (1, 2))
+            self.assertIn(said, done.stderr)
+            self.assertNotIn("Traceback", done.stderr)
+
+    def test_an_empty_source(self):
+        done = support.run("cross-check", "-", text="")
+        self.assertEqual(done.returncode, 0, done.stderr)
+        self.assertIn("0 classes of 1 sources compared", done.stdout)
+
+
+@support.needs("clang++", "g++")
+class Tables(unittest.TestCase):
+    def test_words_of_tables(self):
+        for compiler in ("clang++", "g++"):
+            self.assertEqual(compiled_tables.differences(compiler, source.classes(TABLED), WORDS, set()), [])
+
+    def test_planted_words_are_found(self):
+        plants = [("this -16 return 16", "this -16", "word 8"), ("top -16", "top -8", "word 6"), ("pure A::clone", "func A::clone", "word 2"), ("1 func B::clone\n2 complete B::~B", "1 complete B::~B\n2 func B::clone", "word 3")]
+        for old, new, said in plants:
+            for compiler in ("clang++", "g++"):
+                found = compiled_tables.differences(compiler, source.classes(TABLED), WORDS.replace(old, new), set())
+                self.assertEqual(len(found), 1, old)
+                self.assertEqual(found[0][2], "")
+                self.assertIn(said, found[0][1][0])
+
+    def test_symbols(self):
+        for symbol, words in (("_ZThn16_N1B1gEv", "func B::g this -16"), ("_ZTv0_n24_N1D1fEv", "func D::f this 0 vcall -24"), ("_ZTcv0_n32_v8_n40_N1D5cloneEv", "func D::clone this 0 vcall -32 return vbase -40 8"),
+                              ("_ZTch0_h16_N1B5cloneEv", "func B::clone return 16"), ("_ZN1DD0Ev", "deleting D::~D"), ("_ZTI12Long_name_12", "typeinfo Long_name_12"), ("__cxa_pure_virtual", "pure")):
+            self.assertEqual(compiled_tables.plain(symbol), words)
+
+
+class MissingCompiler(unittest.TestCase):
+    def test_a_missing_compiler(self):
+        done = support.run("cross-check", DIAMOND, environment={"PATH": "/nowhere"})
+        self.assertEqual(done.returncode, 2)
+        self.assertIn("apt-get install clang", done.stderr)

@@ -1,0 +1,62 @@
+"""docs/ERRORS.md and tools/explain: each example is run."""
+import os
+import subprocess
+import unittest
+
+import support
+from lib import error_pages, program
+
+
+class Explain(unittest.TestCase):
+    @support.needs_program
+    def test_each_example_meets_its_answer_or_does_not(self):
+        for code, entry in error_pages.entries().items():
+            self.assertEqual({example.meets for example in entry.examples}, {True, False}, f"{code} wants one example of each kind")
+            for example in entry.examples:
+                text = example.text
+                if example.language == "sh":
+                    text = subprocess.run(["sh", "-c", text], cwd=program.TOP, stdout=subprocess.PIPE, check=True).stdout.decode()
+                answer, status = program.answer(example.words, text)
+                wanted = [f"refused {code} {entry.name} at ", f"undefined {code} {entry.name} line ", f"limit {code}\n"]["EUL".index(code[0])]
+                last = answer.splitlines(keepends=True)[-1] if answer else ""
+                if example.meets:
+                    self.assertTrue(last.startswith(wanted), f"{code}: {last!r}")
+                else:
+                    self.assertEqual(status, 0, f"{code}: {last!r}")
+
+    @support.needs_program
+    def test_the_line_has_a_caret_at_the_place(self):
+        done = support.run("explain", "check", text="struct A {\n  int x;\n  B b;\n};\n")
+        self.assertEqual(done.returncode, 1)
+        self.assertEqual(done.stdout, "refused E3 UnknownClass at 22\n")
+        self.assertIn("line 3, column 3:\n    3 |   B b;\n      |   ^\nE3 UnknownClass: ", done.stderr)
+        self.assertIn("Section: ISO C++03 9.1", done.stderr)
+
+    @support.needs_program
+    def test_a_line_of_a_run(self):
+        done = support.run("explain", "--", "run", text="struct P { int x; };\nint main() {\n  P* p = new P;\n  int y = p->x;\n}\n")
+        self.assertEqual(done.returncode, 3)
+        self.assertIn("    4 |   int y = p->x;\n      |   ^\nU5 Unset: ", done.stderr)
+
+    @support.needs_program
+    def test_a_success_is_not_explained(self):
+        done = support.run("explain", "check", text="")
+        self.assertEqual((done.returncode, done.stdout, done.stderr), (0, "0 classes\n", ""))
+
+    def test_an_entry_without_a_source(self):
+        done = support.run("explain", "--code", "l4")
+        self.assertEqual(done.returncode, 0)
+        self.assertTrue(done.stdout.startswith("L4: The length of an array is 0"))
+
+    def test_bad_words(self):
+        for words in ([], ["--code", "E99"]):
+            done = support.run("explain", *words)
+            self.assertIn(done.returncode, (1, 2))
+            self.assertNotIn("Traceback", done.stderr)
+            self.assertTrue(done.stderr)
+
+    def test_the_program_that_is_not_there(self):
+        environment = dict(os.environ, TAGYMELUR="/nowhere/tagymelur")
+        done = support.run("explain", "check", text="", environment=environment)
+        self.assertEqual(done.returncode, 2)
+        self.assertIn("cannot be run", done.stderr)
