@@ -9,9 +9,9 @@ use Rattle.cxx_subobject.specs.Subobjects.{base_subobject, shared_base}
 use Rattle.abi_emptybase.specs.declared.Part.{Part}
 use Rattle.abi_emptybase.specs.Table.{moved}
 use Rattle.abi_primary.specs.declared.Primary.{Primary}
-use Rattle.abi_layout.specs.declared.class_layout.ClassLayout.{ClassLayout}
-use Rattle.abi_layout.specs.Places.{members_in, base_place}
-use Rattle.abi_layout.specs.Laid.{part_at, parts_at, member_component}
+use Rattle.abi_sound.specs.declared.class_layout.ClassLayout.{ClassLayout}
+use Rattle.abi_sound.specs.Places.{members_in, base_place}
+use Rattle.abi_layout.specs.Placements.{part_at, parts_at, member_component}
 use Rattle.abi_layout.specs.Holding.{held_base}
 
 -- the class subobjects of the objects in the members that d declares, where `parts` tells those of a complete object
@@ -23,9 +23,9 @@ member_parts h rows parts d = parts_at (map (member_component rows parts) (membe
 abbrev pub base_brings : Classes → List ClassLayout → (Subobject → ClassId → List Part) → Subobject → ClassId → Base ClassId → List Part
 base_brings h rows next s d base = if base.is_virtual then [] else map (moved (base_place h rows d base.class)) (next (base_subobject s base) base.class)
 
-abbrev pub shared_brings : (Subobject → ClassId → List Part) → Option ClassId → List Part
-shared_brings next None = []
-shared_brings next (Some v) = next (shared_base v) v
+abbrev pub virtual_brings : (Subobject → ClassId → List Part) → Option ClassId → List Part
+virtual_brings next None = []
+virtual_brings next (Some v) = next (shared_base v) v
 
 -- what the subobject s, of class d, of an object of class c brings: itself, the objects in its members, its non-virtual
 -- bases with what they bring, and the virtual base that it holds with what that brings. Each step goes to a class of a
@@ -35,7 +35,7 @@ brought h rows primaries parts c zero s d = []
 brought h rows primaries parts c (suc steps) s d =
     (part_at d 0 ∷ member_parts h rows parts d)
     ++ (flat_map (base_brings h rows (brought h rows primaries parts c steps) s d) (bases_of h d)
-    ++ shared_brings (brought h rows primaries parts c steps) (held_base h primaries c s d))
+    ++ virtual_brings (brought h rows primaries parts c steps) (held_base h primaries c s d))
 
 abbrev pub brought_by : Classes → List ClassLayout → List Primary → (ClassId → List Part) → ClassId → Subobject → ClassId → List Part
 brought_by h rows primaries parts c s d = brought h rows primaries parts c (d.0 + 1) s d

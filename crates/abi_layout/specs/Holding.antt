@@ -1,30 +1,14 @@
--- The virtual bases of a class, and which of its subobjects hold them (Itanium C++ ABI 2.4, II.1).
-use Rattle.std.specs.Prelude.{◌≡◌, ℕ, ◌<◌, Bool, false, nat_lt, if◌then◌else◌, ◌==◌, ◌&&◌, Option, Some, None, List, length, get_or, slice_get, slice_set, position}
+-- Which subobjects of a class hold its virtual bases (Itanium C++ ABI 2.4, II.1).
+use Rattle.std.specs.Prelude.{◌≡◌, ℕ, ◌<◌, Bool, false, nat_lt, if◌then◌else◌, ◌&&◌, Option, Some, None, List, length, get_or, slice_get, slice_set, position}
 use Rattle.std.specs.Option.{is_none}
-use Rattle.std.specs.List.{filter_map}
 use Rattle.cxx_hierarchy.specs.declared.records.ClassId.{ClassId}
 use Rattle.cxx_hierarchy.specs.Classes.{Classes}
-use Rattle.cxx_subobject.specs.declared.Root.{Root}
-use Rattle.cxx_subobject.specs.declared.Root.TheVariants.{Whole, Shared}
 use Rattle.cxx_subobject.specs.declared.Subobject.{Subobject}
 use Rattle.cxx_subobject.specs.Subobjects.{same_subobject, class_of}
-use Rattle.cxx_subobject.specs.Preorder.{preorder}
 use Rattle.abi_primary.specs.declared.Primary.{Primary}
 use Rattle.abi_primary.specs.declared.Primary.TheVariants.{None as NoPrimary, Direct, Virtual}
 use Rattle.abi_primary.specs.PrimaryBase.{has_primary}
 use Rattle.abi_primary.specs.Holder.{holder_of}
-
-abbrev pub shared_at : Root → List ClassId → Option ClassId
-shared_at Whole path = None
-shared_at (Shared v) path = if length path == 1 then Some v else None
-
--- the virtual base that a subobject is, itself
-abbrev pub shared_class : Subobject → Option ClassId
-shared_class s = shared_at s.root s.path
-
--- the virtual bases of c, in preorder
-abbrev pub virtual_bases : Classes → ClassId → List ClassId
-virtual_bases h c = filter_map shared_class (preorder h c)
 
 abbrev pub virtual_in : Option Primary → Option ClassId
 virtual_in None = None
@@ -58,8 +42,8 @@ primary_in_class primaries None = None
 primary_in_class primaries (Some d) = virtual_primary primaries d
 
 -- the virtual base that is the primary base of the class of a subobject
-abbrev pub shared_primary : List Primary → Subobject → Option ClassId
-shared_primary primaries s = primary_in_class primaries (class_of s)
+abbrev pub virtual_primary_of : List Primary → Subobject → Option ClassId
+virtual_primary_of primaries s = primary_in_class primaries (class_of s)
 
 -- the table tells, for each of the first `count` classes, the number of the first subobject whose primary base it is
 pub record AreHolders (primaries : List Primary) (list : List Subobject) (count : ℕ) (holders : List (Option ℕ)) : Type 0 where

@@ -12,27 +12,27 @@ use Rattle.abi_primary.specs.declared.Primary.{Primary}
 use Rattle.abi_primary.specs.declared.Primary.TheVariants.{None as NoPrimary, Direct, Virtual}
 use Rattle.abi_primary.specs.Holder.{holder_of}
 use Rattle.abi_layout.specs.declared.component.Component.{Component}
-use Rattle.abi_layout.specs.declared.class_layout.ClassLayout.{ClassLayout}
-use Rattle.abi_layout.specs.declared.dynamic_bases.PlacedBase.{PlacedBase}
-use Rattle.abi_layout.specs.declared.dynamic_bases.PlacedBase.TheVariants.{Own, SharedBase}
-use Rattle.abi_layout.specs.Places.{size_in, nvalign_in}
-use Rattle.abi_layout.specs.Laid.{nvsize_in}
-use Rattle.abi_layout.specs.Holding.{virtual_bases}
+use Rattle.abi_sound.specs.declared.class_layout.ClassLayout.{ClassLayout}
+use Rattle.abi_layout.specs.declared.placed_bases.PlacedBase.{PlacedBase}
+use Rattle.abi_layout.specs.declared.placed_bases.PlacedBase.TheVariants.{Own, VirtualBase}
+use Rattle.abi_sound.specs.Places.{size_in, nvalign_in}
+use Rattle.abi_layout.specs.Placements.{nvsize_in}
+use Rattle.cxx_subobject.specs.VirtualBases.{virtual_bases}
 use Rattle.abi_layout.specs.Brought.{brought_by}
 
 -- the class of a base that is placed in its class, and the subobject that it is
 abbrev pub class_of_placed : PlacedBase → ClassId
 class_of_placed (Own b) = b
-class_of_placed (SharedBase v) = v
+class_of_placed (VirtualBase v) = v
 
 abbrev pub subobject_of : ClassId → PlacedBase → Subobject
 subobject_of c (Own b) = subobject Whole (c ∷ b ∷ [])
-subobject_of c (SharedBase v) = shared_base v
+subobject_of c (VirtualBase v) = shared_base v
 
 abbrev pub first_base : Primary → List PlacedBase
 first_base NoPrimary = []
 first_base (Direct b) = Own b ∷ []
-first_base (Virtual v) = SharedBase v ∷ []
+first_base (Virtual v) = VirtualBase v ∷ []
 
 abbrev pub is_first_base : Primary → Base ClassId → Bool
 is_first_base NoPrimary base = false
@@ -54,7 +54,7 @@ is_free (Some holder) = false
 
 -- those that are placed behind the members: the virtual bases in preorder that no subobject holds
 abbrev pub free_bases : Classes → List Primary → ClassId → List PlacedBase
-free_bases h primaries c = map (λ v. SharedBase v) (filter (λ v. is_free (holder_of h primaries c v)) (virtual_bases h c))
+free_bases h primaries c = map (λ v. VirtualBase v) (filter (λ v. is_free (holder_of h primaries c v)) (virtual_bases h c))
 
 -- what a base is to its class, by its row: it takes its size without virtual bases, and an empty one its size
 abbrev pub component_of_row : ClassLayout → Bool → List Part → Component

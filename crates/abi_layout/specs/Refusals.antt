@@ -8,9 +8,10 @@ use Rattle.cxx_hierarchy.specs.declared.stop.LimitNo.TheVariants.{L6}
 use Rattle.cxx_hierarchy.specs.Classes.{Class, Classes, class_at}
 use Rattle.abi_primary.specs.declared.Primary.{Primary}
 use Rattle.abi_primary.specs.PrimaryBase.{IsPrimary}
-use Rattle.abi_layout.specs.declared.class_layout.ClassLayout.{ClassLayout}
-use Rattle.abi_layout.specs.Laid.{AreSmall}
-use Rattle.abi_layout.specs.DynamicLaid.{primary_of, IsArrangedBy, HasPointer, IsLaidBy, BringsTwice}
+use Rattle.abi_sound.specs.declared.class_layout.ClassLayout.{ClassLayout}
+use Rattle.abi_layout.specs.Limits.{size_limit}
+use Rattle.abi_layout.specs.Placements.{AreSmall}
+use Rattle.abi_layout.specs.Layouts.{primary_of, IsArrangedBy, HasPointer, IsLaidBy, BringsTwice}
 
 -- class c is the next one: the classes before it are laid out, and the primary bases are those of the classes up to it
 pub record IsNextClass (h : Classes) (c : ClassId) : Type 0 where
@@ -34,11 +35,11 @@ pub record HasSize (h : Classes) (c : ClassId) (size : ℕ) : Type 0 where
   pub placed : IsArrangedBy h next.rows next.primaries c next.class next.has_pointer front_places free_places row
   pub is : row.size ≡ size
 
--- class c takes more than 500,000 bytes
+-- class c takes more than the limit of sizes
 pub record IsLargeClass (h : Classes) (c : ClassId) : Type 0 where
   pub size : ℕ
   pub has : HasSize h c size
-  pub large : 500000 < size
+  pub large : size_limit < size
 
 -- a base of class c brings one pair of class and place twice, wherever it is placed
 pub record HasSharedPlace (h : Classes) (c : ClassId) : Type 0 where
@@ -60,7 +61,7 @@ pub record IsWellLaid (h : Classes) (count : ℕ) (rows : List ClassLayout) : Ty
 -- class c is refused so: for its size, or, within the limit, for a shared place
 pub data StopsAt (h : Classes) (c : ClassId) : Stop → Type 0 where
   by_size : IsLargeClass h c → StopsAt h c (Limit L6)
-  by_place : (class : Class) (size : ℕ) → class_at h c ≡ Some class → HasSize h c size → size ≤ 500000 → HasSharedPlace h c → StopsAt h c (Refused SharedPlace class.at)
+  by_place : (class : Class) (size : ℕ) → class_at h c ≡ Some class → HasSize h c size → size ≤ size_limit → HasSharedPlace h c → StopsAt h c (Refused SharedPlace class.at)
 
 -- the first of the first `count` classes that is refused, and how
 pub record IsFirstStop (h : Classes) (count : ℕ) (stop : Stop) : Type 0 where

@@ -2,15 +2,16 @@
 
 ghost use Rattle.std.specs.Prelude.{◌≡◌, ◌≤◌, ◌⊎◌, IfOk, IfErr, max, if◌then◌else◌};
 ghost use Rattle.cxx_hierarchy.specs.declared.stop.LimitNo.{LimitNo};
-ghost use Rattle.abi_layout.specs.Laid.{IsNext, parts_at};
-ghost use Rattle.abi_layout.specs.Alignments.{IsAlignment, IsPlacing, AreFit};
-ghost use Rattle.abi_layout.specs.DynamicLaid.{start_stage};
-ghost use Rattle.abi_layout.specs.Arrangements.{stage_with, IsArranged, IsWithinLimit, IsTooLargeBy};
+ghost use Rattle.abi_layout.specs.Limits.{size_limit};
+ghost use Rattle.abi_layout.specs.Placements.{IsNext, parts_at};
+ghost use Rattle.abi_layout.specs.invariants.Alignments.{IsAlignment, IsPlacing, AreFit};
+ghost use Rattle.abi_layout.specs.Layouts.{start_stage};
+ghost use Rattle.abi_layout.specs.invariants.Arrangements.{stage_with, IsArranged, IsWithinLimit, IsTooLargeBy};
 
-use crate::class_layout::PlaceList;
 use crate::component::{Component, PartList, Stage, push_placed};
 use crate::placing::{Placing, place_all, round_up};
 use crate::rows::first_placing;
+use abi_sound::PlaceList;
 use cxx_hierarchy::{ClassId, Stop};
 use foundation::{NoMemory, Sequence};
 use std::alloc::Global;
@@ -75,7 +76,7 @@ fn start(alloc: Global, c: ClassId, has_pointer: bool) -> Result<Placing, NoMemo
 /// The size of a class whose components end here.
 fn whole_size(stage: &Stage) -> u32
     requires align { IsAlignment stage.now.align }
-    requires size { stage.now.size ≤ 500000 }
+    requires size { stage.now.size ≤ size_limit }
     ensures { IsNext (max 1 stage.now.size) stage.now.align result }
 {
     round_up(stage.size.max(1), stage.align)

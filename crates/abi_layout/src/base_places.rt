@@ -3,11 +3,12 @@
 ghost use Rattle.std.specs.Prelude.{◌≡◌, ◌++◌, ◌∷◌, [], ◌<◌, ◌^◌, IfOk, OnOk, filter, length, map};
 ghost use Rattle.cxx_hierarchy.specs.declared.records.Base.{Base};
 ghost use Rattle.cxx_hierarchy.specs.declared.records.ClassId.{ClassId};
-ghost use Rattle.abi_layout.specs.Places.{is_plain_base, place_along};
-ghost use Rattle.abi_layout.specs.OwnPlaces.{is_own, own_place, own_places};
+ghost use Rattle.cxx_hierarchy.specs.Declarations.{is_plain_base};
+ghost use Rattle.abi_sound.specs.Places.{place_along};
+ghost use Rattle.abi_layout.specs.invariants.OwnPlaces.{is_own, own_place, own_places};
 
-use crate::class_layout::PlaceList;
-use crate::dynamic_bases::PlacedBase;
+use crate::placed_bases::PlacedBase;
+use abi_sound::PlaceList;
 use cxx_hierarchy::{Base, ClassId};
 use foundation::{NoMemory, Sequence};
 use std::alloc::Global;
@@ -18,7 +19,7 @@ fn is_own(b: ClassId, base: PlacedBase) -> bool
 {
     match base {
         PlacedBase::Own(d) => d.0 == b.0,
-        PlacedBase::SharedBase(_) => false,
+        PlacedBase::VirtualBase(_) => false,
     }
 }
 

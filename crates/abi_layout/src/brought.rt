@@ -4,18 +4,18 @@ ghost use Rattle.std.specs.Prelude.{◌≡◌, ◌+◌, ◌<◌, ◌≤◌, ◌+
 ghost use Rattle.cxx_hierarchy.specs.Classes.{bases_of};
 ghost use Rattle.cxx_subobject.specs.Subobjects.{shared_base};
 ghost use Rattle.abi_emptybase.specs.Table.{moved};
-ghost use Rattle.abi_layout.specs.Places.{base_place};
-ghost use Rattle.abi_layout.specs.Laid.{nvsize_in};
-ghost use Rattle.abi_layout.specs.Known.{parts_in};
+ghost use Rattle.abi_sound.specs.Places.{base_place};
+ghost use Rattle.abi_layout.specs.Placements.{nvsize_in};
+ghost use Rattle.abi_layout.specs.invariants.Known.{parts_in};
 ghost use Rattle.abi_layout.specs.Holding.{held_base};
-ghost use Rattle.abi_layout.specs.Brought.{base_brings, shared_brings, brought_by};
-ghost use Rattle.abi_layout.specs.Scenes.{IsScene};
+ghost use Rattle.abi_layout.specs.Brought.{base_brings, virtual_brings, brought_by};
+ghost use Rattle.abi_layout.specs.invariants.Scenes.{IsScene};
 
-use crate::class_layout::ClassLayout;
 use crate::component::{PartList, push_moved};
-use crate::places::{number_of_base, place_of_number};
 use crate::scene::{Scene, held_base};
 use abi_emptybase::Part;
+use abi_sound::ClassLayout;
+use abi_sound::places::{number_of_base, place_of_number};
 use cxx_hierarchy::{Base, ClassId, Hierarchy};
 use cxx_subobject::{Root, Subobject, subobject_below};
 use foundation::{NoMemory, Sequence};
@@ -73,7 +73,7 @@ fn bring_base(
 /// Puts behind the others what a subobject of class `d` brings by a virtual base that it holds, this many bytes
 /// further.
 #[cycle(bring)]
-fn bring_shared(
+fn bring_virtual(
     alloc: Global,
     scene: &Scene,
     s: &Subobject,
@@ -84,7 +84,7 @@ fn bring_shared(
     requires scene { IsScene scene.now.h.now scene.now.c scene.now.rows.now scene.now.known.now scene.now.members.now scene.now.primaries.now scene.now.list.now scene.now.holders.now }
     requires before { d.0 < scene.now.c.0 }
     requires fits { at + nvsize_in (slice_get scene.now.rows.now d.0) ≤ 1000000 }
-    ensures { OnOk result (parts.new ≡ parts.old ++ map (moved at) (shared_brings (brought_by scene.now.h.now scene.now.rows.now scene.now.primaries.now (parts_in scene.now.known.now) scene.now.c) (held_base scene.now.h.now scene.now.primaries.now scene.now.c s.now d))) }
+    ensures { OnOk result (parts.new ≡ parts.old ++ map (moved at) (virtual_brings (brought_by scene.now.h.now scene.now.rows.now scene.now.primaries.now (parts_in scene.now.known.now) scene.now.c) (held_base scene.now.h.now scene.now.primaries.now scene.now.c s.now d))) }
 {
     match held_base(scene, s, d) {
         Some(v) => {
@@ -121,6 +121,6 @@ pub(crate) fn bring(
     for base in scene.h.class(d).bases.as_slice() {
         bring_base(alloc, scene, s, d, base, at, parts)?;
     }
-    bring_shared(alloc, scene, s, d, at, parts)?;
+    bring_virtual(alloc, scene, s, d, at, parts)?;
     Ok(())
 }

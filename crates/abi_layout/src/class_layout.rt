@@ -1,41 +1,10 @@
-//! The record of a class's layout.
+//! The layouts of all classes.
 
 ghost use Rattle.std.specs.Prelude.{◌≡◌, ◌<◌, Some, length, slice_get};
 
-use abi_primary::Primary;
+use abi_sound::ClassLayout;
 use cxx_hierarchy::ClassId;
-use cxx_subobject::Subobject;
-use foundation::Sequence;
 use std::marker::Model;
-
-/// Places in bytes.
-pub type PlaceList = Sequence<u32>;
-
-/// Virtual bases of a class.
-pub type ClassList = Sequence<ClassId>;
-
-/// For each virtual base the subobject that holds it, if one does.
-pub type HolderList = Sequence<Option<Subobject>>;
-
-/// The layout of one class. All numbers are bytes.
-///
-/// `dsize` is the size without tail padding, `nvsize` and `nvalign` are the size and alignment of the part
-/// without virtual bases. `base_places` follows the direct non-virtual bases, `member_places` the members.
-/// `virtual_bases` has the virtual bases in preorder, and `virtual_places` and `holders` follow them.
-#[derive(Debug, Drop)]
-pub struct ClassLayout {
-    pub size: u32,
-    pub align: u32,
-    pub dsize: u32,
-    pub nvsize: u32,
-    pub nvalign: u32,
-    pub primary: Primary,
-    pub base_places: PlaceList,
-    pub virtual_bases: ClassList,
-    pub virtual_places: PlaceList,
-    pub holders: HolderList,
-    pub member_places: PlaceList,
-}
 
 /// The layouts of all classes of a hierarchy, by class number.
 #[derive(Debug, Drop)]
@@ -45,7 +14,7 @@ pub struct AbiLayout {
 
 impl Model for AbiLayout {
     ghost use Rattle.std.specs.Prelude.{List};
-    ghost use Rattle.abi_layout.specs.declared.class_layout.ClassLayout.{ClassLayout};
+    ghost use Rattle.abi_sound.specs.declared.class_layout.ClassLayout.{ClassLayout};
 
     ghost Value = { List ClassLayout };
 

@@ -3,22 +3,21 @@
 ghost use Rattle.std.specs.Prelude.{◌≡◌, ◌+◌, ◌^◌, ◌<◌, ◌≤◌, ◌⊎◌, ◌↔◌, IfOk, IfErr, OnOk, IsTrue, length};
 ghost use Rattle.std.specs.List.{list_any};
 ghost use Rattle.cxx_hierarchy.specs.Classes.{Classes};
-ghost use Rattle.cxx_subobject.specs.Subobjects.{class_of};
+ghost use Rattle.cxx_subobject.specs.Preorder.{preorder};
 ghost use Rattle.abi_primary.specs.Kinds.{IsDynamic};
 ghost use Rattle.abi_primary.specs.NearlyEmpty.{IsNearlyEmpty};
-ghost use Rattle.abi_layout.specs.DynamicLaid.{is_whole, place_from};
-ghost use Rattle.abi_layout.specs.Settled.{IsPath};
 ghost use Rattle.abi_layout.specs.Refusals.{IsWellLaid, StopsAt, IsFirstStop};
-ghost use Rattle.abi_layout.specs.LaidSoFar.{IsLaidSoFar, known_empty, is_shifted_base, ArePaths};
+ghost use Rattle.abi_layout.specs.invariants.LaidSoFar.{IsLaidSoFar, is_shifted_base};
 
-use crate::class_layout::{AbiLayout, ClassLayout};
+use crate::class_layout::AbiLayout;
 use crate::component::PartList;
-use crate::known::{Known, is_empty_at};
-use crate::laid_row::{ClassFacts, lay_out_class};
-use crate::virtual_places::whole_path_place;
-use abi_primary::{Primary, is_dynamic, is_nearly_empty, primary_among};
+use crate::keeping::kept;
+use crate::known::Known;
+use crate::laid_row::{ClassFacts, NextClass, lay_out_class};
+use crate::shifted::is_shifted;
+use abi_primary::{Primary, is_dynamic, is_nearly_empty, list_if_virtual, primary_among};
+use abi_sound::ClassLayout;
 use cxx_hierarchy::{ClassId, Hierarchy, Stop};
-use cxx_subobject::{Root, Subobject, class_of, list_subobjects};
 use std::alloc::Global;
 
 /// The first classes of a hierarchy, as far as they are laid out: their rows, what else is known of them, what their
@@ -56,71 +55,23 @@ fn has_pointer(h: &Hierarchy, c: ClassId, primary: Primary) -> bool
     }
 }
 
-/// Whether the class of a subobject is known to be empty.
-fn has_empty_class(known: &[Known], s: &Subobject) -> bool
-    ensures { result ≡ known_empty known.now (class_of s.now) }
-{
-    match class_of(s) {
-        Some(d) => is_empty_at(known, d),
-        None => false,
-    }
-}
-
-fn is_whole(root: Root) -> bool
-    ensures { result ≡ is_whole root }
-{
-    match root {
-        Root::Whole => true,
-        Root::Shared(_) => false,
-    }
-}
-
-/// Whether a subobject is an empty base that lies in no virtual base and elsewhere than at the start.
-fn is_shifted_base(h: &Hierarchy, rows: &[ClassLayout], known: &[Known], s: &Subobject) -> bool
-    requires rows { length rows.now ≤ length h.now }
-    requires path { IsPath h.now (length rows.now) s.now.path }
-    requires bounded { place_from h.now rows.now s.now.path < 2 ^ 32 }
-    ensures { result ≡ is_shifted_base h.now rows.now known.now s.now }
-{
-    is_whole(s.root)
-        && has_empty_class(known, s)
-        && whole_path_place(h, rows, s.path.as_slice()) != 0
-}
-
-/// Whether one of the subobjects is such a base.
-fn is_shifted(h: &Hierarchy, rows: &[ClassLayout], known: &[Known], list: &[Subobject]) -> bool
-    requires rows { length rows.now ≤ length h.now }
-    requires paths { ArePaths h.now rows.now list.now }
-    ensures { result ≡ list_any (is_shifted_base h.now rows.now known.now) list.now }
-{
-    for s in list {
-        if is_shifted_base(h, rows, known, s) {
-            return true;
-        }
-    }
-    false
-}
-
-/// Whether a class that has its row is nearly empty. The places of its subobjects are looked at only where all else is
-/// so.
+/// Whether a class that has its row is nearly empty. The places of its bases are looked at only where all else is so.
 fn is_nearly(
     h: &Hierarchy,
     c: ClassId,
     nearly: &[bool],
     rows: &[ClassLayout],
     known: &[Known],
-    list: &[Subobject],
 ) -> bool
     requires class { c.0 < length h.now }
     requires before { c.0 ≤ length nearly.now }
-    requires rows { length rows.now ≤ length h.now }
-    requires paths { ArePaths h.now rows.now list.now }
-    ensures { IsTrue result ↔ IsNearlyEmpty h.now nearly.now (list_any (is_shifted_base h.now rows.now known.now) list.now) c }
+    requires row { c.0 < length rows.now }
+    ensures { IsTrue result ↔ IsNearlyEmpty h.now nearly.now (list_any (is_shifted_base h.now rows.now known.now) (preorder h.now c)) c }
 {
     if !is_nearly_empty(h, c, nearly, false) {
         return false;
     }
-    !is_shifted(h, rows, known, list)
+    !is_shifted(h, rows, known, c)
 }
 
 /// Lays out one class more.
@@ -139,33 +90,24 @@ fn lay_out_next(
     ensures stop { IfErr result (λ e. (e ≡ Stop.NoMemory) ⊎ StopsAt h.now c e) }
 {
     h.keeps();
-    let list = list_subobjects(alloc, h, c)?;
+    let list = list_if_virtual(alloc, h, c)?;
     let primary = primary_among(h, c, &so_far.nearly, &so_far.primaries, list.as_slice());
     let has_pointer = has_pointer(h, c, primary);
     so_far.primaries.push(primary)?;
-    let ClassFacts { known, members } = lay_out_class(
-        alloc,
-        h,
+    let next = NextClass {
         c,
-        h.class(c),
+        class: h.class(c),
         primary,
         has_pointer,
-        list.as_slice(),
-        &mut so_far.rows,
-        &so_far.known,
-        &so_far.members,
-        &so_far.primaries,
-    )?;
-    so_far.known.push(known)?;
+        list: list.as_slice(),
+        known: &so_far.known,
+        members: &so_far.members,
+        primaries: &so_far.primaries,
+    };
+    let ClassFacts { known, members } = lay_out_class(alloc, h, &next, &mut so_far.rows)?;
+    so_far.known.push(kept(alloc, h, c, known))?;
     so_far.members.push(members)?;
-    let is_nearly = is_nearly(
-        h,
-        c,
-        &so_far.nearly,
-        &so_far.rows,
-        &so_far.known,
-        list.as_slice(),
-    );
+    let is_nearly = is_nearly(h, c, &so_far.nearly, &so_far.rows, &so_far.known);
     so_far.nearly.push(is_nearly)?;
     Ok(())
 }

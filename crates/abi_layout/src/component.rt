@@ -2,8 +2,9 @@
 
 ghost use Rattle.std.specs.Prelude.{◌≡◌, ◌+◌, ◌^◌, ◌<◌, ◌≤◌, ◌++◌, All, OnOk, map};
 ghost use Rattle.abi_emptybase.specs.Table.{moved};
-ghost use Rattle.abi_layout.specs.Laid.{parts_at};
-ghost use Rattle.abi_layout.specs.Alignments.{AreFit};
+ghost use Rattle.abi_layout.specs.Limits.{size_limit};
+ghost use Rattle.abi_layout.specs.Placements.{parts_at};
+ghost use Rattle.abi_layout.specs.invariants.Alignments.{AreFit};
 
 use abi_emptybase::Part;
 use foundation::{NoMemory, Sequence};
@@ -52,7 +53,7 @@ pub(crate) fn push_placed(
     places: &[u32],
 ) -> Result<(), NoMemory>
     requires fit { AreFit components.now }
-    requires places { All (λ place. place ≤ 500000) places.now }
+    requires places { All (λ place. place ≤ size_limit) places.now }
     ensures { OnOk result (list.new ≡ list.old ++ parts_at components.now places.now) }
 {
     if let Some((component, components)) = components.split_first() {

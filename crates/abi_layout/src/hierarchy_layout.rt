@@ -1,14 +1,13 @@
 //! The layout of a hierarchy.
 
-ghost use Rattle.std.specs.Prelude.{◌≡◌, ◌≤◌, ◌⊎◌, ℕ, IfOk, IfErr, List, length};
+ghost use Rattle.std.specs.Prelude.{◌≡◌, ◌<◌, ◌≤◌, ◌⊎◌, ℕ, IfOk, IfErr, List, length};
 ghost use Rattle.cxx_hierarchy.specs.Classes.{Classes};
+ghost use Rattle.cxx_hierarchy.specs.declared.records.ClassId.{ClassId};
 ghost use Rattle.cxx_hierarchy.specs.declared.stop.Stop.{Stop};
 ghost use Rattle.cxx_hierarchy.specs.Hierarchies.{IsHierarchy};
-ghost use Rattle.abi_layout.specs.declared.class_layout.ClassLayout.{ClassLayout};
-ghost use Rattle.abi_layout.specs.Places.{places_of};
-ghost use Rattle.abi_layout.specs.Sound.{IsSound};
-ghost use Rattle.abi_layout.specs.DynamicLaid.{IsLaid};
-ghost use Rattle.abi_layout.specs.Refusals.{IsWellLaid, IsFirstStop};
+ghost use Rattle.abi_sound.specs.declared.class_layout.ClassLayout.{ClassLayout};
+ghost use Rattle.abi_layout.specs.Layouts.{IsLaid};
+ghost use Rattle.abi_layout.specs.Refusals.{IsLargeClass, HasSharedPlace, IsWellLaid, IsFirstStop};
 ghost use Rattle.abi_layout.specs.AbiLayouts.{IsAbiLayout};
 
 use crate::class_layout::AbiLayout;
@@ -22,7 +21,6 @@ use std::alloc::Global;
 /// else the refusal SharedPlace exactly where a base of it brings one pair of class and place twice; want of memory.
 pub fn lay_out(alloc: Global, h: &Hierarchy) -> Result<AbiLayout, Stop>
     ensures layout { IfOk result (IsAbiLayout h.now) }
-    ensures sound { IfOk result (λ l. IsSound h.now (places_of h.now l)) }
     ensures stop { IfErr result (λ e. (e ≡ Stop.NoMemory) ⊎ IsFirstStop h.now (length h.now) e) }
 {
     h.keeps();
@@ -38,6 +36,15 @@ pub fn one_layout()
 /// Each hierarchy has a layout, whatever the sizes.
 pub fn some_layout()
     ensures { (h : Classes) → IsHierarchy h → (rows : List ClassLayout) × IsLaid h rows }
+{}
+
+/// Whether a class takes more than the limit of sizes, and whether a base of it brings one pair of class and place twice,
+/// is decided, whatever the classes before it are. So the first classes of a hierarchy have a layout, or a first one that
+/// is refused.
+pub fn some_answer()
+    ensures size { (h : Classes) → IsHierarchy h → (c : ClassId) → c.0 < length h → IsLargeClass h c ⊎ (IsLargeClass h c → ⊥) }
+    ensures place { (h : Classes) → IsHierarchy h → (c : ClassId) → c.0 < length h → HasSharedPlace h c ⊎ (HasSharedPlace h c → ⊥) }
+    ensures answer { (h : Classes) → (count : ℕ) → IsHierarchy h → count ≤ length h → ((rows : List ClassLayout) × IsWellLaid h count rows) ⊎ ((stop : Stop) × IsFirstStop h count stop) }
 {}
 
 /// Of the first classes of a hierarchy at most one is the first that is refused, in one way, and none where they are

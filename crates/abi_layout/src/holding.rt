@@ -3,7 +3,8 @@
 ghost use Rattle.std.specs.Prelude.{◌≡◌, ◌++◌, IfOk, OnOk};
 ghost use Rattle.std.specs.List.{filter_map};
 ghost use Rattle.std.specs.Option.{option_to_list};
-ghost use Rattle.abi_layout.specs.Holding.{shared_class, virtual_in, virtual_primary, shared_primary, with_holder, AreHolders};
+ghost use Rattle.cxx_subobject.specs.VirtualBases.{shared_class};
+ghost use Rattle.abi_layout.specs.Holding.{virtual_in, virtual_primary, virtual_primary_of, with_holder, AreHolders};
 
 use abi_primary::Primary;
 use cxx_hierarchy::ClassId;
@@ -17,7 +18,10 @@ fn shared_class(s: &Subobject) -> Option<ClassId>
 {
     match s.root {
         Root::Whole => None,
-        Root::Shared(v) => { if s.path.len() == 1 { Some(v) } else { None } }
+        Root::Shared(v) => match s.path.as_slice() {
+            [_] => Some(v),
+            [] | [_, ..] => None,
+        },
     }
 }
 
@@ -62,8 +66,8 @@ pub(crate) fn virtual_primary(primaries: &[Primary], d: ClassId) -> Option<Class
 }
 
 /// The virtual base that is the primary base of the class of a subobject.
-fn shared_primary(primaries: &[Primary], s: &Subobject) -> Option<ClassId>
-    ensures { result ≡ shared_primary primaries.now s.now }
+fn virtual_primary_of(primaries: &[Primary], s: &Subobject) -> Option<ClassId>
+    ensures { result ≡ virtual_primary_of primaries.now s.now }
 {
     match class_of(s) {
         Some(d) => virtual_primary(primaries, d),
@@ -95,7 +99,7 @@ pub(crate) fn holders(
 {
     let mut holders = vec![in alloc; None; count]?;
     for n in 0..list.len() {
-        put_holder(&mut holders, shared_primary(primaries, &list[n]), n);
+        put_holder(&mut holders, virtual_primary_of(primaries, &list[n]), n);
     }
     Ok(holders)
 }

@@ -1,16 +1,15 @@
 //! What is known of the classes that are laid out, and of which kind a class is.
 
 ghost use Rattle.std.specs.Prelude.{◌≡◌, ◌&&◌, not};
-ghost use Rattle.std.specs.List.{list_all, list_any};
+ghost use Rattle.std.specs.List.{list_all};
 ghost use Rattle.cxx_hierarchy.specs.declared.records.ClassId.{ClassId};
 ghost use Rattle.cxx_hierarchy.specs.declared.records.Base.{Base};
 ghost use Rattle.cxx_hierarchy.specs.declared.records.Member.{Member};
-ghost use Rattle.cxx_hierarchy.specs.declared.records.Function.{Function};
-ghost use Rattle.abi_layout.specs.Kinds.{empty_kind, pod_kind, has_virtual_function, is_virtual_destructor, is_implicit, is_pod_type};
-ghost use Rattle.abi_layout.specs.Known.{empties_in, pods_in};
+ghost use Rattle.abi_layout.specs.Kinds.{empty_kind, pod_kind, is_pod_type};
+ghost use Rattle.abi_layout.specs.invariants.Known.{empties_in, pods_in};
 
 use crate::component::PartList;
-use cxx_hierarchy::{ClassId, ClassRec, Destructor, FieldType, Function};
+use cxx_hierarchy::{ClassId, ClassRec, FieldType};
 
 /// What the layout of a class takes from an earlier class besides its row: whether it is empty and whether it is POD,
 /// and the class subobjects in it, by their places.
@@ -41,37 +40,6 @@ fn is_pod_at(known: &[Known], c: ClassId) -> bool
     }
 }
 
-fn is_virtual_destructor(destructor: Destructor) -> bool
-    ensures { result ≡ is_virtual_destructor destructor }
-{
-    match destructor {
-        Destructor::Virtual => true,
-        Destructor::Implicit | Destructor::Plain => false,
-    }
-}
-
-fn is_implicit(destructor: Destructor) -> bool
-    ensures { result ≡ is_implicit destructor }
-{
-    match destructor {
-        Destructor::Implicit => true,
-        Destructor::Plain | Destructor::Virtual => false,
-    }
-}
-
-fn is_some_virtual(functions: &[Function<ClassId>]) -> bool
-    ensures { result ≡ list_any (λ (function : Function ClassId). function.is_virtual) functions.now }
-{
-    functions.iter().any(|function| function.is_virtual)
-}
-
-/// Whether the class declares a virtual function or a virtual destructor.
-pub(crate) fn has_virtual_function(class: &ClassRec<ClassId>) -> bool
-    ensures { result ≡ has_virtual_function class.now }
-{
-    is_some_virtual(class.functions.as_slice()) || is_virtual_destructor(class.destructor)
-}
-
 fn has_empty_bases(known: &[Known], class: &ClassRec<ClassId>) -> bool
     ensures { result ≡ list_all (λ (base : Base ClassId). not base.is_virtual && empties_in known.now base.class) class.now.bases }
 {
@@ -86,7 +54,7 @@ fn has_empty_bases(known: &[Known], class: &ClassRec<ClassId>) -> bool
 pub(crate) fn is_empty_class(known: &[Known], class: &ClassRec<ClassId>) -> bool
     ensures { result ≡ empty_kind (empties_in known.now) class.now }
 {
-    class.members.len() == 0 && !has_virtual_function(class) && has_empty_bases(known, class)
+    class.members.len() == 0 && !class.has_virtual_function() && has_empty_bases(known, class)
 }
 
 fn is_pod_type(known: &[Known], ty: &FieldType<ClassId>) -> bool
@@ -109,8 +77,8 @@ pub(crate) fn is_pod_class(known: &[Known], class: &ClassRec<ClassId>) -> bool
     ensures { result ≡ pod_kind (pods_in known.now) class.now }
 {
     class.bases.len() == 0
-        && !has_virtual_function(class)
+        && !class.has_virtual_function()
         && !class.has_constructor
-        && is_implicit(class.destructor)
+        && class.destructor.is_implicit()
         && has_pod_members(known, class)
 }

@@ -1,31 +1,28 @@
 //! The finished row of one class, by the layouts of the classes before it (Itanium C++ ABI 2.4).
 
-ghost use Rattle.std.specs.Prelude.{◌≡◌, ℕ, ◌+◌, ◌<◌, ◌⊎◌, List, [], ◌∷◌, ◌++◌, Option, IfOk, IfErr, OnOk, Some, None, get_or, length, map, slice_get, slice_set};
+ghost use Rattle.std.specs.Prelude.{◌≡◌, ℕ, ◌+◌, ◌<◌, List, [], ◌∷◌, ◌++◌, Option, IfOk, IfErr, OnOk, Some, None, get_or, length, map, slice_get, slice_set};
 ghost use Rattle.cxx_hierarchy.specs.Classes.{class_at};
 ghost use Rattle.cxx_hierarchy.specs.declared.records.ClassId.{ClassId};
-ghost use Rattle.cxx_hierarchy.specs.declared.stop.LimitNo.{LimitNo};
-ghost use Rattle.cxx_hierarchy.specs.declared.stop.Rule.{Rule};
-ghost use Rattle.abi_layout.specs.Kinds.{pod_kind};
-ghost use Rattle.abi_layout.specs.Known.{AreAllSized, members_by, pods_in};
+ghost use Rattle.abi_layout.specs.invariants.Known.{AreAllSized};
 ghost use Rattle.abi_layout.specs.Holding.{AreHolders};
-ghost use Rattle.abi_layout.specs.Scenes.{IsScene};
-ghost use Rattle.abi_layout.specs.PlacedBases.{free_bases, IsPossible};
-ghost use Rattle.abi_layout.specs.DynamicLaid.{primary_of, fronts, start_stage};
-ghost use Rattle.abi_layout.specs.Arrangements.{row_from, IsTooLargeBy, IsShared, components_by};
-ghost use Rattle.abi_layout.specs.Settled.{held_at, HasRoom, CanSettle, free_table, AreVirtualPlaces};
-ghost use Rattle.abi_layout.specs.ClassRows.{AreSmaller, IsOneOrOther, filled_row, IsRowAdded};
-ghost use Rattle.abi_layout.specs.declared.class_layout.ClassLayout.{ClassLayout};
+ghost use Rattle.abi_layout.specs.invariants.Scenes.{IsScene};
+ghost use Rattle.abi_layout.specs.PlacedBases.{IsPossible};
+ghost use Rattle.abi_layout.specs.Layouts.{primary_of};
+ghost use Rattle.abi_layout.specs.invariants.Arrangements.{row_from};
+ghost use Rattle.abi_layout.specs.invariants.Settled.{held_at, HasRoom, CanSettle, free_table, AreVirtualPlaces};
+ghost use Rattle.abi_layout.specs.invariants.ClassRows.{AreSmaller, IsOneOrOther, IsRefusedBy, filled_row, IsRowAdded};
+ghost use Rattle.abi_sound.specs.declared.class_layout.ClassLayout.{ClassLayout};
 
 use crate::arrangement::Arrangement;
-use crate::class_layout::{ClassLayout, ClassList, HolderList, PlaceList};
 use crate::component::PartList;
-use crate::dynamic_bases::PlacedBase;
-use crate::dynamic_rows::{OpenClass, open_class};
 use crate::holding::{holders, virtual_bases};
 use crate::known::Known;
+use crate::placed_bases::PlacedBase;
+use crate::placed_class::{PlacedClass, place_class};
 use crate::scene::{Scene, holder};
 use crate::virtual_places::virtual_places;
 use abi_primary::Primary;
+use abi_sound::{ClassLayout, ClassList, HolderList, PlaceList};
 use cxx_hierarchy::{ClassId, ClassRec, Hierarchy, Stop};
 use cxx_subobject::{Subobject, subobject_below};
 use foundation::{NoMemory, Sequence};
@@ -178,58 +175,73 @@ fn place_virtuals(
     Ok(())
 }
 
-/// Lays out a class whose primary base is known, by the layouts of the classes before it: its row goes behind theirs.
-/// `list` has its subobjects in preorder, `known` and `members` tell what else is known of the classes before, and
-/// `primaries` which primary bases these and the class itself have.
+/// The next class of a hierarchy: its record, its primary base, and whether it has a virtual pointer of its own. `list`
+/// has its subobjects in preorder, `known` and `members` tell what is known of the classes before it besides their
+/// rows, and `primaries` which primary bases these and the class itself have.
+#[derive(Clone, Copy)]
+pub struct NextClass<'a> {
+    pub c: ClassId,
+    pub class: &'a ClassRec<ClassId>,
+    pub primary: Primary,
+    pub has_pointer: bool,
+    pub list: &'a [Subobject],
+    pub known: &'a [Known],
+    pub members: &'a [PartList],
+    pub primaries: &'a [Primary],
+}
+
+/// Lays out the next class, by the rows of the classes before it: its row goes behind theirs.
 ///
 /// Errors: the limit L6 exactly where the size of the class is above 500,000 bytes; else the refusal SharedPlace
 /// exactly where a base brings one pair of class and place twice; want of memory.
 pub(crate) fn lay_out_class(
     alloc: Global,
     h: &Hierarchy,
-    c: ClassId,
-    class: &ClassRec<ClassId>,
-    primary: Primary,
-    has_pointer: bool,
-    list: &[Subobject],
+    next: &NextClass,
     rows: &mut Vec<ClassLayout>,
-    known: &[Known],
-    members: &[PartList],
-    primaries: &[Primary],
 ) -> Result<ClassFacts, Stop>
-    requires scene { (holders : List (Option ℕ)) → AreHolders primaries.now list.now c.0 holders → IsScene h.now c rows.old.items known.now members.now primaries.now list.now holders }
-    requires sized { AreAllSized rows.old.items known.now }
-    requires class { class_at h.now c ≡ Some class.now }
-    requires primary { IsPossible h.now c primary }
-    requires own { primary_of primaries.now c ≡ primary }
-    requires pointer { IsOneOrOther primary has_pointer }
-    requires smaller { AreSmaller c known.now }
-    ensures laid { IfOk result (λ facts. IsRowAdded h.now c rows.old.items known.now primaries.now class.now has_pointer rows.new.items facts) }
-    ensures refused { IfErr result (λ e. (e ≡ Stop.NoMemory) ⊎ (((e ≡ Stop.Limit LimitNo.L6) × IsTooLargeBy (start_stage c has_pointer) (components_by h.now rows.old.items known.now primaries.now c (fronts primaries.now c class.now)) (members_by rows.old.items known.now class.now) (components_by h.now rows.old.items known.now primaries.now c (free_bases h.now primaries.now c)) (pod_kind (pods_in known.now) class.now)) ⊎ ((e ≡ Stop.Refused Rule.SharedPlace class.now.at) × IsShared (start_stage c has_pointer) (components_by h.now rows.old.items known.now primaries.now c (fronts primaries.now c class.now)) (members_by rows.old.items known.now class.now) (components_by h.now rows.old.items known.now primaries.now c (free_bases h.now primaries.now c)) (pod_kind (pods_in known.now) class.now)))) }
+    requires scene { (holders : List (Option ℕ)) → AreHolders next.now.primaries.now next.now.list.now next.now.c.0 holders → IsScene h.now next.now.c rows.old.items next.now.known.now next.now.members.now next.now.primaries.now next.now.list.now holders }
+    requires sized { AreAllSized rows.old.items next.now.known.now }
+    requires class { class_at h.now next.now.c ≡ Some next.now.class.now }
+    requires primary { IsPossible h.now next.now.c next.now.primary }
+    requires own { primary_of next.now.primaries.now next.now.c ≡ next.now.primary }
+    requires pointer { IsOneOrOther next.now.primary next.now.has_pointer }
+    requires smaller { AreSmaller next.now.c next.now.known.now }
+    ensures laid { IfOk result (λ facts. IsRowAdded h.now next.now.c rows.old.items next.now.known.now next.now.primaries.now next.now.class.now next.now.has_pointer rows.new.items facts) }
+    ensures refused { IfErr result (IsRefusedBy h.now next.now.c rows.old.items next.now.known.now next.now.primaries.now next.now.class.now next.now.has_pointer) }
 {
     h.keeps();
-    let virtuals = virtual_bases(alloc, list)?;
-    let holders = holders(alloc, primaries, list, c.0 as usize)?;
+    let virtuals = virtual_bases(alloc, next.list)?;
+    let holders = holders(alloc, next.primaries, next.list, next.c.0 as usize)?;
     let scene = Scene {
         h,
-        c,
+        c: next.c,
         rows,
-        known,
-        members,
-        primaries,
-        list,
+        known: next.known,
+        members: next.members,
+        primaries: next.primaries,
+        list: next.list,
         holders: &holders,
     };
-    let opened = open_class(alloc, &scene, class, primary, has_pointer, &virtuals)?;
-    let OpenClass {
+    let placed = place_class(
+        alloc,
+        &scene,
+        next.class,
+        next.primary,
+        next.has_pointer,
+        &virtuals,
+    )?;
+    let PlacedClass {
         arrangement,
         base_places,
         free,
         is_empty,
         is_pod,
-    } = opened;
-    let pushed = push_row(alloc, primary, base_places, arrangement, rows)?;
-    place_virtuals(alloc, h, c, list, &holders, virtuals, &free, &pushed, rows)?;
+    } = placed;
+    let pushed = push_row(alloc, next.primary, base_places, arrangement, rows)?;
+    place_virtuals(
+        alloc, h, next.c, next.list, &holders, virtuals, &free, &pushed, rows,
+    )?;
     let PushedRow {
         free_places: _,
         parts,

@@ -14,32 +14,32 @@
 pub mod arrangement;
 mod base_places;
 mod brought;
+mod brought_plainly;
 pub mod class_layout;
 pub mod class_layouts;
 pub mod component;
-pub mod dynamic_bases;
-pub mod dynamic_rows;
 pub mod hierarchy_layout;
 pub mod holding;
+mod keeping;
 pub mod known;
 pub mod laid_row;
-#[cfg(test)]
-mod layout_tests;
 mod member;
-pub mod places;
+pub mod placed_bases;
+pub mod placed_class;
 pub mod placing;
 mod repeats;
 mod rows;
 pub mod scene;
+mod shifted;
 pub mod sound_layout;
 pub mod soundness;
 #[cfg(test)]
 mod tests;
 mod virtual_places;
 
-pub use crate::class_layout::{AbiLayout, ClassLayout, ClassList, HolderList, PlaceList};
+pub use crate::class_layout::AbiLayout;
 pub use crate::class_layouts::lay_out_first;
-pub use crate::hierarchy_layout::{lay_out, one_answer, one_layout, some_layout};
-pub use crate::sound_layout::SoundLayout;
+pub use crate::hierarchy_layout::{lay_out, one_answer, one_layout, some_answer, some_layout};
 pub use crate::soundness::laid_is_sound;
 pub use abi_primary::Primary;
+pub use abi_sound::{ClassLayout, ClassList, HolderList, PlaceList, SoundLayout};

@@ -3,12 +3,13 @@
 ghost use Rattle.std.specs.Prelude.{◌≡◌, ◌+◌, ◌^◌, ◌<◌, ◌≤◌, ◌⊎◌, All, map, if◌then◌else◌, IfOk, IfErr, IfSome, IfNone, OnOk};
 ghost use Rattle.abi_emptybase.specs.Table.{has_conflict, moved};
 ghost use Rattle.cxx_hierarchy.specs.declared.stop.LimitNo.{LimitNo};
-ghost use Rattle.abi_layout.specs.Laid.{IsNext, IsPlace, ArePlaced, after, after_all};
-ghost use Rattle.abi_layout.specs.Alignments.{IsAlignment, IsFit, AreFit, HasTable, with_parts, IsPlacing, HasNoPlace, IsPastLimit};
+ghost use Rattle.abi_layout.specs.Limits.{size_limit};
+ghost use Rattle.abi_layout.specs.Placements.{IsNext, IsPlace, ArePlaced, after, after_all};
+ghost use Rattle.abi_layout.specs.invariants.Alignments.{IsAlignment, IsFit, AreFit, HasTable, with_parts, IsPlacing, HasNoPlace, IsPastLimit};
 
-use crate::class_layout::PlaceList;
 use crate::component::{Component, Stage, push_moved};
 use abi_emptybase::{Part, PlaceTable};
+use abi_sound::PlaceList;
 use cxx_hierarchy::{LimitNo, Stop};
 use foundation::{NoMemory, Sequence};
 use std::alloc::Global;
@@ -26,7 +27,7 @@ pub struct Placing {
 /// The least multiple of an alignment at or behind a place.
 pub(crate) fn round_up(place: u32, align: u32) -> u32
     requires alignment { IsAlignment align }
-    requires bounded { place ≤ 500000 }
+    requires bounded { place ≤ size_limit }
     ensures { IsNext place align result }
 {
     (place + (align - 1)) / align * align
@@ -36,7 +37,7 @@ pub(crate) fn round_up(place: u32, align: u32) -> u32
 fn is_taken(placing: &Placing, component: &Component, at: u32) -> bool
     requires placing { IsPlacing placing.now }
     requires component { IsFit component.now }
-    requires bounded { at ≤ 500000 }
+    requires bounded { at ≤ size_limit }
     ensures { result ≡ has_conflict placing.now.stage.parts component.now.parts at }
 {
     placing.table.conflicts(component.parts.as_slice(), at)
@@ -47,7 +48,7 @@ fn find_place(placing: &Placing, component: &Component) -> Option<u32>
     requires placing { IsPlacing placing.now }
     requires component { IsFit component.now }
     ensures place { IfSome result (λ at. IsPlace placing.now.stage component.now at) }
-    ensures within { IfSome result (λ at. at ≤ 500000) }
+    ensures within { IfSome result (λ at. at ≤ size_limit) }
     ensures past { IfNone result (HasNoPlace placing.now.stage component.now) }
 {
     if component.is_empty && !is_taken(placing, component, 0) {
@@ -86,7 +87,7 @@ fn data_end(stage: &Stage, component: &Component, end: u32) -> u32
 fn put(placing: &mut Placing, component: &Component, at: u32) -> Result<(), NoMemory>
     requires placing { IsPlacing placing.old }
     requires component { IsFit component.now }
-    requires bounded { at + component.now.takes ≤ 500000 }
+    requires bounded { at + component.now.takes ≤ size_limit }
     ensures after { IfOk result (λ _. placing.new.stage ≡ after placing.old.stage component.now at) }
     ensures placing { IfOk result (λ _. IsPlacing placing.new) }
 {

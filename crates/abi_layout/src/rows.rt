@@ -4,16 +4,17 @@ ghost use Rattle.std.specs.Prelude.{◌≡◌, ◌*◌, ◌<◌, ◌≤◌, ◌�
 ghost use Rattle.cxx_hierarchy.specs.declared.records.ClassId.{ClassId};
 ghost use Rattle.cxx_hierarchy.specs.declared.records.Member.{Member};
 ghost use Rattle.cxx_hierarchy.specs.declared.stop.LimitNo.{LimitNo};
-ghost use Rattle.abi_layout.specs.Laid.{member_component, copies, count_of, size_of_type, align_of_type, parts_of_type, first_stage};
-ghost use Rattle.abi_layout.specs.Alignments.{AreWithin, AreLittle, IsPlacing};
-ghost use Rattle.abi_layout.specs.Known.{parts_in, AreAllSized, empty_stage, IsEarlierType, HasLarge};
+ghost use Rattle.abi_layout.specs.Limits.{size_limit};
+ghost use Rattle.abi_layout.specs.Placements.{member_component, copies, elements_of, size_of_type, align_of_type, parts_of_type, first_stage};
+ghost use Rattle.abi_layout.specs.invariants.Alignments.{AreWithin, AreLittle, IsPlacing};
+ghost use Rattle.abi_layout.specs.invariants.Known.{parts_in, AreAllSized, empty_stage, IsEarlierType, HasLarge};
 
-use crate::class_layout::ClassLayout;
 use crate::component::{Component, PartList, Stage, push_moved};
 use crate::known::Known;
 use crate::member::size_of_value;
 use crate::placing::{Placing, SIZE_LIMIT, add_parts};
 use abi_emptybase::{Part, PlaceTable};
+use abi_sound::ClassLayout;
 use cxx_hierarchy::{ClassId, FieldType, LimitNo, Member, Stop};
 use foundation::{NoMemory, Sequence};
 use std::alloc::Global;
@@ -42,7 +43,7 @@ fn align_of_type(rows: &[ClassLayout], ty: &FieldType<ClassId>) -> u32
 
 /// The parts of so many copies, each a stride further.
 fn copies(alloc: Global, count: u32, stride: u32, parts: &[Part]) -> Result<PartList, NoMemory>
-    requires bounded { count * stride ≤ 500000 }
+    requires bounded { count * stride ≤ size_limit }
     requires within { AreWithin stride parts.now }
     ensures { IfOk result (λ list. list ≡ copies count stride parts.now) }
 {
@@ -61,15 +62,15 @@ fn member_parts(
     size: u32,
 ) -> Result<PartList, NoMemory>
     requires earlier { IsEarlierType (length known.now) member.now.ty }
-    requires bounded { count_of member.now.count * size ≤ 500000 }
+    requires bounded { elements_of member.now.count * size ≤ size_limit }
     requires within { AreWithin size (parts_of_type (parts_in known.now) member.now.ty) }
-    ensures { IfOk result (λ parts. parts ≡ copies (count_of member.now.count) size (parts_of_type (parts_in known.now) member.now.ty)) }
+    ensures { IfOk result (λ parts. parts ≡ copies (elements_of member.now.count) size (parts_of_type (parts_in known.now) member.now.ty)) }
 {
     match &member.ty {
-        FieldType::Value(_) => copies(alloc, count_of(member.count), size, &[]),
+        FieldType::Value(_) => copies(alloc, elements_of(member.count), size, &[]),
         FieldType::Object(class) => copies(
             alloc,
-            count_of(member.count),
+            elements_of(member.count),
             size,
             known[class.0 as usize].parts.as_slice(),
         ),
@@ -77,8 +78,8 @@ fn member_parts(
 }
 
 /// How many objects a member is.
-fn count_of(count: Option<u32>) -> u32
-    ensures { result ≡ count_of count }
+fn elements_of(count: Option<u32>) -> u32
+    ensures { result ≡ elements_of count }
 {
     match count {
         Some(count) => count,
@@ -99,11 +100,11 @@ fn member_component(
     requires known { length known.now ≡ length rows.now }
     requires within { AreAllSized rows.now known.now }
     ensures component { IfOk result (λ component. component ≡ member_component rows.now (parts_in known.now) member.now) }
-    ensures little { IfOk result (λ component. component.takes ≤ 500000) }
-    ensures limit { IfErr result (λ e. (e ≡ Stop.NoMemory) ⊎ ((e ≡ Stop.Limit LimitNo.L6) × (500000 < (member_component rows.now (parts_in known.now) member.now).takes))) }
+    ensures little { IfOk result (λ component. component.takes ≤ size_limit) }
+    ensures limit { IfErr result (λ e. (e ≡ Stop.NoMemory) ⊎ ((e ≡ Stop.Limit LimitNo.L6) × (size_limit < (member_component rows.now (parts_in known.now) member.now).takes))) }
 {
     let size = size_of_type(rows, &member.ty);
-    let takes = count_of(member.count) as u64 * size as u64;
+    let takes = elements_of(member.count) as u64 * size as u64;
     if takes > SIZE_LIMIT as u64 {
         return Err(Stop::Limit(LimitNo::L6));
     }

@@ -3,13 +3,13 @@
 ghost use Rattle.std.specs.Prelude.{◌≡◌, ◌<◌, None, get_or};
 ghost use Rattle.cxx_subobject.specs.Subobjects.{same_root, same_path, same_subobject};
 ghost use Rattle.abi_layout.specs.Holding.{holds_base, held_base};
-ghost use Rattle.abi_layout.specs.Scenes.{IsScene};
+ghost use Rattle.abi_layout.specs.invariants.Scenes.{IsScene};
 
-use crate::class_layout::ClassLayout;
 use crate::component::PartList;
 use crate::holding::virtual_primary;
 use crate::known::Known;
 use abi_primary::Primary;
+use abi_sound::ClassLayout;
 use cxx_hierarchy::{ClassId, Hierarchy};
 use cxx_subobject::{Root, Subobject};
 

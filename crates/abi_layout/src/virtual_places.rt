@@ -3,14 +3,14 @@
 ghost use Rattle.std.specs.Prelude.{◌≡◌, ◌+◌, ◌<◌, ◌≤◌, ◌^◌, None, IfOk, get_or, length, map};
 ghost use Rattle.cxx_hierarchy.specs.declared.records.ClassId.{ClassId};
 ghost use Rattle.cxx_subobject.specs.Subobjects.{Leads};
-ghost use Rattle.abi_layout.specs.Places.{place_along};
-ghost use Rattle.abi_layout.specs.DynamicLaid.{place_from};
-ghost use Rattle.abi_layout.specs.Settled.{root_by, place_by, IsPath, held_at, with_place, HasRoom, CanSettle, AreSettled, with_free, with_frees, free_table, AreVirtualPlaces};
+ghost use Rattle.abi_sound.specs.Places.{place_along};
+ghost use Rattle.abi_layout.specs.Layouts.{place_from};
+ghost use Rattle.abi_layout.specs.invariants.Settled.{root_by, place_by, IsPath, held_at, with_place, HasRoom, CanSettle, AreSettled, with_free, with_frees, free_table, AreVirtualPlaces};
 
 use crate::brought::base_place;
-use crate::class_layout::{ClassLayout, PlaceList};
-use crate::dynamic_bases::PlacedBase;
+use crate::placed_bases::PlacedBase;
 use crate::scene::holder;
+use abi_sound::{ClassLayout, PlaceList};
 use cxx_hierarchy::{ClassId, Hierarchy};
 use cxx_subobject::{Root, Subobject};
 use foundation::{NoMemory, Sequence};
@@ -124,7 +124,7 @@ pub(crate) fn settle(
 fn put_free(base: PlacedBase, place: u32, table: &mut [u32])
     ensures { table.new ≡ with_free table.old base place }
 {
-    if let PlacedBase::SharedBase(v) = base {
+    if let PlacedBase::VirtualBase(v) = base {
         let number = v.0 as usize;
         if number < table.len() {
             table[number] = place;

@@ -5,7 +5,7 @@ use Rattle.cxx_subobject.specs.declared.Subobject.{Subobject}
 use Rattle.cxx_subobject.specs.Subobjects.{join}
 use Rattle.cxx_resolve.specs.declared.program.Converted.{Converted}
 use Rattle.cxx_resolve.specs.Typed.{IsPointer, IsBase, IsConverted}
-use Rattle.abi_layout.specs.Sound.{IsSound}
+use Rattle.abi_lower.proofs.SoundPlaces.{IsSound}
 use Rattle.byte_memory.specs.declared.memory.Region.{Region}
 use Rattle.byte_machine.specs.declared.heap.Opened.{Opened}
 use Rattle.abi_lower.specs.Blocks.{Setup, pointed_in, class_or_first, base_offset}

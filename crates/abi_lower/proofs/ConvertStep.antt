@@ -8,7 +8,7 @@ use Rattle.cxx_subobject.specs.Subobjects.{join}
 use Rattle.cxx_resolve.specs.declared.program.Converted.{Converted}
 use Rattle.cxx_resolve.specs.declared.program.Statement.TheVariants.{Convert}
 use Rattle.cxx_resolve.specs.Typed.{IsBase, IsConverted}
-use Rattle.abi_layout.specs.Sound.{IsSound}
+use Rattle.abi_lower.proofs.SoundPlaces.{IsSound}
 use Rattle.path_model.specs.Values.{State, Value, Unset, Number, Pointer, variable_at}
 use Rattle.path_model.specs.Steps.{converted, converted_at, set_to}
 use Rattle.byte_machine.specs.Effect.{Running, word_at}

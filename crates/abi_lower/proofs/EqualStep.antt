@@ -12,7 +12,7 @@ use Rattle.cxx_subobject.specs.Subobjects.{join, same_subobject}
 use Rattle.cxx_resolve.specs.declared.program.Converted.{Converted}
 use Rattle.cxx_resolve.specs.declared.program.Statement.TheVariants.{Equal}
 use Rattle.cxx_resolve.specs.Typed.{bool, IsBase, IsConverted}
-use Rattle.abi_layout.specs.Sound.{IsSound}
+use Rattle.abi_lower.proofs.SoundPlaces.{IsSound}
 use Rattle.path_model.specs.Values.{State, Value, Unset, Number, Pointer, variable_at}
 use Rattle.path_model.specs.Steps.{converted, converted_at, compared, truth}
 use Rattle.byte_memory.specs.declared.memory.Region.{Region}

@@ -9,8 +9,9 @@ use Rattle.cxx_hierarchy.specs.declared.records.ValueType.{ValueType}
 use Rattle.cxx_hierarchy.specs.Classes.{leaf_type}
 use Rattle.cxx_subobject.specs.declared.Subobject.{Subobject}
 use Rattle.cxx_subobject.specs.Subobjects.{same_subobject}
-use Rattle.abi_layout.specs.Places.{size_of_value}
-use Rattle.abi_layout.specs.Sound.{IsSound, IsLeaf, leaf_place}
+use Rattle.abi_sound.specs.Places.{size_of_value}
+use Rattle.abi_lower.proofs.SoundPlaces.{IsSound}
+use Rattle.abi_sound.specs.Leaves.{IsLeaf, leaf_place}
 use Rattle.path_model.specs.Values.{Value, Leaves, with_leaf}
 use Rattle.byte_memory.specs.declared.memory.Region.{Region}
 use Rattle.byte_memory.specs.Bytes.{number_from, stored}

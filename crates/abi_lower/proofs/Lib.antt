@@ -1,3 +1,5 @@
+pub mod SoundPlaces
+pub mod Accesses
 pub mod Paths
 pub mod Ranges
 pub mod Joins

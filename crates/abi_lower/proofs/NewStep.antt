@@ -13,8 +13,9 @@ use Rattle.cxx_subobject.specs.declared.Subobject.{Subobject}
 use Rattle.cxx_subobject.specs.Subobjects.{whole_of, whole}
 use Rattle.cxx_resolve.specs.declared.program.Statement.TheVariants.{New}
 use Rattle.cxx_resolve.specs.Typed.{IsPointer}
-use Rattle.abi_layout.specs.Places.{size_of_value}
-use Rattle.abi_layout.specs.Sound.{IsSound, IsLeaf, leaf_place}
+use Rattle.abi_sound.specs.Places.{size_of_value}
+use Rattle.abi_lower.proofs.SoundPlaces.{IsSound}
+use Rattle.abi_sound.specs.Leaves.{IsLeaf, leaf_place}
 use Rattle.path_model.specs.Values.{State, Value, Leaves, Unset, Number, Pointer, value_in}
 use Rattle.path_model.specs.Steps.{made, heap_total, rounded}
 use Rattle.byte_memory.specs.declared.memory.Region.{Region}

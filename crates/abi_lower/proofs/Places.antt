@@ -10,8 +10,9 @@ use Rattle.cxx_subobject.specs.declared.Subobject.{Subobject}
 use Rattle.cxx_subobject.specs.Subobjects.{class_of, join}
 use Rattle.cxx_resolve.specs.declared.program.MemberPlace.{MemberPlace}
 use Rattle.cxx_resolve.specs.Typed.{IsPointer, LeadsToNumber}
-use Rattle.abi_layout.specs.Places.{size_of_value}
-use Rattle.abi_layout.specs.Sound.{IsSound, IsLeaf, leaf_place}
+use Rattle.abi_sound.specs.Places.{size_of_value}
+use Rattle.abi_lower.proofs.SoundPlaces.{IsSound}
+use Rattle.abi_sound.specs.Leaves.{IsLeaf, leaf_place}
 use Rattle.byte_memory.specs.declared.memory.Region.{Region}
 use Rattle.byte_memory.proofs.Reached.{fault_at-inside}
 use Rattle.byte_machine.specs.Effect.{Running, word_at}

@@ -9,7 +9,7 @@ use Rattle.cxx_subobject.specs.Subobjects.{join}
 use Rattle.cxx_resolve.specs.declared.program.MemberPlace.{MemberPlace}
 use Rattle.cxx_resolve.specs.declared.program.Statement.TheVariants.{Read}
 use Rattle.cxx_resolve.specs.Typed.{int, IsPointer, LeadsToNumber}
-use Rattle.abi_layout.specs.Sound.{IsSound}
+use Rattle.abi_lower.proofs.SoundPlaces.{IsSound}
 use Rattle.path_model.specs.Values.{State, Value, Unset, Number, Pointer, variable_at}
 use Rattle.path_model.specs.Steps.{fetched, set_to}
 use Rattle.byte_memory.specs.Bytes.{number_from}

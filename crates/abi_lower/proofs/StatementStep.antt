@@ -2,7 +2,7 @@
 use Rattle.std.proofs.Common.{◌≡◌, []}
 use Rattle.cxx_resolve.specs.declared.program.Statement.{Statement}
 use Rattle.cxx_resolve.specs.Typed.{IsTyped, new, write, read, convert, equal, print}
-use Rattle.abi_layout.specs.Sound.{IsSound}
+use Rattle.abi_lower.proofs.SoundPlaces.{IsSound}
 use Rattle.path_model.specs.Values.{State}
 use Rattle.path_model.specs.Steps.{move_of}
 use Rattle.byte_machine.specs.Effect.{Running}

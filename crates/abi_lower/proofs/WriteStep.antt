@@ -9,7 +9,7 @@ use Rattle.cxx_subobject.specs.Subobjects.{join}
 use Rattle.cxx_resolve.specs.declared.program.MemberPlace.{MemberPlace}
 use Rattle.cxx_resolve.specs.declared.program.Statement.TheVariants.{Write}
 use Rattle.cxx_resolve.specs.Typed.{IsPointer, LeadsToNumber}
-use Rattle.abi_layout.specs.Sound.{IsSound}
+use Rattle.abi_lower.proofs.SoundPlaces.{IsSound}
 use Rattle.path_model.specs.Values.{State, Value, Unset, Number, Pointer, variable_at, with_leaf}
 use Rattle.path_model.specs.Steps.{written, kept_by}
 use Rattle.byte_memory.specs.Store.{store_of}

@@ -14,7 +14,7 @@ use Rattle.cxx_resolve.specs.declared.program.Statement.{Statement}
 use Rattle.cxx_resolve.specs.declared.program.Statement.TheVariants.{New, Write, Read, Convert, Equal, Print}
 use Rattle.cxx_resolve.specs.declared.program.TypedLine.{TypedLine}
 use Rattle.cxx_resolve.specs.Typed.{Types}
-use Rattle.abi_layout.specs.Places.{Places}
+use Rattle.abi_sound.specs.Places.{Places}
 use Rattle.byte_code.specs.declared.width.Width.{Width}
 use Rattle.byte_code.specs.declared.code.Block.{Block}
 use Rattle.byte_code.specs.declared.code.Code.{Code}

@@ -7,8 +7,8 @@ use Rattle.cxx_hierarchy.specs.Stops.{limit_no}
 use Rattle.cxx_hierarchy.specs.Scalars.{IsInRange}
 use Rattle.cxx_subobject.specs.declared.Subobject.{Subobject}
 use Rattle.cxx_subobject.specs.Subobjects.{IsSubobject, class_of}
-use Rattle.abi_layout.specs.Places.{size_of_value}
-use Rattle.abi_layout.specs.Sound.{IsLeaf, leaf_place}
+use Rattle.abi_sound.specs.Places.{size_of_value}
+use Rattle.abi_sound.specs.Leaves.{IsLeaf, leaf_place}
 use Rattle.path_model.specs.Rules.{undefined_no}
 use Rattle.path_model.specs.Values.{State, Value, Leaves, Unset, Number, Pointer, value_in}
 use Rattle.path_model.specs.Steps.{Out, NumberOut, PointerOut, Move, Goes, Refuses, Limits, Ends, heap_total}

@@ -9,12 +9,11 @@ ghost use Rattle.cxx_hierarchy.specs.Scalars.{stored_as};
 ghost use Rattle.byte_code.specs.Numbers.{word_of};
 ghost use Rattle.cxx_subobject.specs.Subobjects.{class_of};
 ghost use Rattle.cxx_resolve.specs.Typed.{IsTyped, IsTypedProgram, IsPointer, IsConverted, LeadsToNumber};
-ghost use Rattle.abi_layout.specs.Places.{places_of};
-ghost use Rattle.abi_layout.specs.Sound.{IsSound};
+ghost use Rattle.abi_sound.specs.Places.{places_of};
 ghost use Rattle.abi_lower.specs.Blocks.{setup, class_or_first, pointed, pointed_in, declaring, scalar_in, scalar_of, offset, base_offset, width_of, write_block, read_block, convert_block, equal_block, print_block, print_as as print_as_of, block_of, block_for, closing, code_for};
 
 use crate::convert::{kept, register_width, width};
-use abi_layout::AbiLayout;
+use abi_sound::{SoundLayout, member_place};
 use byte_code::{ArithKind, Block, BlockList, Check, Code, Op, OpList, PrintAs};
 use cxx_hierarchy::{ClassId, FieldType, Hierarchy, Scalar, ValueType};
 use cxx_resolve::{Converted, MemberPlace, SimpleProgram, Statement, TypedLine};
@@ -58,34 +57,34 @@ fn member_scalar(h: &Hierarchy, d: ClassId, m: u32) -> Scalar
 }
 
 /// How many bytes a member lies from the address that a pointer variable has, and its number type.
-fn access(
+fn access<L: SoundLayout>(
     h: &Hierarchy,
-    layout: &AbiLayout,
+    layout: &L,
     types: &[ValueType<ClassId>],
     pointer: u32,
     place: &MemberPlace,
 ) -> (u32, Scalar)
-    requires sound { IsSound h.now (places_of h.now layout.now) }
+    requires layout { L.lays_out layout.now h.now }
     requires typed { (c d : ClassId) × ((t : Scalar) × (IsPointer h.now types.now pointer c × LeadsToNumber h.now c place.now d t)) }
-    ensures offset { result.0 ≡ offset (setup h.now (places_of h.now layout.now) types.now) pointer place.now }
-    ensures scalar { result.1 ≡ scalar_of (setup h.now (places_of h.now layout.now) types.now) place.now }
+    ensures offset { result.0 ≡ offset (setup h.now (places_of h.now (L.rows layout.now)) types.now) pointer place.now }
+    ensures scalar { result.1 ≡ scalar_of (setup h.now (places_of h.now (L.rows layout.now)) types.now) place.now }
 {
     let c = pointed_class(types, pointer);
     let d = declaring_class(place);
-    let offset = layout.place(h, c, &place.base) + layout.member(h, d, place.member);
+    let offset = layout.place(h, c, &place.base) + member_place(layout, d, place.member);
     (offset, member_scalar(h, d, place.member))
 }
 
 /// How many bytes the base of a conversion lies from the address that the pointer variable has.
-fn distance(
+fn distance<L: SoundLayout>(
     h: &Hierarchy,
-    layout: &AbiLayout,
+    layout: &L,
     types: &[ValueType<ClassId>],
     from: &Converted,
 ) -> u32
-    requires sound { IsSound h.now (places_of h.now layout.now) }
+    requires layout { L.lays_out layout.now h.now }
     requires typed { (c d : ClassId) × IsConverted h.now types.now from.now c d }
-    ensures { result ≡ base_offset (setup h.now (places_of h.now layout.now) types.now) from.now }
+    ensures { result ≡ base_offset (setup h.now (places_of h.now (L.rows layout.now)) types.now) from.now }
 {
     let c = pointed_class(types, from.pointer);
     layout.place(h, c, &from.base)
@@ -234,19 +233,19 @@ fn print_ops(alloc: Global, variable: u32, what: PrintAs) -> Result<OpList, NoMe
 }
 
 /// The ops of a statement; `free` is the number of the first register after those of the variables.
-fn lower_statement(
+fn lower_statement<L: SoundLayout>(
     alloc: Global,
     h: &Hierarchy,
-    layout: &AbiLayout,
+    layout: &L,
     types: &[ValueType<ClassId>],
     free: u32,
     statement: &Statement,
 ) -> Result<OpList, NoMemory>
-    requires sound { IsSound h.now (places_of h.now layout.now) }
+    requires layout { L.lays_out layout.now h.now }
     requires typed { IsTyped h.now types.now statement.now }
     requires free { free ≡ length types.now }
     requires room { free + 1 < 2 ^ 32 }
-    ensures { IfOk result (λ ops. ops ≡ block_of (setup h.now (places_of h.now layout.now) types.now) statement.now) }
+    ensures { IfOk result (λ ops. ops ≡ block_of (setup h.now (places_of h.now (L.rows layout.now)) types.now) statement.now) }
 {
     match statement {
         Statement::New { variable, class } => {
@@ -303,19 +302,19 @@ fn closing_block(alloc: Global) -> Result<Block, NoMemory>
 }
 
 /// The blocks of the lines, and the one that ends a run.
-fn lower_lines(
+fn lower_lines<L: SoundLayout>(
     alloc: Global,
     h: &Hierarchy,
-    layout: &AbiLayout,
+    layout: &L,
     types: &[ValueType<ClassId>],
     free: u32,
     lines: &[TypedLine],
 ) -> Result<BlockList, NoMemory>
-    requires sound { IsSound h.now (places_of h.now layout.now) }
+    requires layout { L.lays_out layout.now h.now }
     requires typed { AllByRecursion (λ line. IsTyped h.now types.now line.what) lines.now }
     requires free { free ≡ length types.now }
     requires room { free + 1 < 2 ^ 32 }
-    ensures { IfOk result (λ blocks. blocks ≡ map (block_for (setup h.now (places_of h.now layout.now) types.now)) lines.now ++ closing ∷ []) }
+    ensures { IfOk result (λ blocks. blocks ≡ map (block_for (setup h.now (places_of h.now (L.rows layout.now)) types.now)) lines.now ++ closing ∷ []) }
 {
     let mut blocks = Sequence::new(alloc);
     for line in lines {
@@ -331,22 +330,19 @@ fn lower_lines(
 
 /// The code of a program whose types fit, over a sound layout: a block for each line, and one that ends the run.
 ///
-/// Variable n is register n, and two more registers are free. Want of memory is the one refusal; a program of more variables than there are
-/// numbers of registers meets it too.
-pub fn lower(
+/// Variable n is register n, and two more registers are free. Want of memory is the one refusal.
+pub fn lower<L: SoundLayout>(
     alloc: Global,
     h: &Hierarchy,
-    layout: &AbiLayout,
+    layout: &L,
     program: &SimpleProgram,
 ) -> Result<Code, NoMemory>
-    requires sound { IsSound h.now (places_of h.now layout.now) }
+    requires layout { L.lays_out layout.now h.now }
     requires typed { IsTypedProgram h.now program.now }
-    ensures { IfOk result (λ code. code ≡ code_for (setup h.now (places_of h.now layout.now) program.now.variables) program.now.lines) }
+    requires few { length program.now.variables + 2 < 2 ^ 32 }
+    ensures { IfOk result (λ code. code ≡ code_for (setup h.now (places_of h.now (L.rows layout.now)) program.now.variables) program.now.lines) }
 {
     let types = program.variables.as_slice();
-    if types.len() >= u32::MAX as usize - 1 {
-        return Err(NoMemory);
-    }
     let free = types.len() as u32;
     let blocks = lower_lines(alloc, h, layout, types, free, program.lines.as_slice())?;
     Ok(Code {

@@ -2,3 +2,4 @@ pub mod Nth
 pub mod KindLemmas
 pub mod PrimaryLemmas
 pub mod HolderLemmas
+pub mod VirtualListLemmas

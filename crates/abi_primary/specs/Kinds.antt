@@ -1,22 +1,11 @@
 -- Dynamic and empty classes (Itanium C++ ABI 1.1).
-use Rattle.std.specs.Prelude.{◌≡◌, Bool, true, false, ◌||◌, Some, [], Contains}
-use Rattle.std.specs.List.{list_any}
+use Rattle.std.specs.Prelude.{◌≡◌, ℕ, zero, suc, ◌+◌, ◌==◌, Bool, true, false, not, ◌&&◌, Option, Some, None, length}
+use Rattle.std.specs.List.{list_all}
 use Rattle.cxx_hierarchy.specs.declared.records.ClassId.{ClassId}
 use Rattle.cxx_hierarchy.specs.declared.records.Base.{Base}
-use Rattle.cxx_hierarchy.specs.declared.records.Function.{Function}
-use Rattle.cxx_hierarchy.specs.declared.records.Destructor.{Destructor}
-use Rattle.cxx_hierarchy.specs.declared.records.Destructor.TheVariants.{Implicit, Plain, Virtual}
 use Rattle.cxx_hierarchy.specs.Classes.{Class, Classes, class_at}
+use Rattle.cxx_hierarchy.specs.Declarations.{has_virtual_function}
 use Rattle.cxx_hierarchy.specs.VirtualBases.{IsDirectBase}
-
-abbrev pub is_virtual_destructor : Destructor → Bool
-is_virtual_destructor Implicit = false
-is_virtual_destructor Plain = false
-is_virtual_destructor Virtual = true
-
--- the class declares a virtual function, or a virtual destructor
-abbrev pub has_virtual_function : Class → Bool
-has_virtual_function class = list_any (λ (function : Function ClassId). function.is_virtual) class.functions || is_virtual_destructor class.destructor
 
 -- a class is dynamic where it or a base, however far, declares a virtual function or has a virtual base
 pub data IsDynamic (h : Classes) : ClassId → Type 0 where
@@ -24,6 +13,30 @@ pub data IsDynamic (h : Classes) : ClassId → Type 0 where
   shares : (c b : ClassId) → IsDirectBase h c true b → IsDynamic h c
   inherits : (c b : ClassId) (way : Bool) → IsDirectBase h c way b → IsDynamic h b → IsDynamic h c
 
--- a class is empty where it has no member, no virtual function and no virtual base, and each base is empty
-pub data IsEmpty (h : Classes) : ClassId → Type 0 where
-  empty : (c : ClassId) (class : Class) → class_at h c ≡ Some class → class.members ≡ [] → has_virtual_function class ≡ false → ((base : Base ClassId) → Contains class.bases base → base.is_virtual ≡ false) → ((base : Base ClassId) → Contains class.bases base → IsEmpty h base.class) → IsEmpty h c
+-- what a class is, by what the classes before it are
+abbrev pub Kind : Type 0
+Kind = (ClassId → Bool) → Class → Bool
+
+abbrev pub in_class : (Class → Bool) → Option Class → Bool
+in_class test None = false
+in_class test (Some class) = test class
+
+-- whether the class is of the kind. Bases and member objects are of smaller numbers than their class, so that as
+-- many steps down as its number, and one more, are enough
+abbrev pub is_kind_in : Kind → Classes → ℕ → ClassId → Bool
+is_kind_in kind h zero c = false
+is_kind_in kind h (suc steps) c = in_class (kind (is_kind_in kind h steps)) (class_at h c)
+
+abbrev pub is_kind : Kind → Classes → ClassId → Bool
+is_kind kind h c = is_kind_in kind h (c.0 + 1) c
+
+-- a class without data: no member, no virtual function, no virtual base, and each base is such a class (Itanium C++
+-- ABI 1.1)
+abbrev pub empty_kind : Kind
+empty_kind is_empty class =
+    (length class.members == 0)
+    && (not (has_virtual_function class)
+    && list_all (λ (base : Base ClassId). not base.is_virtual && is_empty base.class) class.bases)
+
+abbrev pub is_empty : Classes → ClassId → Bool
+is_empty = is_kind empty_kind

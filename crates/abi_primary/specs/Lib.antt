@@ -2,3 +2,4 @@ pub mod Kinds
 pub mod NearlyEmpty
 pub mod PrimaryBase
 pub mod Holder
+pub mod VirtualLists

@@ -3,7 +3,7 @@ use Rattle.std.specs.Prelude.{◌≡◌, ◌≤◌, Bool, true, false, not, ◌&
 use Rattle.cxx_hierarchy.specs.declared.records.ClassId.{ClassId}
 use Rattle.cxx_hierarchy.specs.declared.records.Base.{Base}
 use Rattle.cxx_hierarchy.specs.Classes.{Classes, bases_of, members_of}
-use Rattle.abi_primary.specs.Kinds.{IsDynamic, IsEmpty}
+use Rattle.abi_primary.specs.Kinds.{IsDynamic, is_empty as has_no_data}
 
 -- whether the list says of a class that it is nearly empty
 abbrev pub is_nearly : List Bool → ClassId → Bool
@@ -12,7 +12,7 @@ is_nearly nearly c = get_or nearly c.0 false
 -- a base that adds no data to its class
 pub data IsLight (h : Classes) (nearly : List Bool) (base : Base ClassId) : Type 0 where
   is_virtual : base.is_virtual ≡ true → IsLight h nearly base
-  is_empty : IsEmpty h base.class → IsLight h nearly base
+  is_empty : has_no_data h base.class ≡ true → IsLight h nearly base
   is_nearly_empty : is_nearly nearly base.class ≡ true → IsLight h nearly base
 
 -- a base that is not virtual and nearly empty

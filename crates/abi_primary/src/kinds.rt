@@ -1,34 +1,9 @@
 //! Dynamic and empty classes.
 
 ghost use Rattle.std.specs.Prelude.{◌≡◌, ◌<◌, ◌↔◌, IsTrue, length};
-ghost use Rattle.std.specs.List.{list_any};
-ghost use Rattle.cxx_hierarchy.specs.declared.records.ClassId.{ClassId};
-ghost use Rattle.cxx_hierarchy.specs.declared.records.Function.{Function};
-ghost use Rattle.abi_primary.specs.Kinds.{has_virtual_function, is_virtual_destructor, IsDynamic, IsEmpty};
+ghost use Rattle.abi_primary.specs.Kinds.{is_empty, IsDynamic};
 
-use cxx_hierarchy::{ClassId, ClassRec, Destructor, Hierarchy};
-
-fn is_virtual_destructor(destructor: Destructor) -> bool
-    ensures { result ≡ is_virtual_destructor destructor }
-{
-    match destructor {
-        Destructor::Virtual => true,
-        Destructor::Implicit | Destructor::Plain => false,
-    }
-}
-
-fn is_some_virtual(functions: &[cxx_hierarchy::Function<ClassId>]) -> bool
-    ensures { result ≡ list_any (λ (function : Function ClassId). function.is_virtual) functions.now }
-{
-    functions.iter().any(|function| function.is_virtual)
-}
-
-/// Whether the class declares a virtual function or a virtual destructor.
-fn has_virtual_function(class: &ClassRec<ClassId>) -> bool
-    ensures { result ≡ has_virtual_function class.now }
-{
-    is_some_virtual(class.functions.as_slice()) || is_virtual_destructor(class.destructor)
-}
+use cxx_hierarchy::{ClassId, Hierarchy};
 
 /// Whether a class is dynamic: it or a base declares a virtual function or has a virtual base (Itanium C++ ABI 1.1).
 /// It takes no memory.
@@ -38,7 +13,7 @@ pub fn is_dynamic(h: &Hierarchy, c: ClassId) -> bool
 {
     h.keeps();
     let class = h.class(c);
-    if has_virtual_function(class) {
+    if class.has_virtual_function() {
         return true;
     }
     for base in class.bases.as_slice() {
@@ -53,14 +28,14 @@ pub fn is_dynamic(h: &Hierarchy, c: ClassId) -> bool
 /// (Itanium C++ ABI 1.1). It takes no memory.
 pub fn is_empty(h: &Hierarchy, c: ClassId) -> bool
     requires { c.0 < length h.now }
-    ensures { IsTrue result ↔ IsEmpty h.now c }
+    ensures { result ≡ is_empty h.now c }
 {
     h.keeps();
     let class = h.class(c);
     if class.members.len() > 0 {
         return false;
     }
-    if has_virtual_function(class) {
+    if class.has_virtual_function() {
         return false;
     }
     for base in class.bases.as_slice() {

@@ -4,22 +4,26 @@
 //! then lies at its start. A virtual base that is the primary base of subobjects lies at the first of them in
 //! preorder, which holds it.
 //!
-//! This crate owns what dynamic, empty and nearly empty classes are, which base is the primary one, and which
-//! subobject holds a virtual base. The layer above, which lays classes out in the order of their numbers, may rely
-//! on: each answer is its definition, by what is known of the classes before.
+//! This crate owns what dynamic, empty and nearly empty classes are (`IsDynamic`, `IsEmpty`, `IsNearlyEmpty`), which
+//! base is the primary one (`IsPrimary`), and which subobject holds a virtual base (`holder_of`). The layer above,
+//! which lays classes out in the order of their numbers, may rely on: each answer is its definition, by lists that
+//! cover the classes before. `primary_base`, `is_nearly_empty` and `holder_of` ask the hierarchy alone; `primary_among`
+//! and `holder_among` take the list of subobjects and no memory.
 #![tactic(auto)]
 
-pub mod hierarchy_bases;
+pub mod holders;
 pub mod kinds;
+pub mod listing;
 pub mod nearly_empty;
-pub mod primary_base;
+pub mod primaries;
 #[cfg(test)]
 mod tests;
 
-pub use crate::hierarchy_bases::holder_of;
+pub use crate::holders::{holder_among, holder_of};
 pub use crate::kinds::{is_dynamic, is_empty};
+pub use crate::listing::list_if_virtual;
 pub use crate::nearly_empty::is_nearly_empty;
-pub use crate::primary_base::{holder_among, primary_among};
+pub use crate::primaries::{primary_among, primary_base};
 use cxx_hierarchy::ClassId;
 
 /// The primary base of a class: the base whose virtual pointer it shares (Itanium C++ ABI 2.4).

@@ -3,14 +3,14 @@
 ghost use Rattle.std.specs.Prelude.{All, IfOk};
 ghost use Rattle.cxx_hierarchy.specs.ClassPass.{IsInOrder};
 
-use crate::hierarchy_bases::primary;
 use crate::{
-    Primary, holder_among, holder_of, is_dynamic, is_empty, is_nearly_empty, primary_among,
+    Primary, holder_among, holder_of, is_dynamic, is_empty, is_nearly_empty, list_if_virtual,
+    primary_among, primary_base,
 };
 use cxx_hierarchy::{
     Base, ClassId, ClassRec, Destructor, Hierarchy, Name, RecordList, Stop, build,
 };
-use cxx_subobject::{Root, list_subobjects};
+use cxx_subobject::Root;
 use foundation::{NoMemory, Sequence};
 use std::alloc::Global;
 use std::test::Fail;
@@ -25,7 +25,6 @@ fn class(
     text: &str,
     names: &[&str],
     is_virtual: bool,
-    destructor: Destructor,
 ) -> Result<ClassRec<Name>, NoMemory>
     ensures { IfOk result IsInOrder }
 {
@@ -46,7 +45,7 @@ fn class(
         functions: Sequence::new(alloc),
         order: Sequence::new(alloc),
         has_constructor: false,
-        destructor,
+        destructor: Destructor::Implicit,
     })
 }
 
@@ -61,53 +60,55 @@ fn with(records: RecordList, class: ClassRec<Name>) -> Result<RecordList, NoMemo
     Ok(records)
 }
 
-/// `struct A { virtual ~A(); }; struct B : virtual A {};`
-fn shared(alloc: Global) -> Result<Hierarchy, Stop> {
-    let first = class(alloc, "A", &[], false, Destructor::Virtual)?;
-    let records = with(Sequence::new(alloc), first)?;
-    let second = class(alloc, "B", &["A"], true, Destructor::Implicit)?;
-    build(alloc, &with(records, second)?)
-}
-
-#[test]
-fn shares_a_pointer(rt: HostRuntime) -> Result<(), Fail> {
-    let alloc = rt.alloc();
-    let h = shared(alloc)?;
-    assert_eq!(rt; h.len(), 2);
-    assert!(rt; is_dynamic(&h, ClassId(0)));
-    assert!(rt; !is_empty(&h, ClassId(0)));
-    assert!(rt; is_nearly_empty(&h, ClassId(0), &[], false));
-    let list = list_subobjects(alloc, &h, ClassId(1))?;
-    let primary = primary_among(&h, ClassId(1), &[true], &[Primary::None], list.as_slice());
-    assert_eq!(rt; primary, Primary::Virtual(ClassId(0)));
-    let holder = holder_among(&[Primary::None, primary], ClassId(0), list.as_slice());
-    assert_eq!(rt; holder, Some(0));
-    Ok(())
-}
-
-/// `struct A { virtual ~A(); }; struct B : virtual A {}; struct C : virtual A {}; struct D : B, C {};`
+/// `struct E {}; struct A : virtual E {}; struct B : virtual A {}; struct C : virtual A {}; struct D : B, C {};`
 fn diamond(alloc: Global) -> Result<Hierarchy, Stop> {
-    let a = class(alloc, "A", &[], false, Destructor::Virtual)?;
-    let b = class(alloc, "B", &["A"], true, Destructor::Implicit)?;
-    let c = class(alloc, "C", &["A"], true, Destructor::Implicit)?;
-    let d = class(alloc, "D", &["B", "C"], false, Destructor::Implicit)?;
-    let records = with(with(Sequence::new(alloc), a)?, b)?;
-    build(alloc, &with(with(records, c)?, d)?)
+    let records = with(Sequence::new(alloc), class(alloc, "E", &[], false)?)?;
+    let records = with(records, class(alloc, "A", &["E"], true)?)?;
+    let records = with(records, class(alloc, "B", &["A"], true)?)?;
+    let records = with(records, class(alloc, "C", &["A"], true)?)?;
+    build(
+        alloc,
+        &with(records, class(alloc, "D", &["B", "C"], false)?)?,
+    )
 }
 
+/// A has a virtual pointer and nothing else, so that B and C share it; D shares that of B, which holds A.
 #[test]
 fn first_of_a_diamond_holds(rt: HostRuntime) -> Result<(), Fail> {
     let alloc = rt.alloc();
     let h = diamond(alloc)?;
-    assert_eq!(rt; h.len(), 4);
-    let shared = Primary::Virtual(ClassId(0));
-    let earlier = [Primary::None, shared, shared];
-    let whole = primary(alloc, &h, ClassId(3), &[true, true, true], &earlier)?;
-    assert_eq!(rt; whole, Primary::Direct(ClassId(1)));
-    let primaries = [Primary::None, shared, shared, whole];
-    let holder = holder_of(alloc, &h, ClassId(3), &primaries, ClassId(0))?.ok_or("holder")?;
+    assert_eq!(rt; h.len(), 5);
+    assert!(rt; is_empty(&h, ClassId(0)));
+    assert!(rt; is_dynamic(&h, ClassId(1)));
+    let nearly = [false, true, true, true];
+    assert!(rt; is_nearly_empty(&h, ClassId(1), &nearly, false));
+    let shared = Primary::Virtual(ClassId(1));
+    let primaries = [
+        Primary::None,
+        Primary::None,
+        shared,
+        shared,
+        Primary::Direct(ClassId(2)),
+    ];
+    assert_eq!(rt;
+        primary_base(alloc, &h, ClassId(0), &nearly, &primaries)?,
+        Primary::None
+    );
+    assert_eq!(rt;
+        primary_base(alloc, &h, ClassId(4), &nearly, &primaries)?,
+        primaries[4]
+    );
+    let list = list_if_virtual(alloc, &h, ClassId(2))?;
+    let earlier = [Primary::None, Primary::None];
+    let primary = primary_among(&h, ClassId(2), &nearly, &earlier, list.as_slice());
+    assert_eq!(rt; primary, shared);
+    assert_eq!(rt;
+        holder_among(&primaries, ClassId(1), list.as_slice()),
+        Some(0)
+    );
+    let holder = holder_of(alloc, &h, ClassId(4), &primaries, ClassId(1))?.ok_or("holder")?;
     assert_eq!(rt; holder.root, Root::Whole);
-    assert_eq!(rt; holder.path.as_slice(), [ClassId(3), ClassId(1)].as_slice());
-    assert!(rt; holder_of(alloc, &h, ClassId(3), &primaries, ClassId(1))?.is_none());
+    assert_eq!(rt; holder.path.as_slice(), [ClassId(4), ClassId(2)].as_slice());
+    assert!(rt; holder_of(alloc, &h, ClassId(4), &primaries, ClassId(2))?.is_none());
     Ok(())
 }

@@ -18,8 +18,8 @@ use Rattle.cxx_subobject.specs.Subobjects.{tail_of}
 use Rattle.cxx_subobject.specs.Preorder.{preorder}
 use Rattle.abi_primary.specs.declared.Primary.{Primary}
 use Rattle.abi_primary.specs.declared.Primary.TheVariants.{None as NoPrimary, Direct, Virtual}
-use Rattle.abi_layout.specs.declared.class_layout.ClassLayout.{ClassLayout}
-use Rattle.abi_layout.specs.Places.{number_in, members_in}
+use Rattle.abi_sound.specs.declared.class_layout.ClassLayout.{ClassLayout}
+use Rattle.abi_sound.specs.Places.{number_in, members_in}
 
 abbrev pub name_in : Option Class → List ℕ
 name_in None = []

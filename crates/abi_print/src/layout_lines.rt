@@ -1,17 +1,17 @@
 //! The text of a class's layout.
 
-ghost use Rattle.std.specs.Prelude.{◌≡◌, ◌++◌, ◌<◌, OnOk, IfOk, Contains, length, slice_get};
+ghost use Rattle.std.specs.Prelude.{◌≡◌, ◌++◌, ◌<◌, OnOk, OnErr, IfOk, Contains, length, slice_get};
 ghost use Rattle.std.specs.List.{flat_map};
 ghost use Rattle.std.specs.Fmt.{decimal};
 ghost use Rattle.cxx_hierarchy.specs.declared.records.ClassId.{ClassId};
 ghost use Rattle.cxx_subobject.specs.declared.Subobject.{Subobject};
 ghost use Rattle.cxx_subobject.specs.Subobjects.{IsSubobject, tail_of};
 ghost use Rattle.cxx_hierarchy.specs.Classes.{members_of};
-ghost use Rattle.abi_layout.specs.Places.{number_in};
+ghost use Rattle.abi_sound.specs.Places.{number_in, places_of};
 ghost use Rattle.abi_print.specs.LayoutTexts.{name_of, slashed, joined, subobject_text, scalar_text, value_text, type_text, length_text, primary_text, class_text, base_text, field_text, fields_text, proper, listed_text, layout_text};
 
-use abi_layout::{ClassLayout, SoundLayout};
 use abi_primary::Primary;
+use abi_sound::{ClassLayout, SoundLayout};
 use cxx_hierarchy::{ClassId, FieldType, Hierarchy, Member, Scalar, ValueType};
 use cxx_subobject::{Root, Subobject, list_subobjects};
 use foundation::NoMemory;
@@ -201,7 +201,7 @@ fn append_base<L: SoundLayout>(
     requires layout { L.lays_out layout.now h.now }
     requires known { c.0 < length h.now }
     requires subobject { IsSubobject h.now c s.now }
-    ensures { OnOk result (text.new.items ≡ text.old.items ++ base_text h.now (L.places layout.now h.now).place c s.now) }
+    ensures { OnOk result (text.new.items ≡ text.old.items ++ base_text h.now (places_of h.now (L.rows layout.now)).place c s.now) }
 {
     append_number(alloc, text, layout.place(h, c, s))?;
     append(text, b" base ")?;
@@ -222,7 +222,7 @@ fn append_bases<L: SoundLayout>(
     requires layout { L.lays_out layout.now h.now }
     requires known { c.0 < length h.now }
     requires subobjects { (s : Subobject) → Contains list.now s → IsSubobject h.now c s }
-    ensures { OnOk result (text.new.items ≡ text.old.items ++ flat_map (base_text h.now (L.places layout.now h.now).place c) list.now) }
+    ensures { OnOk result (text.new.items ≡ text.old.items ++ flat_map (base_text h.now (places_of h.now (L.rows layout.now)).place c) list.now) }
 {
     for s in list {
         append_base(alloc, text, h, layout, c, s)?;
@@ -290,10 +290,31 @@ fn proper_of(list: &[Subobject]) -> &[Subobject]
     }
 }
 
+/// The lines of a class's layout, over a list of its subobjects.
+fn layout_lines<L: SoundLayout>(
+    alloc: Global,
+    h: &Hierarchy,
+    layout: &L,
+    c: ClassId,
+    list: &[Subobject],
+) -> Result<Vec<u8>, NoMemory>
+    requires layout { L.lays_out layout.now h.now }
+    requires known { c.0 < length h.now }
+    requires laid { c.0 < length (L.rows layout.now) }
+    requires subobjects { (s : Subobject) → Contains list.now s → IsSubobject h.now c s }
+    ensures { IfOk result (λ text. text.items ≡ listed_text h.now (L.rows layout.now) (places_of h.now (L.rows layout.now)).place c list.now) }
+{
+    let mut text = Vec::new(alloc);
+    append_row(alloc, &mut text, h, c, layout.layout(c))?;
+    append_bases(alloc, &mut text, h, layout, c, proper_of(list))?;
+    append_fields(alloc, &mut text, h, layout, c)?;
+    Ok(text)
+}
+
 /// Puts the text of a class's layout at the end of a text: the class and its sizes, its primary base, its base
-/// subobjects in preorder, and its members in the order of declaration.
+/// subobjects in preorder, and its members in the order of declaration. `list` has the subobjects of the class.
 ///
-/// Errors: want of memory, after which the text has a front of the lines behind what it had.
+/// Errors: want of memory, after which the text is as it was.
 pub fn append_layout<L: SoundLayout>(
     alloc: Global,
     text: &mut Vec<u8>,
@@ -306,11 +327,11 @@ pub fn append_layout<L: SoundLayout>(
     requires known { c.0 < length h.now }
     requires laid { c.0 < length (L.rows layout.now) }
     requires subobjects { (s : Subobject) → Contains list.now s → IsSubobject h.now c s }
-    ensures { OnOk result (text.new.items ≡ text.old.items ++ listed_text h.now (L.rows layout.now) (L.places layout.now h.now).place c list.now) }
+    ensures ok { OnOk result (text.new.items ≡ text.old.items ++ listed_text h.now (L.rows layout.now) (places_of h.now (L.rows layout.now)).place c list.now) }
+    ensures err { OnErr result (text.new.items ≡ text.old.items) }
 {
-    append_row(alloc, text, h, c, layout.layout(c))?;
-    append_bases(alloc, text, h, layout, c, proper_of(list))?;
-    append_fields(alloc, text, h, layout, c)?;
+    let lines = layout_lines(alloc, h, layout, c, list)?;
+    text.extend_from_slice(&lines)?;
     Ok(())
 }
 
@@ -327,10 +348,8 @@ pub fn layout_text<L: SoundLayout>(
     requires layout { L.lays_out layout.now h.now }
     requires known { c.0 < length h.now }
     requires laid { c.0 < length (L.rows layout.now) }
-    ensures { IfOk result (λ text. text.items ≡ layout_text h.now (L.rows layout.now) (L.places layout.now h.now).place c) }
+    ensures { IfOk result (λ text. text.items ≡ layout_text h.now (L.rows layout.now) (places_of h.now (L.rows layout.now)).place c) }
 {
     let list = list_subobjects(alloc, h, c)?;
-    let mut text = Vec::new(alloc);
-    append_layout(alloc, &mut text, h, layout, c, list.as_slice())?;
-    Ok(text)
+    layout_lines(alloc, h, layout, c, list.as_slice())
 }

@@ -1,11 +1,13 @@
 //! The texts of a run and of a layout.
 //!
 //! This crate owns the text of what a run tells (`specs/Texts.antt`): for each number its decimal digits, with `-`
-//! before one below 0, for each pointer its object's number and the place of its subobject in it, and a line feed.
-//! The places are those of a layout, which this crate does not know.
+//! before one below 0, for each pointer its object's number and the offset of its subobject in it, and a line feed;
+//! and the text of a class's layout (`specs/LayoutTexts.antt`): sizes, primary base, bases in preorder, members.
+//! Of a layout it reads rows and places, whatever sound layout it is.
 //!
 //! The layer above may rely on: `append_line` puts the line of what the machine tells at the end of a text; an
-//! address is read by the heap objects that the machine has listed. Want of memory leaves the text as it was.
+//! address is read by the heap objects that the machine has listed. `append_layout` puts the text of a class's layout
+//! at the end of a text. Want of memory leaves the text as it was.
 #![tactic(auto)]
 
 pub mod layout_lines;

@@ -2,5 +2,3 @@ pub mod Turning
 pub mod Telling
 pub mod Running
 pub mod EndingNumbers
-pub mod SampleLemmas
-pub mod BaseSamples

@@ -6,7 +6,7 @@ use Rattle.std.proofs.lemmas.List.{append-nil, length-replicate}
 use Rattle.std.proofs.lemmas.Grind.{flat_map-append}
 use Rattle.std.proofs.lemmas.Bool.Decides.{nat_tests}
 use Rattle.cxx_resolve.specs.declared.program.SimpleProgram.{SimpleProgram}
-use Rattle.abi_layout.specs.Sound.{IsSound}
+use Rattle.abi_lower.proofs.SoundPlaces.{IsSound}
 use Rattle.path_model.specs.Values.{State, Unset, value_in}
 use Rattle.path_model.specs.Steps.{Out, NumberOut, Move, Goes, Refuses, Limits, Ends, step}
 use Rattle.path_model.specs.Runs.{Ran, run_of, run_from, ran_by, state_at, next_state, start}

@@ -16,7 +16,7 @@ use Rattle.cxx_resolve.specs.declared.program.SimpleProgram.{SimpleProgram}
 use Rattle.cxx_resolve.specs.Typed.{IsTyped, IsTypedProgram}
 use Rattle.cxx_subobject.specs.declared.Subobject.{Subobject}
 use Rattle.cxx_subobject.specs.Subobjects.{join}
-use Rattle.abi_layout.specs.Sound.{IsSound}
+use Rattle.abi_lower.proofs.SoundPlaces.{IsSound}
 use Rattle.path_model.specs.Values.{State, Value, Unset, Number, Pointer, variable_at}
 use Rattle.path_model.specs.Steps.{Move, Goes, Refuses, Limits, Ends, made, written, set_to, fetched, compared, converted_at, pointer_printed, printed, move_of, move_in, step, heap_total, rounded}
 use Rattle.path_model.specs.Runs.{state_at, next_state}

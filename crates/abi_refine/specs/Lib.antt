@@ -1,4 +1,3 @@
 pub mod Agreed
 pub mod Reaches
 pub mod Endings
-pub mod Samples

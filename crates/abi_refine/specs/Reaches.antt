@@ -1,6 +1,7 @@
 -- Many turns of the byte machine.
 use Rattle.std.specs.Prelude.{ℕ, List, [], ◌++◌}
 use Rattle.byte_code.specs.declared.code.Code.{Code}
+use Rattle.byte_code.specs.declared.code.ImageBytes.{ImageBytes}
 use Rattle.byte_machine.specs.declared.turn.RawOut.{RawOut}
 use Rattle.byte_machine.specs.declared.turn.MachineTurn.{MachineTurn}
 use Rattle.byte_machine.specs.Turn.{State, Turns}
@@ -10,3 +11,7 @@ use Rattle.abi_print.specs.Texts.{raw_text}
 pub data ReachesWith (code : Code) (b : State) : State → List ℕ → Type 0 where
   none : ReachesWith code b b []
   further : (mid b' : State) (text : List ℕ) (told : List RawOut) (turn : MachineTurn) → ReachesWith code b mid text → Turns code mid [] b' told turn → ReachesWith code b b' (text ++ raw_text b'.objects told)
+
+-- the image of a program whose classes have no tables: no byte
+abbrev pub no_image : ImageBytes
+no_image = record { bytes = []; base = 0 }

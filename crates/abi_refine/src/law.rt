@@ -2,8 +2,7 @@
 
 ghost use Rattle.std.specs.Prelude.{◌≡◌, IfOk, OnOk, OnErr, [], false, true};
 ghost use Rattle.cxx_resolve.specs.Typed.{IsTypedProgram};
-ghost use Rattle.abi_layout.specs.Places.{places_of};
-ghost use Rattle.abi_layout.specs.Sound.{IsSound};
+ghost use Rattle.abi_sound.specs.Places.{places_of};
 ghost use Rattle.path_model.specs.Steps.{step};
 ghost use Rattle.path_model.specs.Runs.{state_at};
 ghost use Rattle.byte_machine.specs.Turn.{Turns};
@@ -12,7 +11,7 @@ ghost use Rattle.abi_lower.specs.Blocks.{setup, code_for};
 ghost use Rattle.abi_lower.specs.Stands.{StandsFor};
 ghost use Rattle.abi_refine.specs.Agreed.{Agreed};
 
-use abi_layout::AbiLayout;
+use abi_sound::SoundLayout;
 use byte_machine::{Machine, MachineTurn, RawOutList};
 use byte_memory::Memory;
 use cxx_hierarchy::Hierarchy;
@@ -23,24 +22,24 @@ use foundation::NoMemory;
 ///
 /// It agrees with the program's next step. After NoMemory `outs` is as before, and the machine answers NoMemory
 /// from then on.
-pub fn turn<M: Memory>(
+pub fn turn<M: Memory, L: SoundLayout>(
     _h: &Hierarchy,
-    _layout: &AbiLayout,
+    _layout: &L,
     _program: &SimpleProgram,
     machine: &mut Machine<M>,
     outs: &mut RawOutList,
 ) -> Result<MachineTurn, NoMemory>
-    requires sound { IsSound _h.now (places_of _h.now _layout.now) }
+    requires layout { L.lays_out _layout.now _h.now }
     requires typed { IsTypedProgram _h.now _program.now }
-    requires code { code_of machine.old ≡ code_for (setup _h.now (places_of _h.now _layout.now) _program.now.variables) _program.now.lines }
+    requires code { code_of machine.old ≡ code_for (setup _h.now (places_of _h.now (L.rows _layout.now)) _program.now.variables) _program.now.lines }
     requires stands { let b = state_of machine.old in
-        StandsFor (setup _h.now (places_of _h.now _layout.now) _program.now.variables) (state_at _h.now (places_of _h.now _layout.now).size _program.now b.taken) b }
+        StandsFor (setup _h.now (places_of _h.now (L.rows _layout.now)) _program.now.variables) (state_at _h.now (places_of _h.now (L.rows _layout.now)).size _program.now b.taken) b }
     requires ready { has_failed machine.old ≡ false }
     requires none { outs.old ≡ [] }
     ensures agreed { IfOk result (λ turn.
         let b = state_of machine.old in
-        let sizes = (places_of _h.now _layout.now).size in
-        Agreed (setup _h.now (places_of _h.now _layout.now) _program.now.variables) (step _h.now sizes _program.now (state_at _h.now sizes _program.now b.taken)) b (state_of machine.new) outs.new turn) }
+        let sizes = (places_of _h.now (L.rows _layout.now)).size in
+        Agreed (setup _h.now (places_of _h.now (L.rows _layout.now)) _program.now.variables) (step _h.now sizes _program.now (state_at _h.now sizes _program.now b.taken)) b (state_of machine.new) outs.new turn) }
     ensures turned { IfOk result (λ turn. Turns (code_of machine.old) (state_of machine.old) [] (state_of machine.new) outs.new turn) }
     ensures code { code_of machine.new ≡ code_of machine.old }
     ensures image { image_of machine.new ≡ image_of machine.old }

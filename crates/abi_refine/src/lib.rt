@@ -11,13 +11,9 @@
 //! only that it is sound.
 #![tactic(auto)]
 
-#[cfg(test)]
-mod base_tests;
 pub mod ending;
 pub mod law;
 pub mod run;
-#[cfg(test)]
-mod tests;
 
 pub use crate::ending::End;
 pub use crate::law::turn;

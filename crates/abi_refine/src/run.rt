@@ -1,9 +1,8 @@
 //! A whole run.
 
-ghost use Rattle.std.specs.Prelude.{◌≡◌, ℕ, ◌+◌, ◌≤◌, ◌<◌, ◌++◌, IfOk, [], Some, None, false};
+ghost use Rattle.std.specs.Prelude.{◌≡◌, ℕ, ◌+◌, ◌≤◌, ◌<◌, ◌^◌, ◌++◌, IfOk, [], Some, None, false, length};
 ghost use Rattle.cxx_resolve.specs.Typed.{IsTypedProgram};
-ghost use Rattle.abi_layout.specs.Places.{places_of};
-ghost use Rattle.abi_layout.specs.Sound.{IsSound};
+ghost use Rattle.abi_sound.specs.Places.{places_of};
 ghost use Rattle.path_model.specs.Runs.{run_of, run_from, start};
 ghost use Rattle.byte_memory.specs.Store.{empty};
 ghost use Rattle.byte_machine.specs.Turn.{begun};
@@ -11,14 +10,14 @@ ghost use Rattle.byte_machine.specs.MachineState.{code_of, image_of, state_of, h
 ghost use Rattle.abi_lower.specs.Blocks.{setup, code_for};
 ghost use Rattle.abi_lower.specs.Stands.{StandsFor};
 ghost use Rattle.abi_print.specs.Texts.{text_of, raw_text};
-ghost use Rattle.abi_refine.specs.Reaches.{ReachesWith};
+ghost use Rattle.abi_refine.specs.Reaches.{ReachesWith, no_image};
 ghost use Rattle.abi_refine.specs.Endings.{ending_of, turn_of};
 
 use crate::ending::{End, end_of};
 use crate::law::turn;
-use abi_layout::AbiLayout;
 use abi_lower::lower;
 use abi_print::append_line;
+use abi_sound::SoundLayout;
 use byte_code::{ByteList, ImageBytes};
 use byte_machine::{Machine, MachineTurn, RawOut};
 use byte_memory::{FlatMemory, Memory};
@@ -62,22 +61,22 @@ pub struct Ran {
 }
 
 /// Turns a machine, over whatever memory, that stands for the start of a program until an answer ends the run.
-pub fn run_machine<M: Memory>(
+pub fn run_machine<M: Memory, L: SoundLayout>(
     alloc: Global,
     h: &Hierarchy,
-    layout: &AbiLayout,
+    layout: &L,
     program: &SimpleProgram,
     machine: &mut Machine<M>,
 ) -> Result<Ran, NoMemory>
-    requires sound { IsSound h.now (places_of h.now layout.now) }
+    requires layout { L.lays_out layout.now h.now }
     requires typed { IsTypedProgram h.now program.now }
-    requires code { code_of machine.old ≡ code_for (setup h.now (places_of h.now layout.now) program.now.variables) program.now.lines }
-    requires stands { StandsFor (setup h.now (places_of h.now layout.now) program.now.variables) (start program.now) (state_of machine.old) }
+    requires code { code_of machine.old ≡ code_for (setup h.now (places_of h.now (L.rows layout.now)) program.now.variables) program.now.lines }
+    requires stands { StandsFor (setup h.now (places_of h.now (L.rows layout.now)) program.now.variables) (start program.now) (state_of machine.old) }
     requires first { (state_of machine.old).taken ≡ 0 }
     requires budget { (state_of machine.old).left ≤ 4000000 }
     requires ready { has_failed machine.old ≡ false }
-    ensures text { IfOk result (λ ran. ran.text.items ≡ text_of (places_of h.now layout.now).place (run_of h.now (places_of h.now layout.now).size program.now (state_of machine.old).left).outs) }
-    ensures answer { IfOk result (λ ran. ran.answer ≡ turn_of (run_of h.now (places_of h.now layout.now).size program.now (state_of machine.old).left).ending) }
+    ensures text { IfOk result (λ ran. ran.text.items ≡ text_of (places_of h.now (L.rows layout.now)).place (run_of h.now (places_of h.now (L.rows layout.now)).size program.now (state_of machine.old).left).outs) }
+    ensures answer { IfOk result (λ ran. ran.answer ≡ turn_of (run_of h.now (places_of h.now (L.rows layout.now)).size program.now (state_of machine.old).left).ending) }
     ensures reaches { IfOk result (λ ran. ReachesWith (code_of machine.old) (state_of machine.old) (state_of machine.new) ran.text.items) }
     ensures ended { IfOk result (λ ran. (state_of machine.new).answer ≡ Some ran.answer) }
     ensures steps { IfOk result (λ ran. ran.steps ≡ (state_of machine.new).taken) }
@@ -110,23 +109,25 @@ pub fn run_machine<M: Memory>(
 /// Runs a program whose types fit on the byte machine, over a sound layout, for at most so many steps.
 ///
 /// Text and end are those of the program's run. The machine that is handed out has the lowered code and an empty
-/// image; its turns alone lead from an empty memory to the state that it is in, and they told the text. NoMemory is
-/// the one refusal.
-pub fn execute(
+/// image; its turns alone lead from an empty memory to the state that it is in, they told the text, and it has ended
+/// as the run did. NoMemory is the one refusal.
+pub fn execute<L: SoundLayout>(
     alloc: Global,
     h: &Hierarchy,
-    layout: &AbiLayout,
+    layout: &L,
     program: &SimpleProgram,
     steps: u32,
 ) -> Result<Execution, NoMemory>
-    requires sound { IsSound h.now (places_of h.now layout.now) }
+    requires layout { L.lays_out layout.now h.now }
     requires typed { IsTypedProgram h.now program.now }
+    requires few { length program.now.variables + 2 < 2 ^ 32 }
     requires budget { (1 ≤ steps) × (steps ≤ 4000000) }
-    ensures text { IfOk result (λ e. e.text ≡ text_of (places_of h.now layout.now).place (run_of h.now (places_of h.now layout.now).size program.now steps).outs) }
-    ensures end { IfOk result (λ e. ending_of e.end ≡ (run_of h.now (places_of h.now layout.now).size program.now steps).ending) }
-    ensures code { IfOk result (λ e. code_of e.machine ≡ code_for (setup h.now (places_of h.now layout.now) program.now.variables) program.now.lines) }
+    ensures text { IfOk result (λ e. e.text ≡ text_of (places_of h.now (L.rows layout.now)).place (run_of h.now (places_of h.now (L.rows layout.now)).size program.now steps).outs) }
+    ensures end { IfOk result (λ e. ending_of e.end ≡ (run_of h.now (places_of h.now (L.rows layout.now)).size program.now steps).ending) }
+    ensures code { IfOk result (λ e. code_of e.machine ≡ code_for (setup h.now (places_of h.now (L.rows layout.now)) program.now.variables) program.now.lines) }
+    ensures image { IfOk result (λ e. image_of e.machine ≡ no_image) }
     ensures machine { IfOk result (λ e. ReachesWith (code_of e.machine) (begun empty (code_of e.machine) steps) (state_of e.machine) e.text) }
-    ensures ended { IfOk result (λ e. (state_of e.machine).answer ≡ Some (turn_of (ending_of e.end))) }
+    ensures ended { IfOk result (λ e. (state_of e.machine).answer ≡ Some (turn_of (run_of h.now (places_of h.now (L.rows layout.now)).size program.now steps).ending)) }
     ensures steps { IfOk result (λ e. e.steps ≡ (state_of e.machine).taken) }
 {
     let code = lower(alloc, h, layout, program)?;

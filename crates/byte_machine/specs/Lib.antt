@@ -1,7 +1,6 @@
 pub mod Heap
 pub mod Effect
-pub mod HeapState
+pub mod invariants
 pub mod Runs
 pub mod Turn
 pub mod MachineState
-pub mod Sample

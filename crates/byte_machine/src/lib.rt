@@ -17,6 +17,3 @@ pub mod turn;
 pub use crate::heap::Opened;
 pub use crate::machine::Machine;
 pub use crate::turn::{MachineTurn, RawOut, RawOutList};
-
-#[cfg(test)]
-mod tests;

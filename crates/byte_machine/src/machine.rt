@@ -17,7 +17,6 @@ pub struct Machine<M: Memory> {
     image: ImageBytes,
     code: Code,
     registers: Vec<Option<u64>>,
-    largest: usize,
     block: usize,
     taken: u32,
     left: u32,
@@ -43,13 +42,14 @@ impl<M: Memory> Machine<M> {
 
     /// A machine before its first step, with registers that are unset.
     ///
-    /// `largest` is the greatest number of inheritance subobjects of a class, and `steps` how many blocks may run.
+    /// `steps` says how many blocks may run. `_largest` is the greatest number of inheritance subobjects of a class:
+    /// room for a cast is to be reserved for so many parts, and no op casts yet.
     pub fn new(
         alloc: Global,
         memory: M,
         image: ImageBytes,
         code: Code,
-        largest: usize,
+        _largest: usize,
         steps: u32,
     ) -> Result<Machine<M>, NoMemory>
     where
@@ -66,7 +66,6 @@ impl<M: Memory> Machine<M> {
             image,
             code,
             registers,
-            largest,
             block,
             taken: 0,
             left: steps,

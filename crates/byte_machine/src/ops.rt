@@ -2,7 +2,7 @@
 
 ghost use Rattle.std.specs.Prelude.{◌≡◌, take, length, MatchResult, IfOk, Some, None};
 ghost use Rattle.byte_machine.specs.Effect.{word_at, effect_of};
-ghost use Rattle.byte_machine.specs.HeapState.{running};
+ghost use Rattle.byte_machine.specs.invariants.HeapState.{running};
 ghost use Rattle.byte_machine.specs.Runs.{Allows, Did, IsDefined, Runs};
 
 use crate::heap::Heap;

@@ -1,4 +1,4 @@
 pub mod Operands
 pub mod Statements
-pub mod Through
+pub mod invariants
 pub mod Same

@@ -5,9 +5,9 @@ ghost use Rattle.cxx_hierarchy.specs.declared.stop.Stop.{Stop};
 ghost use Rattle.cxx_grammar.specs.declared.sort.Lexeme.{Lexeme};
 ghost use Rattle.cxx_grammar.specs.declared.sort.Sort.{Sort};
 ghost use Rattle.cxx_grammar.specs.Grammar.{In, block_form};
-ghost use Rattle.cxx_grammar.specs.Fault.{State, sorts, Fault, FrontIs};
+ghost use Rattle.cxx_grammar.specs.Event.{State, sorts, Event, DerivesPrefix};
 ghost use Rattle.cxx_grammar.specs.Lexemes.{lexemes, block_start};
-ghost use Rattle.cxx_grammar.specs.Run.{Follows};
+ghost use Rattle.cxx_grammar.specs.invariants.Run.{Follows};
 ghost use Rattle.cxx_grammar.specs.Table.{Only, AnOperand, ABlock, StatementsEnd};
 ghost use Rattle.cxx_body_parser.specs.Statements.{BodyReads, StatementsRead, StatementReads};
 
@@ -21,6 +21,9 @@ use cxx_grammar::{Lexeme, Sort, is_same, lexemes, next, refusal, take};
 use cxx_hierarchy::{LimitNo, Stop};
 use cxx_text::TokenList;
 use std::alloc::Global;
+
+// The blocks that may be open at once.
+const MAX_OPEN_BLOCKS: u32 = 64;
 
 // "if" "(" operand ")" block ["else" block] after its first word
 #[cycle(parser)]
@@ -167,7 +170,7 @@ pub fn block<'a>(
     if !is_same(brace.sort, Sort::OpenBlock) {
         return Err(refusal(&brace));
     }
-    if depth >= 64 {
+    if depth >= MAX_OPEN_BLOCKS {
         return Err(Stop::Limit(LimitNo::L3));
     }
     let (statements, close, rest) = statements(alloc, text, rest, depth + 1)?;
@@ -190,9 +193,9 @@ fn counted(
 ) -> Result<(BodyTree, usize), Stop>
     requires { In Sort.Bad (sorts all.now) }
     ensures reads { IfOk result (λ x. BodyReads text.now x.0 all.now (drop x.1 all.now)) }
-    ensures front { IfOk result (λ x. FrontIs block_form (record { blocks = depth; main = false }) all.now (drop x.1 all.now)) }
+    ensures derives { IfOk result (λ x. DerivesPrefix block_form (record { blocks = depth; main = false }) all.now (drop x.1 all.now)) }
     ensures within { IfOk result (λ x. x.1 ≤ length all.now) }
-    ensures fault { IfErr result (λ e. (e ≡ Stop.NoMemory) ⊎ Fault block_form (record { blocks = depth; main = false }) all.now e) }
+    ensures event { IfErr result (λ e. (e ≡ Stop.NoMemory) ⊎ Event block_form (record { blocks = depth; main = false }) all.now e) }
 {
     let (tree, rest) = block(alloc, text, all, depth)?;
     Ok((tree, all.len() - rest.len()))
@@ -212,8 +215,8 @@ pub fn parse_body(
 ) -> Result<(BodyTree, usize), Stop>
     requires { first < length list.now.tokens }
     ensures reads { let all = lexemes text.now block_start (drop first list.now.tokens) list.now.bad in IfOk result (λ x. BodyReads text.now x.0 all (drop (x.1 - first) all)) }
-    ensures front { let all = lexemes text.now block_start (drop first list.now.tokens) list.now.bad in IfOk result (λ x. FrontIs block_form (record { blocks = depth; main = false }) all (drop (x.1 - first) all)) }
-    ensures fault { let all = lexemes text.now block_start (drop first list.now.tokens) list.now.bad in IfErr result (λ e. (e ≡ Stop.NoMemory) ⊎ Fault block_form (record { blocks = depth; main = false }) all e) }
+    ensures derives { let all = lexemes text.now block_start (drop first list.now.tokens) list.now.bad in IfOk result (λ x. DerivesPrefix block_form (record { blocks = depth; main = false }) all (drop (x.1 - first) all)) }
+    ensures event { let all = lexemes text.now block_start (drop first list.now.tokens) list.now.bad in IfErr result (λ e. (e ≡ Stop.NoMemory) ⊎ Event block_form (record { blocks = depth; main = false }) all e) }
 {
     let (_, from) = list.tokens.as_slice().split_at(first);
     let all = lexemes(alloc, text, from, list.bad, Sort::CloseParen)?;

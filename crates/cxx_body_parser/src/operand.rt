@@ -3,8 +3,8 @@
 ghost use Rattle.std.specs.Prelude.{◌≡◌, ◌≤◌, ◌∷◌, [], List, true, false, length, IfOk, IfErr};
 ghost use Rattle.cxx_hierarchy.specs.declared.stop.Stop.{Stop};
 ghost use Rattle.cxx_grammar.specs.declared.sort.Lexeme.{Lexeme};
-ghost use Rattle.cxx_grammar.specs.Fault.{State};
-ghost use Rattle.cxx_grammar.specs.Run.{Follows};
+ghost use Rattle.cxx_grammar.specs.Event.{State};
+ghost use Rattle.cxx_grammar.specs.invariants.Run.{Follows};
 ghost use Rattle.cxx_grammar.specs.Table.{is_pointer, is_constant, AConstant, AnOperand, APointer};
 ghost use Rattle.cxx_body_parser.specs.Operands.{spot_of, PointerReads, ConstantReads, OperandReads};
 

@@ -5,11 +5,11 @@ ghost use Rattle.cxx_hierarchy.specs.declared.stop.Stop.{Stop};
 ghost use Rattle.cxx_grammar.specs.declared.sort.Lexeme.{Lexeme};
 ghost use Rattle.cxx_grammar.specs.declared.sort.Sort.{Sort};
 ghost use Rattle.cxx_grammar.specs.Front.{Is, IsName};
-ghost use Rattle.cxx_grammar.specs.Fault.{State};
-ghost use Rattle.cxx_grammar.specs.Run.{Follows, FollowsBy};
+ghost use Rattle.cxx_grammar.specs.Event.{State};
+ghost use Rattle.cxx_grammar.specs.invariants.Run.{Follows, FollowsBy};
 ghost use Rattle.cxx_grammar.specs.Table.{Use, Read, AName, ArgumentsEnd, Named, Tail, Member, Only, APointer, is_pointer, end_tasks};
 ghost use Rattle.cxx_body_parser.specs.Operands.{PartReads, PartsRead, PlaceReads, CallReads, ArgumentsRead};
-ghost use Rattle.cxx_body_parser.specs.Through.{ThroughReads, tasks_after};
+ghost use Rattle.cxx_body_parser.specs.invariants.Through.{ThroughReads, tasks_after};
 
 use crate::operand::{operand, pointer, pointer_at, spot};
 use crate::tree::{CallText, OperandList, PlacePart, PlacePartList, PlaceText};

@@ -4,11 +4,11 @@ ghost use Rattle.std.specs.Prelude.{◌≡◌, ◌≤◌, ◌∷◌, [], List, S
 ghost use Rattle.cxx_hierarchy.specs.declared.stop.Stop.{Stop};
 ghost use Rattle.cxx_grammar.specs.declared.sort.Lexeme.{Lexeme};
 ghost use Rattle.cxx_grammar.specs.declared.sort.Sort.{Sort};
-ghost use Rattle.cxx_grammar.specs.Fault.{State};
-ghost use Rattle.cxx_grammar.specs.Run.{Follows};
+ghost use Rattle.cxx_grammar.specs.Event.{State};
+ghost use Rattle.cxx_grammar.specs.invariants.Run.{Follows};
 ghost use Rattle.cxx_grammar.specs.Table.{Only, AName, APointer, AConstant, AfterOperand, AfterPointer, RightEnd, is_pointer, is_constant, is_operator};
 ghost use Rattle.cxx_body_parser.specs.Operands.{OperandReads, RightReads, operator_of, cast_of};
-ghost use Rattle.cxx_body_parser.specs.Through.{right_of};
+ghost use Rattle.cxx_body_parser.specs.invariants.Through.{right_of};
 
 use crate::operand::{constant_at, operand, operand_at, pointer, spot};
 use crate::place::{Through, behind_pointer, place};

@@ -4,8 +4,8 @@ ghost use Rattle.std.specs.Prelude.{◌≡◌, ◌≤◌, ◌<◌, ◌-◌, ◌+
 ghost use Rattle.cxx_hierarchy.specs.declared.stop.Stop.{Stop};
 ghost use Rattle.cxx_grammar.specs.declared.sort.Lexeme.{Lexeme};
 ghost use Rattle.cxx_grammar.specs.declared.sort.Sort.{Sort};
-ghost use Rattle.cxx_grammar.specs.Fault.{State};
-ghost use Rattle.cxx_grammar.specs.Run.{Follows};
+ghost use Rattle.cxx_grammar.specs.Event.{State};
+ghost use Rattle.cxx_grammar.specs.invariants.Run.{Follows};
 ghost use Rattle.cxx_grammar.specs.Table.{AName, UnsignedName, LongName, scalar_rest, is_scalar_word};
 ghost use Rattle.cxx_body_parser.specs.Statements.{ScalarReads};
 

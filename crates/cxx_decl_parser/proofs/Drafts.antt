@@ -1,5 +1,5 @@
 -- The record that parts make, one part at a time.
-use Rattle.std.proofs.Common.{◌≡◌, ℕ, Bool, true, false, ◌||◌, List, [], ◌∷◌, ◌++◌, Option, Some, None, length, refl, sym, ap, ◌∙◌, append_assoc, append-nil}
+use Rattle.std.proofs.Common.{◌≡◌, ◌≤◌, ℕ, Bool, true, false, ◌||◌, List, [], ◌∷◌, ◌++◌, Option, Some, None, length, refl, sym, ap, ◌∙◌, append_assoc, append-nil, arith}
 use Rattle.std.specs.List.{filter_map, list_any}
 use Rattle.std.proofs.lemmas.List.Elements.{filter_map-append}
 use Rattle.std.proofs.lemmas.List.Folds.{list_any-append}
@@ -18,7 +18,7 @@ use Rattle.cxx_decl_parser.specs.declared.part.Part.TheVariants as part
 use Rattle.cxx_decl_parser.specs.declared.draft.Draft.{Draft}
 use Rattle.cxx_decl_parser.specs.Parts.{Spelled}
 use Rattle.cxx_decl_parser.specs.Definitions.{member_in, function_in, members_of, functions_of, in_turn, part_at, order_of, is_constructor, destructor_after, last_destructor, destructor_of, body_at, bodies_of, entry, a_body, declared_destructor}
-use Rattle.cxx_decl_parser.specs.Readers.{IsDraft}
+use Rattle.cxx_decl_parser.specs.invariants.Readers.{IsDraft}
 
 -- the last of some parts gives by those before it
 pub in_turn-append : {X : Type 0} (give : List Part → Part → List X) (before ps : List Part) (p : Part) →
@@ -35,6 +35,22 @@ last_destructor-append d (q ∷ ps) p = last_destructor-append (destructor_after
 pub or_false : (b : Bool) → (b || false) ≡ b
 or_false true = refl
 or_false false = refl
+
+-- a list with one item more has at least as many that are chosen
+one_more_chosen : {X Y : Type 0} (f : X → Option Y) (x : X) (xs : List X) (o : Option Y) → f x ≡ o → length (filter_map f xs) ≤ length xs → length (filter_map f (x ∷ xs)) ≤ length (x ∷ xs)
+one_more_chosen f x xs None e h = rw e (omega (arith, h))
+one_more_chosen f x xs (Some y) e h = rw e (omega (arith, h))
+
+-- there are at most as many members and functions as parts
+chosen_few : {X Y : Type 0} (f : X → Option Y) (xs : List X) → length (filter_map f xs) ≤ length xs
+chosen_few f [] = omega arith
+chosen_few f (x ∷ xs) = one_more_chosen f x xs (f x) refl (chosen_few f xs)
+
+pub few_members : (text : List ℕ) (class : Lexeme) (parts : List Part) (d : Draft) (n : ℕ) → IsDraft text class parts d → length parts ≤ n → length d.members ≤ n
+few_members text class parts d n h le = let m = chosen_few member_in parts in let e = ap length h.members in omega (arith, le, m, e)
+
+pub few_functions : (text : List ℕ) (class : Lexeme) (parts : List Part) (d : Draft) (n : ℕ) → IsDraft text class parts d → length parts ≤ n → length d.functions ≤ n
+few_functions text class parts d n h le = let m = chosen_few function_in parts in let e = ap length h.functions in omega (arith, le, m, e)
 
 -- a draft with one part more
 pub drafted : (text : List ℕ) (class : Lexeme) (parts : List Part) (p : Part) (d e : Draft) → IsDraft text class parts d →

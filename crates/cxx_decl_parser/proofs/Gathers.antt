@@ -53,10 +53,6 @@ gathered s r is i h a b c m p = record {
 no_main_item : (s : SourceText) (is : List Item) → AreItemsOf s is → s.main ≡ None → filter_map main_in is ≡ []
 no_main_item s is h e = sym h.main ∙ ap trees_in e
 
--- the place of main where there is none yet: how many bodies there are
-pub place_before : (s : SourceText) (is : List Item) → AreItemsOf s is → s.main ≡ None → s.main_place ≡ length s.bodies
-place_before s is h e = h.main_place ∙ (ap length (before_no_main is (no_main_item s is h e)) ∙ ap length (sym h.bodies))
-
 -- a class without a main before it
 pub class_place : (s : SourceText) (is : List Item) (i : Item) (n : ℕ) → AreItemsOf s is → s.main ≡ None → is_no_main i ≡ true →
     n ≡ length (s.bodies ++ flat_map bodies_in (i ∷ [])) → n ≡ length (bodies_before_main (is ++ i ∷ []))

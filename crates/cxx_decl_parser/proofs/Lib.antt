@@ -8,3 +8,5 @@ pub mod Drafts
 pub mod Gathers
 pub mod Numbers
 pub mod Others
+pub mod Owners
+pub mod readings

@@ -1,6 +1,7 @@
--- The order of a record that parts make names each member and each function once.
-use Rattle.std.proofs.Common.{◌≡◌, ℕ, ◌+◌, Bool, true, false, List, [], ◌∷◌, ◌++◌, Option, Some, None, length, refl, sym, ap, subst, subst₂, ◌∙◌, append_assoc, append-nil, length-append, All}
-use Rattle.std.specs.List.{filter_map, AllByRecursion}
+-- The order of a record that parts make is the order in which they stand.
+use Rattle.std.proofs.Common.{◌≡◌, ℕ, ◌+◌, Bool, true, false, not, ◌||◌, List, [], ◌∷◌, ◌++◌, Option, Some, None, length, refl, sym, ap, subst, subst₂, ◌∙◌, append_assoc, append-nil, length-append, All}
+use Rattle.std.specs.List.{filter_map, list_any, AllByRecursion}
+use Rattle.std.proofs.lemmas.List.Folds.{list_any-append}
 use Rattle.std.proofs.lemmas.List.Elements.{filter_map-append, All-from_recursion}
 use Rattle.cxx_grammar.specs.declared.sort.Lexeme.{Lexeme}
 use Rattle.cxx_hierarchy.specs.declared.records.Base.{Base}
@@ -8,7 +9,11 @@ use Rattle.cxx_hierarchy.specs.declared.records.ClassRec.{ClassRec}
 use Rattle.cxx_hierarchy.specs.declared.records.PartAt.{PartAt}
 use Rattle.cxx_hierarchy.specs.declared.records.PartKind.{PartKind}
 use Rattle.cxx_hierarchy.specs.declared.records.PartKind.TheVariants as kind
-use Rattle.cxx_hierarchy.specs.ClassPass.{is_member, is_function, NamesEach, IsInOrder}
+use Rattle.cxx_hierarchy.specs.declared.records.Destructor.{Destructor}
+use Rattle.cxx_hierarchy.specs.declared.records.Destructor.TheVariants as destructor
+use Rattle.cxx_hierarchy.specs.Declarations.{is_implicit}
+use Rattle.cxx_hierarchy.specs.Orders.{is_member, is_function, is_constructor as makes, is_destructor as ends, has_kind, NamesEach}
+use Rattle.cxx_hierarchy.specs.ClassPass.{IsInOrder}
 use Rattle.cxx_hierarchy.proofs.Orders.{names_none, names_more, names_other}
 use Rattle.cxx_decl_parser.specs.declared.part.Part.{Part}
 use Rattle.cxx_decl_parser.specs.declared.part.Part.TheVariants as part
@@ -16,7 +21,8 @@ use Rattle.cxx_decl_parser.specs.declared.part.Item.{Item}
 use Rattle.cxx_decl_parser.specs.declared.part.Item.TheVariants as item
 use Rattle.cxx_decl_parser.specs.declared.source_text.SourceText.{SourceText}
 use Rattle.cxx_decl_parser.specs.Parts.{Spelled}
-use Rattle.cxx_decl_parser.specs.Definitions.{member_in, function_in, members_of, functions_of, in_turn, part_at, record_of}
+use Rattle.cxx_decl_parser.specs.Definitions.{member_in, function_in, members_of, functions_of, in_turn, part_at, is_constructor, destructor_after, last_destructor, record_of}
+use Rattle.cxx_decl_parser.proofs.Drafts.{or_false}
 use Rattle.cxx_decl_parser.specs.Sources.{ItemReads, a_class, a_forward, a_global, a_main, ItemsRead, no_item, one_item, record_in, SourceReads, a_source, AreItemsOf}
 
 -- a part that gives nothing of this kind
@@ -54,10 +60,45 @@ functions_named before (p ∷ ps) done h =
     subst₂ (λ (o : List PartAt) (n : ℕ). NamesEach is_function o n) (append_assoc done (part_at before p) (in_turn part_at (before ++ p ∷ []) ps)) (ap (λ u. length (functions_of u)) (append_assoc before (p ∷ []) ps))
     (functions_named (before ++ p ∷ []) ps (done ++ part_at before p) (function_step before done p h))
 
+-- a constructor among the parts
+constructor_at : (before : List Part) (p : Part) → has_kind makes (part_at before p) ≡ is_constructor p
+constructor_at before (part.Label l) = refl
+constructor_at before (part.Field m at) = refl
+constructor_at before (part.Function f at b) = refl
+constructor_at before (part.Constructor at i b) = refl
+constructor_at before (part.Destructor v at b) = refl
+
+constructors_named : (before ps : List Part) → has_kind makes (in_turn part_at before ps) ≡ list_any is_constructor ps
+constructors_named before [] = refl
+constructors_named before (p ∷ ps) =
+    list_any-append (λ (e : PartAt). makes e.kind) (part_at before p) (in_turn part_at (before ++ p ∷ []) ps)
+    ∙ (ap (λ u. u || has_kind makes (in_turn part_at (before ++ p ∷ []) ps)) (constructor_at before p) ∙ ap (λ u. is_constructor p || u) (constructors_named (before ++ p ∷ []) ps))
+
+-- a destructor among the parts, or one before them
+destructor_at : (d : Destructor) (before : List Part) (p : Part) (b : Bool) → (not (is_implicit d) || (has_kind ends (part_at before p) || b)) ≡ (not (is_implicit (destructor_after d p)) || b)
+destructor_at d before (part.Label l) b = refl
+destructor_at d before (part.Field m at) b = refl
+destructor_at d before (part.Function f at t) b = refl
+destructor_at d before (part.Constructor at i t) b = refl
+destructor_at destructor.Implicit before (part.Destructor true at t) b = refl
+destructor_at destructor.Implicit before (part.Destructor false at t) b = refl
+destructor_at destructor.Plain before (part.Destructor true at t) b = refl
+destructor_at destructor.Plain before (part.Destructor false at t) b = refl
+destructor_at destructor.Virtual before (part.Destructor true at t) b = refl
+destructor_at destructor.Virtual before (part.Destructor false at t) b = refl
+
+destructors_named : (d : Destructor) (before ps : List Part) → (not (is_implicit d) || has_kind ends (in_turn part_at before ps)) ≡ not (is_implicit (last_destructor d ps))
+destructors_named d before [] = or_false (not (is_implicit d))
+destructors_named d before (p ∷ ps) =
+    ap (λ u. not (is_implicit d) || u) (list_any-append (λ (e : PartAt). ends e.kind) (part_at before p) (in_turn part_at (before ++ p ∷ []) ps))
+    ∙ (destructor_at d before p (has_kind ends (in_turn part_at (before ++ p ∷ []) ps)) ∙ destructors_named (destructor_after d p) (before ++ p ∷ []) ps)
+
 record_in_order : (text : List ℕ) (n : Lexeme) (bases : List (Base Spelled)) (parts : List Part) → IsInOrder (record_of text n bases parts)
 record_in_order text n bases parts = record {
   members = members_named [] parts [] (names_none is_member);
   functions = functions_named [] parts [] (names_none is_function);
+  constructors = constructors_named [] parts;
+  destructors = destructors_named destructor.Implicit [] parts;
 }
 
 record_of_item : (text : List ℕ) (i : Item) (is : List Item) (ts rest : List Lexeme) → ItemReads text i ts rest → AllByRecursion IsInOrder (filter_map record_in is) → AllByRecursion IsInOrder (filter_map record_in (i ∷ is))

@@ -5,23 +5,11 @@ use Rattle.cxx_grammar.specs.declared.sort.Sort.TheVariants.{Struct, Class, Publ
 use Rattle.cxx_grammar.specs.declared.sort.Lexeme.{Lexeme}
 use Rattle.cxx_grammar.specs.Sorts.{is_same, is_name}
 use Rattle.cxx_grammar.specs.Table.{Task, Only, AName, AConstant, AParam, ABlock, BaseAfterVirtual, BaseAfterAccess, ABase, BasesEnd, ClassTail, FieldEnd, ParamsEnd, MoreParamsEnd, AfterDeclared, AfterType, AfterOwnName, AnInit, ConstructorEnd, InitsEnd, AfterVirtual, VirtualEnd, PartsEnd, AfterInt, ItemsEnd, after, scalar_rest, is_scalar_word}
-use Rattle.cxx_grammar.specs.Fault.{State, admit, refusal}
-use Rattle.cxx_grammar.specs.Run.{admits, go_on, run, Outcome}
+use Rattle.cxx_grammar.specs.Event.{State, admit, refusal}
+use Rattle.cxx_grammar.specs.invariants.Run.{admits, go_on, run, Outcome}
 use Rattle.cxx_decl_parser.specs.Parts.{access_of}
 use Rattle.cxx_decl_parser.specs.Sources.{default_of}
-use Rattle.cxx_decl_parser.specs.Readers.{begins_value, value_rest}
-
--- An access after "virtual".
-virtual_access_at : (l : Lexeme) (ts : List Lexeme) (s : State) (k : List Task) (p : Bool) → access_of l.sort ≡ Some p → run (l ∷ ts) s (BaseAfterVirtual ∷ k) ≡ run ts s (AName ∷ k)
-virtual_access_at l ts s k p h0 = by_sort l.sort h0 where
-  by_sort : (t : Sort) → access_of t ≡ Some p → go_on l (after BaseAfterVirtual t) (admit t s) k (run ts) ≡ run ts s (AName ∷ k)
-  by_sort Public h0 = refl
-  by_sort Protected h0 = refl
-  by_sort Private h0 = refl
-  by_sort _ h0 = absurd (cc)
-
-pub virtual_access : (rest : List Lexeme) (l : Lexeme) (ts : List Lexeme) (s : State) (k : List Task) (p : Bool) → rest ≡ l ∷ ts → access_of l.sort ≡ Some p → run rest s (BaseAfterVirtual ∷ k) ≡ run ts s (AName ∷ k)
-virtual_access rest l ts s k p e h0 = subst (λ w. run w s (BaseAfterVirtual ∷ k) ≡ run ts s (AName ∷ k)) (sym e) (virtual_access_at l ts s k p h0)
+use Rattle.cxx_decl_parser.specs.invariants.Readers.{begins_value, value_rest}
 
 -- No access after "virtual".
 virtual_name_at : (l : Lexeme) (ts : List Lexeme) (s : State) (k : List Task) → access_of l.sort ≡ None → run (l ∷ ts) s (BaseAfterVirtual ∷ k) ≡ run (l ∷ ts) s (AName ∷ k)
@@ -118,24 +106,6 @@ param_begins_at l ts s k h0 = by_sort l.sort h0 where
 
 pub param_begins : (rest : List Lexeme) (l : Lexeme) (ts : List Lexeme) (s : State) (k : List Task) → rest ≡ l ∷ ts → begins_value l.sort ≡ true → run rest s (AParam ∷ k) ≡ run ts s (value_rest l.sort ++ k)
 param_begins rest l ts s k e h0 = subst (λ w. run w s (AParam ∷ k) ≡ run ts s (value_rest l.sort ++ k)) (sym e) (param_begins_at l ts s k h0)
-
--- Without a value no parameter begins.
-no_param_at : (l : Lexeme) (ts : List Lexeme) (s : State) (k : List Task) → begins_value l.sort ≡ false → run (l ∷ ts) s (AParam ∷ k) ≡ Outcome.Stopped (refusal l)
-no_param_at l ts s k h0 = by_sort l.sort h0 where
-  by_sort : (t : Sort) → begins_value t ≡ false → go_on l (after AParam t) (admit t s) k (run ts) ≡ Outcome.Stopped (refusal l)
-  by_sort Name h0 = absurd (cc)
-  by_sort OwnName h0 = absurd (cc)
-  by_sort Boolean h0 = absurd (cc)
-  by_sort Char h0 = absurd (cc)
-  by_sort Short h0 = absurd (cc)
-  by_sort Int h0 = absurd (cc)
-  by_sort Long h0 = absurd (cc)
-  by_sort Signed h0 = absurd (cc)
-  by_sort Unsigned h0 = absurd (cc)
-  by_sort _ h0 = refl
-
-pub no_param : (rest : List Lexeme) (l : Lexeme) (ts : List Lexeme) (s : State) (k : List Task) → rest ≡ l ∷ ts → begins_value l.sort ≡ false → run rest s (AParam ∷ k) ≡ Outcome.Stopped (refusal l)
-no_param rest l ts s k e h0 = subst (λ w. run w s (AParam ∷ k) ≡ Outcome.Stopped (refusal l)) (sym e) (no_param_at l ts s k h0)
 
 -- The first parameter.
 params_begin_at : (l : Lexeme) (ts : List Lexeme) (s : State) (k : List Task) → is_same CloseParen l.sort ≡ false → run (l ∷ ts) s (ParamsEnd ∷ k) ≡ run (l ∷ ts) s (AParam ∷ MoreParamsEnd ∷ k)
@@ -283,17 +253,6 @@ no_main_at l ts s k h0 = by_sort l.sort h0 where
 pub no_main : (rest : List Lexeme) (l : Lexeme) (ts : List Lexeme) (s : State) (k : List Task) → rest ≡ l ∷ ts → is_same Main l.sort ≡ false → run rest s (AfterInt ∷ k) ≡ run rest s (AName ∷ Only Semicolon ∷ k)
 no_main rest l ts s k e h0 = subst (λ w. run w s (AfterInt ∷ k) ≡ run w s (AName ∷ Only Semicolon ∷ k)) (sym e) (no_main_at l ts s k h0)
 
--- A class or a forward declaration.
-class_begins_at : (l : Lexeme) (ts : List Lexeme) (s : State) (k : List Task) (p : Bool) → default_of l.sort ≡ Some p → run (l ∷ ts) s (ItemsEnd ∷ k) ≡ run ts s (AName ∷ ClassTail ∷ ItemsEnd ∷ k)
-class_begins_at l ts s k p h0 = by_sort l.sort h0 where
-  by_sort : (t : Sort) → default_of t ≡ Some p → go_on l (after ItemsEnd t) (admit t s) k (run ts) ≡ run ts s (AName ∷ ClassTail ∷ ItemsEnd ∷ k)
-  by_sort Struct h0 = refl
-  by_sort Class h0 = refl
-  by_sort _ h0 = absurd (cc)
-
-pub class_begins : (rest : List Lexeme) (l : Lexeme) (ts : List Lexeme) (s : State) (k : List Task) (p : Bool) → rest ≡ l ∷ ts → default_of l.sort ≡ Some p → run rest s (ItemsEnd ∷ k) ≡ run ts s (AName ∷ ClassTail ∷ ItemsEnd ∷ k)
-class_begins rest l ts s k p e h0 = subst (λ w. run w s (ItemsEnd ∷ k) ≡ run ts s (AName ∷ ClassTail ∷ ItemsEnd ∷ k)) (sym e) (class_begins_at l ts s k p h0)
-
 -- A variable.
 value_begins_at : (l : Lexeme) (ts : List Lexeme) (s : State) (k : List Task) → begins_value l.sort ≡ true → (l.sort ≡ Int → ⊥) → run (l ∷ ts) s (ItemsEnd ∷ k) ≡ run ts s (value_rest l.sort ++ (Only Semicolon ∷ ItemsEnd ∷ k))
 value_begins_at l ts s k h0 h1 = by_sort l.sort h0 h1 where
@@ -320,18 +279,7 @@ an_init (l ∷ ts) s k = by_sort l.sort where
   by_sort Struct = refl
   by_sort _ = refl
 
--- A value that begins with no name is a scalar, and leaves what the scalar does.
-pub scalar_value : (t : Sort) → begins_value t ≡ true → is_name t ≡ false → is_scalar_word t ≡ true
-scalar_value Name h i = absurd (cc)
-scalar_value OwnName h i = absurd (cc)
-scalar_value _ h i = h
-
 pub scalar_leaves : (t : Sort) → is_name t ≡ false → value_rest t ≡ scalar_rest t
 scalar_leaves Name i = absurd (cc)
 scalar_leaves OwnName i = absurd (cc)
 scalar_leaves _ i = refl
-
-pub name_leaves : (t : Sort) → is_name t ≡ true → value_rest t ≡ Only Star ∷ AName ∷ []
-name_leaves Name i = refl
-name_leaves OwnName i = refl
-name_leaves _ i = absurd (cc)

@@ -1,5 +1,6 @@
 pub mod Parts
 pub mod Definitions
 pub mod Sources
-pub mod Readers
+pub mod invariants
 pub mod Same
+pub mod Owners

@@ -73,11 +73,15 @@ pub data FieldTypeReads (text : List ℕ) : FieldType Spelled → List Lexeme �
   an_object_field : {c : Spelled} {ts rest : List Lexeme} {n : Lexeme} →
       IsName n ts rest → c ≡ bytes_of text n → FieldTypeReads text (field_type.Object c) ts rest
 
+-- the greatest length that a record holds
+abbrev pub max_count : ℕ
+max_count = 4294967295
+
 -- ["[" number "]"]; a length that a record cannot hold is kept as the greatest that it can, which is above every limit
 pub data CountReads : Option ℕ → List Lexeme → List Lexeme → Type 0 where
   no_count : {ts : List Lexeme} → CountReads None ts ts
   a_count : {i : ℕ} {ts a b rest : List Lexeme} {o n c : Lexeme} →
-      Is OpenBracket o ts a → IsNumber n a b → Is CloseBracket c b rest → i ≡ min n.value 4294967295 → CountReads (Some i) ts rest
+      Is OpenBracket o ts a → IsNumber n a b → Is CloseBracket c b rest → i ≡ min n.value max_count → CountReads (Some i) ts rest
 
 -- value | "void"
 pub data ReturnReads (text : List ℕ) : ReturnType Spelled → List Lexeme → List Lexeme → Type 0 where

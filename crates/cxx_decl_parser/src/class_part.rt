@@ -8,13 +8,13 @@ ghost use Rattle.cxx_grammar.specs.declared.sort.Lexeme.{Lexeme};
 ghost use Rattle.cxx_grammar.specs.declared.sort.Sort.{Sort};
 ghost use Rattle.cxx_grammar.specs.Sorts.{is_name};
 ghost use Rattle.cxx_grammar.specs.Front.{IsName};
-ghost use Rattle.cxx_grammar.specs.Fault.{State};
-ghost use Rattle.cxx_grammar.specs.Run.{Follows};
+ghost use Rattle.cxx_grammar.specs.Event.{State};
+ghost use Rattle.cxx_grammar.specs.invariants.Run.{Follows};
 ghost use Rattle.cxx_grammar.specs.Table.{Only, AName, ABlock, FieldEnd, ParamsEnd, AfterDeclared, AfterType, AfterOwnName, PartsEnd, is_scalar_word, scalar_rest};
 ghost use Rattle.cxx_body_parser.specs.Statements.{IsFirst, ValueReads};
 ghost use Rattle.cxx_decl_parser.specs.declared.part.Part.{Part};
 ghost use Rattle.cxx_decl_parser.specs.Parts.{access_of, FieldTypeReads, PartReads, PartsRead};
-ghost use Rattle.cxx_decl_parser.specs.Readers.{outside, IsDraft};
+ghost use Rattle.cxx_decl_parser.specs.invariants.Readers.{outside, max_lexemes, IsDraft};
 
 use crate::base::access_of;
 use crate::draft::{Draft, public_after};
@@ -233,6 +233,7 @@ pub(crate) fn parts<'a>(
     class: &Lexeme,
     rest: &'a [Lexeme],
 ) -> Result<(Draft, Lexeme, &'a [Lexeme]), Stop>
+    requires { length rest.now ≤ max_lexemes }
     ensures reads { IfOk result (λ x. (ps : List Part) × PartsRead text.now by_default ps rest.now (x.1 ∷ x.2.now) × IsDraft text.now class.now ps x.0) }
     ensures close { IfOk result (λ x. x.1.sort ≡ Sort.CloseBrace) }
     ensures shorter { IfOk result (λ x. length x.2.now ≤ length rest.now) }

@@ -1,6 +1,6 @@
 //! The record of a class, as its parts are added.
 
-ghost use Rattle.std.specs.Prelude.{◌≡◌, ◌++◌, ◌∷◌, [], List, length, IfOk, IfErr, OnOk, ℕ, Some};
+ghost use Rattle.std.specs.Prelude.{◌≡◌, ◌++◌, ◌∷◌, ◌≤◌, [], List, length, IfOk, IfErr, OnOk, ℕ, Some};
 ghost use Rattle.cxx_hierarchy.specs.declared.stop.Stop.{Stop};
 ghost use Rattle.cxx_grammar.specs.declared.sort.Lexeme.{Lexeme};
 ghost use Rattle.cxx_hierarchy.specs.declared.records.PartKind.{PartKind};
@@ -8,7 +8,7 @@ ghost use Rattle.cxx_grammar.specs.Lexemes.{bytes_of};
 ghost use Rattle.cxx_decl_parser.specs.declared.part.Part.{Part};
 ghost use Rattle.cxx_decl_parser.specs.Parts.{public_after};
 ghost use Rattle.cxx_decl_parser.specs.Definitions.{record_of, bodies_of, declared_destructor, entry, a_body};
-ghost use Rattle.cxx_decl_parser.specs.Readers.{IsDraft};
+ghost use Rattle.cxx_decl_parser.specs.invariants.Readers.{IsDraft, max_lexemes};
 
 use crate::part::Part;
 use crate::source_text::{Body, BodyList, BodyOwner, InitList};
@@ -32,15 +32,12 @@ pub(crate) struct Draft {
     pub(crate) bodies: BodyList,
 }
 
-// A number of parts. There is never memory for a list that it does not fit.
-fn number_of(len: usize) -> Result<u32, Stop>
-    ensures ok { IfOk result (λ n. n ≡ len) }
-    ensures err { IfErr result (λ e. e ≡ Stop.NoMemory) }
+// A number of parts, of which there are at most as many as lexemes.
+fn number_of(len: usize) -> u32
+    requires { len ≤ max_lexemes }
+    ensures { result ≡ len }
 {
-    if len > 4294967295 {
-        return Err(Stop::NoMemory);
-    }
-    Ok(len as u32)
+    len as u32
 }
 
 // Whether what stands behind a part is public.
@@ -121,10 +118,11 @@ impl Draft {
     }
 
     fn add_field(&mut self, member: Member<Name>, ty_at: u32) -> Result<(), Stop>
+        requires { length self.old.members ≤ max_lexemes }
         ensures ok { OnOk result (self.new ≡ record self.old { members = self.old.members ++ member ∷ []; order = self.old.order ++ entry PartKind.Member (length self.old.members) (Some ty_at) member.at }) }
         ensures err { IfErr result (λ e. e ≡ Stop.NoMemory) }
     {
-        let number = number_of(self.members.len())?;
+        let number = number_of(self.members.len());
         self.push_entry(PartKind::Member, number, Some(ty_at), member.at)?;
         self.members.push(member)?;
         Ok(())
@@ -139,10 +137,11 @@ impl Draft {
         ty_at: u32,
         body: Option<BodyTree>,
     ) -> Result<(), Stop>
+        requires { length self.old.functions ≤ max_lexemes }
         ensures ok { OnOk result ((parts : List Part) → IsDraft text.now class.now parts self.old → IsDraft text.now class.now (parts ++ Part.Function function ty_at body ∷ []) self.new) }
         ensures err { IfErr result (λ e. e ≡ Stop.NoMemory) }
     {
-        let number = number_of(self.functions.len())?;
+        let number = number_of(self.functions.len());
         self.push_entry(PartKind::Function, number, Some(ty_at), function.at)?;
         self.functions.push(function)?;
         if let Some(tree) = body {
@@ -160,6 +159,8 @@ impl Draft {
         class: &Lexeme,
         part: Part,
     ) -> Result<(), Stop>
+        requires members { length self.old.members ≤ max_lexemes }
+        requires functions { length self.old.functions ≤ max_lexemes }
         ensures ok { OnOk result ((parts : List Part) → IsDraft text.now class.now parts self.old → IsDraft text.now class.now (parts ++ part ∷ []) self.new) }
         ensures err { IfErr result (λ e. e ≡ Stop.NoMemory) }
     {

@@ -7,12 +7,12 @@ ghost use Rattle.cxx_grammar.specs.declared.sort.Lexeme.{Lexeme};
 ghost use Rattle.cxx_grammar.specs.declared.sort.Sort.{Sort};
 ghost use Rattle.cxx_grammar.specs.Front.{Is};
 ghost use Rattle.cxx_grammar.specs.Lexemes.{bytes_of};
-ghost use Rattle.cxx_grammar.specs.Fault.{State};
-ghost use Rattle.cxx_grammar.specs.Run.{Follows};
+ghost use Rattle.cxx_grammar.specs.Event.{State};
+ghost use Rattle.cxx_grammar.specs.invariants.Run.{Follows};
 ghost use Rattle.cxx_grammar.specs.Table.{Only, AName, ABlock, AnInit, InitsEnd, ConstructorEnd, ParamsEnd, VirtualEnd, AfterVirtual};
 ghost use Rattle.cxx_body_parser.specs.Statements.{IsFirst};
 ghost use Rattle.cxx_decl_parser.specs.Parts.{InitReads, InitsRead, VirtualReads, ReturnReads, PartReads};
-ghost use Rattle.cxx_decl_parser.specs.Readers.{HeadReads, outside};
+ghost use Rattle.cxx_decl_parser.specs.invariants.Readers.{HeadReads, outside};
 
 use crate::part::Part;
 use crate::source_text::{Init, InitList};

@@ -5,13 +5,13 @@ ghost use Rattle.cxx_hierarchy.specs.declared.stop.Stop.{Stop};
 ghost use Rattle.cxx_grammar.specs.declared.sort.Lexeme.{Lexeme};
 ghost use Rattle.cxx_grammar.specs.declared.sort.Sort.{Sort};
 ghost use Rattle.cxx_grammar.specs.Front.{IsName};
-ghost use Rattle.cxx_grammar.specs.Fault.{State};
-ghost use Rattle.cxx_grammar.specs.Run.{Follows};
+ghost use Rattle.cxx_grammar.specs.Event.{State};
+ghost use Rattle.cxx_grammar.specs.invariants.Run.{Follows};
 ghost use Rattle.cxx_grammar.specs.Table.{Only, AName, ABlock, AfterInt, ClassTail, PartsEnd, ItemsEnd};
 ghost use Rattle.cxx_body_parser.specs.Statements.{IsFirst, ValueReads};
 ghost use Rattle.cxx_decl_parser.specs.Parts.{BasesRead};
 ghost use Rattle.cxx_decl_parser.specs.Sources.{default_of, IsClassKey, ItemReads, is_no_main};
-ghost use Rattle.cxx_decl_parser.specs.Readers.{begins_value, value_rest, outside, main_after, FollowsTo};
+ghost use Rattle.cxx_decl_parser.specs.invariants.Readers.{begins_value, value_rest, outside, main_after, FollowsTo, max_lexemes};
 
 use crate::base::bases;
 use crate::class_part::parts;
@@ -33,6 +33,7 @@ fn class_body<'a>(
     bases: BaseList<Name>,
     rest: &'a [Lexeme],
 ) -> Result<(Item, &'a [Lexeme]), Stop>
+    requires { length rest.now ≤ max_lexemes }
     ensures reads { IfOk result (λ x. (key : Lexeme) (ts a b : List Lexeme) → IsClassKey by_default key ts a → IsName word a b → BasesRead text.now by_default bases b rest.now → ItemReads text.now x.0 ts x.1.now) }
     ensures class { IfOk result (λ x. is_no_main x.0 ≡ true) }
     ensures shorter { IfOk result (λ x. length x.1.now ≤ length rest.now) }
@@ -53,7 +54,8 @@ fn class_item<'a>(
     key: Lexeme,
     rest: &'a [Lexeme],
 ) -> Result<(Item, &'a [Lexeme]), Stop>
-    requires { default_of key.sort ≡ Some by_default }
+    requires key { default_of key.sort ≡ Some by_default }
+    requires few { length rest.now ≤ max_lexemes }
     ensures reads { IfOk result (λ x. ItemReads text.now x.0 (key ∷ rest.now) x.1.now) }
     ensures class { IfOk result (λ x. is_no_main x.0 ≡ true) }
     ensures shorter { IfOk result (λ x. length x.1.now ≤ length rest.now) }
@@ -173,7 +175,8 @@ pub(crate) fn item<'a>(
     first: Lexeme,
     rest: &'a [Lexeme],
 ) -> Result<(Item, &'a [Lexeme]), Stop>
-    requires { first.sort ≡ Sort.End → ⊥ }
+    requires first { first.sort ≡ Sort.End → ⊥ }
+    requires few { length rest.now ≤ max_lexemes }
     ensures reads { IfOk result (λ x. ItemReads text.now x.0 (first ∷ rest.now) x.1.now) }
     ensures one_main { IfOk result (λ x. has_main ≡ true → is_no_main x.0 ≡ true) }
     ensures shorter { IfOk result (λ x. length x.1.now ≤ length rest.now) }

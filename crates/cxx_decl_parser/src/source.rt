@@ -1,17 +1,18 @@
 //! From a text to its declarations.
 
-ghost use Rattle.std.specs.Prelude.{◌≡◌, ◌++◌, ◌∷◌, ◌⊎◌, [], List, All, false, true, None, is_some, IfOk, IfErr, OnOk, OnErr};
+ghost use Rattle.std.specs.Prelude.{◌≡◌, ◌≤◌, ◌+◌, ◌++◌, ◌∷◌, ◌⊎◌, [], List, length, All, false, true, None, is_some, IfOk, IfErr, OnOk, OnErr};
+ghost use Rattle.cxx_text.specs.Cover.{max_text_bytes};
 ghost use Rattle.cxx_hierarchy.specs.declared.stop.Stop.{Stop};
 ghost use Rattle.cxx_hierarchy.specs.ClassPass.{IsInOrder};
 ghost use Rattle.cxx_grammar.specs.declared.sort.Lexeme.{Lexeme};
 ghost use Rattle.cxx_grammar.specs.declared.sort.Sort.{Sort};
 ghost use Rattle.cxx_grammar.specs.Grammar.{In, source_form};
 ghost use Rattle.cxx_grammar.specs.Lexemes.{lexemes, source_start};
-ghost use Rattle.cxx_grammar.specs.Fault.{State, sorts, Fault, FrontIs};
+ghost use Rattle.cxx_grammar.specs.Event.{sorts, at_start, Event, DerivesPrefix};
 ghost use Rattle.cxx_decl_parser.specs.declared.part.Item.{Item};
 ghost use Rattle.cxx_decl_parser.specs.Sources.{AreItemsOf, SourceReads, is_no_main};
 ghost use Rattle.cxx_grammar.specs.Table.{ItemsEnd};
-ghost use Rattle.cxx_decl_parser.specs.Readers.{outside, main_after, FollowsTo};
+ghost use Rattle.cxx_decl_parser.specs.invariants.Readers.{outside, main_after, max_lexemes, FollowsTo};
 
 use crate::item::item;
 use crate::part::Item;
@@ -96,6 +97,7 @@ fn items<'a>(
     text: &[u8],
     rest: &'a [Lexeme],
 ) -> Result<(SourceText, &'a [Lexeme]), Stop>
+    requires { length rest.now ≤ max_lexemes }
     ensures reads { IfOk result (λ x. SourceReads text.now x.0 rest.now x.1.now) }
     ensures follows { FollowsTo (λ x. x.1.now) (outside false) (ItemsEnd ∷ []) rest.now (λ x. outside (is_some x.0.main)) [] result }
 {
@@ -114,23 +116,25 @@ fn items<'a>(
 
 // The source at the front of a list of lexemes.
 fn whole_source(alloc: Global, text: &[u8], all: &[Lexeme]) -> Result<SourceText, Stop>
-    requires { In Sort.Bad (sorts all.now) }
-    ensures reads { IfOk result (λ s. (rest : List Lexeme) × SourceReads text.now s all.now rest × FrontIs source_form (outside false) all.now rest) }
+    requires ends { In Sort.Bad (sorts all.now) }
+    requires few { length all.now ≤ max_lexemes }
+    ensures reads { IfOk result (λ s. (rest : List Lexeme) × SourceReads text.now s all.now rest × DerivesPrefix source_form (outside false) all.now rest) }
     ensures in_order { IfOk result (λ s. All IsInOrder s.records) }
-    ensures fault { IfErr result (λ e. (e ≡ Stop.NoMemory) ⊎ Fault source_form (outside false) all.now e) }
+    ensures event { IfErr result (λ e. (e ≡ Stop.NoMemory) ⊎ Event source_form (outside false) all.now e) }
 {
     let (source, _rest) = items(alloc, text, all)?;
     Ok(source)
 }
 
-/// The source of a text, from its tokens.
+/// The source of a text, from its tokens, of which there are at most as many as bytes, and the end.
 ///
 /// Errors: E1, E21 or E2 at the first token with which the tokens begin no source, L3 at the 65th open block, E7 at
 /// a second `main`, or want of memory.
 pub fn parse_source(alloc: Global, text: &[u8], list: &TokenList) -> Result<SourceText, Stop>
-    ensures reads { let all = lexemes text.now source_start list.now.tokens list.now.bad in IfOk result (λ s. (rest : List Lexeme) × SourceReads text.now s all rest × FrontIs source_form (record { blocks = 0; main = false }) all rest) }
+    requires { length list.now.tokens ≤ max_text_bytes + 1 }
+    ensures reads { let all = lexemes text.now source_start list.now.tokens list.now.bad in IfOk result (λ s. (rest : List Lexeme) × SourceReads text.now s all rest × DerivesPrefix source_form at_start all rest) }
     ensures in_order { IfOk result (λ s. All IsInOrder s.records) }
-    ensures fault { let all = lexemes text.now source_start list.now.tokens list.now.bad in IfErr result (λ e. (e ≡ Stop.NoMemory) ⊎ Fault source_form (record { blocks = 0; main = false }) all e) }
+    ensures event { let all = lexemes text.now source_start list.now.tokens list.now.bad in IfErr result (λ e. (e ≡ Stop.NoMemory) ⊎ Event source_form at_start all e) }
 {
     let all = lexemes(alloc, text, list.tokens.as_slice(), list.bad, Sort::End)?;
     let source = whole_source(alloc, text, &all)?;

@@ -4,12 +4,12 @@ ghost use Rattle.std.specs.Prelude.{◌≡◌, ◌≤◌, ◌∷◌, [], List, B
 ghost use Rattle.cxx_hierarchy.specs.declared.stop.Stop.{Stop};
 ghost use Rattle.cxx_grammar.specs.declared.sort.Lexeme.{Lexeme};
 ghost use Rattle.cxx_grammar.specs.declared.sort.Sort.{Sort};
-ghost use Rattle.cxx_grammar.specs.Fault.{State};
-ghost use Rattle.cxx_grammar.specs.Run.{Follows};
+ghost use Rattle.cxx_grammar.specs.Event.{State};
+ghost use Rattle.cxx_grammar.specs.invariants.Run.{Follows};
 ghost use Rattle.cxx_grammar.specs.Table.{Only, AName, AParam, ParamsEnd, FieldEnd};
 ghost use Rattle.cxx_body_parser.specs.Statements.{ValueReads};
-ghost use Rattle.cxx_decl_parser.specs.Parts.{CountReads, ParamReads, ParamsRead};
-ghost use Rattle.cxx_decl_parser.specs.Readers.{begins_value, value_rest};
+ghost use Rattle.cxx_decl_parser.specs.Parts.{max_count, CountReads, ParamReads, ParamsRead};
+ghost use Rattle.cxx_decl_parser.specs.invariants.Readers.{begins_value, value_rest};
 
 use cxx_body_parser::is_scalar_word;
 use cxx_body_parser::scalar::scalar;
@@ -114,7 +114,7 @@ pub(crate) fn params<'a>(
 
 // The length of an array, where a record holds at most this many.
 fn held(value: u64) -> u32
-    ensures { result ≡ min value 4294967295 }
+    ensures { result ≡ min value max_count }
 {
     value.min(4294967295) as u32
 }

@@ -3,7 +3,7 @@ use Rattle.std.proofs.Common.{◌≡◌, ℕ, ◌+◌, List, [], ◌∷◌, Opti
 use Rattle.cxx_text.specs.declared.token.Token.{Token}
 use Rattle.cxx_grammar.specs.declared.sort.Sort.TheVariants.{Bad}
 use Rattle.cxx_grammar.specs.Grammar.{In}
-use Rattle.cxx_grammar.specs.Fault.{sorts}
+use Rattle.cxx_grammar.specs.Event.{sorts}
 use Rattle.cxx_grammar.specs.Lexemes.{Context, lexemes, lexeme_in, context_after}
 
 -- it ends where no token stands

@@ -5,4 +5,4 @@ pub mod Prefix
 pub mod Tails
 pub mod Steps
 pub mod Lexed
-pub mod OneFault
+pub mod OneEvent

@@ -9,9 +9,9 @@ use Rattle.cxx_hierarchy.specs.declared.stop.Stop.TheVariants as stop
 use Rattle.cxx_grammar.specs.Sorts.{is_same}
 use Rattle.cxx_grammar.specs.Grammar.{NonTerminal, AnyName, Symbol, tok, part, grammar, In, Derives, nothing, token, choose, Begins, block_form, source_form}
 use Rattle.cxx_grammar.specs.Table.{Written, Read, Task, Only, AName, ANumber, AConstant, AnOperand, APointer, UnsignedName, LongName, AParam, RightEnd, ReadPlaceEnd, AfterOperand, AfterPointer, Member, Named, Tail, ArgumentsEnd, MoreArgumentsEnd, InitEnd, ResultEnd, AfterName, PrintEnd, ABlock, StatementsEnd, ElseEnd, BaseAfterVirtual, BaseAfterAccess, ABase, BasesEnd, ClassTail, FieldEnd, ParamsEnd, MoreParamsEnd, AfterDeclared, AfterType, AfterOwnName, AnInit, ConstructorEnd, InitsEnd, AfterVirtual, VirtualEnd, PartsEnd, AfterInt, ItemsEnd, after, Line, lines, look_up}
-use Rattle.cxx_grammar.specs.Fault.{State, admit, passes, and_then, refusal, excess, sorts, Fault, FrontIs}
-use Rattle.cxx_grammar.specs.Fault as faults
-use Rattle.cxx_grammar.specs.Run.{admits, go_on, run, Done, Stopped, Stops, Leads, Follows}
+use Rattle.cxx_grammar.specs.Event.{State, admit, passes, and_then, refusal, excess, sorts, Event, DerivesPrefix}
+use Rattle.cxx_grammar.specs.Event as events
+use Rattle.cxx_grammar.specs.invariants.Run.{Outcome, admits, go_on, run, Done, Stopped, Stops, Leads, Follows}
 use Rattle.cxx_grammar.proofs.Sorts.{is_same_eq, is_same_refl}
 use Rattle.cxx_grammar.proofs.Engine.{In-left}
 use Rattle.cxx_grammar.proofs.Link.{Spells, reads_some, after_complete, after_sound, forms}
@@ -330,13 +330,13 @@ found (l ∷ ts) st (m ∷ ms) e p h = on (λ st' ns p' k. found ts st' (ns ++ m
       let pn : plain ns ≡ true = subst (λ o. plain_left o ≡ true) a (look_plain l.sort (lines m) (lines_plain m)) in
       before m ms ns l ts e st st' a (sym (admits_same m l.sort st ns hp.0 a) ∙ b) (ih st' ns (plain_join ns ms pn hp.1) h)
 
-of_found : (m : Task) (f : List Symbol) (ts : List Lexeme) (st : State) (e : Stop) → forms (m ∷ []) ≡ f ∷ [] → clean f ≡ true → In Bad (sorts ts) → Found st (m ∷ []) ts e → Fault f st ts e
+of_found : (m : Task) (f : List Symbol) (ts : List Lexeme) (st : State) (e : Stop) → forms (m ∷ []) ≡ f ∷ [] → clean f ≡ true → In Bad (sorts ts) → Found st (m ∷ []) ts e → Event f st ts e
 of_found m f ts st e i c z (at_token pre post l k ns st' s h w n q) =
-    faults.at_token pre post l st' s h (begins_where m f (sorts pre) (k ∷ ns) i w) (not_done_where m k f ns (sorts pre) i w) (not_begins_where m f (sorts (pre ++ l ∷ [])) i n) q
-of_found m f ts st e i c z (at_excess pre post l ns st' s h w o q) = faults.at_excess pre post l st' s h (begins_where m f (sorts (pre ++ l ∷ [])) ns i w) o q
+    events.at_token pre post l st' s h (begins_where m f (sorts pre) (k ∷ ns) i w) (not_done_where m k f ns (sorts pre) i w) (not_begins_where m f (sorts (pre ++ l ∷ [])) i n) q
+of_found m f ts st e i c z (at_excess pre post l ns st' s h w o q) = events.at_excess pre post l st' s h (begins_where m f (sorts (pre ++ l ∷ [])) ns i w) o q
 of_found m f ts st e i c z (at_end ns w) = let b = begins_where m f (sorts ts) ns i w in absurd (no_bad f (sorts ts ++ b.0) b.1 c (In-left Bad (sorts ts) b.0 z))
 
-stopped : (m : Task) (f : List Symbol) (ts : List Lexeme) (st : State) (e : Stop) → plain (m ∷ []) ≡ true → forms (m ∷ []) ≡ f ∷ [] → clean f ≡ true → In Bad (sorts ts) → Stops st (m ∷ []) ts e → (e ≡ stop.NoMemory) ⊎ Fault f st ts e
+stopped : (m : Task) (f : List Symbol) (ts : List Lexeme) (st : State) (e : Stop) → plain (m ∷ []) ≡ true → forms (m ∷ []) ≡ f ∷ [] → clean f ≡ true → In Bad (sorts ts) → Stops st (m ∷ []) ts e → (e ≡ stop.NoMemory) ⊎ Event f st ts e
 stopped m f ts st stop.NoMemory p i c z s = inl refl
 stopped m f ts st (stop.Refused r at) p i c z s = inr (of_found m f ts st (stop.Refused r at) i c z (found ts st (m ∷ []) (stop.Refused r at) p (s (λ h. cc) [])))
 stopped m f ts st (stop.Limit n) p i c z s = inr (of_found m f ts st (stop.Limit n) i c z (found ts st (m ∷ []) (stop.Limit n) p (s (λ h. cc) [])))
@@ -356,42 +356,60 @@ finished (l ∷ ts) rest st (m ∷ ms) p h = on (λ st' ns p' k. finished ts res
       let r = ih st' ns (plain_join ns ms pn hp.1) h in
       (l ∷ r.0, r.1, ap (λ u. l ∷ u) r.2, ap (λ o. go o ms (walk (sorts r.0))) a ∙ r.3, ap (λ o. and_then o (λ v. passes v (sorts r.0))) (sym (admits_same m l.sort st ns hp.0 a) ∙ b) ∙ r.4)
 
-run_done : (ts : List Lexeme) (st : State) → run ts st [] ≡ Done ts
+pub run_done : (ts : List Lexeme) (st : State) → run ts st [] ≡ Done ts
 run_done [] st = refl
 run_done (l ∷ ts) st = refl
 
-front_of : (m : Task) (f : List Symbol) (ts rest : List Lexeme) (st st' : State) → plain (m ∷ []) ≡ true → forms (m ∷ []) ≡ f ∷ [] → Leads st (m ∷ []) ts st' [] rest → FrontIs f st ts rest
-front_of m f ts rest st st' p i h =
-    let r = finished ts rest st (m ∷ []) p (h [] ∙ run_done rest st') in
+prefix_where : (m : Task) (f : List Symbol) (ts rest : List Lexeme) (st : State) → plain (m ∷ []) ≡ true → forms (m ∷ []) ≡ f ∷ [] → run ts st (m ∷ []) ≡ Done rest → DerivesPrefix f st ts rest
+prefix_where m f ts rest st p i h =
+    let r = finished ts rest st (m ∷ []) p h in
     let s = walk_sound (sorts r.0) (m ∷ []) [] [] r.3 ([], inl refl, nothing) in
     let e : sorts r.0 ++ [] ≡ sorts r.0 = grind (arith, common_steps) in
-    record { front = r.0; after = r.1; split = r.2; derives = spells_form m f (sorts r.0) i (subst (Spells (m ∷ [])) e s); admitted = r.4 }
+    record { prefix = r.0; after = r.1; split = r.2; derives = spells_form m f (sorts r.0) i (subst (Spells (m ∷ [])) e s); admitted = r.4 }
 
--- what the readers of a block and of a source answer, by the grammar
-pub block_ok : {X : Type 0} (rest_of : X → List Lexeme) (st : State) (ts : List Lexeme) (r : Result X Stop) → Follows rest_of st (ABlock ∷ []) ts st [] r → IfOk r (λ x. FrontIs block_form st ts (rest_of x))
-block_ok rest_of st ts (Ok x) h = front_of ABlock block_form ts (rest_of x) st st refl refl h
-block_ok rest_of st ts (Err e) h = tt
+prefix_of : (m : Task) (f : List Symbol) (ts rest : List Lexeme) (st st' : State) → plain (m ∷ []) ≡ true → forms (m ∷ []) ≡ f ∷ [] → Leads st (m ∷ []) ts st' [] rest → DerivesPrefix f st ts rest
+prefix_of m f ts rest st st' p i h = prefix_where m f ts rest st p i (h [] ∙ run_done rest st')
 
-pub block_err : {X : Type 0} (rest_of : X → List Lexeme) (st : State) (ts : List Lexeme) (r : Result X Stop) → In Bad (sorts ts) → Follows rest_of st (ABlock ∷ []) ts st [] r → IfErr r (λ e. (e ≡ stop.NoMemory) ⊎ Fault block_form st ts e)
-block_err rest_of st ts (Ok x) z h = tt
-block_err rest_of st ts (Err e) z h = stopped ABlock block_form ts st e refl refl refl z h
+-- what reading by the table comes to, by the grammar
+event_where : (m : Task) (f : List Symbol) (ts : List Lexeme) (st : State) (e : Stop) → plain (m ∷ []) ≡ true → forms (m ∷ []) ≡ f ∷ [] → clean f ≡ true → In Bad (sorts ts) → run ts st (m ∷ []) ≡ Stopped e → Event f st ts e
+event_where m f ts st e p i c z h = of_found m f ts st e i c z (found ts st (m ∷ []) e p h)
 
-pub source_ok : {X : Type 0} (rest_of : X → List Lexeme) (st st' : State) (ts : List Lexeme) (r : Result X Stop) → Follows rest_of st (ItemsEnd ∷ []) ts st' [] r → IfOk r (λ x. FrontIs source_form st ts (rest_of x))
-source_ok rest_of st st' ts (Ok x) h = front_of ItemsEnd source_form ts (rest_of x) st st' refl refl h
-source_ok rest_of st st' ts (Err e) h = tt
+pub source_prefix : (st : State) (ts rest : List Lexeme) → run ts st (ItemsEnd ∷ []) ≡ Done rest → DerivesPrefix source_form st ts rest
+source_prefix st ts rest h = prefix_where ItemsEnd source_form ts rest st refl refl h
 
-pub source_err : {X : Type 0} (rest_of : X → List Lexeme) (st st' : State) (ts : List Lexeme) (r : Result X Stop) → In Bad (sorts ts) → Follows rest_of st (ItemsEnd ∷ []) ts st' [] r → IfErr r (λ e. (e ≡ stop.NoMemory) ⊎ Fault source_form st ts e)
-source_err rest_of st st' ts (Ok x) z h = tt
-source_err rest_of st st' ts (Err e) z h = stopped ItemsEnd source_form ts st e refl refl refl z h
+pub source_event : (st : State) (ts : List Lexeme) (e : Stop) → In Bad (sorts ts) → run ts st (ItemsEnd ∷ []) ≡ Stopped e → Event source_form st ts e
+source_event st ts e z h = event_where ItemsEnd source_form ts st e refl refl refl z h
 
-pub block_front : (st : State) (ts rest : List Lexeme) → Leads st (ABlock ∷ []) ts st [] rest → FrontIs block_form st ts rest
-block_front st ts rest h = front_of ABlock block_form ts rest st st refl refl h
+pub block_prefix : (st : State) (ts rest : List Lexeme) → run ts st (ABlock ∷ []) ≡ Done rest → DerivesPrefix block_form st ts rest
+block_prefix st ts rest h = prefix_where ABlock block_form ts rest st refl refl h
 
-pub block_stop : (st : State) (ts : List Lexeme) (e : Stop) → In Bad (sorts ts) → Stops st (ABlock ∷ []) ts e → (e ≡ stop.NoMemory) ⊎ Fault block_form st ts e
+pub block_event : (st : State) (ts : List Lexeme) (e : Stop) → In Bad (sorts ts) → run ts st (ABlock ∷ []) ≡ Stopped e → Event block_form st ts e
+block_event st ts e z h = event_where ABlock block_form ts st e refl refl refl z h
+
+-- a list begins with what a form derives, or it has an event
+abbrev pub Either : List Symbol → State → List Lexeme → Type 0
+Either f st ts = ((rest : List Lexeme) × DerivesPrefix f st ts rest) ⊎ ((e : Stop) × Event f st ts e)
+
+pub source_either : (st : State) (ts : List Lexeme) → In Bad (sorts ts) → Either source_form st ts
+source_either st ts z = on (run ts st (ItemsEnd ∷ [])) refl where
+  on : (o : Outcome) → run ts st (ItemsEnd ∷ []) ≡ o → Either source_form st ts
+  on (Done rest) h = inl (rest, source_prefix st ts rest h)
+  on (Stopped e) h = inr (e, source_event st ts e z h)
+
+pub block_either : (st : State) (ts : List Lexeme) → In Bad (sorts ts) → Either block_form st ts
+block_either st ts z = on (run ts st (ABlock ∷ [])) refl where
+  on : (o : Outcome) → run ts st (ABlock ∷ []) ≡ o → Either block_form st ts
+  on (Done rest) h = inl (rest, block_prefix st ts rest h)
+  on (Stopped e) h = inr (e, block_event st ts e z h)
+
+pub block_front : (st : State) (ts rest : List Lexeme) → Leads st (ABlock ∷ []) ts st [] rest → DerivesPrefix block_form st ts rest
+block_front st ts rest h = prefix_of ABlock block_form ts rest st st refl refl h
+
+pub block_stop : (st : State) (ts : List Lexeme) (e : Stop) → In Bad (sorts ts) → Stops st (ABlock ∷ []) ts e → (e ≡ stop.NoMemory) ⊎ Event block_form st ts e
 block_stop st ts e z h = stopped ABlock block_form ts st e refl refl refl z h
 
-pub source_front : (st st' : State) (ts rest : List Lexeme) → Leads st (ItemsEnd ∷ []) ts st' [] rest → FrontIs source_form st ts rest
-source_front st st' ts rest h = front_of ItemsEnd source_form ts rest st st' refl refl h
+pub source_front : (st st' : State) (ts rest : List Lexeme) → Leads st (ItemsEnd ∷ []) ts st' [] rest → DerivesPrefix source_form st ts rest
+source_front st st' ts rest h = prefix_of ItemsEnd source_form ts rest st st' refl refl h
 
-pub source_stop : (st : State) (ts : List Lexeme) (e : Stop) → In Bad (sorts ts) → Stops st (ItemsEnd ∷ []) ts e → (e ≡ stop.NoMemory) ⊎ Fault source_form st ts e
+pub source_stop : (st : State) (ts : List Lexeme) (e : Stop) → In Bad (sorts ts) → Stops st (ItemsEnd ∷ []) ts e → (e ≡ stop.NoMemory) ⊎ Event source_form st ts e
 source_stop st ts e z h = stopped ItemsEnd source_form ts st e refl refl refl z h

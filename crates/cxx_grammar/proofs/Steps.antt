@@ -4,8 +4,8 @@ use Rattle.cxx_grammar.specs.declared.sort.Lexeme.{Lexeme}
 use Rattle.cxx_hierarchy.specs.declared.stop.Stop.{Stop}
 use Rattle.cxx_grammar.specs.declared.sort.Sort.{Sort}
 use Rattle.cxx_grammar.specs.Table.{Task, after}
-use Rattle.cxx_grammar.specs.Fault.{State}
-use Rattle.cxx_grammar.specs.Run.{run, go_on, admits, Outcome, Stops, Follows, FollowsBy}
+use Rattle.cxx_grammar.specs.Event.{State}
+use Rattle.cxx_grammar.specs.invariants.Run.{run, go_on, admits, Outcome, Stops, Follows, FollowsBy}
 
 -- tasks that do what others do
 pub same_tasks : {X : Type 0} (rest_of : X → List Lexeme) (s s' : State) (ms others left : List Task) (ts : List Lexeme) (r : Result X Stop) →

@@ -5,8 +5,8 @@ use Rattle.cxx_grammar.specs.declared.sort.Sort.TheVariants.{Struct, Boolean, Ch
 use Rattle.cxx_grammar.specs.declared.sort.Lexeme.{Lexeme}
 use Rattle.cxx_grammar.specs.Sorts.{is_same, is_name, is_number}
 use Rattle.cxx_grammar.specs.Table.{Use, Written, Read, Task, Only, AName, AConstant, AnOperand, APointer, UnsignedName, LongName, RightEnd, ReadPlaceEnd, AfterOperand, AfterPointer, Member, Named, Tail, ArgumentsEnd, MoreArgumentsEnd, InitEnd, ResultEnd, AfterName, PrintEnd, StatementsEnd, after, end_tasks, scalar_rest, is_scalar_word, is_operator, is_pointer, is_constant}
-use Rattle.cxx_grammar.specs.Fault.{State, admit, refusal}
-use Rattle.cxx_grammar.specs.Run.{go_on, run, Outcome}
+use Rattle.cxx_grammar.specs.Event.{State, admit, refusal}
+use Rattle.cxx_grammar.specs.invariants.Run.{go_on, run, Outcome}
 
 -- At a token other than "." what follows a place is left.
 place_ends_at : (u : Use) (l : Lexeme) (ts : List Lexeme) (s : State) (k : List Task) → is_same Dot l.sort ≡ false → run (l ∷ ts) s (Tail u ∷ k) ≡ run (l ∷ ts) s (end_tasks u ++ k)
@@ -119,16 +119,6 @@ arguments_begin_at l ts s k h = by_sort l.sort h where
 pub arguments_begin : (rest : List Lexeme) (l : Lexeme) (ts : List Lexeme) (s : State) (k : List Task) → rest ≡ l ∷ ts → is_same CloseParen l.sort ≡ false → run rest s (ArgumentsEnd ∷ k) ≡ run rest s (AnOperand ∷ MoreArgumentsEnd ∷ k)
 arguments_begin rest l ts s k e h0 = subst (λ w. run w s (ArgumentsEnd ∷ k) ≡ run w s (AnOperand ∷ MoreArgumentsEnd ∷ k)) (sym e) (arguments_begin_at l ts s k h0)
 
--- Without a comma the arguments end.
-no_argument_at : (l : Lexeme) (ts : List Lexeme) (s : State) (k : List Task) → is_same Comma l.sort ≡ false → run (l ∷ ts) s (MoreArgumentsEnd ∷ k) ≡ run (l ∷ ts) s (Only CloseParen ∷ k)
-no_argument_at l ts s k h = by_sort l.sort h where
-  by_sort : (t : Sort) → is_same Comma t ≡ false → go_on l (after MoreArgumentsEnd t) (admit t s) k (run ts) ≡ go_on l (after (Only CloseParen) t) (Some s) k (run ts)
-  by_sort Comma h = absurd (cc)
-  by_sort _ h = refl
-
-pub no_argument : (rest : List Lexeme) (l : Lexeme) (ts : List Lexeme) (s : State) (k : List Task) → rest ≡ l ∷ ts → is_same Comma l.sort ≡ false → run rest s (MoreArgumentsEnd ∷ k) ≡ run rest s (Only CloseParen ∷ k)
-no_argument rest l ts s k e h0 = subst (λ w. run w s (MoreArgumentsEnd ∷ k) ≡ run w s (Only CloseParen ∷ k)) (sym e) (no_argument_at l ts s k h0)
-
 -- What "print" prints, where it is no type and no view.
 print_operand_at : (l : Lexeme) (ts : List Lexeme) (s : State) (k : List Task) → is_same Typeid l.sort ≡ false → is_same DynamicCast l.sort ≡ false → run (l ∷ ts) s (PrintEnd ∷ k) ≡ run (l ∷ ts) s (AnOperand ∷ Only CloseParen ∷ Only Semicolon ∷ k)
 print_operand_at l ts s k h i = by_sort l.sort h i where
@@ -228,19 +218,6 @@ name_statement l ts s k h = by_sort l.sort h where
   by_sort OwnName h = refl
   by_sort _ h = absurd (cc)
 
--- "unsigned" alone, and "long" alone.
-only_unsigned_at : (l : Lexeme) (ts : List Lexeme) (s : State) (k : List Task) → is_same Char l.sort ≡ false → is_same Short l.sort ≡ false → is_same Int l.sort ≡ false → is_same Long l.sort ≡ false → run (l ∷ ts) s (UnsignedName ∷ k) ≡ run (l ∷ ts) s (AName ∷ k)
-only_unsigned_at l ts s k a b c d = by_sort l.sort a b c d where
-  by_sort : (t : Sort) → is_same Char t ≡ false → is_same Short t ≡ false → is_same Int t ≡ false → is_same Long t ≡ false → go_on l (after UnsignedName t) (admit t s) k (run ts) ≡ go_on l (after AName t) (admit t s) k (run ts)
-  by_sort Char a b c d = absurd (cc)
-  by_sort Short a b c d = absurd (cc)
-  by_sort Int a b c d = absurd (cc)
-  by_sort Long a b c d = absurd (cc)
-  by_sort _ a b c d = refl
-
-pub only_unsigned : (rest : List Lexeme) (l : Lexeme) (ts : List Lexeme) (s : State) (k : List Task) → rest ≡ l ∷ ts → is_same Char l.sort ≡ false → is_same Short l.sort ≡ false → is_same Int l.sort ≡ false → is_same Long l.sort ≡ false → run rest s (UnsignedName ∷ k) ≡ run rest s (AName ∷ k)
-only_unsigned rest l ts s k e h0 h1 h2 h3 = subst (λ w. run w s (UnsignedName ∷ k) ≡ run w s (AName ∷ k)) (sym e) (only_unsigned_at l ts s k h0 h1 h2 h3)
-
 only_long_at : (l : Lexeme) (ts : List Lexeme) (s : State) (k : List Task) → is_same Long l.sort ≡ false → run (l ∷ ts) s (LongName ∷ k) ≡ run (l ∷ ts) s (AName ∷ k)
 only_long_at l ts s k h = by_sort l.sort h where
   by_sort : (t : Sort) → is_same Long t ≡ false → go_on l (after LongName t) (admit t s) k (run ts) ≡ go_on l (after AName t) (admit t s) k (run ts)
@@ -275,14 +252,6 @@ no_constant l ts s k h = by_sort l.sort h where
   by_sort True h = absurd (cc)
   by_sort False h = absurd (cc)
   by_sort _ h = refl
-
--- A number, after which a constant ends.
-pub number_right : (l : Lexeme) (ts : List Lexeme) (s : State) (k : List Task) → is_number l.sort ≡ true → run (l ∷ ts) s (AConstant ∷ k) ≡ run ts s k
-number_right l ts s k h = by_sort l.sort h where
-  by_sort : (t : Sort) → is_number t ≡ true → go_on l (after AConstant t) (admit t s) k (run ts) ≡ run ts s k
-  by_sort Number h = refl
-  by_sort Zero h = refl
-  by_sort _ h = absurd (cc)
 
 -- A word of a scalar that is none of the others is "long".
 pub long_word : (t : Sort) → is_scalar_word t ≡ true → (t ≡ Boolean → ⊥) → (t ≡ Char → ⊥) → (t ≡ Short → ⊥) → (t ≡ Int → ⊥) → (t ≡ Signed → ⊥) → (t ≡ Unsigned → ⊥) → t ≡ Long

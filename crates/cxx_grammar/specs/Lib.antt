@@ -4,5 +4,5 @@ pub mod Lexemes
 pub mod Front
 pub mod Grammar
 pub mod Table
-pub mod Fault
-pub mod Run
+pub mod Event
+pub mod invariants

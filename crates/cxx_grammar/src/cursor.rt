@@ -3,10 +3,10 @@
 ghost use Rattle.std.specs.Prelude.{◌≡◌, ◌∷◌, [], IfOk, IfErr};
 ghost use Rattle.cxx_hierarchy.specs.declared.stop.Stop.{Stop};
 ghost use Rattle.cxx_hierarchy.specs.declared.stop.Rule.{Rule};
-ghost use Rattle.cxx_grammar.specs.Fault.{State, refusal};
+ghost use Rattle.cxx_grammar.specs.Event.{State, refusal};
 ghost use Rattle.cxx_grammar.specs.Front.{Is, IsName, IsNumber};
 ghost use Rattle.cxx_grammar.specs.Lexemes.{bytes_of};
-ghost use Rattle.cxx_grammar.specs.Run.{Follows};
+ghost use Rattle.cxx_grammar.specs.invariants.Run.{Follows};
 ghost use Rattle.cxx_grammar.specs.Table.{Only, AName, ANumber};
 
 use crate::lexing::bytes_between;

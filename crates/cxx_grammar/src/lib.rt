@@ -1,7 +1,7 @@
 //! The grammar of the language: a small part of C++ (ISO C++03 annex A).
 //!
 //! This crate owns the definitions of what each token is to the grammar (`Sort`, `lexemes`), of the grammar as data
-//! (`grammar`) and what it derives (`Derives`, `Begins`), and of the first event at which reading stops (`Fault`):
+//! (`grammar`) and what it derives (`Derives`, `Begins`), and of the first event at which reading stops (`Event`):
 //! E1, E21 or E2 at the first token that continues no reading, and, where a token does continue one, L3 at the
 //! 65th open block and E7 at a second main.
 //!
@@ -18,6 +18,6 @@ mod tests;
 pub mod words;
 
 pub use crate::cursor::{name_of, next, refusal, take, take_name, take_number};
-pub use crate::laws::one_fault;
+pub use crate::laws::{one_event, some_event};
 pub use crate::lexing::lexemes;
-pub use crate::sort::{Lexeme, Sort, is_name, is_number, is_same};
+pub use crate::sort::{Lexeme, Sort, is_name, is_same};

@@ -1,7 +1,7 @@
 //! What a token is to the grammar.
 
 ghost use Rattle.std.specs.Prelude.{◌≡◌, true};
-ghost use Rattle.cxx_grammar.specs.Sorts.{sort_no, is_same, is_name, is_number};
+ghost use Rattle.cxx_grammar.specs.Sorts.{sort_no, is_same, is_name};
 
 /// What a token is to the grammar: the terminals, and what none of them is.
 #[derive(Clone, Copy, Debug, PartialEq, Eq)]
@@ -113,16 +113,6 @@ pub fn is_name(sort: Sort) -> bool
 {
     match sort {
         Sort::Name | Sort::OwnName => true,
-        _ => false,
-    }
-}
-
-/// Whether a sort is that of a number.
-pub fn is_number(sort: Sort) -> bool
-    ensures { result ≡ is_number sort }
-{
-    match sort {
-        Sort::Number | Sort::Zero => true,
         _ => false,
     }
 }

@@ -12,6 +12,8 @@ use Rattle.std.specs.Str.{bytes_eq}
 use Rattle.std.proofs.lemmas.Option.{slice_get-get_or, slice_get_within}
 use Rattle.std.proofs.lemmas.List.{length-take-le, length-map}
 use Rattle.std.proofs.lemmas.Bool.Decides.{nat_tests}
+use Rattle.foundation.proofs.Truth.{not_both, or_parts}
+use Rattle.foundation.proofs.Places.{get_within}
 use Rattle.cxx_hierarchy.specs.declared.records.ClassId.{ClassId}
 use Rattle.cxx_hierarchy.specs.declared.records.Base.{Base}
 use Rattle.cxx_hierarchy.specs.declared.records.Member.{Member}
@@ -27,11 +29,13 @@ use Rattle.cxx_hierarchy.specs.declared.records.ReturnType.TheVariants.{Void, Va
 use Rattle.cxx_hierarchy.specs.declared.records.FieldType.{FieldType}
 use Rattle.cxx_hierarchy.specs.declared.records.FieldType.TheVariants.{Value, Object}
 use Rattle.cxx_hierarchy.specs.NameTables.{Text, place_in, is_in}
-use Rattle.cxx_hierarchy.specs.ClassPass.{Record, known_faults, complete_faults, value_faults, field_faults, return_faults, param_faults, base_faults, is_bad_count, member_faults, function_faults, part_faults, content_faults, class_faults, faults_of, in_turn, is_repeat, is_named, part_name, name_at, names_of, names_taken, is_member, is_function, is_part, IsInOrder}
+use Rattle.cxx_hierarchy.specs.ClassPass.{Record, known_faults, complete_faults, value_faults, field_faults, return_faults, param_faults, base_faults, is_bad_count, member_faults, function_faults, part_faults, content_faults, class_faults, faults_of, in_turn, is_repeat, is_named, part_name, name_at, names_of, names_taken, is_second, IsInOrder}
+use Rattle.cxx_hierarchy.specs.Orders.{is_member, is_function, is_constructor, is_destructor, parts_of_kind, has_kind}
 use Rattle.cxx_hierarchy.specs.Resolved.{class_of_name, resolved_value, resolved_field, resolved_return}
 use Rattle.cxx_hierarchy.proofs.Places.{take_map}
+use Rattle.cxx_hierarchy.proofs.Orders.{numbered, passes_once}
 use Rattle.cxx_hierarchy.proofs.Faults.{none_left, none_right, none_at, not_faulty}
-use Rattle.cxx_hierarchy.proofs.Listed.{get_map, get_take, is_in_at, place_below, place_listed, counted, given_name, same_itself}
+use Rattle.cxx_hierarchy.proofs.Listed.{get_map, get_take, is_in_at, place_below, place_listed, given_name, same_itself}
 
 -- records in which the pass finds nothing
 pub record IsAccepted (records : List Record) : Type 0 where
@@ -61,14 +65,6 @@ shown : (b : Bool) → not b ≡ false → b ≡ true
 shown true h = refl
 shown false h = absurd (cc)
 
-bool_clash : (b : Bool) → b ≡ true → b ≡ false → ⊥
-bool_clash true p q = absurd (cc)
-bool_clash false p q = absurd (cc)
-
-left_false : (a b : Bool) → (a || b) ≡ false → a ≡ false
-left_false true b h = absurd (cc)
-left_false false b h = refl
-
 same_number : (m n : ℕ) → nat_eq m n ≡ true → m ≡ n
 same_number m n h = grind (arith, nat_tests)
 
@@ -80,18 +76,13 @@ pub function_named : (r : Record) (part : PartAt) (j : ℕ) (f : Function Text) 
 function_named r part j f kind number at =
     ap (λ (k : PartKind). name_at r k part.number) kind ∙ ap (name_at r FunctionPart) number ∙ ap (option_map (λ (x : Function Text). x.name)) at
 
--- the item of a place that a list has
-at_place : {X : Type 0} (xs : List X) (i : ℕ) → i < length xs → (x : X) × (slice_get xs i ≡ Some x)
-at_place [] i h = absurd (omega arith)
-at_place (x ∷ xs) i h = (get_or (x ∷ xs) i x, slice_get-get_or (x ∷ xs) i x h)
-
 -- a list that has no item at place n has at most n items
 up_to : {X : Type 0} (xs : List X) (n : ℕ) → ((x : X) → slice_get xs n ≡ Some x → ⊥) → length xs ≤ n
 up_to xs n none = by (cases_lt n (length xs))
   where
     by : (n < length xs) ⊎ (length xs ≤ n) → length xs ≤ n
     by (inr h) = h
-    by (inl h) = let r = at_place xs n h in absurd (none r.0 r.1)
+    by (inl h) = let r = get_within xs n h in absurd (none r.0 r.1)
 
 no_less : (n : ℕ) → nat_le n n ≡ false → ⊥
 no_less n h = absurd (grind (arith, nat_tests))
@@ -152,33 +143,27 @@ pub record HasPart (r : Record) (k : PartKind) (j : ℕ) : Type 0 where
   pub kind : part.kind ≡ k
   pub number : part.number ≡ j
 
-member_kind : (kind : PartKind) (b : Bool) → (if is_member kind then b else false) ≡ true → (kind ≡ MemberPart) × (b ≡ true)
-member_kind MemberPart b h = (refl, h)
-member_kind FunctionPart b h = absurd (cc)
-member_kind Constructor b h = absurd (cc)
-member_kind Destructor b h = absurd (cc)
+member_kind : (kind : PartKind) → is_member kind ≡ true → kind ≡ MemberPart
+member_kind MemberPart h = refl
+member_kind FunctionPart h = absurd (cc)
+member_kind Constructor h = absurd (cc)
+member_kind Destructor h = absurd (cc)
 
 pub member_part : (r : Record) → IsInOrder r → (j : ℕ) (m : Member Text) → slice_get r.members j ≡ Some m → HasPart r MemberPart j
 member_part r in_order j m at =
-    let within : j < length r.members = slice_get_within r.members j m at in
-    let below : nat_lt j (length r.members) ≡ true = grind (arith, nat_tests) in
-    let one = counted (is_part is_member j) r.order (in_order.members j ∙ ap (λ (b : Bool). if b then 1 else 0) below) in
-    let both = member_kind one.item.kind (nat_eq one.item.number j) one.passes in
-    record { place = one.place; part = one.item; listed = one.listed; kind = both.0; number = same_number one.item.number j both.1 }
+    let one = numbered is_member r.order (length r.members) in_order.members j (slice_get_within r.members j m at) in
+    record { place = one.place; part = one.part; listed = one.listed; kind = member_kind one.part.kind one.passes; number = one.number }
 
-function_kind : (kind : PartKind) (b : Bool) → (if is_function kind then b else false) ≡ true → (kind ≡ FunctionPart) × (b ≡ true)
-function_kind FunctionPart b h = (refl, h)
-function_kind MemberPart b h = absurd (cc)
-function_kind Constructor b h = absurd (cc)
-function_kind Destructor b h = absurd (cc)
+function_kind : (kind : PartKind) → is_function kind ≡ true → kind ≡ FunctionPart
+function_kind FunctionPart h = refl
+function_kind MemberPart h = absurd (cc)
+function_kind Constructor h = absurd (cc)
+function_kind Destructor h = absurd (cc)
 
 pub function_part : (r : Record) → IsInOrder r → (j : ℕ) (f : Function Text) → slice_get r.functions j ≡ Some f → HasPart r FunctionPart j
 function_part r in_order j f at =
-    let within : j < length r.functions = slice_get_within r.functions j f at in
-    let below : nat_lt j (length r.functions) ≡ true = grind (arith, nat_tests) in
-    let one = counted (is_part is_function j) r.order (in_order.functions j ∙ ap (λ (b : Bool). if b then 1 else 0) below) in
-    let both = function_kind one.item.kind (nat_eq one.item.number j) one.passes in
-    record { place = one.place; part = one.item; listed = one.listed; kind = both.0; number = same_number one.item.number j both.1 }
+    let one = numbered is_function r.order (length r.functions) in_order.functions j (slice_get_within r.functions j f at) in
+    record { place = one.place; part = one.part; listed = one.listed; kind = function_kind one.part.kind one.passes; number = one.number }
 
 -- no more numbers have a part than there are parts
 few_numbered : (r : Record) (kind : PartKind) (n : ℕ) → length r.order ≤ 1024 → ((q : ℕ) → q < n → HasPart r kind q) → n ≤ 1024
@@ -192,11 +177,11 @@ few_numbered r kind n parts each =
 
 pub few_members : (records : List Record) → IsAccepted records → (i : ℕ) (r : Record) → slice_get records i ≡ Some r → length r.members ≤ 1024
 few_members records accepted i r at = few_numbered r MemberPart (length r.members) (few_parts records accepted i r at) (λ q below.
-    let m = at_place r.members q below in member_part r (accepted.in_order i r at) q m.0 m.1)
+    let m = get_within r.members q below in member_part r (accepted.in_order i r at) q m.0 m.1)
 
 pub few_functions : (records : List Record) → IsAccepted records → (i : ℕ) (r : Record) → slice_get records i ≡ Some r → length r.functions ≤ 1024
 few_functions records accepted i r at = few_numbered r FunctionPart (length r.functions) (few_parts records accepted i r at) (λ q below.
-    let f = at_place r.functions q below in function_part r (accepted.in_order i r at) q f.0 f.1)
+    let f = get_within r.functions q below in function_part r (accepted.in_order i r at) q f.0 f.1)
 
 -- what a member or a function says is in order
 content_clean : (records : List Record) → IsAccepted records → (i : ℕ) (r : Record) → slice_get records i ≡ Some r → (kind : PartKind) (j : ℕ) → HasPart r kind j →
@@ -269,11 +254,11 @@ named_before : (records : List Record) → IsAccepted records → (i : ℕ) (r :
     (p q : PartAt) (j k : ℕ) (x y : Text) → slice_get r.order j ≡ Some p → slice_get r.order k ≡ Some q → part_name r p ≡ Some x → part_name r q ≡ Some y → x ≡ y → j < k → ⊥
 named_before records accepted i r at p q j k x y at_p at_q name_x name_y same less =
     let none : is_repeat r (take k r.order) q ≡ false = not_faulty _ _ (none_right _ _ (none_left _ _ (none_at (part_faults (names_of records) (names_of (take i records)) r) r.order k q (clean records accepted i r at).parts at_q))) in
-    let fresh : is_named (names_taken r (take k r.order)) (part_name r q) ≡ false = left_false _ _ none in
+    let fresh : is_named (names_taken r (take k r.order)) (part_name r q) ≡ false = (or_parts _ _ none).0 in
     let given = given_name (part_name r) (take k r.order) j p x (get_take r.order j k p less at_p) name_x in
     let there : is_in (names_taken r (take k r.order)) y ≡ true = is_in_at (names_taken r (take k r.order)) (suc given.place) x y given.listed same in
     let gone : is_in (names_taken r (take k r.order)) y ≡ false = ap (is_named (names_taken r (take k r.order))) (sym name_y) ∙ fresh in
-    bool_clash _ there gone
+    not_both there gone
 
 pub apart : (i j : ℕ) → (i < j → ⊥) → (j < i → ⊥) → i ≡ j
 apart i j p q = by (cases_lt i j)
@@ -296,6 +281,31 @@ one_part records accepted i r at kind other j k p q x y name_x name_y same =
     let part : p.part ≡ q.part = cc in
     part
 
+-- a class has one constructor at most, and one destructor
+no_second : (records : List Record) → IsAccepted records → (i : ℕ) (r : Record) → slice_get records i ≡ Some r → (k : ℕ) (p : PartAt) → slice_get r.order k ≡ Some p → is_second (take k r.order) p.kind ≡ false
+no_second records accepted i r at k p at_p =
+    (or_parts _ _ (not_faulty _ _ (none_right _ _ (none_left _ _ (none_at (part_faults (names_of records) (names_of (take i records)) r) r.order k p (clean records accepted i r at).parts at_p))))).1
+
+constructor_kind : (kind : PartKind) → is_constructor kind ≡ true → kind ≡ Constructor
+constructor_kind Constructor h = refl
+constructor_kind MemberPart h = absurd (cc)
+constructor_kind FunctionPart h = absurd (cc)
+constructor_kind Destructor h = absurd (cc)
+
+destructor_kind : (kind : PartKind) → is_destructor kind ≡ true → kind ≡ Destructor
+destructor_kind Destructor h = refl
+destructor_kind MemberPart h = absurd (cc)
+destructor_kind FunctionPart h = absurd (cc)
+destructor_kind Constructor h = absurd (cc)
+
+pub one_constructor : (records : List Record) → IsAccepted records → (i : ℕ) (r : Record) → slice_get records i ≡ Some r → length (parts_of_kind is_constructor r.order) ≡ (if has_kind is_constructor r.order then 1 else 0)
+one_constructor records accepted i r at = passes_once (λ (p : PartAt). is_constructor p.kind) r.order
+    (λ k p at_p passes. subst (λ (q : PartKind). is_second (take k r.order) q ≡ false) (constructor_kind p.kind passes) (no_second records accepted i r at k p at_p))
+
+pub one_destructor : (records : List Record) → IsAccepted records → (i : ℕ) (r : Record) → slice_get records i ≡ Some r → length (parts_of_kind is_destructor r.order) ≡ (if has_kind is_destructor r.order then 1 else 0)
+one_destructor records accepted i r at = passes_once (λ (p : PartAt). is_destructor p.kind) r.order
+    (λ k p at_p passes. subst (λ (q : PartKind). is_second (take k r.order) q ≡ false) (destructor_kind p.kind passes) (no_second records accepted i r at k p at_p))
+
 -- two bases of one class are one
 base_name : (records : List Record) → IsAccepted records → (i : ℕ) (r : Record) → slice_get records i ≡ Some r → (k : ℕ) (b : Base Text) → slice_get r.bases k ≡ Some b → is_in (names_of records) b.class ≡ true
 base_name records accepted i r at k b at_b =
@@ -308,14 +318,14 @@ base_before records accepted i r at j k x y at_x at_y same less =
     let faults = none_at (base_faults (names_of records) (names_of (take i records))) r.bases k y (clean records accepted i r at).bases at_y in
     let fresh : list_any (λ (b : Base Text). bytes_eq y.class b.class) (take k r.bases) ≡ false = not_faulty _ _ (none_right _ _ faults) in
     let there : list_any (λ (b : Base Text). bytes_eq y.class b.class) (take k r.bases) ≡ true = any_passes_from_place (λ (b : Base Text). bytes_eq y.class b.class) (take k r.bases) j x (get_take r.bases j k x less at_x) (subst (λ (n : Text). bytes_eq y.class n ≡ true) same (same_itself y.class)) in
-    bool_clash _ there fresh
+    not_both there fresh
 
 -- a name among the names stands at its number
 stands_at : (names : List Text) (name : Text) → is_in names name ≡ true → slice_get names (class_of_name names name).0 ≡ Some name
 stands_at names name there = at (place_in names name) refl
   where
     at : (o : Option ℕ) → place_in names name ≡ o → slice_get names (class_of_name names name).0 ≡ Some name
-    at None e = let none : is_in names name ≡ false = ap is_some e in absurd (bool_clash _ there none)
+    at None e = let none : is_in names name ≡ false = ap is_some e in absurd (not_both there none)
     at (Some n) e =
         let same : (class_of_name names name).0 ≡ n = ap (λ (o : Option ℕ). unwrap_or o 0) e in
         ap (slice_get names) same ∙ place_listed names name n e

@@ -11,12 +11,6 @@ stops_left [] ys e (inl h) = inl h
 stops_left [] ys e (inr h) = inr (absurd (cc))
 stops_left (x ∷ xs) ys e h = h
 
-pub stops_right : (xs ys : List Stop) (e : Stop) → xs ≡ [] → StopsAt ys e → StopsAt (xs ++ ys) e
-stops_right xs ys e none h = subst (λ (zs : List Stop). StopsAt (zs ++ ys) e) (sym none) h
-
-pub none_both : (xs ys : List Stop) → xs ≡ [] → ys ≡ [] → xs ++ ys ≡ []
-none_both xs ys p q = rw (p, q) refl
-
 pub none_left : (xs ys : List Stop) → xs ++ ys ≡ [] → xs ≡ []
 none_left [] ys h = refl
 none_left (x ∷ xs) ys h = absurd (cc)
@@ -42,22 +36,10 @@ in_turn_at : {X : Type 0} (faults : List X → X → List Stop) (xs : List X) (i
 in_turn_at {X} faults xs i x h e =
     subst (λ (y : X). in_turn faults (take i xs) (drop i xs) ≡ faults (take i xs) y ++ in_turn faults (take (i + 1) xs) (drop (i + 1) xs)) (sym e) (in_turn_next faults xs i x h)
 
-pub none_first : {X : Type 0} (faults : List X → X → List Stop) (xs : List X) → NoneBefore faults xs 0
-none_first faults [] = record { left = refl }
-none_first faults (x ∷ xs) = record { left = refl }
-
 pub none_more : {X : Type 0} (faults : List X → X → List Stop) (xs : List X) (i : ℕ) (x : X) →
     NoneBefore faults xs i → i < length xs → x ≡ get_or xs i x → faults (take i xs) x ≡ [] → NoneBefore faults xs (i + 1)
 none_more faults xs i x before h e none =
     record { left = before.left ∙ in_turn_at faults xs i x h e ∙ ap (λ (ys : List Stop). ys ++ in_turn faults (take (i + 1) xs) (drop (i + 1) xs)) none }
-
-pub stops_at_item : {X : Type 0} (faults : List X → X → List Stop) (xs : List X) (i : ℕ) (x : X) (stop : Stop) →
-    NoneBefore faults xs i → i < length xs → x ≡ get_or xs i x → StopsAt (faults (take i xs) x) stop → StopsAt (in_turn faults [] xs) stop
-stops_at_item faults xs i x stop before h e at =
-    subst (λ (ys : List Stop). StopsAt ys stop) (sym (before.left ∙ in_turn_at faults xs i x h e)) (stops_left _ _ stop at)
-
-pub none_at_end : {X : Type 0} (faults : List X → X → List Stop) (xs : List X) (i : ℕ) → NoneBefore faults xs i → length xs ≤ i → in_turn faults [] xs ≡ []
-none_at_end faults xs i before h = before.left ∙ rw (drop_of_length-le xs h) refl
 
 none_after : {X : Type 0} (faults : List X → X → List Stop) (before xs : List X) (i : ℕ) (x : X) → in_turn faults before xs ≡ [] → slice_get xs i ≡ Some x → faults (before ++ take i xs) x ≡ []
 none_after faults before [] i x = λ none h. absurd (cc)

@@ -1,5 +1,5 @@
 -- Records without a fault make a hierarchy.
-use Rattle.std.proofs.Common.{◌≡◌, ℕ, ◌<◌, ◌≤◌, List, length, map, refl, sym, ◌∙◌, ap, subst, arith}
+use Rattle.std.proofs.Common.{◌≡◌, ℕ, ◌<◌, ◌≤◌, Bool, true, false, not, if◌then◌else◌, List, length, map, refl, sym, ◌∙◌, ap, subst, arith}
 use Rattle.std.specs.Prelude.{Option, Some, None, slice_get, Contains}
 use Rattle.std.proofs.lemmas.List.{length-map}
 use Rattle.cxx_hierarchy.specs.declared.records.ClassId.{ClassId}
@@ -11,12 +11,14 @@ use Rattle.cxx_hierarchy.specs.declared.records.PartAt.{PartAt}
 use Rattle.cxx_hierarchy.specs.declared.records.PartKind.TheVariants.{Member as MemberPart, Function as FunctionPart}
 use Rattle.cxx_hierarchy.specs.Classes.{Class, class_at, bases_of, members_of, functions_of, bases_in, members_in, functions_in}
 use Rattle.cxx_hierarchy.specs.NameTables.{Text}
-use Rattle.cxx_hierarchy.specs.ClassPass.{Record, names_of, is_function}
+use Rattle.cxx_hierarchy.specs.Declarations.{is_implicit}
+use Rattle.cxx_hierarchy.specs.Orders.{is_member, is_function, is_constructor, is_destructor, parts_of_kind, NamesEach}
+use Rattle.cxx_hierarchy.specs.ClassPass.{Record, names_of}
 use Rattle.cxx_hierarchy.specs.Resolved.{class_of_name, resolved, resolved_class, resolved_base, resolved_member, resolved_param, resolved_function}
-use Rattle.cxx_hierarchy.specs.Hierarchies.{IsHierarchy}
+use Rattle.cxx_hierarchy.specs.Hierarchies.{HasOrder, IsHierarchy}
 use Rattle.cxx_hierarchy.proofs.Faults.{none_left, none_right, not_faulty}
 use Rattle.cxx_hierarchy.proofs.Listed.{mapped, placed}
-use Rattle.cxx_hierarchy.proofs.Accepted.{IsAccepted, few_records, few_bases, new_names, base_below, one_base, part_named, function_named, member_part, function_part, few_members, few_functions, member_clean, function_clean, object_below, pointer_below, return_below, param_below, few_params, good_count, apart, one_part}
+use Rattle.cxx_hierarchy.proofs.Accepted.{IsAccepted, few_records, few_bases, new_names, base_below, one_base, part_named, function_named, member_part, function_part, few_members, few_functions, member_clean, function_clean, object_below, pointer_below, return_below, param_below, few_params, good_count, apart, one_part, one_constructor, one_destructor}
 
 -- a class of the hierarchy with its record
 record HasRecord (records : List Record) (c : ClassId) (x : Class) : Type 0 where
@@ -171,6 +173,26 @@ few_functions_of records accepted c (Some x) e =
     let few : length r.rec.functions ≤ 1024 = few_functions records accepted c.0 r.rec r.listed in
     subst (λ (y : Class). length y.functions ≤ 1024) (sym r.same) (omega arith)
 
+abbrev one_if : Bool → ℕ
+one_if b = if b then 1 else 0
+
+-- the order of the parts of a class is that of its record
+order_of : (records : List Record) → IsAccepted records → (c : ClassId) (x : Class) → class_at (resolved records) c ≡ Some x → HasOrder x
+order_of records accepted c x e =
+    let r = recorded records c x e in
+    let ok = accepted.in_order c.0 r.rec r.listed in
+    let by = class_of_name (names_of records) in
+    subst HasOrder (sym r.same) (record {
+      members = subst (NamesEach is_member r.rec.order) (sym (length-map r.rec.members (resolved_member by))) ok.members;
+      functions = subst (NamesEach is_function r.rec.order) (sym (length-map r.rec.functions (resolved_function by))) ok.functions;
+      constructors = one_constructor records accepted c.0 r.rec r.listed ∙ ap one_if ok.constructors;
+      destructors = one_destructor records accepted c.0 r.rec r.listed ∙ (ap one_if ok.destructors ∙ turned (is_implicit r.rec.destructor));
+    })
+  where
+    turned : (b : Bool) → (let n : ℕ = if b then 0 else 1 in one_if (not b) ≡ n)
+    turned true = refl
+    turned false = refl
+
 pub is_hierarchy : (records : List Record) → IsAccepted records → IsHierarchy (resolved records)
 is_hierarchy records accepted =
     let size : length (resolved records) ≡ length records = length-map records (resolved_class (class_of_name (names_of records))) in
@@ -228,4 +250,5 @@ is_hierarchy records accepted =
       few_bases = λ c. few_bases_of records accepted c (class_at (resolved records) c) refl;
       few_members = λ c. few_members_of records accepted c (class_at (resolved records) c) refl;
       members = member_names records accepted;
+      orders = order_of records accepted;
     }

@@ -8,12 +8,8 @@ use Rattle.std.specs.Str.{bytes_eq}
 use Rattle.std.specs.Bool.{Decides}
 use Rattle.std.proofs.lemmas.Slice.Eq.{bytes_eq-Decides}
 use Rattle.indexmap.specs.IndexMap.{insert_entry}
+pub use Rattle.foundation.proofs.Truth.{split}
 use Rattle.cxx_hierarchy.specs.NameTables.{Text, place_in, is_in}
-
--- cases of a test, with the equation
-pub split : (b : Bool) (P : Bool → Type 0) → (b ≡ true → P true) → (b ≡ false → P false) → P b
-split true P on off = on refl
-split false P on off = off refl
 
 -- the first of two answers
 abbrev pub first_or : {X : Type 0} → Option X → Option X → Option X
@@ -77,10 +73,6 @@ take_map f (suc k) (x ∷ xs) = ap (λ ys. f x ∷ ys) (take_map f k xs)
 pub none_of : {X : Type 0} (o : Option X) → is_some o ≡ false → o ≡ None
 none_of None h = refl
 none_of (Some x) h = absurd (cc)
-
-pub some_first : {X : Type 0} (a b : Option X) → is_some a ≡ true → first_or a b ≡ a
-some_first None b h = absurd (cc)
-some_first (Some x) b h = refl
 
 abbrev pub only_if : {X : Type 0} → Bool → X → Option X
 only_if b x = cond b (Some x) None

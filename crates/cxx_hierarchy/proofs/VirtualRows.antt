@@ -6,12 +6,13 @@ use Rattle.std.proofs.lemmas.Bool.{cases_lt, eqb-true, eq-eqb}
 use Rattle.std.proofs.lemmas.Bool.Decides.{nat_tests}
 use Rattle.std.proofs.lemmas.List.{get_or_append_left, get_or_push, get_or_past, length_push, get_or_default}
 use Rattle.std.proofs.lemmas.Option.{slice_get-get_or, slice_get_within}
+use Rattle.foundation.proofs.Places.{contains_at}
 use Rattle.cxx_hierarchy.specs.declared.records.ClassId.{ClassId}
 use Rattle.cxx_hierarchy.specs.declared.records.Base.{Base}
 use Rattle.cxx_hierarchy.specs.Classes.{Class, Classes, class_at, bases_in, bases_of}
 use Rattle.cxx_hierarchy.specs.Hierarchies.{IsHierarchy}
 use Rattle.cxx_hierarchy.specs.VirtualBases.{IsDirectBase, HasVirtualBase, direct, further, IsPublicBase, HasPublicVirtualBase, public_direct, public_further}
-use Rattle.cxx_hierarchy.specs.VirtualRows.{Row, mark, is_open, gives, HaveSizes, AreRows, AreTables}
+use Rattle.cxx_hierarchy.specs.invariants.VirtualRows.{Row, mark, is_open, gives, HaveSizes, AreRows, AreTables}
 use Rattle.cxx_hierarchy.proofs.Places.{split}
 
 any_same : {X : Type 0} (f g : X → Bool) (xs : List X) → ((k : ℕ) (x : X) → slice_get xs k ≡ Some x → f x ≡ g x) → list_any f xs ≡ list_any g xs
@@ -44,11 +45,6 @@ mark_kept rows row c v lt = ap (λ (r : Row). get_or r v false) (get_or_append_l
 
 gives_kept : (public_only : Bool) (rows : List Row) (row : Row) (v : ℕ) (base : Base ClassId) → base.class.0 < length rows → gives public_only (rows ++ row ∷ []) v base ≡ gives public_only rows v base
 gives_kept public_only rows row v base lt = ap (λ (b : Bool). is_open public_only base && ((base.is_virtual && nat_eq base.class.0 v) || b)) (mark_kept rows row base.class.0 v lt)
-
-contains_at : {X : Type 0} (xs : List X) (k : ℕ) (x : X) → slice_get xs k ≡ Some x → Contains xs x
-contains_at [] k x e = absurd (cc)
-contains_at (y ∷ xs) zero x e = (zero, omega arith, let same : y ≡ x = cc in same)
-contains_at (y ∷ xs) (suc k) x e = let r = contains_at xs k x e in let lt = r.1 in (suc r.0, omega arith, r.2)
 
 -- a row more, for the next class
 pub rows_push : (h : Classes) (public_only : Bool) (rows : List Row) (row : Row) (x : Class) → IsHierarchy h → slice_get h (length rows) ≡ Some x → AreRows h public_only rows → length row ≡ length rows →
@@ -157,16 +153,16 @@ virtual_complete h rows are size _ _ (further c b v way d rest) =
 pub public_sound : (h : Classes) (rows : List Row) → IsHierarchy h → AreRows h true rows → (c v : ClassId) → mark rows c.0 v.0 ≡ true → HasPublicVirtualBase h c v
 public_sound h rows keeps are c v =
     reached h true rows (HasPublicVirtualBase h) keeps are
-    (λ d b listed passes way. public_direct d b.class (record { base = b; listed = listed; class = refl; way = way; is_public = only_public b passes }))
-    (λ d w b listed passes has. public_further d b.class w b.is_virtual (record { base = b; listed = listed; class = refl; way = refl; is_public = only_public b passes }) has)
+    (λ d b listed passes way. public_direct d b.class (record { edge = record { base = b; listed = listed; class = refl; way = way }; is_public = only_public b passes }))
+    (λ d w b listed passes has. public_further d b.class w b.is_virtual (record { edge = record { base = b; listed = listed; class = refl; way = refl }; is_public = only_public b passes }) has)
     (suc c.0) c v (omega arith)
 
 pub public_complete : (h : Classes) (rows : List Row) → AreRows h true rows → length rows ≡ length h → (c v : ClassId) → HasPublicVirtualBase h c v → mark rows c.0 v.0 ≡ true
 public_complete h rows are size _ _ (public_direct c v d) =
-    marked_here h true rows are size c v d.base d.listed (gives_itself true rows v.0 d.base (open_public true d.base d.is_public) d.way (ap (λ (x : ClassId). x.0) d.class))
+    marked_here h true rows are size c v d.edge.base d.edge.listed (gives_itself true rows v.0 d.edge.base (open_public true d.edge.base d.is_public) d.edge.way (ap (λ (x : ClassId). x.0) d.edge.class))
 public_complete h rows are size _ _ (public_further c b v way d rest) =
     let r = public_complete h rows are size b v rest in
-    marked_here h true rows are size c v d.base d.listed (gives_further true rows v.0 d.base (open_public true d.base d.is_public) (ap (λ (x : ClassId). mark rows x.0 v.0) d.class ∙ r))
+    marked_here h true rows are size c v d.edge.base d.edge.listed (gives_further true rows v.0 d.edge.base (open_public true d.edge.base d.is_public) (ap (λ (x : ClassId). mark rows x.0 v.0) d.edge.class ∙ r))
 
 pub rows_none : (h : Classes) (public_only : Bool) → AreRows h public_only []
 rows_none h public_only = record { sizes = record { each = λ c lt. absurd (omega arith) }; each = λ c v lt. absurd (omega arith) }

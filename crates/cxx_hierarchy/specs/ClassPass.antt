@@ -1,5 +1,5 @@
 -- The class pass: which class records are refused, and in which order.
-use Rattle.std.specs.Prelude.{◌≡◌, ℕ, ◌⊎◌, Result, MatchResult, Bool, true, false, not, ◌||◌, if◌then◌else◌, nat_eq, nat_le, nat_lt, Option, Some, None, unwrap_or, List, [], ◌∷◌, ◌++◌, map, length, slice_get, count_by}
+use Rattle.std.specs.Prelude.{◌≡◌, ℕ, ◌⊎◌, Result, MatchResult, Bool, true, false, not, ◌||◌, if◌then◌else◌, nat_eq, nat_le, nat_lt, Option, Some, None, unwrap_or, List, [], ◌∷◌, ◌++◌, map, length, slice_get}
 use Rattle.std.specs.List.{list_any, filter_map}
 use Rattle.std.specs.Option.{option_map}
 use Rattle.std.specs.Str.{bytes_eq}
@@ -22,6 +22,9 @@ use Rattle.cxx_hierarchy.specs.declared.stop.Stop.TheVariants.{Refused, Limit, N
 use Rattle.cxx_hierarchy.specs.declared.stop.Rule.TheVariants.{UnknownClass, DuplicateClass, IncompleteClass, DuplicateBase, DuplicateMember}
 use Rattle.cxx_hierarchy.specs.declared.stop.LimitNo.TheVariants.{L2, L3, L4}
 use Rattle.cxx_hierarchy.specs.NameTables.{Text, is_in}
+use Rattle.cxx_hierarchy.specs.Limits.{most_classes, most_bases, most_declared, most_parameters, most_elements}
+use Rattle.cxx_hierarchy.specs.Declarations.{is_implicit}
+use Rattle.cxx_hierarchy.specs.Orders.{is_member, is_function, is_constructor, is_destructor, has_kind, NamesEach}
 
 -- a class definition as the source spells it
 abbrev pub Record : Type 0
@@ -50,7 +53,7 @@ complete_faults all earlier at class = known_faults all at class ++ fault_if (no
 -- a base: at most 64 of them, of a class defined before, and of each class once (ISO C++03 10, 10.1)
 abbrev pub base_faults : (all earlier : List Text) → List (Base Text) → Base Text → List Stop
 base_faults all earlier before base =
-    fault_if (nat_le 64 (length before)) (Limit L3)
+    fault_if (nat_le most_bases (length before)) (Limit L3)
     ++ complete_faults all earlier base.at base.class
     ++ fault_if (list_any (λ b. bytes_eq base.class b.class) before) (Refused DuplicateBase base.at)
 
@@ -69,14 +72,14 @@ return_faults all at (ValueReturn ty) = value_faults all at ty
 -- a parameter: at most 16 of them, of a known type, with names apart (ISO C++03 8.3.5)
 abbrev pub param_faults : List Text → List (Param Text) → Param Text → List Stop
 param_faults all before param =
-    fault_if (nat_le 16 (length before)) (Limit L3)
+    fault_if (nat_le most_parameters (length before)) (Limit L3)
     ++ value_faults all param.ty_at param.ty
     ++ fault_if (list_any (λ p. bytes_eq param.name p.name) before) (Refused DuplicateMember param.at)
 
 -- an array has 1 to 4096 elements
 abbrev pub is_bad_count : Option ℕ → Bool
 is_bad_count None = false
-is_bad_count (Some count) = nat_eq count 0 || nat_lt 4096 count
+is_bad_count (Some count) = nat_eq count 0 || nat_lt most_elements count
 
 abbrev pub member_faults : (all earlier : List Text) → ℕ → Option (Member Text) → List Stop
 member_faults all earlier at None = []
@@ -100,18 +103,6 @@ part_name definition part = name_at definition part.kind part.number
 abbrev pub names_taken : Record → List PartAt → List Text
 names_taken definition parts = definition.name ∷ filter_map (part_name definition) parts
 
-abbrev pub is_constructor : PartKind → Bool
-is_constructor MemberPart = false
-is_constructor FunctionPart = false
-is_constructor Constructor = true
-is_constructor Destructor = false
-
-abbrev pub is_destructor : PartKind → Bool
-is_destructor MemberPart = false
-is_destructor FunctionPart = false
-is_destructor Constructor = false
-is_destructor Destructor = true
-
 abbrev pub is_named : List Text → Option Text → Bool
 is_named names None = false
 is_named names (Some name) = is_in names name
@@ -119,8 +110,8 @@ is_named names (Some name) = is_in names name
 abbrev pub is_second : List PartAt → PartKind → Bool
 is_second before MemberPart = false
 is_second before FunctionPart = false
-is_second before Constructor = list_any (λ part. is_constructor part.kind) before
-is_second before Destructor = list_any (λ part. is_destructor part.kind) before
+is_second before Constructor = has_kind is_constructor before
+is_second before Destructor = has_kind is_destructor before
 
 -- whether the part is there already: its name, or another constructor or destructor (ISO C++03 9.2, 12.4)
 abbrev pub is_repeat : Record → List PartAt → PartAt → Bool
@@ -136,7 +127,7 @@ content_faults all earlier definition at Destructor number = []
 -- a part: at most 1024 of them, each new
 abbrev pub part_faults : (all earlier : List Text) → Record → List PartAt → PartAt → List Stop
 part_faults all earlier definition before part =
-    fault_if (nat_le 1024 (length before)) (Limit L3)
+    fault_if (nat_le most_declared (length before)) (Limit L3)
     ++ fault_if (is_repeat definition before part) (Refused DuplicateMember part.at)
     ++ content_faults all earlier definition (unwrap_or part.ty_at 0) part.kind part.number
 
@@ -144,7 +135,7 @@ part_faults all earlier definition before part =
 abbrev pub class_faults : List Text → List Record → Record → List Stop
 class_faults all before definition =
     fault_if (is_in (names_of before) definition.name) (Refused DuplicateClass definition.at)
-    ++ fault_if (nat_le 1024 (length before)) (Limit L2)
+    ++ fault_if (nat_le most_classes (length before)) (Limit L2)
     ++ in_turn (base_faults all (names_of before)) [] definition.bases
     ++ in_turn (part_faults all (names_of before) definition) [] definition.order
 
@@ -160,29 +151,13 @@ first_of (stop ∷ rest) = Some stop
 abbrev pub StopsAt : List Stop → Stop → Type 0
 StopsAt faults stop = (stop ≡ NoMemory) ⊎ (first_of faults ≡ Some stop)
 
-abbrev pub is_part : (kind : PartKind → Bool) → ℕ → PartAt → Bool
-is_part kind number part = if kind part.kind then nat_eq part.number number else false
-
-abbrev pub is_member : PartKind → Bool
-is_member MemberPart = true
-is_member FunctionPart = false
-is_member Constructor = false
-is_member Destructor = false
-
-abbrev pub is_function : PartKind → Bool
-is_function MemberPart = false
-is_function FunctionPart = true
-is_function Constructor = false
-is_function Destructor = false
-
--- the order names each number below n once for this kind of part, and no other
-abbrev pub NamesEach : (PartKind → Bool) → List PartAt → ℕ → Type 0
-NamesEach kind order n = (number : ℕ) → count_by (is_part kind number) order ≡ (if nat_lt number n then 1 else 0)
-
--- the order of the parts names each member and each function once, and no other
+-- the order of the parts names each member and each function once, in the order of their numbers, and it has a
+-- constructor or a destructor exactly where the record says so
 pub record IsInOrder (definition : Record) : Type 0 where
   pub members : NamesEach is_member definition.order (length definition.members)
   pub functions : NamesEach is_function definition.order (length definition.functions)
+  pub constructors : has_kind is_constructor definition.order ≡ definition.has_constructor
+  pub destructors : has_kind is_destructor definition.order ≡ not (is_implicit definition.destructor)
 
 -- no fault, or a stop at the first of them
 abbrev pub Answers : {A : Type 0} → List Stop → Result A Stop → Type 0

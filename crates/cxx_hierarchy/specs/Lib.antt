@@ -1,9 +1,12 @@
+pub mod Limits
 pub mod Scalars
 pub mod Classes
+pub mod Declarations
+pub mod Orders
 pub mod VirtualBases
-pub mod VirtualRows
 pub mod Stops
 pub mod NameTables
 pub mod ClassPass
 pub mod Resolved
 pub mod Hierarchies
+pub mod invariants

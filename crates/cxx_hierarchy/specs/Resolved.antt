@@ -11,6 +11,7 @@ use Rattle.cxx_hierarchy.specs.declared.records.FieldType.{FieldType}
 use Rattle.cxx_hierarchy.specs.declared.records.FieldType.TheVariants.{Value as ValueField, Object}
 use Rattle.cxx_hierarchy.specs.declared.records.ReturnType.{ReturnType}
 use Rattle.cxx_hierarchy.specs.declared.records.ReturnType.TheVariants.{Void, Value as ValueReturn}
+use Rattle.cxx_hierarchy.specs.Limits.{most_classes}
 use Rattle.cxx_hierarchy.specs.Classes.{Class, Classes}
 use Rattle.cxx_hierarchy.specs.NameTables.{Text, place_in, number_in}
 use Rattle.cxx_hierarchy.specs.declared.names.NameTable.{NameTable}
@@ -70,4 +71,4 @@ class_in table name = record { 0 = unwrap_or (number_in table name) 0 }
 
 -- the numbers of the table are those of classes
 pub record NumbersAreSmall (table : NameTable) : Type 0 where
-  pub below : (name : Text) (number : ℕ) → number_in table name ≡ Some number → number < 1024
+  pub below : (name : Text) (number : ℕ) → number_in table name ≡ Some number → number < most_classes

@@ -1,5 +1,5 @@
 -- The number types on LP64 (System V x86-64; ISO C++03 3.9.1).
-use Rattle.std.specs.Prelude.{ℕ, zero, suc, ◌/◌, ◌^◌, ℤ, pos, negsuc, ◌+ℤ◌, ◌-ℤ◌, ◌≤ℤ◌, ◌<ℤ◌, Bool, true, false}
+use Rattle.std.specs.Prelude.{ℕ, zero, suc, ◌/◌, ◌^◌, ℤ, pos, negsuc, ◌+ℤ◌, ◌-ℤ◌, ◌≤ℤ◌, ◌<ℤ◌, Bool, true, false, nat_lt, nat_le, if◌then◌else◌}
 use Rattle.std.specs.Int.{int_rem_euclid}
 use Rattle.cxx_hierarchy.specs.declared.records.Scalar.{Scalar}
 use Rattle.cxx_hierarchy.specs.declared.records.Scalar.TheVariants.{Bool as TheBool, Char, SChar, UChar, Short, UShort, Int, UInt, Long, ULong, LongLong, ULongLong}
@@ -98,3 +98,71 @@ PromotesToInt Long = ⊥
 PromotesToInt ULong = ⊥
 PromotesToInt LongLong = ⊥
 PromotesToInt ULongLong = ⊥
+
+-- what a number of the type becomes before it is calculated with: an `int` holds all that is smaller (ISO C++03 4.5)
+abbrev pub promoted : Scalar → Scalar
+promoted TheBool = Int
+promoted Char = Int
+promoted SChar = Int
+promoted UChar = Int
+promoted Short = Int
+promoted UShort = Int
+promoted Int = Int
+promoted UInt = UInt
+promoted Long = Long
+promoted ULong = ULong
+promoted LongLong = LongLong
+promoted ULongLong = ULongLong
+
+-- the rank of the type: a signed and an unsigned type of one size have one, and that of `long long` is above `long`
+abbrev pub rank_of : Scalar → ℕ
+rank_of TheBool = 0
+rank_of Char = 1
+rank_of SChar = 1
+rank_of UChar = 1
+rank_of Short = 2
+rank_of UShort = 2
+rank_of Int = 3
+rank_of UInt = 3
+rank_of Long = 4
+rank_of ULong = 4
+rank_of LongLong = 5
+rank_of ULongLong = 5
+
+-- the unsigned type of the rank of a signed one
+abbrev pub unsigned_of : Scalar → Scalar
+unsigned_of TheBool = TheBool
+unsigned_of Char = UChar
+unsigned_of SChar = UChar
+unsigned_of UChar = UChar
+unsigned_of Short = UShort
+unsigned_of UShort = UShort
+unsigned_of Int = UInt
+unsigned_of UInt = UInt
+unsigned_of Long = ULong
+unsigned_of ULong = ULong
+unsigned_of LongLong = ULongLong
+unsigned_of ULongLong = ULongLong
+
+-- of two types of one signedness that of the larger rank
+abbrev pub larger_rank : Scalar → Scalar → Scalar
+larger_rank s t = if nat_lt (rank_of s) (rank_of t) then t else s
+
+-- of a signed type s and an unsigned one u: u where its rank is not lower, else s where it is wider, else the
+-- unsigned type of the rank of s
+abbrev pub mixed_type : Scalar → Scalar → Scalar
+mixed_type s u = if nat_le (rank_of s) (rank_of u) then u else (if nat_lt (size_of u) (size_of s) then s else unsigned_of s)
+
+abbrev pub common_by_sign : Bool → Bool → Scalar → Scalar → Scalar
+common_by_sign true true s t = larger_rank s t
+common_by_sign true false s t = mixed_type s t
+common_by_sign false true s t = mixed_type t s
+common_by_sign false false s t = larger_rank s t
+
+-- the type in which two promoted numbers are calculated with
+abbrev pub common_promoted : Scalar → Scalar → Scalar
+common_promoted s t = common_by_sign (is_signed s) (is_signed t) s t
+
+-- the usual arithmetic conversions (ISO C++03 5 p9)
+abbrev pub common_type : Scalar → Scalar → Scalar
+common_type s t = common_promoted (promoted s) (promoted t)

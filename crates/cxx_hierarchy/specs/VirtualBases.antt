@@ -18,11 +18,8 @@ pub data HasVirtualBase (h : Classes) : ClassId → ClassId → Type 0 where
 
 -- b stands in the class head of c as a public base, virtual or not
 pub record IsPublicBase (h : Classes) (c : ClassId) (is_virtual : Bool) (b : ClassId) : Type 0 where
-  pub base : Base ClassId
-  pub listed : Contains (bases_of h c) base
-  pub class : base.class ≡ b
-  pub way : base.is_virtual ≡ is_virtual
-  pub is_public : base.is_public ≡ true
+  pub edge : IsDirectBase h c is_virtual b
+  pub is_public : edge.base.is_public ≡ true
 
 -- v is a virtual base of c that public edges alone lead to
 pub data HasPublicVirtualBase (h : Classes) : ClassId → ClassId → Type 0 where

@@ -6,7 +6,8 @@ ghost use Rattle.std.specs.Prelude.{IfOk, OnOk, List, ◌∷◌, unwrap_or, ◌�
 ghost use Rattle.std.specs.List.{list_any};
 ghost use Rattle.cxx_hierarchy.specs.declared.records.PartAt.{PartAt};
 ghost use Rattle.cxx_hierarchy.specs.NameTables.{Numbers, Holds, is_in};
-ghost use Rattle.cxx_hierarchy.specs.ClassPass.{fault_if, known_faults, complete_faults, value_faults, field_faults, return_faults, base_faults, param_faults, member_faults, function_faults, part_faults, content_faults, class_faults, faults_of, in_turn, is_bad_count, is_repeat, is_second, part_name, names_of, names_taken, is_constructor, is_destructor, Answers, IsInOrder};
+ghost use Rattle.cxx_hierarchy.specs.ClassPass.{fault_if, known_faults, complete_faults, value_faults, field_faults, return_faults, base_faults, param_faults, member_faults, function_faults, part_faults, content_faults, class_faults, faults_of, in_turn, is_bad_count, is_repeat, is_second, part_name, names_of, names_taken, Answers, IsInOrder};
+ghost use Rattle.cxx_hierarchy.specs.Orders.{has_kind, is_constructor, is_destructor};
 
 use crate::names::NameTable;
 use crate::records::{
@@ -16,6 +17,21 @@ use crate::records::{
 use crate::stop::{LimitNo, Rule, Stop};
 use foundation::NoMemory;
 use std::alloc::Global;
+
+/// The most classes of a source.
+const MOST_CLASSES: usize = 1024;
+
+/// The most direct bases of a class.
+const MOST_BASES: usize = 64;
+
+/// The most parts that a class declares.
+const MOST_DECLARED: usize = 1024;
+
+/// The most parameters of a function.
+const MOST_PARAMETERS: usize = 16;
+
+/// The most elements of an array.
+const MOST_ELEMENTS: u32 = 4096;
 
 /// The classes of a source, with their names' table, and how many of them stand before the class that is checked.
 #[derive(Drop)]
@@ -83,7 +99,7 @@ fn check_base(scope: &Scope, before: &[Base<Name>], base: &Base<Name>) -> Result
     requires { Numbers scope.now.table.now (names_of scope.now.records.now) }
     ensures { Answers (base_faults (names_of scope.now.records.now) (names_of (take scope.now.earlier scope.now.records.now)) before.now base.now) result }
 {
-    stop_if(before.len() >= 64, Stop::Limit(LimitNo::L3))?;
+    stop_if(before.len() >= MOST_BASES, Stop::Limit(LimitNo::L3))?;
     check_complete(scope, base.at, &base.class)?;
     stop_if(
         is_base(before, &base.class),
@@ -143,7 +159,7 @@ fn check_param(scope: &Scope, before: &[Param<Name>], param: &Param<Name>) -> Re
     requires { Numbers scope.now.table.now (names_of scope.now.records.now) }
     ensures { Answers (param_faults (names_of scope.now.records.now) before.now param.now) result }
 {
-    stop_if(before.len() >= 16, Stop::Limit(LimitNo::L3))?;
+    stop_if(before.len() >= MOST_PARAMETERS, Stop::Limit(LimitNo::L3))?;
     check_value(scope, param.ty_at, &param.ty)?;
     stop_if(
         is_param(before, &param.name),
@@ -165,7 +181,7 @@ fn is_bad(count: Option<u32>) -> bool
     ensures { result ≡ is_bad_count count }
 {
     match count {
-        Some(count) => count == 0 || count > 4096,
+        Some(count) => count == 0 || count > MOST_ELEMENTS,
         None => false,
     }
 }
@@ -214,7 +230,7 @@ fn name_of<'a>(definition: &'a ClassRec<Name>, part: &PartAt) -> Option<&'a Name
 }
 
 fn has_constructor(before: &[PartAt]) -> bool
-    ensures { result ≡ list_any (λ part. is_constructor part.kind) before.now }
+    ensures { result ≡ has_kind is_constructor before.now }
 {
     before
         .iter()
@@ -222,7 +238,7 @@ fn has_constructor(before: &[PartAt]) -> bool
 }
 
 fn has_destructor(before: &[PartAt]) -> bool
-    ensures { result ≡ list_any (λ part. is_destructor part.kind) before.now }
+    ensures { result ≡ has_kind is_destructor before.now }
 {
     before
         .iter()
@@ -283,7 +299,7 @@ fn check_part(
     requires taken { Holds taken.now (names_taken definition.now before.now) }
     ensures { Answers (part_faults (names_of scope.now.records.now) (names_of (take scope.now.earlier scope.now.records.now)) definition.now before.now part.now) result }
 {
-    stop_if(before.len() >= 1024, Stop::Limit(LimitNo::L3))?;
+    stop_if(before.len() >= MOST_DECLARED, Stop::Limit(LimitNo::L3))?;
     stop_if(
         is_taken(taken, definition, before, part),
         Stop::Refused(Rule::DuplicateMember, part.at),
@@ -330,7 +346,7 @@ fn check_class(alloc: Global, scope: &Scope, definition: &ClassRec<Name>) -> Res
         is_complete(scope, &definition.name),
         Stop::Refused(Rule::DuplicateClass, definition.at),
     )?;
-    stop_if(scope.earlier >= 1024, Stop::Limit(LimitNo::L2))?;
+    stop_if(scope.earlier >= MOST_CLASSES, Stop::Limit(LimitNo::L2))?;
     check_bases(scope, definition.bases.as_slice())?;
     check_parts(alloc, scope, definition)
 }

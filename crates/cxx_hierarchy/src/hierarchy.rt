@@ -33,7 +33,7 @@ impl Model for Hierarchy {
     ghost use Rattle.cxx_hierarchy.specs.Classes.{class_names};
     ghost use Rattle.cxx_hierarchy.specs.NameTables.{Numbers};
     ghost use Rattle.cxx_hierarchy.specs.Hierarchies.{IsHierarchy};
-    ghost use Rattle.cxx_hierarchy.specs.VirtualRows.{AreTables};
+    ghost use Rattle.cxx_hierarchy.specs.invariants.VirtualRows.{AreTables};
 
     ghost Value = { List (ClassRec ClassId) };
 

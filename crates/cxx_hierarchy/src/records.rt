@@ -1,5 +1,10 @@
 //! What a class definition says, over names or over class numbers.
 
+ghost use Rattle.std.specs.Prelude.{◌≡◌};
+ghost use Rattle.std.specs.List.{list_any};
+ghost use Rattle.cxx_hierarchy.specs.declared.records.ClassId.{ClassId};
+ghost use Rattle.cxx_hierarchy.specs.declared.records.Function.{Function};
+
 use foundation::Sequence;
 
 /// The bytes of a name, at most 255.
@@ -94,6 +99,31 @@ pub enum Destructor {
     Virtual,
 }
 
+impl Destructor {
+    ghost use Rattle.std.specs.Prelude.{◌≡◌};
+    ghost use Rattle.cxx_hierarchy.specs.Declarations.{is_implicit, is_virtual_destructor};
+
+    /// Whether the class declares none.
+    pub fn is_implicit(self) -> bool
+        ensures { result ≡ is_implicit self }
+    {
+        match self {
+            Destructor::Implicit => true,
+            Destructor::Plain | Destructor::Virtual => false,
+        }
+    }
+
+    /// Whether the class declares it as virtual.
+    pub fn is_virtual(self) -> bool
+        ensures { result ≡ is_virtual_destructor self }
+    {
+        match self {
+            Destructor::Virtual => true,
+            Destructor::Implicit | Destructor::Plain => false,
+        }
+    }
+}
+
 /// What a part of a class is.
 #[derive(Clone, Copy, Debug, PartialEq, Eq)]
 pub enum PartKind {
@@ -126,6 +156,36 @@ pub struct ClassRec<R> {
     pub order: PartOrder,
     pub has_constructor: bool,
     pub destructor: Destructor,
+}
+
+fn is_some_virtual(functions: &[Function<ClassId>]) -> bool
+    ensures { result ≡ list_any (λ (function : Function ClassId). function.is_virtual) functions.now }
+{
+    functions.iter().any(|function| function.is_virtual)
+}
+
+impl ClassRec<ClassId> {
+    ghost use Rattle.std.specs.Prelude.{◌≡◌};
+    ghost use Rattle.cxx_hierarchy.specs.Declarations.{has_virtual_function};
+
+    /// Whether the class declares a virtual function, or its destructor so (ISO C++03 10.3).
+    pub fn has_virtual_function(&self) -> bool
+        ensures { result ≡ has_virtual_function self.now }
+    {
+        is_some_virtual(self.functions.as_slice()) || self.destructor.is_virtual()
+    }
+}
+
+impl<R> Member<R> {
+    ghost use Rattle.std.specs.Prelude.{◌≡◌};
+    ghost use Rattle.cxx_hierarchy.specs.Declarations.{elements_of};
+
+    /// How many elements the member has: one where it is no array.
+    pub fn elements(&self) -> u32
+        ensures { result ≡ elements_of self.now.count }
+    {
+        self.count.unwrap_or(1)
+    }
 }
 
 pub type BaseList<R> = Sequence<Base<R>>;

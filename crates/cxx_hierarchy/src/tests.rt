@@ -157,42 +157,6 @@ fn builds_and_finds(rt: HostRuntime) -> Result<(), Fail> {
     Ok(())
 }
 
-/// `struct A {}; struct A {};`
-#[test]
-fn refuses_a_second_definition(rt: HostRuntime) -> Result<(), Fail> {
-    let alloc = rt.alloc();
-    let records = two(class(alloc, "A", 7)?, class(alloc, "A", 20)?, alloc)?;
-    assert_eq!(rt;
-        refusal(alloc, &records),
-        Some(Stop::Refused(Rule::DuplicateClass, 20))
-    );
-    Ok(())
-}
-
-/// `struct A : A {};`
-#[test]
-fn refuses_its_own_base(rt: HostRuntime) -> Result<(), Fail> {
-    let alloc = rt.alloc();
-    let records = one(with_base(alloc, class(alloc, "A", 7)?, "A", 11)?, alloc)?;
-    assert_eq!(rt;
-        refusal(alloc, &records),
-        Some(Stop::Refused(Rule::IncompleteClass, 11))
-    );
-    Ok(())
-}
-
-/// `struct A : B {};`
-#[test]
-fn refuses_an_unknown_base(rt: HostRuntime) -> Result<(), Fail> {
-    let alloc = rt.alloc();
-    let records = one(with_base(alloc, class(alloc, "A", 7)?, "B", 11)?, alloc)?;
-    assert_eq!(rt;
-        refusal(alloc, &records),
-        Some(Stop::Refused(Rule::UnknownClass, 11))
-    );
-    Ok(())
-}
-
 /// `struct A { int NAME; };`, with a length where there is one.
 fn with_int(alloc: Global, text: &str, count: Option<u32>) -> Result<RecordList, NoMemory>
     ensures { IfOk result (All IsInOrder) }
@@ -205,23 +169,32 @@ fn with_int(alloc: Global, text: &str, count: Option<u32>) -> Result<RecordList,
 }
 
 #[test]
-fn refuses_the_name_of_the_class(rt: HostRuntime) -> Result<(), Fail> {
+fn refuses_in_the_order_of_the_pass(rt: HostRuntime) -> Result<(), Fail> {
     let alloc = rt.alloc();
-    let records = with_int(alloc, "A", None)?;
+    // struct A {}; struct A {};
+    let records = two(class(alloc, "A", 7)?, class(alloc, "A", 20)?, alloc)?;
     assert_eq!(rt;
         refusal(alloc, &records),
+        Some(Stop::Refused(Rule::DuplicateClass, 20))
+    );
+    // struct A : A {};
+    let records = one(with_base(alloc, class(alloc, "A", 7)?, "A", 11)?, alloc)?;
+    assert_eq!(rt;
+        refusal(alloc, &records),
+        Some(Stop::Refused(Rule::IncompleteClass, 11))
+    );
+    // struct A : B {};
+    let records = one(with_base(alloc, class(alloc, "A", 7)?, "B", 11)?, alloc)?;
+    assert_eq!(rt;
+        refusal(alloc, &records),
+        Some(Stop::Refused(Rule::UnknownClass, 11))
+    );
+    // struct A { int A; };
+    assert_eq!(rt;
+        refusal(alloc, &with_int(alloc, "A", None)?),
         Some(Stop::Refused(Rule::DuplicateMember, 15))
     );
-    Ok(())
-}
-
-#[test]
-fn limits_an_array(rt: HostRuntime) -> Result<(), Fail> {
-    let alloc = rt.alloc();
-    assert_eq!(rt;
-        refusal(alloc, &with_int(alloc, "a", Some(0))?),
-        Some(Stop::Limit(LimitNo::L4))
-    );
+    // struct A { int a[4097]; };
     assert_eq!(rt;
         refusal(alloc, &with_int(alloc, "a", Some(4097))?),
         Some(Stop::Limit(LimitNo::L4))

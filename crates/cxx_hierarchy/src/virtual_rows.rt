@@ -5,7 +5,7 @@ ghost use Rattle.std.specs.List.{list_any};
 ghost use Rattle.cxx_hierarchy.specs.declared.records.Base.{Base};
 ghost use Rattle.cxx_hierarchy.specs.declared.records.ClassId.{ClassId};
 ghost use Rattle.cxx_hierarchy.specs.Hierarchies.{IsHierarchy};
-ghost use Rattle.cxx_hierarchy.specs.VirtualRows.{mark, gives, HaveSizes, AreRows};
+ghost use Rattle.cxx_hierarchy.specs.invariants.VirtualRows.{mark, gives, HaveSizes, AreRows};
 
 use crate::records::{Base, ClassId, ClassRec};
 use foundation::{NoMemory, Sequence};

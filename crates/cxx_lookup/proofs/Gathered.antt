@@ -11,7 +11,7 @@ use Rattle.cxx_subobject.specs.Subobjects.{IsSubobject}
 use Rattle.cxx_subobject.specs.Preorder.{ListsSubobjects}
 use Rattle.cxx_lookup.specs.declared.Found.{Found}
 use Rattle.cxx_lookup.specs.Lookup.{place_of, IsDeclared}
-use Rattle.cxx_lookup.specs.Searches.{IsDeclaredAt, AreDeclarations}
+use Rattle.cxx_lookup.specs.invariants.Searches.{IsDeclaredAt, AreDeclarations}
 use Rattle.cxx_lookup.proofs.Listing.{at_place, before_or_here}
 use Rattle.cxx_lookup.proofs.Named.{one_declaration}
 

@@ -10,7 +10,7 @@ use Rattle.cxx_subobject.specs.Subobjects.{IsSubobject}
 use Rattle.cxx_subobject.specs.Inside.{IsInside}
 use Rattle.cxx_lookup.specs.declared.Found.{Found}
 use Rattle.cxx_lookup.specs.Lookup.{place_of, IsDeclared, Remains, IsFound, TwoRemain}
-use Rattle.cxx_lookup.specs.Searches.{AreDeclarations, IsPlaceIn, found_at, IsHidden, GoesOver, AreHidden, IsHighest}
+use Rattle.cxx_lookup.specs.invariants.Searches.{AreDeclarations, IsPlaceIn, found_at, IsHidden, GoesOver, AreHidden, IsHighest}
 use Rattle.cxx_lookup.proofs.Listing.{contained, at_place, before_or_here}
 use Rattle.cxx_lookup.proofs.Named.{one_declaration}
 

@@ -3,4 +3,5 @@ pub mod Named
 pub mod Gathered
 pub mod Highest
 pub mod OfClass
-pub mod TestRecords
+pub mod NameFindings
+pub mod BaseFindings

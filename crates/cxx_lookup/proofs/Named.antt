@@ -16,7 +16,7 @@ use Rattle.cxx_subobject.specs.Subobjects.{class_of, subobject}
 use Rattle.cxx_lookup.specs.declared.Found.{Found}
 use Rattle.cxx_lookup.specs.declared.Found.TheVariants.{Member, Function}
 use Rattle.cxx_lookup.specs.Lookup.{name_in, name_of}
-use Rattle.cxx_lookup.specs.Searches.{IsDeclaredAt}
+use Rattle.cxx_lookup.specs.invariants.Searches.{IsDeclaredAt}
 use Rattle.cxx_lookup.proofs.Listing.{contained, none_passes}
 
 abbrev member_text : MemberRecord ClassId → List ℕ
@@ -77,6 +77,18 @@ function_here h s t d class functions name m copy of_class at all found = subst 
       ∙ ap (λ (xs : List (FunctionRecord ClassId)). option_map function_text (slice_get xs m)) (sym all) ∙ item_here function_text functions name m found;
 })
 
+-- the same of the lists of a class
+pub member_in_class : (h : Classes) (s : Subobject) (d : ClassId) (name : List ℕ) (m : ℕ) → class_of s ≡ Some d → position (λ (x : MemberRecord ClassId). bytes_eq x.name name) (members_of h d) ≡ Some m → IsDeclaredAt h s name (Member s m)
+member_in_class h s d name m of_class found = record { place = refl; named = member_name h s d m of_class ∙ item_here member_text (members_of h d) name m found }
+
+pub function_in_class : (h : Classes) (s : Subobject) (d : ClassId) (name : List ℕ) (m : ℕ) → class_of s ≡ Some d → position (λ (x : FunctionRecord ClassId). bytes_eq x.name name) (functions_of h d) ≡ Some m → IsDeclaredAt h s name (Function s m)
+function_in_class h s d name m of_class found = record { place = refl; named = function_name h s d m of_class ∙ item_here function_text (functions_of h d) name m found }
+
+pub nothing_in_class : (h : Classes) (s : Subobject) (d : ClassId) (name : List ℕ) → class_of s ≡ Some d → position (λ (x : MemberRecord ClassId). bytes_eq x.name name) (members_of h d) ≡ None →
+    position (λ (x : FunctionRecord ClassId). bytes_eq x.name name) (functions_of h d) ≡ None → (found : Found) → IsDeclaredAt h s name found → ⊥
+nothing_in_class h s d name of_class no_member no_function (Member t m) here = item_nowhere member_text (members_of h d) name no_member m (sym (member_name h t d m (ap class_of here.place ∙ of_class)) ∙ here.named)
+nothing_in_class h s d name of_class no_member no_function (Function t m) here = item_nowhere function_text (functions_of h d) name no_function m (sym (function_name h t d m (ap class_of here.place ∙ of_class)) ∙ here.named)
+
 -- no declaration, where no member and no function has the name
 pub declared_nowhere : (h : Classes) (s : Subobject) (d : ClassId) (class : Class) (members : List (MemberRecord ClassId)) (functions : List (FunctionRecord ClassId)) (name : List ℕ) → class_of s ≡ Some d → class_at h d ≡ Some class →
     members ≡ class.members → position (λ (x : MemberRecord ClassId). bytes_eq x.name name) members ≡ None →
@@ -115,7 +127,7 @@ one_in_class h keeps s d name class (Function t m) (Function u k) a b =
     let place : t ≡ u = a.place ∙ sym b.place in
     ap (λ (z : Subobject). let f : Found = Function z m in f) place ∙ ap (λ (n : ℕ). let f : Found = Function u n in f) number
 
-nowhere : (h : Classes) (s : Subobject) (name : List ℕ) → class_of s ≡ None → (a : Found) → IsDeclaredAt h s name a → ⊥
+pub nowhere : (h : Classes) (s : Subobject) (name : List ℕ) → class_of s ≡ None → (a : Found) → IsDeclaredAt h s name a → ⊥
 nowhere h s name none (Member t m) a = no_name h (Member t m) name (ap (λ (o : Option ClassId). name_in h o (Member t m)) (sym (ap class_of a.place ∙ none)) ∙ a.named)
 nowhere h s name none (Function t m) a = no_name h (Function t m) name (ap (λ (o : Option ClassId). name_in h o (Function t m)) (sym (ap class_of a.place ∙ none)) ∙ a.named)
 

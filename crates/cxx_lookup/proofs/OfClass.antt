@@ -12,17 +12,17 @@ use Rattle.cxx_subobject.specs.declared.Subobject.{Subobject}
 use Rattle.cxx_subobject.specs.Subobjects.{class_of, whole_of}
 use Rattle.cxx_subobject.specs.Preorder.{ListsSubobjects}
 use Rattle.cxx_lookup.specs.UniqueBase.{IsOfClass, IsUniqueBase, HasTwoBases}
-use Rattle.cxx_lookup.specs.Searches.{is_class, is_of_class}
+use Rattle.cxx_lookup.specs.Findings.{is_class, is_of_class}
 use Rattle.cxx_lookup.proofs.Listing.{contained, at_place, none_passes}
 
 same_id : (c d : ClassId) → c.0 ≡ d.0 → c ≡ d
 same_id c d e = ap (λ (n : ℕ). let k : ClassId = record { 0 = n } in k) e
 
-tells_class : (d : ClassId) (o : Option ClassId) → is_class d o ≡ true → o ≡ Some d
+pub tells_class : (d : ClassId) (o : Option ClassId) → is_class d o ≡ true → o ≡ Some d
 tells_class d None e = absurd (cc)
 tells_class d (Some c) e = ap Some (same_id c d (grind (arith, nat_tests)))
 
-told_class : (d : ClassId) (o : Option ClassId) → o ≡ Some d → is_class d o ≡ true
+pub told_class : (d : ClassId) (o : Option ClassId) → o ≡ Some d → is_class d o ≡ true
 told_class d None e = absurd (cc)
 told_class d (Some c) e = let f : c ≡ d = cc in let n : c.0 ≡ d.0 = ap (λ (k : ClassId). k.0) f in grind (arith, nat_tests)
 

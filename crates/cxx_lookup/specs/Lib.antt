@@ -1,3 +1,4 @@
 pub mod Lookup
 pub mod UniqueBase
-pub mod Searches
+pub mod Findings
+pub mod invariants

@@ -2,7 +2,7 @@
 
 ghost use Rattle.std.specs.Prelude.{◌≡◌, ◌<◌, IfOk, IfErr, position, length};
 ghost use Rattle.cxx_lookup.specs.UniqueBase.{IsUniqueBase, IsBaseFault};
-ghost use Rattle.cxx_lookup.specs.Searches.{is_of_class};
+ghost use Rattle.cxx_lookup.specs.Findings.{is_of_class};
 
 use crate::BaseFault;
 use cxx_hierarchy::{ClassId, Hierarchy};

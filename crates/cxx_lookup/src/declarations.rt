@@ -4,7 +4,7 @@ ghost use Rattle.std.specs.Prelude.{◌≡◌, ◌<◌, IfOk, MatchOption, posit
 ghost use Rattle.std.specs.Str.{bytes_eq};
 ghost use Rattle.cxx_subobject.specs.declared.Subobject.{Subobject};
 ghost use Rattle.cxx_lookup.specs.declared.Found.{Found};
-ghost use Rattle.cxx_lookup.specs.Searches.{IsDeclaredAt, AreDeclarations};
+ghost use Rattle.cxx_lookup.specs.invariants.Searches.{IsDeclaredAt, AreDeclarations};
 
 use crate::Found;
 use cxx_hierarchy::{ClassId, Function, Hierarchy, Member};

@@ -7,16 +7,19 @@
 //! (`IsUniqueBase`), each over all subobjects of the class.
 //!
 //! The layer above may rely on: `lookup` and `unique_base` give the one answer where there is one, and else say
-//! exactly whether there is none or more than one.
+//! exactly whether there is none or more than one. `found_by` and `base_by` of `specs/Findings.antt` are the same as
+//! functions, by the laws `name_finding` and `base_finding`.
 #![tactic(auto)]
 
 pub mod base_lookup;
 mod declarations;
+pub mod laws;
 pub mod member_lookup;
 #[cfg(test)]
 mod tests;
 
 pub use crate::base_lookup::unique_base;
+pub use crate::laws::{base_finding, name_finding};
 pub use crate::member_lookup::lookup;
 use cxx_subobject::Subobject;
 use foundation::NoMemory;

@@ -4,7 +4,7 @@ ghost use Rattle.std.specs.Prelude.{◌≡◌, ◌<◌, ◌↔◌, IsTrue, IfOk,
 ghost use Rattle.cxx_subobject.specs.Subobjects.{IsSubobject};
 ghost use Rattle.cxx_subobject.specs.Inside.{IsInside};
 ghost use Rattle.cxx_lookup.specs.Lookup.{place_of, IsFound, IsLookupFault};
-ghost use Rattle.cxx_lookup.specs.Searches.{AreIn, IsPlaceIn, found_at, IsHidden, GoesOver, AreHidden, IsHighest};
+ghost use Rattle.cxx_lookup.specs.invariants.Searches.{AreIn, IsPlaceIn, found_at, IsHidden, GoesOver, AreHidden, IsHighest};
 
 use crate::declarations::declarations;
 use crate::{Found, LookupFault};

@@ -2,7 +2,7 @@
 use Rattle.std.proofs.Common.{◌≡◌, ℕ, ◌<◌, Bool, true, false, Some, None, List, ◌∷◌, length, get_or, refl, ap, subst, sym, ◌∙◌, arith}
 use Rattle.std.specs.Bool.{MatchBool}
 use Rattle.std.specs.List.{slice_get}
-use Rattle.cxx_overrider.proofs.Lists.{or_get}
+use Rattle.std.proofs.lemmas.Option.{get_or_from_slice_get}
 use Rattle.cxx_hierarchy.specs.declared.records.ClassId.{ClassId}
 use Rattle.cxx_hierarchy.specs.Classes.{Classes}
 use Rattle.cxx_hierarchy.specs.Hierarchies.{IsHierarchy}
@@ -11,21 +11,22 @@ use Rattle.cxx_subobject.specs.declared.Root.{Root}
 use Rattle.cxx_subobject.specs.declared.Root.TheVariants.{Whole, Shared}
 use Rattle.cxx_subobject.specs.declared.Subobject.{Subobject}
 use Rattle.cxx_subobject.specs.Subobjects.{Leads, IsSubobject, whole, shared, subobject, last_of, class_of}
+use Rattle.cxx_subobject.proofs.PathLemmas.{virtual_below}
 use Rattle.cxx_overrider.specs.declared.FunctionId.{FunctionId}
 use Rattle.cxx_overrider.specs.declared.Overrider.{Overrider}
 use Rattle.cxx_overrider.specs.declared.entries.Entry.{Entry}
 use Rattle.cxx_overrider.specs.declared.tables.Tables.{Tables}
 use Rattle.cxx_overrider.specs.Functions.{Signature, signature_of, is_pure}
 use Rattle.cxx_overrider.specs.Overriding.{HasPart, HasVirtual, IsVirtual, IsCandidate, IsLeft, IsAbstract}
-use Rattle.cxx_overrider.specs.Numbers.{IsNumbering, IsNumberOf}
-use Rattle.cxx_overrider.specs.Marks.{mark_of}
-use Rattle.cxx_overrider.specs.Entries.{Tells, TellsOf}
-use Rattle.cxx_overrider.specs.Pure.{LeavesPure}
-use Rattle.cxx_overrider.specs.Within.{HasVirtualWithin}
-use Rattle.cxx_overrider.specs.Tables.{AreTables}
-use Rattle.cxx_overrider.specs.Abstract.{HasPureAt}
+use Rattle.cxx_overrider.specs.invariants.Numbers.{IsNumbering, IsNumberOf}
+use Rattle.cxx_overrider.specs.invariants.Marks.{mark_of}
+use Rattle.cxx_overrider.specs.invariants.Entries.{Tells, TellsOf}
+use Rattle.cxx_overrider.specs.invariants.Pure.{LeavesPure}
+use Rattle.cxx_overrider.specs.invariants.Within.{HasVirtualWithin}
+use Rattle.cxx_overrider.specs.invariants.Tables.{AreTables}
+use Rattle.cxx_overrider.specs.invariants.Abstract.{HasPureAt}
 use Rattle.cxx_overrider.proofs.SettlingLemmas.{overrider}
-use Rattle.cxx_overrider.proofs.Paths.{join_class, virtual_below}
+use Rattle.cxx_subobject.proofs.InsideLemmas.{join_class}
 use Rattle.cxx_overrider.proofs.CovarianceLemmas.{virtual_part}
 use Rattle.cxx_overrider.proofs.Finals.{top_final, top_only}
 use Rattle.cxx_overrider.proofs.OneFinal.{IsOnPath, whole_on_path, none_on_path}
@@ -202,4 +203,4 @@ none_abstract h keeps c whole_none shared_none k = by_root k.subobject.root refl
         shared_none v k.final.signature (virtual_below h keeps c v (shared_base_of h c v k.final.signature there)) there
 
 pub same_item : (xs : List ℕ) (i j n d : ℕ) → i ≡ j → slice_get xs i ≡ Some n → n ≡ get_or xs j d
-same_item xs i j n d same e = subst (λ (k : ℕ). n ≡ get_or xs k d) same (sym (or_get xs i n d e))
+same_item xs i j n d same e = subst (λ (k : ℕ). n ≡ get_or xs k d) same (sym (get_or_from_slice_get xs i n d e))

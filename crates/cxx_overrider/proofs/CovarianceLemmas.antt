@@ -1,30 +1,31 @@
 -- Returns of overriding functions.
 use Rattle.std.proofs.Common.{◌≡◌, ℕ, ◌+◌, ◌<◌, ◌⊎◌, ◌↔◌, inl, inr, ⊎_elim, Bool, true, false, Option, Some, None, MatchOption, length, refl, ap, subst, sym, ◌∙◌, arith}
 use Rattle.std.specs.Prelude.{◌||◌, nat_lt, not}
-use Rattle.std.proofs.lemmas.Bool.{ltb-true, lt-ltb}
+use Rattle.foundation.proofs.Truth.{or_left, or_right}
+use Rattle.std.proofs.lemmas.Bool.{or_cases, ltb-true, lt-ltb, cases_lt}
 use Rattle.cxx_hierarchy.specs.declared.records.ClassId.{ClassId}
 use Rattle.cxx_hierarchy.specs.declared.records.ReturnType.{ReturnType}
 use Rattle.cxx_hierarchy.specs.declared.stop.Rule.TheVariants.{ReturnMismatch, IncompleteClass, AmbiguousCovariant}
 use Rattle.cxx_hierarchy.specs.Classes.{Classes}
 use Rattle.cxx_hierarchy.specs.Hierarchies.{IsHierarchy}
 use Rattle.cxx_subobject.specs.Subobjects.{class_of, join}
-use Rattle.cxx_subobject.proofs.InsideLemmas.{join_valid}
+use Rattle.cxx_subobject.proofs.InsideLemmas.{join_valid, join_class}
+use Rattle.cxx_subobject.proofs.PathLemmas.{same_id, smaller}
 use Rattle.cxx_overrider.specs.declared.FunctionId.{FunctionId}
 use Rattle.cxx_overrider.specs.declared.tables.Tables.{Tables}
 use Rattle.cxx_overrider.specs.declared.covariance.ReturnFaults.{ReturnFaults}
 use Rattle.cxx_overrider.specs.Functions.{Signature, signature_of, return_of}
 use Rattle.cxx_overrider.specs.Overriding.{HasPart, HasVirtual}
-use Rattle.cxx_overrider.specs.Numbers.{number_of, IsNumberOf}
-use Rattle.cxx_overrider.specs.Marks.{mark_of, HasMarkedBase}
-use Rattle.cxx_overrider.specs.Tables.{AreTables}
-use Rattle.cxx_overrider.specs.Covariance.{pointer_to, Overrides, IsCovariant, HasMismatch, HasIncompleteReturn, HasAmbiguousReturn, IsAmbiguousBase, IsOverridden, IsMismatch, IsLateReturn, IsAmbiguousReturn, no_faults, merged_faults, AreFaultsBetween, HasOverridden, AreFaults, HasFineReturn, IsReturnFault, mismatch, incomplete, ambiguous}
-use Rattle.cxx_overrider.proofs.Lists.{either}
+use Rattle.cxx_overrider.specs.invariants.Numbers.{number_of, IsNumberOf}
+use Rattle.cxx_overrider.specs.invariants.Marks.{mark_of, HasMarkedBase}
+use Rattle.cxx_overrider.specs.invariants.Tables.{AreTables}
+use Rattle.cxx_overrider.specs.Covariance.{pointer_to, Overrides, IsCovariant, HasMismatch, HasIncompleteReturn, HasAmbiguousReturn, IsAmbiguousBase, IsMismatch, IsIncompleteReturn, IsAmbiguousReturn, HasOverridden}
+use Rattle.cxx_overrider.specs.invariants.ReturnFlags.{no_faults, merged_faults, AreFaultsBetween, HasOverriddenIn, AreFaults, HasFineReturn, IsReturnFault, mismatch, incomplete, ambiguous}
 use Rattle.cxx_overrider.proofs.Numbering.{same_function}
 use Rattle.cxx_overrider.proofs.MarkLemmas.{number_says, says_number, PartBelow, part_down}
-use Rattle.cxx_overrider.proofs.Paths.{same_id, join_class, smaller}
 
 -- two returns
-same_pointee : (t : ReturnType ClassId) (x y : ClassId) → t ≡ pointer_to x → t ≡ pointer_to y → x ≡ y
+pub same_pointee : (t : ReturnType ClassId) (x y : ClassId) → t ≡ pointer_to x → t ≡ pointer_to y → x ≡ y
 same_pointee t x y a b = cc
 
 pub covariant_faults : (h : Classes) (c : ClassId) (t u : ReturnType ClassId) (x y : ClassId) (b : Bool) → IsCovariant h t u x y → (b ≡ true) ↔ IsAmbiguousBase h x y → AreFaultsBetween h c t u (record { mismatch = false; incomplete = nat_lt c.0 x.0; ambiguous = b })
@@ -73,33 +74,30 @@ part_before h keeps c d k differ = ⊎_elim
     (smaller h keeps c d k.part k.valid k.class)
 
 -- overridden functions
-pub overrides_is : (h : Classes) (f g : FunctionId) (t u : ReturnType ClassId) → Overrides h f g t u → IsOverridden h f g
-overrides_is h f g t u k = record { signature = k.signature; of_f = k.of_f; of_g = k.of_g; base = k.base; proper = k.proper; is_virtual = k.is_virtual }
-
-overridden_virtual : (h : Classes) (f g : FunctionId) → (o : IsOverridden h f g) → HasVirtual h g.class o.signature
+overridden_virtual : (h : Classes) (f g : FunctionId) → (o : Overrides h f g) → HasVirtual h g.class o.signature
 overridden_virtual h f g o =
     let same : o.is_virtual.signature ≡ o.signature = let a = o.is_virtual.is in let b = o.of_g in cc in
     subst (λ (x : Signature). HasVirtual h g.class x) same o.is_virtual.source
 
 module _ (h : Classes) (keeps : IsHierarchy h) (tables : Tables) (are : AreTables h tables) (f : FunctionId) (known : f.class.0 < length h) (n : ℕ) (number : number_of tables.numbering.rows.items f ≡ Some n) where
-  number_is : (g : FunctionId) → (o : IsOverridden h f g) → IsNumberOf h tables.numbering.rows.items n o.signature
+  number_is : (g : FunctionId) → (o : Overrides h f g) → IsNumberOf h tables.numbering.rows.items n o.signature
   number_is g o = record { function = f; number = number; is = o.of_f }
 
-  marked_there : (g : FunctionId) → (o : IsOverridden h f g) → g.class.0 < f.class.0 → mark_of tables.virtuals.items g.class n ≡ true
+  marked_there : (g : FunctionId) → (o : Overrides h f g) → g.class.0 < f.class.0 → mark_of tables.virtuals.items g.class n ≡ true
   marked_there g o lt = let all = are.all_virtuals in (are.virtuals.each g.class n o.signature (omega arith) (number_is g o)).1 (overridden_virtual h f g o)
 
-  pub before_class : (g : FunctionId) → IsOverridden h f g → g.class.0 < f.class.0
+  pub before_class : (g : FunctionId) → Overrides h f g → g.class.0 < f.class.0
   before_class g o = part_before h keeps f.class g.class o.base o.proper
 
-  pub unmarked : (d : ClassId) (b : Bool) → b ≡ mark_of tables.virtuals.items d n → b ≡ false → (g : FunctionId) → g.class ≡ d → IsOverridden h f g → ⊥
+  pub unmarked : (d : ClassId) (b : Bool) → b ≡ mark_of tables.virtuals.items d n → b ≡ false → (g : FunctionId) → g.class ≡ d → Overrides h f g → ⊥
   unmarked d b is no_mark g class o =
       let marked = marked_there g o (before_class g o) in
       let same : mark_of tables.virtuals.items g.class n ≡ mark_of tables.virtuals.items d n = ap (λ (x : ClassId). mark_of tables.virtuals.items x n) class in cc
 
-  pub no_part : (d : ClassId) (b : Bool) → (b ≡ true) ↔ HasPart h f.class d → b ≡ false → (g : FunctionId) → g.class ≡ d → IsOverridden h f g → ⊥
+  pub no_part : (d : ClassId) (b : Bool) → (b ≡ true) ↔ HasPart h f.class d → b ≡ false → (g : FunctionId) → g.class ≡ d → Overrides h f g → ⊥
   no_part d b is out g class o = let there : b ≡ true = is.1 (subst (λ (x : ClassId). HasPart h f.class x) class o.base) in cc
 
-  pub own_overridden : (d : ClassId) (own : Option FunctionId) → d.0 < f.class.0 → mark_of tables.virtuals.items d n ≡ true → HasPart h f.class d → MatchOption own ((g : FunctionId) → g.class ≡ d → number_of tables.numbering.rows.items g ≡ Some n → ⊥) (λ g. (g.class ≡ d) × (number_of tables.numbering.rows.items g ≡ Some n)) → MatchOption own ((g : FunctionId) → g.class ≡ d → IsOverridden h f g → ⊥) (λ g. (g.class ≡ d) × IsOverridden h f g)
+  pub own_overridden : (d : ClassId) (own : Option FunctionId) → d.0 < f.class.0 → mark_of tables.virtuals.items d n ≡ true → HasPart h f.class d → MatchOption own ((g : FunctionId) → g.class ≡ d → number_of tables.numbering.rows.items g ≡ Some n → ⊥) (λ g. (g.class ≡ d) × (number_of tables.numbering.rows.items g ≡ Some n)) → MatchOption own ((g : FunctionId) → g.class ≡ d → Overrides h f g → ⊥) (λ g. (g.class ≡ d) × Overrides h f g)
   own_overridden d None before marked part none = λ g class o. none g class (says_number h tables.numbering.rows.items tables.numbering.count n o.signature g are.numbering (number_is g o) o.of_g)
   own_overridden d (Some g) before marked part has =
       let s = are.numbering.known f n number in
@@ -118,7 +116,7 @@ module _ (h : Classes) (keeps : IsHierarchy h) (tables : Tables) (are : AreTable
         },
       )
 
-  pub no_base : (b : Bool) → (b ≡ true) ↔ HasMarkedBase h tables.virtuals.items f.class n → b ≡ false → (g : FunctionId) → IsOverridden h f g → ⊥
+  pub no_base : (b : Bool) → (b ≡ true) ↔ HasMarkedBase h tables.virtuals.items f.class n → b ≡ false → (g : FunctionId) → Overrides h f g → ⊥
   no_base b is out g o = ⊎_elim
       (λ e. o.proper (sym e))
       (λ (p : PartBelow h f.class g.class).
@@ -130,102 +128,78 @@ module _ (h : Classes) (keeps : IsHierarchy h) (tables : Tables) (are : AreTable
       (part_down h f.class g.class o.base)
 
 -- flags
-pub none_faults : (h : Classes) (f : FunctionId) (Among : ClassId → Type 0) → ((g : FunctionId) → IsOverridden h f g → Among g.class → ⊥) → AreFaults h f Among no_faults
-none_faults h f Among none = record { mismatch = flag (IsMismatch h); incomplete = flag (IsLateReturn h f.class); ambiguous = flag (IsAmbiguousReturn h) }
+pub none_faults : (h : Classes) (f : FunctionId) (Among : ClassId → Type 0) → ((g : FunctionId) → Overrides h f g → Among g.class → ⊥) → AreFaults h f Among no_faults
+none_faults h f Among none = record { mismatch = flag (IsMismatch h); incomplete = flag (IsIncompleteReturn h f.class); ambiguous = flag (IsAmbiguousReturn h) }
   where
-    flag : (P : ReturnType ClassId → ReturnType ClassId → Type 0) → (false ≡ true) ↔ HasOverridden h f Among P
-    flag P = (λ e. cc, λ k. absurd (none k.overridden (overrides_is h f k.overridden k.t k.u k.overrides) k.among))
+    flag : (P : ReturnType ClassId → ReturnType ClassId → Type 0) → (false ≡ true) ↔ HasOverriddenIn h f Among P
+    flag P = (λ e. cc, λ k. absurd (none k.has.overridden k.has.overrides k.among))
 
 -- the one function of the class
-one_flag : (h : Classes) → IsHierarchy h → (f g : FunctionId) (t u : ReturnType ClassId) (d : ClassId) (P : ReturnType ClassId → ReturnType ClassId → Type 0) (b : Bool) → g.class ≡ d → IsOverridden h f g → return_of h f ≡ Some t → return_of h g ≡ Some u → (b ≡ true) ↔ P t u → (b ≡ true) ↔ HasOverridden h f (λ x. x ≡ d) P
+one_flag : (h : Classes) → IsHierarchy h → (f g : FunctionId) (t u : ReturnType ClassId) (d : ClassId) (P : ReturnType ClassId → ReturnType ClassId → Type 0) (b : Bool) → g.class ≡ d → Overrides h f g → return_of h f ≡ Some t → return_of h g ≡ Some u → (b ≡ true) ↔ P t u → (b ≡ true) ↔ HasOverriddenIn h f (λ x. x ≡ d) P
 one_flag h keeps f g t u d P b class o et eu is = (
-  λ e. record {
-    overridden = g;
-    t = t;
-    u = u;
-    overrides = record { signature = o.signature; of_f = o.of_f; of_g = o.of_g; base = o.base; proper = o.proper; is_virtual = o.is_virtual; returns = et; returned = eu };
-    among = class;
-    is = is.0 e;
-  },
-  λ k.
+  λ e. record { has = record { overridden = g; overrides = o; t = t; u = u; returns = et; returned = eu; is = is.0 e }; among = class },
+  λ found.
+      let k = found.has in
       let sig : k.overrides.signature ≡ o.signature = let x = k.overrides.of_f in let y = o.of_f in cc in
       let own : signature_of h k.overridden ≡ Some o.signature = k.overrides.of_g ∙ ap (λ x. Some x) sig in
-      let one : k.overridden ≡ g = same_function h keeps k.overridden g o.signature (k.among ∙ sym class) own o.of_g in
-      let st : k.t ≡ t = let x = k.overrides.returns in cc in
-      let su : k.u ≡ u = let x = k.overrides.returned in let y : return_of h k.overridden ≡ return_of h g = ap (return_of h) one in cc in
+      let one : k.overridden ≡ g = same_function h keeps k.overridden g o.signature (found.among ∙ sym class) own o.of_g in
+      let st : k.t ≡ t = let x = k.returns in cc in
+      let su : k.u ≡ u = let x = k.returned in let y : return_of h k.overridden ≡ return_of h g = ap (return_of h) one in cc in
       is.1 (subst (λ (x : ReturnType ClassId). P t x) su (subst (λ (x : ReturnType ClassId). P x k.u) st k.is)),
 )
 
-pub one_faults : (h : Classes) → IsHierarchy h → (f g : FunctionId) (t u : ReturnType ClassId) (d : ClassId) (r : ReturnFaults) → g.class ≡ d → IsOverridden h f g → return_of h f ≡ Some t → return_of h g ≡ Some u → AreFaultsBetween h f.class t u r → AreFaults h f (λ x. x ≡ d) r
+pub one_faults : (h : Classes) → IsHierarchy h → (f g : FunctionId) (t u : ReturnType ClassId) (d : ClassId) (r : ReturnFaults) → g.class ≡ d → Overrides h f g → return_of h f ≡ Some t → return_of h g ≡ Some u → AreFaultsBetween h f.class t u r → AreFaults h f (λ x. x ≡ d) r
 one_faults h keeps f g t u d r class o et eu is = record {
   mismatch = one_flag h keeps f g t u d (IsMismatch h) r.mismatch class o et eu is.mismatch;
-  incomplete = one_flag h keeps f g t u d (IsLateReturn h f.class) r.incomplete class o et eu is.incomplete;
+  incomplete = one_flag h keeps f g t u d (IsIncompleteReturn h f.class) r.incomplete class o et eu is.incomplete;
   ambiguous = one_flag h keeps f g t u d (IsAmbiguousReturn h) r.ambiguous class o et eu is.ambiguous;
 }
 
 -- one more class
-or_true : (a b : Bool) → (a || b) ≡ true → (a ≡ true) ⊎ (b ≡ true)
-or_true true b e = inl refl
-or_true false b e = inr e
-
-true_or : (a b : Bool) → a ≡ true → (a || b) ≡ true
-true_or true b e = refl
-true_or false b e = cc
-
-or_second : (a b : Bool) → b ≡ true → (a || b) ≡ true
-or_second true b e = refl
-or_second false b e = e
-
-more_flag : (h : Classes) (f : FunctionId) (count : ℕ) (d : ClassId) (P : ReturnType ClassId → ReturnType ClassId → Type 0) (a b : Bool) → d.0 ≡ count → (a ≡ true) ↔ HasOverridden h f (λ x. x.0 < count) P → (b ≡ true) ↔ HasOverridden h f (λ x. x ≡ d) P → ((a || b) ≡ true) ↔ HasOverridden h f (λ x. x.0 < count + 1) P
+more_flag : (h : Classes) (f : FunctionId) (count : ℕ) (d : ClassId) (P : ReturnType ClassId → ReturnType ClassId → Type 0) (a b : Bool) → d.0 ≡ count → (a ≡ true) ↔ HasOverriddenIn h f (λ x. x.0 < count) P → (b ≡ true) ↔ HasOverriddenIn h f (λ x. x ≡ d) P → ((a || b) ≡ true) ↔ HasOverriddenIn h f (λ x. x.0 < count + 1) P
 more_flag h f count d P a b at so_far more = (
   λ e. ⊎_elim
-      (λ x. let k = so_far.0 x in let lt = k.among in record { overridden = k.overridden; t = k.t; u = k.u; overrides = k.overrides; among = omega arith; is = k.is })
-      (λ x. let k = more.0 x in let same : k.overridden.class.0 ≡ d.0 = ap (λ (y : ClassId). y.0) k.among in record { overridden = k.overridden; t = k.t; u = k.u; overrides = k.overrides; among = omega arith; is = k.is })
-      (or_true a b e),
+      (λ x. let k = so_far.0 x in let lt = k.among in record { has = k.has; among = omega arith })
+      (λ x. let k = more.0 x in let same : k.has.overridden.class.0 ≡ d.0 = ap (λ (y : ClassId). y.0) k.among in record { has = k.has; among = omega arith })
+      (or_cases a b e),
   λ k. let lt = k.among in ⊎_elim
-      (λ small. true_or a b (so_far.1 (record { overridden = k.overridden; t = k.t; u = k.u; overrides = k.overrides; among = small; is = k.is })))
-      (λ past. or_second a b (more.1 (record { overridden = k.overridden; t = k.t; u = k.u; overrides = k.overrides; among = same_id k.overridden.class d (omega arith); is = k.is })))
-      (either k.overridden.class.0 count),
+      (λ small. or_left a b (so_far.1 (record { has = k.has; among = small })))
+      (λ past. or_right a b (more.1 (record { has = k.has; among = same_id k.has.overridden.class d (omega arith) })))
+      (cases_lt k.has.overridden.class.0 count),
 )
 
 pub more_faults : (h : Classes) (f : FunctionId) (count : ℕ) (d : ClassId) (a b : ReturnFaults) → d.0 ≡ count → AreFaults h f (λ x. x.0 < count) a → AreFaults h f (λ x. x ≡ d) b → AreFaults h f (λ x. x.0 < count + 1) (merged_faults a b)
 more_faults h f count d a b at so_far more = record {
   mismatch = more_flag h f count d (IsMismatch h) a.mismatch b.mismatch at so_far.mismatch more.mismatch;
-  incomplete = more_flag h f count d (IsLateReturn h f.class) a.incomplete b.incomplete at so_far.incomplete more.incomplete;
+  incomplete = more_flag h f count d (IsIncompleteReturn h f.class) a.incomplete b.incomplete at so_far.incomplete more.incomplete;
   ambiguous = more_flag h f count d (IsAmbiguousReturn h) a.ambiguous b.ambiguous at so_far.ambiguous more.ambiguous;
 }
 
 -- from the flags to the rule
 module _ (h : Classes) (keeps : IsHierarchy h) (f : FunctionId) (faults : ReturnFaults) (are : AreFaults h f (λ x. x.0 < f.class.0) faults) where
-  before : (g : FunctionId) (t u : ReturnType ClassId) → Overrides h f g t u → g.class.0 < f.class.0
-  before g t u o = part_before h keeps f.class g.class o.base o.proper
+  before : (g : FunctionId) → Overrides h f g → g.class.0 < f.class.0
+  before g o = part_before h keeps f.class g.class o.base o.proper
 
-  some_mismatch : faults.mismatch ≡ true → HasMismatch h f
-  some_mismatch e = let k = are.mismatch.0 e in record { overridden = k.overridden; t = k.t; u = k.u; overrides = k.overrides; differ = k.is.differ; unrelated = k.is.unrelated }
+  no_flag : (P : ReturnType ClassId → ReturnType ClassId → Type 0) (b : Bool) → (b ≡ true) ↔ HasOverriddenIn h f (λ x. x.0 < f.class.0) P → b ≡ false → HasOverridden h f P → ⊥
+  no_flag P b is not k = let there : b ≡ true = is.1 (record { has = k; among = before k.overridden k.overrides }) in cc
 
   no_mismatch_at : faults.mismatch ≡ false → HasMismatch h f → ⊥
-  no_mismatch_at e k = let there : faults.mismatch ≡ true = are.mismatch.1 (record { overridden = k.overridden; t = k.t; u = k.u; overrides = k.overrides; among = before k.overridden k.t k.u k.overrides; is = record { differ = k.differ; unrelated = k.unrelated } }) in cc
-
-  some_incomplete : faults.incomplete ≡ true → HasIncompleteReturn h f
-  some_incomplete e = let k = are.incomplete.0 e in record { overridden = k.overridden; t = k.t; u = k.u; overrides = k.overrides; x = k.is.x; y = k.is.y; covariant = k.is.covariant; late = k.is.late }
+  no_mismatch_at = no_flag (IsMismatch h) faults.mismatch are.mismatch
 
   no_incomplete_at : faults.incomplete ≡ false → HasIncompleteReturn h f → ⊥
-  no_incomplete_at e k = let there : faults.incomplete ≡ true = are.incomplete.1 (record { overridden = k.overridden; t = k.t; u = k.u; overrides = k.overrides; among = before k.overridden k.t k.u k.overrides; is = record { x = k.x; y = k.y; covariant = k.covariant; late = k.late } }) in cc
-
-  some_ambiguous : faults.ambiguous ≡ true → HasAmbiguousReturn h f
-  some_ambiguous e = let k = are.ambiguous.0 e in record { overridden = k.overridden; t = k.t; u = k.u; overrides = k.overrides; x = k.is.x; y = k.is.y; covariant = k.is.covariant; ambiguous = k.is.ambiguous }
+  no_incomplete_at = no_flag (IsIncompleteReturn h f.class) faults.incomplete are.incomplete
 
   no_ambiguous_at : faults.ambiguous ≡ false → HasAmbiguousReturn h f → ⊥
-  no_ambiguous_at e k = let there : faults.ambiguous ≡ true = are.ambiguous.1 (record { overridden = k.overridden; t = k.t; u = k.u; overrides = k.overrides; among = before k.overridden k.t k.u k.overrides; is = record { x = k.x; y = k.y; covariant = k.covariant; ambiguous = k.ambiguous } }) in cc
+  no_ambiguous_at = no_flag (IsAmbiguousReturn h) faults.ambiguous are.ambiguous
 
   pub first_mismatch : faults.mismatch ≡ true → IsReturnFault h f ReturnMismatch
-  first_mismatch a = mismatch (some_mismatch a)
+  first_mismatch a = mismatch (are.mismatch.0 a).has
 
   pub first_incomplete : faults.mismatch ≡ false → faults.incomplete ≡ true → IsReturnFault h f IncompleteClass
-  first_incomplete a b = incomplete (no_mismatch_at a) (some_incomplete b)
+  first_incomplete a b = incomplete (no_mismatch_at a) (are.incomplete.0 b).has
 
   pub first_ambiguous : faults.mismatch ≡ false → faults.incomplete ≡ false → faults.ambiguous ≡ true → IsReturnFault h f AmbiguousCovariant
-  first_ambiguous a b d = ambiguous (no_mismatch_at a) (no_incomplete_at b) (some_ambiguous d)
+  first_ambiguous a b d = ambiguous (no_mismatch_at a) (no_incomplete_at b) (are.ambiguous.0 d).has
 
   pub fine_return : faults.mismatch ≡ false → faults.incomplete ≡ false → faults.ambiguous ≡ false → HasFineReturn h f
   fine_return a b d = record { no_mismatch = no_mismatch_at a; complete = no_incomplete_at b; unambiguous = no_ambiguous_at d }

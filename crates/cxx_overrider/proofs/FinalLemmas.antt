@@ -10,26 +10,26 @@ use Rattle.cxx_subobject.specs.declared.Subobject.{Subobject}
 use Rattle.cxx_subobject.specs.Subobjects.{Leads, IsSubobject, whole, shared, subobject, last_of, class_of_path, class_of}
 use Rattle.cxx_subobject.specs.Inside.{IsInside}
 use Rattle.cxx_subobject.proofs.InsideLemmas.{inside_same}
+use Rattle.cxx_subobject.proofs.PathLemmas.{leads_front}
 use Rattle.cxx_overrider.specs.declared.FunctionId.{FunctionId}
 use Rattle.cxx_overrider.specs.declared.Overrider.{Overrider}
 use Rattle.cxx_overrider.specs.declared.entries.Entry.{Entry}
 use Rattle.cxx_overrider.specs.declared.entries.Key.{Key}
 use Rattle.cxx_overrider.specs.declared.entries.EntryTable.{EntryTable}
 use Rattle.cxx_overrider.specs.declared.tables.Tables.{Tables}
-use Rattle.cxx_overrider.specs.EntryTables.{entry_of}
-use Rattle.cxx_overrider.specs.Settling.{IsMade, key}
-use Rattle.cxx_overrider.specs.Tables.{AreTables}
+use Rattle.cxx_overrider.specs.invariants.EntryTables.{entry_of}
+use Rattle.cxx_overrider.specs.invariants.Settling.{IsMade, key}
+use Rattle.cxx_overrider.specs.invariants.Tables.{AreTables}
 use Rattle.cxx_overrider.specs.Functions.{Signature, signature_of}
 use Rattle.cxx_overrider.specs.Overriding.{HasPart, IsVirtual, IsVirtualIn, IsCandidate, IsFinalOverrider}
-use Rattle.cxx_overrider.specs.Numbers.{number_of, IsNumbering, IsNumberOf}
-use Rattle.cxx_overrider.specs.Entries.{Declares, Tells, TellsOf}
-use Rattle.cxx_overrider.specs.Pure.{DeclaresNone}
-use Rattle.cxx_overrider.specs.Finals.{DeclareNone, IsFirstAt, IsFirstOverrider}
-use Rattle.cxx_overrider.specs.Marks.{mark_of}
+use Rattle.cxx_overrider.specs.invariants.Numbers.{number_of, IsNumbering, IsNumberOf}
+use Rattle.cxx_overrider.specs.invariants.Entries.{Declares, Tells, TellsOf}
+use Rattle.cxx_overrider.specs.invariants.Pure.{DeclaresNone}
+use Rattle.cxx_overrider.specs.invariants.Finals.{DeclareNone, IsFirstAt, IsFirstOverrider}
+use Rattle.cxx_overrider.specs.invariants.Marks.{mark_of}
 use Rattle.cxx_overrider.proofs.Numbering.{signature_class}
 use Rattle.cxx_overrider.proofs.WithinLemmas.{virtual_source}
 use Rattle.cxx_overrider.proofs.MarkLemmas.{number_says, says_number}
-use Rattle.cxx_overrider.proofs.Paths.{leads_front}
 use Rattle.cxx_overrider.proofs.SettlingLemmas.{overrider}
 use Rattle.cxx_overrider.proofs.Finals.{IsTopCandidate, top_final, FirstOn, found, later, first_front, first_same, first_longer, EndsAt, first_ends}
 use Rattle.cxx_overrider.proofs.OneFinal.{table_tells, IsOnPath, front_inside, whole_on_path, none_on_path, greatest_contains, greatest_candidate}

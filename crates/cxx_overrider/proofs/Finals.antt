@@ -9,22 +9,24 @@ use Rattle.cxx_subobject.specs.declared.Root.TheVariants.{Whole, Shared}
 use Rattle.cxx_subobject.specs.declared.Subobject.{Subobject}
 use Rattle.cxx_subobject.specs.Subobjects.{Leads, IsSubobject, whole, shared, subobject, last_of, class_of_path, class_of, join}
 use Rattle.cxx_subobject.specs.Inside.{IsInside}
+use Rattle.cxx_subobject.proofs.PathLemmas.{leads_rest, leads_front}
+use Rattle.cxx_subobject.proofs.InsideLemmas.{virtual_inside}
 use Rattle.cxx_overrider.specs.declared.FunctionId.{FunctionId}
 use Rattle.cxx_overrider.specs.declared.Overrider.{Overrider}
 use Rattle.cxx_overrider.specs.declared.entries.Entry.{Entry}
 use Rattle.cxx_overrider.specs.Functions.{Signature, signature_of}
 use Rattle.cxx_overrider.specs.Overriding.{IsVirtualIn, IsCandidate, IsLeft, IsFinalOverrider, HasTwoFinalOverriders}
-use Rattle.cxx_overrider.specs.Entries.{Declares, Tells}
-use Rattle.cxx_overrider.specs.Pure.{DeclaresNone}
+use Rattle.cxx_overrider.specs.invariants.Entries.{Declares, Tells}
+use Rattle.cxx_overrider.specs.invariants.Pure.{DeclaresNone}
 use Rattle.cxx_overrider.proofs.SettlingLemmas.{overrider, same_class}
-use Rattle.cxx_overrider.proofs.Paths.{inside_antisymmetric, leads_front, leads_rest, virtual_inside}
+use Rattle.cxx_overrider.proofs.Paths.{inside_antisymmetric}
 
 -- a candidate that contains all others
 pub record IsTopCandidate (h : Classes) (c : ClassId) (s : Subobject) (signature : Signature) (o : Overrider) : Type 0 where
   pub candidate : IsCandidate h c s signature o
   pub all : (p : Overrider) → IsCandidate h c s signature p → IsInside h o.at p.at
 
-same_overrider : (p q : Overrider) → p.at ≡ q.at → p.function ≡ q.function → p ≡ q
+pub same_overrider : (p q : Overrider) → p.at ≡ q.at → p.function ≡ q.function → p ≡ q
 same_overrider p q e f =
     let make : Subobject → FunctionId → Overrider = λ a g. record { at = a; function = g } in
     let one : make p.at p.function ≡ make q.at q.function = ap (λ a. make a p.function) e ∙ ap (λ g. make q.at g) f in one

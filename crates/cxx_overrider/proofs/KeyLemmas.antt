@@ -10,16 +10,17 @@ use Rattle.cxx_hierarchy.specs.declared.records.Scalar.TheVariants.{Bool as TheB
 use Rattle.cxx_hierarchy.specs.declared.records.ValueType.{ValueType}
 use Rattle.cxx_hierarchy.specs.declared.records.ValueType.TheVariants.{Number, Pointer}
 use Rattle.cxx_hierarchy.specs.Classes.{Classes}
+use Rattle.cxx_subobject.proofs.PathLemmas.{same_id}
 use Rattle.cxx_overrider.specs.declared.FunctionId.{FunctionId}
 use Rattle.cxx_overrider.specs.Functions.{Signature, named, destructor, signature_of}
-use Rattle.cxx_overrider.specs.Keys.{scalar_code, first_code, second_code, type_codes, signature_key, AreKeyed}
-use Rattle.cxx_overrider.specs.Numbers.{AreFirst, IsFirstOf}
+use Rattle.cxx_overrider.specs.invariants.Keys.{scalar_code, first_code, second_code, type_codes, signature_key, AreKeyed}
+use Rattle.cxx_overrider.specs.invariants.Numbers.{AreFirst, IsFirstOf}
 use Rattle.cxx_hierarchy.specs.NameTables.{Text, Numbers, number_in}
 use Rattle.cxx_hierarchy.proofs.Listed.{place_listed}
 use Rattle.cxx_hierarchy.proofs.Builds.{place_missing}
-use Rattle.cxx_overrider.proofs.Lists.{get_front, get_last, get_pushed, get_within, get_there, get_contains}
+use Rattle.foundation.proofs.Places.{get_front, get_last, get_pushed, get_within, contains_at}
+use Rattle.std.proofs.lemmas.Option.{slice_get_within}
 use Rattle.cxx_overrider.proofs.Numbering.{some_value}
-use Rattle.cxx_overrider.proofs.Paths.{same_id}
 
 -- from the bytes back to the signature
 scalar_of : ℕ → Scalar
@@ -42,7 +43,7 @@ scalar_back ULong = refl
 scalar_back LongLong = refl
 scalar_back ULongLong = refl
 
-same_scalar : (s t : Scalar) → scalar_code s ≡ scalar_code t → s ≡ t
+pub same_scalar : (s t : Scalar) → scalar_code s ≡ scalar_code t → s ≡ t
 same_scalar s t e = sym (scalar_back s) ∙ ap scalar_of e ∙ scalar_back t
 
 same_type : (t u : ValueType ClassId) → first_code t ≡ first_code u → second_code t ≡ second_code u → t ≡ u
@@ -80,9 +81,9 @@ keyed_none h table is = record { keys = []; numbers = is; size = refl; each = λ
 pub found_first : (h : Classes) (table : NameTable) (firsts : List FunctionId) (f : FunctionId) (s : Signature) (key : Text) (place : ℕ) → AreFirst h firsts → AreKeyed h table firsts → signature_of h f ≡ Some s → key ≡ signature_key s → Some place ≡ number_in table key → IsFirstOf h firsts f place
 found_first h table firsts f s key place are keyed is at e =
     let listed : slice_get keyed.keys place ≡ Some key = place_listed keyed.keys key place (sym (e ∙ keyed.numbers.places key)) in
-    let small = get_within keyed.keys place key listed in
+    let small = slice_get_within keyed.keys place key listed in
     let size = keyed.size in
-    let g = get_there firsts place (omega arith) in
+    let g = get_within firsts place (omega arith) in
     let t = some_value (signature_of h g.0) (are.known place g.0 g.1) in
     let there = keyed.each place g.0 t.0 g.1 t.1 in
     let same_key : signature_key t.0 ≡ signature_key s = let k : key ≡ signature_key t.0 = cc in sym k ∙ at in
@@ -92,7 +93,7 @@ pub missing_first : (h : Classes) (table : NameTable) (firsts : List FunctionId)
 missing_first h table firsts f s key keyed is at e i g ge same =
     let listed = keyed.each i g s ge (same ∙ is) in
     let key_listed : slice_get keyed.keys i ≡ Some key = listed ∙ ap (λ x. Some x) (sym at) in
-    place_missing keyed.keys key (sym (e ∙ keyed.numbers.places key)) (get_contains keyed.keys i key key_listed)
+    place_missing keyed.keys key (sym (e ∙ keyed.numbers.places key)) (contains_at keyed.keys i key key_listed)
 
 pub keyed_pushed : (h : Classes) (old new : NameTable) (firsts : List FunctionId) (f : FunctionId) (s : Signature) (key : Text) (place : ℕ) → AreKeyed h old firsts → signature_of h f ≡ Some s → key ≡ signature_key s → place ≡ length firsts → ((names : List Text) → Numbers old names → place ≡ length names → Numbers new (names ++ key ∷ [])) → AreKeyed h new (firsts ++ f ∷ [])
 keyed_pushed h old new firsts f s key place keyed is at last noted =

@@ -7,14 +7,18 @@ use Rattle.cxx_hierarchy.specs.Classes.{Classes, bases_of}
 use Rattle.cxx_hierarchy.specs.Hierarchies.{IsHierarchy}
 use Rattle.cxx_subobject.specs.declared.Subobject.{Subobject}
 use Rattle.cxx_subobject.specs.Subobjects.{IsSubobject, whole, class_of, whole_of, join}
+use Rattle.cxx_subobject.proofs.PathLemmas.{same_id, smaller}
 use Rattle.cxx_overrider.specs.declared.places.Place.{Place}
 use Rattle.cxx_overrider.specs.declared.places.Place.TheVariants.{Itself}
 use Rattle.cxx_overrider.specs.declared.kinds.BaseKind.{BaseKind}
 use Rattle.cxx_overrider.specs.declared.kinds.BaseKind.TheVariants.{NotBase, Unique, Ambiguous}
-use Rattle.cxx_overrider.specs.Places.{place_of, lifted, base_of, IsThrough}
-use Rattle.cxx_overrider.specs.Kinds.{IsPart, IsPartThrough, IsOnly, AreTwo, Counts, kind_of, AreKinds, IsKindRow, IsMerged, lifted_kind}
-use Rattle.cxx_overrider.proofs.Lists.{get_contains, contains_get, get_within, or_front, or_last, or_past, either}
-use Rattle.cxx_overrider.proofs.Paths.{same_id, smaller, through_cases, through_valid, through_class, through_place, through_apart, through_join, place_through}
+use Rattle.cxx_overrider.specs.invariants.Places.{place_of, lifted, base_of, IsThrough}
+use Rattle.cxx_overrider.specs.invariants.Kinds.{IsPart, IsPartThrough, IsOnly, AreTwo, Counts, kind_of, AreKinds, IsKindRow, IsMerged, lifted_kind}
+use Rattle.cxx_overrider.proofs.Lists.{or_front, or_last, or_past}
+use Rattle.foundation.proofs.Places.{contains_at, place_of as contains_get}
+use Rattle.std.proofs.lemmas.Option.{slice_get_within}
+use Rattle.std.proofs.lemmas.Bool.{cases_lt}
+use Rattle.cxx_overrider.proofs.Paths.{through_cases, through_valid, through_class, through_place, through_apart, through_join, place_through}
 
 pub counts_same : (P Q : Subobject → Type 0) (k : BaseKind) → ((s : Subobject) → P s → Q s) → ((s : Subobject) → Q s → P s) → Counts P k → Counts Q k
 counts_same P Q NotBase to from none = λ s q. none s (from s q)
@@ -80,19 +84,19 @@ counts_next h keeps c d number base so_far more k listed counts each merged =
     (λ ge. let lt = p.below in let at : p.number ≡ number = omega arith in
     let same : p.base ≡ base = let x = p.listed in let y : slice_get (bases_of h c) p.number ≡ Some base = ap (slice_get (bases_of h c)) at ∙ listed in cc in
     inr (record { through = subst (λ (x : Base ClassId). IsThrough h c x s) same p.through; class = p.class }))
-    (either p.number number))
+    (cases_lt p.number number))
     (λ s t p q only at.
-    let valid = through_valid h c p.base s (get_contains (bases_of h c) p.number p.base p.listed) p.through in
-    only s (record { through = place_through h c base s t (get_contains (bases_of h c) number base listed) valid q.through at; class = p.class }))
+    let valid = through_valid h c p.base s (contains_at (bases_of h c) p.number p.base p.listed) p.through in
+    only s (record { through = place_through h c base s t (contains_at (bases_of h c) number base listed) valid q.through at; class = p.class }))
     counts (counts_lifted h keeps c d base more each) merged
 
 -- a base of another class than c lies in a direct base
 pub counts_all : (h : Classes) → IsHierarchy h → (c d : ClassId) (k : BaseKind) → d.0 < c.0 → Counts (IsPartThrough h c d (length (bases_of h c))) k → Counts (IsPart h c d) k
 counts_all h keeps c d k lt = counts_same (IsPartThrough h c d (length (bases_of h c))) (IsPart h c d) k
-    (λ s p. record { valid = through_valid h c p.base s (get_contains (bases_of h c) p.number p.base p.listed) p.through; class = p.class })
+    (λ s p. record { valid = through_valid h c p.base s (contains_at (bases_of h c) p.number p.base p.listed) p.through; class = p.class })
     (λ s p. ⊎_elim
     (λ e. let same : Some c ≡ Some d = sym (ap class_of e) ∙ p.class in let one : c.0 ≡ d.0 = let f : c ≡ d = cc in ap (λ (x : ClassId). x.0) f in absurd (omega arith))
-    (λ b. let at = contains_get (bases_of h c) b.0 b.1 in record { base = b.0; number = at.0; below = get_within (bases_of h c) at.0 b.0 at.1; listed = at.1; through = b.2; class = p.class })
+    (λ b. let at = contains_get (bases_of h c) b.0 b.1 in record { base = b.0; number = at.0; below = slice_get_within (bases_of h c) at.0 b.0 at.1; listed = at.1; through = b.2; class = p.class })
     (through_cases h c s p.valid))
 
 -- rows
@@ -110,7 +114,7 @@ below_more h c d row k has size counts = record {
       let same : d ≡ e = same_id d e (omega arith) in
       let value : get_or (row ++ k ∷ []) e.0 NotBase ≡ k = ap (λ n. get_or (row ++ k ∷ []) n NotBase) at ∙ or_last row k NotBase in
       subst (λ (x : BaseKind). Counts (IsPart h c e) x) (sym value) (subst (λ (x : ClassId). Counts (IsPart h c x) k) same counts))
-      (either e.0 (length row));
+      (cases_lt e.0 (length row));
 }
 
 -- the class itself is among itself and its bases once
@@ -132,8 +136,8 @@ kinds_more h keeps c rows row has size is = record {
       (λ past. let at : x.0 ≡ length rows = let l : length (rows ++ row ∷ []) ≡ length rows + 1 = length-append rows (row ∷ []) in omega arith in
       let same : c ≡ x = same_id c x (omega arith) in
       let value : get_or (rows ++ row ∷ []) x.0 [] ≡ row = ap (λ n. get_or (rows ++ row ∷ []) n []) at ∙ or_last rows row [] in
-      subst (λ (r : List BaseKind). Counts (IsPart h x d) (get_or r d.0 NotBase)) (sym value) (subst (λ (y : ClassId). Counts (IsPart h y d) (get_or row d.0 NotBase)) same (in_row d (either d.0 (length row)))))
-      (either x.0 (length rows));
+      subst (λ (r : List BaseKind). Counts (IsPart h x d) (get_or r d.0 NotBase)) (sym value) (subst (λ (y : ClassId). Counts (IsPart h y d) (get_or row d.0 NotBase)) same (in_row d (cases_lt d.0 (length row)))))
+      (cases_lt x.0 (length rows));
 }
   where
     in_row : (d : ClassId) → (d.0 < length row) ⊎ (length row ≤ d.0) → Counts (IsPart h c d) (get_or row d.0 NotBase)

@@ -15,3 +15,9 @@ pub mod AbstractLemmas
 pub mod KeyLemmas
 pub mod PassLemmas
 pub mod FinalLemmas
+pub mod Deciding
+pub mod FinalLaws
+pub mod ViewLaws
+pub mod ReturnLaws
+pub mod MeaningDecisions
+pub mod FaultSearch

@@ -2,22 +2,22 @@
 use Rattle.std.proofs.Common.{◌≡◌, ℕ, ◌+◌, ◌<◌, ◌≤◌, ◌⊎◌, inl, inr, ⊎_elim, Bool, true, false, Option, Some, None, List, length, refl, subst, sym, ◌∙◌, arith}
 use Rattle.std.specs.Prelude.{nat_eq, ◌&&◌, if◌then◌else◌}
 use Rattle.std.specs.List.{slice_get}
-use Rattle.std.proofs.lemmas.Bool.{eqb-true, eq-eqb}
+use Rattle.std.proofs.lemmas.Bool.{eqb-true, eq-eqb, cases_lt}
 use Rattle.cxx_hierarchy.specs.declared.records.ClassId.{ClassId}
 use Rattle.cxx_hierarchy.specs.Classes.{Classes}
 use Rattle.cxx_hierarchy.specs.Hierarchies.{IsHierarchy}
 use Rattle.cxx_hierarchy.specs.VirtualBases.{HasVirtualBase}
+use Rattle.cxx_subobject.proofs.PathLemmas.{virtual_below, same_id, part_virtual}
 use Rattle.cxx_overrider.specs.declared.entries.Entry.{Entry}
 use Rattle.cxx_overrider.specs.declared.entries.Key.{Key}
 use Rattle.cxx_overrider.specs.declared.entries.EntryTable.{EntryTable}
 use Rattle.cxx_overrider.specs.Functions.{Signature}
-use Rattle.cxx_overrider.specs.Within.{HasVirtualWithin, AreWithin}
-use Rattle.cxx_overrider.specs.Numbers.{row_of, IsNumbering, IsNumberOf}
-use Rattle.cxx_overrider.specs.Entries.{Tells, TellsOf}
-use Rattle.cxx_overrider.specs.EntryTables.{same_key, entry_of}
-use Rattle.cxx_overrider.specs.Settling.{TellsBefore, IsDone, IsMade, key}
-use Rattle.cxx_overrider.proofs.Lists.{get_within, either}
-use Rattle.cxx_overrider.proofs.Paths.{same_id, part_virtual, virtual_below}
+use Rattle.cxx_overrider.specs.invariants.Within.{HasVirtualWithin, AreWithin}
+use Rattle.cxx_overrider.specs.invariants.Numbers.{row_of, IsNumbering, IsNumberOf}
+use Rattle.cxx_overrider.specs.invariants.Entries.{Tells, TellsOf}
+use Rattle.cxx_overrider.specs.invariants.EntryTables.{same_key, entry_of, KeepsBefore}
+use Rattle.cxx_overrider.specs.invariants.Settling.{TellsBefore, IsDone, IsMade, key}
+use Rattle.std.proofs.lemmas.Option.{slice_get_within}
 
 same_parts : (a b c d e f : ℕ) → (nat_eq a b && (nat_eq c d && nat_eq e f)) ≡ true → (a ≡ b) × (c ≡ d) × (e ≡ f)
 same_parts a b c d e f k = (eqb-true a b (left (nat_eq a b) (nat_eq c d && nat_eq e f) k), eqb-true c d (left (nat_eq c d) (nat_eq e f) (right (nat_eq a b) (nat_eq c d && nat_eq e f) k)), eqb-true e f (right (nat_eq c d) (nat_eq e f) (right (nat_eq a b) (nat_eq c d && nat_eq e f) k)))
@@ -48,7 +48,7 @@ done_more c v n q d = ⊎_elim (λ a. inl a) (λ r. inr (⊎_elim (λ a. inl a) 
 done_cases : (c v n : ℕ) (q : Key) → IsDone c v (n + 1) q → IsDone c v n q ⊎ ((q.class ≡ c) × (q.root ≡ v) × (q.number ≡ n))
 done_cases c v n q d = ⊎_elim (λ a. inl (inl a))
     (λ r. ⊎_elim (λ a. inl (inr (inl a)))
-    (λ b. ⊎_elim (λ lt. inl (inr (inr (b.0, b.1, lt)))) (λ ge. let up = b.2 in inr (b.0, b.1, omega arith)) (either q.number n)) r)
+    (λ b. ⊎_elim (λ lt. inl (inr (inr (b.0, b.1, lt)))) (λ ge. let up = b.2 in inr (b.0, b.1, omega arith)) (cases_lt q.number n)) r)
     d
 
 not_done : (c v n : ℕ) (q : Key) → q.class ≡ c → q.root ≡ v → q.number ≡ n → IsDone c v n q → ⊥
@@ -98,7 +98,7 @@ made_jump h numbers table c v n m le none made = record {
       (λ r. ⊎_elim (λ a. made.told b w i s (inr (inl a)) k has)
       (λ a. ⊎_elim (λ small. made.told b w i s (inr (inr (a.0, a.1, small))) k has)
       (λ ge. absurd (none i s ge a.2 k (subst (λ (x : ClassId). HasVirtualWithin h x s) (same_id w v a.1) has)))
-      (either i n)) r)
+      (cases_lt i n)) r)
       d;
   fresh = λ q not. made.fresh q (λ d. not (⊎_elim (λ a. inl a) (λ r. ⊎_elim (λ a. inr (inl a)) (λ a. let lt = a.2 in inr (inr (a.0, a.1, omega arith))) r) d));
 }
@@ -123,7 +123,7 @@ module _ (h : Classes) (numbers : List (List ℕ)) (count : ℕ) (lists : List (
     after = λ i m lt e. is.ordered v i place m n known lt e at;
     until = λ i m le e. ⊎_elim (λ lt. let past = is.ordered v place i n m known lt at e in omega arith)
         (λ ge. let here : i ≡ place = omega arith in let moved : slice_get (row_of lists v) place ≡ Some m = subst (λ (x : ℕ). slice_get (row_of lists v) x ≡ Some m) here e in let same : n ≡ m = cc in omega arith)
-        (either place i);
+        (cases_lt place i);
   }
 
   pub made_to_next : (table : EntryTable) (c place n : ℕ) → slice_get (row_of lists v) place ≡ Some n → IsMade h numbers table c v.0 (n + 1) → IsMadeTo h numbers table c v.0 (row_of lists v) (place + 1)
@@ -136,15 +136,15 @@ module _ (h : Classes) (numbers : List (List ℕ)) (count : ℕ) (lists : List (
         ⊎_elim (λ before. let small = (between_here place n at).after r.0 i before r.1 in omega arith)
         (λ from. ⊎_elim (λ past. let up = b.until r.0 i (omega arith) r.1 in omega arith)
         (λ here. let one : r.0 ≡ place = omega arith in let moved : slice_get (row_of lists v) place ≡ Some i = subst (λ (x : ℕ). slice_get (row_of lists v) x ≡ Some i) one r.1 in let same : n ≡ i = cc in omega arith)
-        (either place r.0))
-        (either r.0 place))
+        (cases_lt place r.0))
+        (cases_lt r.0 place))
         made;
   }
 
   pub made_to_end : (table : EntryTable) (c place : ℕ) → length (row_of lists v) ≤ place → IsMadeTo h numbers table c v.0 (row_of lists v) place → IsMade h numbers table c v.0 count
   made_to_end table c place all to = to.made count (record {
     after = λ i m lt e. is.few v i m known e;
-    until = λ i m le e. let lt = get_within (row_of lists v) i m e in absurd (omega arith);
+    until = λ i m le e. let lt = slice_get_within (row_of lists v) i m e in absurd (omega arith);
   })
 
 -- the numbers of one virtual base are through
@@ -152,7 +152,7 @@ pub made_end : (h : Classes) (numbers : List (List ℕ)) (table : EntryTable) (c
 made_end h numbers table c v count is made = record {
   told = λ b w m s d k has.
       let few = is.few k.function m k.number in
-      made.told b w m s (⊎_elim (λ a. inl a) (λ r. ⊎_elim (λ a. let lt = a.1 in ⊎_elim (λ small. inr (inl (a.0, small))) (λ ge. inr (inr (a.0, omega arith, few))) (either w.0 v)) (λ x. let lt = x.2 in absurd (omega arith)) r) d) k has;
+      made.told b w m s (⊎_elim (λ a. inl a) (λ r. ⊎_elim (λ a. let lt = a.1 in ⊎_elim (λ small. inr (inl (a.0, small))) (λ ge. inr (inr (a.0, omega arith, few))) (cases_lt w.0 v)) (λ x. let lt = x.2 in absurd (omega arith)) r) d) k has;
   fresh = λ q not. made.fresh q (λ d. not (⊎_elim (λ a. inl a) (λ r. ⊎_elim (λ a. let lt = a.1 in inr (inl (a.0, omega arith))) (λ x. let at = x.1 in inr (inl (x.0, omega arith))) r) d));
 }
 
@@ -169,7 +169,7 @@ made_none h numbers table c v not made = record {
       let at : w.0 ≡ v.0 = omega arith in
       let t = tells_moved h b c w v s None a.0 at (none_declared h c v s not) in
       subst (λ (o : Option Entry). TellsOf h b w s o) (sym (made.fresh (key b w m) (λ e. ⊎_elim (λ x. let y = a.0 in omega arith) (λ z. ⊎_elim (λ x. let y = x.1 in omega arith) (λ x. let y = x.2 in omega arith) z) e))) t)
-      (either w.0 v.0))
+      (cases_lt w.0 v.0))
       (λ x. let lt = x.2 in absurd (omega arith)) r)
       d;
   fresh = λ q not_yet. made.fresh q (λ d. not_yet (⊎_elim (λ a. inl a) (λ r. ⊎_elim (λ a. let lt = a.1 in inr (inl (a.0, omega arith))) (λ x. let lt = x.2 in absurd (omega arith)) r) d));
@@ -186,8 +186,8 @@ made_class h keeps numbers table c made = record {
       (λ above.
       let t : TellsOf h b w s None = none_declared h b w s (λ v. let lt = virtual_below h keeps b w v in omega arith) in
       subst (λ (o : Option Entry). TellsOf h b w s o) (sym (made.fresh (key b w m) (λ e. ⊎_elim (λ x. omega arith) (λ z. ⊎_elim (λ x. let y = x.1 in omega arith) (λ x. let y = x.2 in omega arith) z) e))) t)
-      (either w.0 c.0))
-      (either b.0 c.0))
+      (cases_lt w.0 c.0))
+      (cases_lt b.0 c.0))
       (λ r. ⊎_elim (λ x. let lt = x.1 in absurd (omega arith)) (λ x. let lt = x.2 in absurd (omega arith)) r)
       d;
   fresh = λ q not_yet. made.fresh q (λ d. not_yet (⊎_elim (λ a. inl (omega arith)) (λ r. ⊎_elim (λ x. let at = x.0 in inl (omega arith)) (λ x. let lt = x.2 in absurd (omega arith)) r) d));
@@ -198,3 +198,20 @@ made_start h numbers table none = record {
   told = λ b w m s d k has. absurd (⊎_elim (λ x. omega arith) (λ z. ⊎_elim (λ x. let y = x.1 in omega arith) (λ x. let y = x.2 in omega arith) z) d);
   fresh = λ q not. none q;
 }
+
+-- what is told of the classes before
+pub keeps_all : (c : ClassId) (table : EntryTable) → KeepsBefore c table table
+keeps_all c table = record { each = λ q lt. refl }
+
+pub keeps_same : (c : ClassId) (old new : EntryTable) → ((q : Key) → entry_of new q ≡ entry_of old q) → KeepsBefore c old new
+keeps_same c old new same = record { each = λ q lt. same q }
+
+pub keeps_put : (c v : ClassId) (n : ℕ) (old new : EntryTable) (e : Entry) (k : Key) → k ≡ key c v n → ((q : Key) → entry_of new q ≡ (if same_key q k then Some e else entry_of old q)) → KeepsBefore c old new
+keeps_put c v n old new e k is put = record {
+  each = λ q lt.
+      let there : entry_of new q ≡ (if same_key q (key c v n) then Some e else entry_of old q) = subst (λ (x : Key). entry_of new q ≡ (if same_key q x then Some e else entry_of old q)) is (put q) in
+      put_other (same_key q (key c v n)) e (entry_of old q) (entry_of new q) there (λ t. let p = same_parts q.class c.0 q.root v.0 q.number n t in let s = p.0 in omega arith);
+}
+
+pub keeps_through : (c : ClassId) (old middle new : EntryTable) → KeepsBefore c old middle → KeepsBefore c middle new → KeepsBefore c old new
+keeps_through c old middle new a b = record { each = λ q lt. b.each q lt ∙ a.each q lt }

@@ -8,15 +8,18 @@ use Rattle.cxx_hierarchy.specs.Classes.{Class, Classes, class_at, bases_of}
 use Rattle.cxx_hierarchy.specs.Hierarchies.{IsHierarchy}
 use Rattle.cxx_subobject.specs.declared.Subobject.{Subobject}
 use Rattle.cxx_subobject.specs.Subobjects.{IsSubobject, whole, class_of, whole_of, join}
+use Rattle.cxx_subobject.proofs.PathLemmas.{same_id}
 use Rattle.cxx_overrider.specs.declared.FunctionId.{FunctionId}
 use Rattle.cxx_overrider.specs.Functions.{Signature, signature_of, says_virtual}
 use Rattle.cxx_overrider.specs.Overriding.{HasPart, HasVirtual}
-use Rattle.cxx_overrider.specs.Numbers.{number_of, IsNumbering, IsNumberOf}
-use Rattle.cxx_overrider.specs.Places.{base_of, IsThrough}
-use Rattle.cxx_overrider.specs.Marks.{mark_of, MarksEach, IsMarkRow, AreMarks, HasMarkedBase, SaysVirtual}
-use Rattle.cxx_overrider.proofs.Lists.{get_contains, or_front, or_last, either}
+use Rattle.cxx_overrider.specs.invariants.Numbers.{number_of, IsNumbering, IsNumberOf}
+use Rattle.cxx_overrider.specs.invariants.Places.{base_of, IsThrough}
+use Rattle.cxx_overrider.specs.invariants.Marks.{mark_of, MarksEach, IsMarkRow, AreMarks, HasMarkedBase, SaysVirtual}
+use Rattle.cxx_overrider.proofs.Lists.{or_front, or_last}
+use Rattle.foundation.proofs.Places.{contains_at}
+use Rattle.std.proofs.lemmas.Bool.{cases_lt}
 use Rattle.cxx_overrider.proofs.Numbering.{same_function}
-use Rattle.cxx_overrider.proofs.Paths.{same_id, through_cases, through_valid, through_class, through_join}
+use Rattle.cxx_overrider.proofs.Paths.{through_cases, through_valid, through_class, through_join}
 
 -- the functions of a number are those of its signature
 pub number_says : (h : Classes) (rows : List (List ℕ)) (count n : ℕ) (s : Signature) (f : FunctionId) → IsNumbering h rows count → IsNumberOf h rows n s → number_of rows f ≡ Some n → signature_of h f ≡ Some s
@@ -93,7 +96,7 @@ marks_more h numbers P row n b has size new = record {
       (λ past. let at : m ≡ length row = let l : length (row ++ b ∷ []) ≡ length row + 1 = length-append row (b ∷ []) in omega arith in
       let value : get_or (row ++ b ∷ []) m false ≡ b = ap (λ i. get_or (row ++ b ∷ []) i false) at ∙ or_last row b false in
       subst (λ (x : Bool). (x ≡ true) ↔ P s) (sym value) (new s (subst (λ (i : ℕ). IsNumberOf h numbers i s) (at ∙ size) k)))
-      (either m (length row));
+      (cases_lt m (length row));
 }
 
 pub no_mark_rows : (h : Classes) (numbers : List (List ℕ)) (P : ClassId → Signature → Type 0) → AreMarks h numbers P []
@@ -109,7 +112,7 @@ mark_rows_more h numbers count P rows c row is has size new = record {
       let few = is.few k.function n k.number in
       let all = new.size in
       subst (λ (r : List Bool). (get_or r n false ≡ true) ↔ P x s) (sym value) (subst (λ (y : ClassId). (get_or row n false ≡ true) ↔ P y s) same (new.marks.each n s (omega arith) k)))
-      (either x.0 (length rows));
+      (cases_lt x.0 (length rows));
 }
 
 pub own_decided : (h : Classes) → IsHierarchy h → (c : ClassId) (s : Signature) (f : FunctionId) (b : Bool) → f.class ≡ c → signature_of h f ≡ Some s → b ≡ says_virtual h f → (b ≡ true) ↔ SaysVirtual h c s

@@ -3,14 +3,16 @@ use Rattle.std.proofs.Common.{◌≡◌, ℕ, ◌+◌, ◌<◌, ◌≤◌, ◌�
 use Rattle.std.specs.List.{slice_get}
 use Rattle.cxx_hierarchy.specs.declared.records.ClassId.{ClassId}
 use Rattle.std.specs.Prelude.{nat_eq}
-use Rattle.std.proofs.lemmas.Bool.{eqb-true, eq-eqb}
+use Rattle.std.proofs.lemmas.Bool.{eqb-true, eq-eqb, cases_lt}
 use Rattle.cxx_hierarchy.specs.declared.records.Function.{Function}
 use Rattle.cxx_hierarchy.specs.Hierarchies.{IsHierarchy}
 use Rattle.cxx_hierarchy.specs.Classes.{Class, Classes, class_at, functions_in, functions_of}
 use Rattle.cxx_overrider.specs.declared.FunctionId.{FunctionId}
 use Rattle.cxx_overrider.specs.Functions.{Signature, named, destructor, signature_of, signature_in, signature_at}
-use Rattle.cxx_overrider.specs.Numbers.{row_of, number_of, AreFirst, IsFirstOf, IsRow, IsNumbering, IsNumberOf}
-use Rattle.cxx_overrider.proofs.Lists.{get_front, get_last, get_pushed, get_within, get_there, or_get, or_past, either}
+use Rattle.cxx_overrider.specs.invariants.Numbers.{row_of, number_of, AreFirst, IsFirstOf, IsRow, IsNumbering, IsNumberOf}
+use Rattle.cxx_overrider.proofs.Lists.{or_past}
+use Rattle.foundation.proofs.Places.{get_front, get_last, get_pushed, get_within}
+use Rattle.std.proofs.lemmas.Option.{slice_get_within, get_or_from_slice_get}
 
 abbrev pub with_last : List FunctionId → FunctionId → List FunctionId
 with_last firsts f = firsts ++ f ∷ []
@@ -71,7 +73,7 @@ by_test true i n e s k = eqb-true i n e
 by_test false i n e s k = cc
 
 by_declaration : (class : Class) (i : ℕ) (s : Signature) (o : Option (Function ClassId)) → slice_get class.functions i ≡ o → signature_at o (nat_eq i (length class.functions)) ≡ Some s → i < length class.functions + 1
-by_declaration class i s (Some f) e k = let r = get_within class.functions i f e in omega arith
+by_declaration class i s (Some f) e k = let r = slice_get_within class.functions i f e in omega arith
 by_declaration class i s None e k = let r = by_test (nat_eq i (length class.functions)) i (length class.functions) refl s k in omega arith
 
 by_class : (o : Option Class) (i : ℕ) (s : Signature) → signature_in o i ≡ Some s → i < length (functions_in o) + 1
@@ -80,7 +82,7 @@ by_class (Some class) i s e = by_declaration class i s (slice_get class.function
 
 class_within : (h : Classes) (c : ClassId) (o : Option Class) (i : ℕ) (s : Signature) → class_at h c ≡ o → signature_in o i ≡ Some s → c.0 < length h
 class_within h c None i s e k = cc
-class_within h c (Some class) i s e k = get_within h c.0 class e
+class_within h c (Some class) i s e k = slice_get_within h c.0 class e
 
 pub signature_class : (h : Classes) (f : FunctionId) (s : Signature) → signature_of h f ≡ Some s → f.class.0 < length h
 signature_class h f s e = class_within h f.class (class_at h f.class) f.index s refl e
@@ -93,14 +95,14 @@ some_signature class i (Some f) e lt = (named f.name (map (λ p. p.ty) f.params)
 some_signature class i None e lt = (destructor, rw (eq-eqb i (length class.functions) at_end) refl)
   where
     by_either : (i < length class.functions) ⊎ (length class.functions ≤ i) → i ≡ length class.functions
-    by_either a = ⊎_elim (λ k. absurd (let t = get_there class.functions i k in let f = e in let g = t.1 in cc)) (λ k. omega arith) a
+    by_either a = ⊎_elim (λ k. absurd (let t = get_within class.functions i k in let f = e in let g = t.1 in cc)) (λ k. omega arith) a
 
     at_end : i ≡ length class.functions
-    at_end = by_either (either i (length class.functions))
+    at_end = by_either (cases_lt i (length class.functions))
 
 pub signature_there : (h : Classes) (f : FunctionId) → f.class.0 < length h → f.index < length (functions_of h f.class) + 1 → (s : Signature) × (signature_of h f ≡ Some s)
 signature_there h f lt small =
-    let t = get_there h f.class.0 lt in
+    let t = get_within h f.class.0 lt in
     let is : class_at h f.class ≡ Some t.0 = t.1 in
     let fits : f.index < length t.0.functions + 1 = subst (λ (o : Option Class). f.index < length (functions_in o) + 1) is small in
     let k = some_signature t.0 f.index (slice_get t.0.functions f.index) refl fits in
@@ -119,14 +121,14 @@ module _ (h : Classes) (firsts : List FunctionId) (rows : List (List ℕ)) (keep
   at_row : (c : ClassId) → c.0 < length h → IsRow h firsts c (row_of rows c)
   at_row c lt =
       let small : c.0 < length rows = omega arith in
-      let t = get_there rows c.0 small in
-      subst (λ (x : List ℕ). IsRow h firsts c x) (sym (or_get rows c.0 t.0 [] t.1)) (has.each c t.0 t.1)
+      let t = get_within rows c.0 small in
+      subst (λ (x : List ℕ). IsRow h firsts c x) (sym (get_or_from_slice_get rows c.0 t.0 [] t.1)) (has.each c t.0 t.1)
 
   row_class : (c : ClassId) (i n : ℕ) → slice_get (row_of rows c) i ≡ Some n → (dec : (c.0 < length h) ⊎ (length h ≤ c.0)) → c.0 < length h
   row_class c i n e dec = ⊎_elim (λ a. a) (λ b. let past : row_of rows c ≡ [] = or_past rows c.0 [] (λ lt. omega arith) in absurd (let f : slice_get [] i ≡ Some n = subst (λ (x : List ℕ). slice_get x i ≡ Some n) past e in cc)) dec
 
   first_at : (f : FunctionId) (n : ℕ) → number_of rows f ≡ Some n → IsFirstOf h firsts f n
-  first_at f n e = (at_row f.class (row_class f.class f.index n e (either f.class.0 (length h)))).each f.index n e
+  first_at f n e = (at_row f.class (row_class f.class f.index n e (cases_lt f.class.0 (length h)))).each f.index n e
 
   short_row : (c : ClassId) → (c.0 < length h) ⊎ (length h ≤ c.0) → length (row_of rows c) ≤ 1025
   short_row c dec = ⊎_elim (λ a. let k = (at_row c a).size in let f = keeps.few_functions c in omega arith) (λ b. let past : length (row_of rows c) ≡ 0 = ap length (or_past rows c.0 [] (λ lt. omega arith)) in omega arith) dec
@@ -136,11 +138,11 @@ module _ (h : Classes) (firsts : List FunctionId) (rows : List (List ℕ)) (keep
       let k = at_row f.class (signature_class h f s e) in
       let i = signature_index h f s e in
       let z = k.size in
-      get_there (row_of rows f.class) f.index (omega arith)
+      get_within (row_of rows f.class) f.index (omega arith)
 
   used_there : (n : ℕ) → n < length firsts → (f : FunctionId) × (number_of rows f ≡ Some n)
   used_there n lt =
-      let t = get_there firsts n lt in
+      let t = get_within firsts n lt in
       let s = some_value (signature_of h t.0) (are.known n t.0 t.1) in
       let m = numbered_there t.0 s.0 s.1 in
       let a = first_at t.0 m.0 m.1 in
@@ -153,10 +155,10 @@ module _ (h : Classes) (firsts : List FunctionId) (rows : List (List ℕ)) (keep
     numbered = numbered_there;
     used = used_there;
     known = λ f n e.
-        let c = row_class f.class f.index n e (either f.class.0 (length h)) in
+        let c = row_class f.class f.index n e (cases_lt f.class.0 (length h)) in
         let k = at_row f.class c in
         let z = k.size in
-        let w = get_within (row_of rows f.class) f.index n e in
+        let w = slice_get_within (row_of rows f.class) f.index n e in
         signature_there h f c (omega arith);
     same = λ f g n ef eg.
         let a = first_at f n ef in
@@ -167,8 +169,8 @@ module _ (h : Classes) (firsts : List FunctionId) (rows : List (List ℕ)) (keep
         let a = first_at f n ef in
         let b = first_at g m eg in
         are.apart n m a.first b.first a.at_n b.at_n (a.same ∙ e ∙ sym b.same);
-    short = record { each = λ c. short_row c (either c.0 (length h)) };
-    few = λ f n e. let a = first_at f n e in get_within firsts n a.first a.at_n;
+    short = record { each = λ c. short_row c (cases_lt c.0 (length h)) };
+    few = λ f n e. let a = first_at f n e in slice_get_within firsts n a.first a.at_n;
   }
 
 -- a class declares at most one function of a signature

@@ -8,6 +8,8 @@ use Rattle.cxx_subobject.specs.declared.Root.TheVariants.{Whole, Shared}
 use Rattle.cxx_subobject.specs.declared.Subobject.{Subobject}
 use Rattle.cxx_subobject.specs.Subobjects.{Leads, IsSubobject, whole, shared, subobject, last_of}
 use Rattle.cxx_subobject.specs.Inside.{IsInside}
+use Rattle.cxx_subobject.proofs.PathLemmas.{leads_rest}
+use Rattle.cxx_subobject.proofs.InsideLemmas.{virtual_inside}
 use Rattle.cxx_overrider.specs.declared.FunctionId.{FunctionId}
 use Rattle.cxx_overrider.specs.declared.Overrider.{Overrider}
 use Rattle.cxx_overrider.specs.declared.entries.Entry.{Entry}
@@ -15,14 +17,13 @@ use Rattle.cxx_overrider.specs.declared.entries.EntryTable.{EntryTable}
 use Rattle.cxx_overrider.specs.declared.tables.Tables.{Tables}
 use Rattle.cxx_overrider.specs.Functions.{Signature, signature_of}
 use Rattle.cxx_overrider.specs.Overriding.{IsVirtualIn, IsCandidate, IsLeft, HasTwoFinalOverriders}
-use Rattle.cxx_overrider.specs.Numbers.{IsNumberOf}
-use Rattle.cxx_overrider.specs.Entries.{Declares, Tells, TellsOf}
-use Rattle.cxx_overrider.specs.EntryTables.{entry_of}
-use Rattle.cxx_overrider.specs.Settling.{IsMade, key}
-use Rattle.cxx_overrider.specs.Tables.{AreTables}
-use Rattle.cxx_overrider.specs.Within.{HasVirtualWithin}
+use Rattle.cxx_overrider.specs.invariants.Numbers.{IsNumberOf}
+use Rattle.cxx_overrider.specs.invariants.Entries.{Declares, Tells, TellsOf}
+use Rattle.cxx_overrider.specs.invariants.EntryTables.{entry_of}
+use Rattle.cxx_overrider.specs.invariants.Settling.{IsMade, key}
+use Rattle.cxx_overrider.specs.invariants.Tables.{AreTables}
+use Rattle.cxx_overrider.specs.invariants.Within.{HasVirtualWithin}
 use Rattle.cxx_overrider.proofs.SettlingLemmas.{overrider}
-use Rattle.cxx_overrider.proofs.Paths.{leads_rest, virtual_inside}
 use Rattle.cxx_overrider.proofs.Finals.{contains_by}
 
 -- the candidate lies on the path of the subobject: its path is a front of it

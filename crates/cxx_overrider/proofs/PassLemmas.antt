@@ -14,19 +14,23 @@ use Rattle.cxx_hierarchy.specs.declared.stop.LimitNo.TheVariants.{L5}
 use Rattle.cxx_hierarchy.specs.Classes.{Class, Classes, class_at, members_in, functions_in, members_of, functions_of}
 use Rattle.cxx_hierarchy.specs.Hierarchies.{IsHierarchy}
 use Rattle.cxx_subobject.specs.Parts.{IsWithinLimits}
+use Rattle.cxx_subobject.proofs.PathLemmas.{same_id}
 use Rattle.cxx_overrider.specs.declared.FunctionId.{FunctionId}
 use Rattle.cxx_overrider.specs.Overriding.{HasTwoFinalOverriders, IsAbstract}
-use Rattle.cxx_overrider.specs.Covariance.{HasMismatch, HasIncompleteReturn, HasAmbiguousReturn, HasFineReturn, IsReturnFault, mismatch as is_mismatch, incomplete as is_incomplete, ambiguous as is_ambiguous}
+use Rattle.cxx_overrider.specs.Covariance.{HasMismatch, HasIncompleteReturn, HasAmbiguousReturn}
+use Rattle.cxx_overrider.specs.invariants.ReturnFlags.{HasFineReturn, IsReturnFault, mismatch as is_mismatch, incomplete as is_incomplete, ambiguous as is_ambiguous}
 use Rattle.cxx_overrider.specs.Faults.{Spot, spot, limit_part, function_part, overrider_part, member_part, size_part, IsBefore, by_class, by_part, by_item, by_test, function_of, Fault, too_large, mismatch, incomplete, ambiguous, two_overriders, abstract_member, IsFirstFault, HasNoFault, StopsIn}
-use Rattle.cxx_overrider.specs.Pass.{TellsAbstract, IsFineTo, is_abstract_object, class_after}
-use Rattle.cxx_overrider.proofs.Lists.{get_within, get_contains, or_front, or_last, either}
-use Rattle.cxx_overrider.proofs.Paths.{same_id}
+use Rattle.cxx_overrider.specs.invariants.Pass.{TellsAbstract, IsFineTo, is_abstract_object, class_after}
+use Rattle.cxx_overrider.proofs.Lists.{or_front, or_last}
+use Rattle.std.proofs.lemmas.Option.{slice_get_within}
+use Rattle.foundation.proofs.Places.{contains_at}
+use Rattle.std.proofs.lemmas.Bool.{cases_lt}
 
 -- the ways in which one spot comes before another
 abbrev pub Before : Spot → Spot → Type 0
 Before a b = (a.class.0 < b.class.0) ⊎ (((a.class ≡ b.class) × (a.part < b.part)) ⊎ (((a.class ≡ b.class) × (a.part ≡ b.part) × (a.item < b.item)) ⊎ ((a.class ≡ b.class) × (a.part ≡ b.part) × (a.item ≡ b.item) × (a.test < b.test))))
 
-before_cases : (a b : Spot) → IsBefore a b → Before a b
+pub before_cases : (a b : Spot) → IsBefore a b → Before a b
 before_cases _ _ (by_class a b lt) = inl lt
 before_cases _ _ (by_part a b e lt) = inr (inl (e, lt))
 before_cases _ _ (by_item a b e f lt) = inr (inr (inl (e, f, lt)))
@@ -47,7 +51,7 @@ tests_more h c part item test none fine = record {
       (λ s. ⊎_elim (λ x. fine.none b stop fault (by_item b (spot c part item test) x.0 x.1 x.2))
       (λ x. ⊎_elim (λ lt. fine.none b stop fault (by_test b (spot c part item test) x.0 x.1 x.2 lt))
       (λ ge. let lt = x.3 in none b stop fault x.0 x.1 x.2 (omega arith))
-      (either b.test test)) s) r)
+      (cases_lt b.test test)) s) r)
       (before_cases b (spot c part item (test + 1)) before);
 }
 
@@ -57,7 +61,7 @@ items_more h c part item none fine = record {
   none = λ b stop fault before. ⊎_elim (λ x. fine.none b stop fault (by_class b (spot c part item 0) x))
       (λ r. ⊎_elim (λ x. fine.none b stop fault (by_part b (spot c part item 0) x.0 x.1))
       (λ s. ⊎_elim (λ x. ⊎_elim (λ lt. fine.none b stop fault (by_item b (spot c part item 0) x.0 x.1 lt))
-      (λ ge. let lt = x.2 in none b stop fault x.0 x.1 (omega arith)) (either b.item item))
+      (λ ge. let lt = x.2 in none b stop fault x.0 x.1 (omega arith)) (cases_lt b.item item))
       (λ x. let y = x.3 in omega arith) s) r)
       (before_cases b (spot c part (item + 1) 0) before);
 }
@@ -69,8 +73,8 @@ part_more h c part item none fine = record {
       (λ r. ⊎_elim
       (λ x. ⊎_elim (λ lt. fine.none b stop fault (by_part b (spot c part item 0) x.0 lt))
       (λ ge. let lt = x.1 in let same : b.part ≡ part = omega arith in
-      ⊎_elim (λ small. fine.none b stop fault (by_item b (spot c part item 0) x.0 same small)) (λ from. none b stop fault x.0 same from) (either b.item item))
-      (either b.part part))
+      ⊎_elim (λ small. fine.none b stop fault (by_item b (spot c part item 0) x.0 same small)) (λ from. none b stop fault x.0 same from) (cases_lt b.item item))
+      (cases_lt b.part part))
       (λ s. ⊎_elim (λ x. let y = x.2 in omega arith) (λ x. let y = x.3 in omega arith) s) r)
       (before_cases b (spot c (part + 1) 0 0) before);
 }
@@ -89,7 +93,7 @@ class_more h c fine = record {
   none = λ b stop fault before. ⊎_elim
       (λ x. ⊎_elim (λ lt. fine.none b stop fault (by_class b (spot c size_part 0 0) lt))
       (λ ge. fine.none b stop fault (by_part b (spot c size_part 0 0) (same_id b.class c (omega arith)) (few_parts h b stop fault)))
-      (either b.class.0 c.0))
+      (cases_lt b.class.0 c.0))
       (λ r. ⊎_elim (λ x. let y = x.1 in omega arith) (λ s. ⊎_elim (λ x. let y = x.2 in omega arith) (λ x. let y = x.3 in omega arith) s) r)
       (before_cases b (spot (class_after c) limit_part 0 0) before);
 }
@@ -132,9 +136,9 @@ function_only h _ _ (abstract_member c d i m at t k) e fine = omega arith
 
 few_functions : (h : Classes) (b : Spot) (stop : Stop) → Fault h b stop → b.part ≡ function_part → b.item < length (functions_of h b.class)
 few_functions h _ _ (too_large c lt k) e = absurd (omega arith)
-few_functions h _ _ (mismatch c i f at k) e = get_within (functions_of h c) i f at
-few_functions h _ _ (incomplete c i f at k) e = get_within (functions_of h c) i f at
-few_functions h _ _ (ambiguous c i f at k) e = get_within (functions_of h c) i f at
+few_functions h _ _ (mismatch c i f at k) e = slice_get_within (functions_of h c) i f at
+few_functions h _ _ (incomplete c i f at k) e = slice_get_within (functions_of h c) i f at
+few_functions h _ _ (ambiguous c i f at k) e = slice_get_within (functions_of h c) i f at
 few_functions h _ _ (two_overriders c class at k) e = absurd (omega arith)
 few_functions h _ _ (abstract_member c d i m at t k) e = absurd (omega arith)
 
@@ -193,7 +197,7 @@ member_fine h c i none = items_more h c member_part i
 
 pub members_fine : (h : Classes) (c : ClassId) (i : ℕ) → length (members_of h c) ≤ i → IsFineTo h (spot c member_part i 0) → IsFineTo h (spot c size_part 0 0)
 members_fine h c i all = part_more h c member_part i
-    (λ b stop fault same part from. let m = member_only h b stop fault part in let lt = get_within (members_of h b.class) b.item m.member m.at in let moved = subst (λ (x : ClassId). b.item < length (members_of h x)) same lt in omega arith)
+    (λ b stop fault same part from. let m = member_only h b stop fault part in let lt = slice_get_within (members_of h b.class) b.item m.member m.at in let moved = subst (λ (x : ClassId). b.item < length (members_of h x)) same lt in omega arith)
 
 -- the marks of abstract classes
 marked_object : (h : Classes) (list : List Bool) (ty : FieldType ClassId) (d : ClassId) → TellsAbstract h list → ty ≡ Object d → d.0 < length list → (is_abstract_object list ty ≡ true) ↔ IsAbstract h d
@@ -213,13 +217,13 @@ pub member_unmarked : (h : Classes) → IsHierarchy h → (list : List Bool) (c 
 member_unmarked h keeps list c i m b tells size at is not k =
     let same : k.member ≡ m = let x = k.at in cc in
     let ty : m.ty ≡ Object k.class = sym (ap (λ (x : Member ClassId). x.ty) same) ∙ k.of_class in
-    let lt = keeps.objects c k.class m (get_contains (members_of h c) i m at) ty in
+    let lt = keeps.objects c k.class m (contains_at (members_of h c) i m at) ty in
     let t = (marked_object h list m.ty k.class tells ty (omega arith)).1 k.is_abstract in
     cc
 
 pub member_fault : (h : Classes) → IsHierarchy h → (list : List Bool) (c : ClassId) (i : ℕ) (m : Member ClassId) (b : Bool) → TellsAbstract h list → length list ≡ c.0 → slice_get (members_of h c) i ≡ Some m → b ≡ is_abstract_object list m.ty → b ≡ true → IsFineTo h (spot c member_part i 0) → StopsIn h c (Refused Abstract m.at)
 member_fault h keeps list c i m b tells size at is yet fine =
-    let k = object_there h list m.ty tells (λ d ty. let lt = keeps.objects c d m (get_contains (members_of h c) i m at) ty in omega arith) (sym is ∙ yet) in
+    let k = object_there h list m.ty tells (λ d ty. let lt = keeps.objects c d m (contains_at (members_of h c) i m at) ty in omega arith) (sym is ∙ yet) in
     first_fault h c member_part i 0 (Refused Abstract m.at) (abstract_member c k.class i m at k.is k.is_abstract) fine
 
 pub no_abstracts : (h : Classes) → TellsAbstract h []
@@ -233,24 +237,24 @@ abstracts_more h list c b tells size is = record {
       let at : x.0 ≡ length list = let l : length (list ++ b ∷ []) ≡ length list + 1 = length-append list (b ∷ []) in omega arith in
       let value : get_or (list ++ b ∷ []) x.0 false ≡ b = ap (λ i. get_or (list ++ b ∷ []) i false) at ∙ or_last list b false in
       subst (λ (v : Bool). (v ≡ true) ↔ IsAbstract h x) (sym value) (subst (λ (y : ClassId). (b ≡ true) ↔ IsAbstract h y) (same_id c x (sym size ∙ sym at)) is))
-      (either x.0 (length list));
+      (cases_lt x.0 (length list));
 }
 
 -- the end
 known_functions : (h : Classes) (c : ClassId) (i : ℕ) (f : Function ClassId) (class : Option Class) → slice_get (functions_in class) i ≡ Some f → class_at h c ≡ class → c.0 < length h
 known_functions h c i f None e at = cc
-known_functions h c i f (Some class) e at = get_within h c.0 class at
+known_functions h c i f (Some class) e at = slice_get_within h c.0 class at
 
 known_members : (h : Classes) (c : ClassId) (i : ℕ) (m : Member ClassId) (class : Option Class) → slice_get (members_in class) i ≡ Some m → class_at h c ≡ class → c.0 < length h
 known_members h c i m None e at = cc
-known_members h c i m (Some class) e at = get_within h c.0 class at
+known_members h c i m (Some class) e at = slice_get_within h c.0 class at
 
 pub fault_known : (h : Classes) (b : Spot) (stop : Stop) → Fault h b stop → b.class.0 < length h
 fault_known h _ _ (too_large c lt k) = lt
 fault_known h _ _ (mismatch c i f at k) = known_functions h c i f (class_at h c) at refl
 fault_known h _ _ (incomplete c i f at k) = known_functions h c i f (class_at h c) at refl
 fault_known h _ _ (ambiguous c i f at k) = known_functions h c i f (class_at h c) at refl
-fault_known h _ _ (two_overriders c class at k) = get_within h c.0 class at
+fault_known h _ _ (two_overriders c class at k) = slice_get_within h c.0 class at
 fault_known h _ _ (abstract_member c d i m at t k) = known_members h c i m (class_at h c) at refl
 
 pub fine_end : (h : Classes) (c : ClassId) → length h ≤ c.0 → IsFineTo h (spot c limit_part 0 0) → HasNoFault h

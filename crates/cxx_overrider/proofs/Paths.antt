@@ -12,107 +12,14 @@ use Rattle.cxx_subobject.specs.declared.Root.TheVariants.{Whole, Shared}
 use Rattle.cxx_subobject.specs.declared.Subobject.{Subobject}
 use Rattle.cxx_subobject.specs.Subobjects.{Leads, IsSubobject, whole, shared, subobject, whole_of, last_of, class_of_path, class_of, tail_of, join_at, join}
 use Rattle.cxx_subobject.specs.Inside.{IsInside}
-use Rattle.cxx_subobject.proofs.InsideLemmas.{join_valid, inside_back}
+use Rattle.cxx_subobject.proofs.InsideLemmas.{join_class, join_valid, inside_back, join_inside}
+use Rattle.cxx_subobject.proofs.PathLemmas.{last_append, virtual_along, virtual_through, class_of_longer, base_before, last_below, virtual_below, same_id, part_virtual}
 use Rattle.cxx_overrider.specs.declared.places.Place.{Place}
 use Rattle.cxx_overrider.specs.declared.places.Place.TheVariants.{Itself, InBase, InShared}
-use Rattle.cxx_overrider.specs.Places.{place_of, place_at, place_below, base_place, lifted, base_subobject, base_of, IsThrough}
-
-pub same_id : (x y : ClassId) → x.0 ≡ y.0 → x ≡ y
-same_id x y e = let make : ℕ → ClassId = λ n. record { 0 = n } in let f : make x.0 ≡ make y.0 = ap make e in f
+use Rattle.cxx_overrider.specs.invariants.Places.{place_of, place_at, place_below, base_place, lifted, base_subobject, base_of, IsThrough}
 
 pub inside_antisymmetric : (h : Classes) → IsHierarchy h → (s t : Subobject) → IsInside h s t → IsInside h t s → s ≡ t
 inside_antisymmetric h keeps s t a b = inside_back h s t keeps a b
-
-pub last_append : (c : ClassId) (p q : List ClassId) → last_of c (p ++ q) ≡ last_of (last_of c p) q
-last_append c [] q = refl
-last_append c (b ∷ p) q = last_append b p q
-
-pub leads_rest : (h : Classes) (c : ClassId) (p q : List ClassId) → Leads h c (p ++ q) → Leads h (last_of c p) q
-leads_rest h c [] q l = l
-leads_rest h c (b ∷ p) q l = leads_rest h b p q l.1
-
-pub leads_front : (h : Classes) (c : ClassId) (p q : List ClassId) → Leads h c (p ++ q) → Leads h c p
-leads_front h c [] q l = tt
-leads_front h c (b ∷ p) q l = (l.0, leads_front h b p q l.1)
-
--- a virtual base of a base is one of the class
-pub virtual_along : (h : Classes) (c v : ClassId) (p : List ClassId) → Leads h c p → HasVirtualBase h (last_of c p) v → HasVirtualBase h c v
-virtual_along h c v [] l has = has
-virtual_along h c v (b ∷ p) l has = further c b v false l.0 (virtual_along h b v p l.1 has)
-
-pub virtual_again : (h : Classes) (c v w : ClassId) → HasVirtualBase h c v → HasVirtualBase h v w → HasVirtualBase h c w
-virtual_again h _ _ w (direct c v d) has = further c v w true d has
-virtual_again h _ _ w (further c b v way d rest) has = further c b w way d (virtual_again h b v w rest has)
-
--- a virtual base of the class of a part is one of the whole
-pub part_virtual : (h : Classes) (c d v : ClassId) (s : Subobject) → IsSubobject h c s → class_of s ≡ Some d → HasVirtualBase h d v → HasVirtualBase h c v
-part_virtual h c d v _ (whole p l) e has = let same : last_of c p ≡ d = cc in virtual_along h c v p l (subst (λ (x : ClassId). HasVirtualBase h x v) (sym same) has)
-part_virtual h c d v _ (shared w p hw l) e has = let same : last_of w p ≡ d = cc in virtual_again h c w v hw (virtual_along h w v p l (subst (λ (x : ClassId). HasVirtualBase h x v) (sym same) has))
-
-class_of_longer : (path q : List ClassId) (d : ClassId) → class_of_path path ≡ Some d → class_of_path (path ++ q) ≡ Some (last_of d q)
-class_of_longer [] q d e = cc
-class_of_longer (c ∷ p) q d e = let same : last_of c p ≡ d = cc in ap (λ x. Some x) (last_append c p q ∙ ap (λ (x : ClassId). last_of x q) same)
-
-pub join_class : (h : Classes) (d : ClassId) (s t : Subobject) → class_of s ≡ Some d → IsSubobject h d t → class_of (join s t) ≡ class_of t
-join_class h d s _ e (whole q m) = class_of_longer s.path q d e
-join_class h d s _ e (shared v q has m) = refl
-
-pub join_join : (h : Classes) (d e : ClassId) (s t u : Subobject) → IsSubobject h d t → IsSubobject h e u → join (join s t) u ≡ join s (join t u)
-join_join h d e s _ _ (whole p l) (whole q m) = ap (λ x. subobject s.root x) (append_assoc s.path p q)
-join_join h d e s _ _ (whole p l) (shared v q has m) = refl
-join_join h d e s _ _ (shared w p hw l) (whole q m) = refl
-join_join h d e s _ _ (shared w p hw l) (shared v q has m) = refl
-
-pub class_there : (h : Classes) (c : ClassId) (s : Subobject) → IsSubobject h c s → (d : ClassId) × (class_of s ≡ Some d)
-class_there h c _ (whole p l) = (last_of c p, refl)
-class_there h c _ (shared v p has l) = (last_of v p, refl)
-
--- what lies in a part lies in it as a part of the whole
-pub join_inside : (h : Classes) (d : ClassId) (s a b : Subobject) → class_of s ≡ Some d → IsSubobject h d a → IsInside h a b → IsInside h (join s a) (join s b)
-join_inside h d s a b e valid k = record {
-  class = k.class;
-  of_class = join_class h d s a e valid ∙ k.of_class;
-  part = k.part;
-  valid = k.valid;
-  joined = ap (λ x. join s x) k.joined ∙ sym (join_join h d k.class s a k.part valid k.valid);
-}
-
--- the class of an inner subobject has no virtual base that the outer one's has not
-pub inside_virtual : (h : Classes) (d e v : ClassId) (s t : Subobject) → IsInside h s t → class_of s ≡ Some d → class_of t ≡ Some e → HasVirtualBase h e v → HasVirtualBase h d v
-inside_virtual h d e v s t k ds et has =
-    let part_class : class_of k.part ≡ Some e = sym (join_class h k.class s k.part k.of_class k.valid) ∙ (ap class_of (sym k.joined) ∙ et) in
-    let same : k.class ≡ d = let f = k.of_class in cc in
-    subst (λ (x : ClassId). HasVirtualBase h x v) same (part_virtual h k.class e v k.part k.valid part_class has)
-
--- a shared subobject lies in each one whose class has its root as a virtual base
-pub virtual_inside : (h : Classes) (s : Subobject) (d w : ClassId) (q : List ClassId) → class_of s ≡ Some d → HasVirtualBase h d w → Leads h w q → IsInside h s (subobject (Shared w) (w ∷ q))
-virtual_inside h s d w q e has l = record { class = d; of_class = e; part = subobject (Shared w) (w ∷ q); valid = shared w q has l; joined = refl }
-
--- the order of the classes
-base_before : (h : Classes) → IsHierarchy h → (c b : ClassId) (way : Bool) → IsDirectBase h c way b → b.0 < c.0
-base_before h keeps c b way d = let f = keeps.bases c d.base d.listed in let e : d.base.class.0 ≡ b.0 = ap (λ (x : ClassId). x.0) d.class in omega arith
-
-pub last_below : (h : Classes) → IsHierarchy h → (c : ClassId) (p : List ClassId) → Leads h c p → (last_of c p).0 ≤ c.0
-last_below h keeps c [] l = omega arith
-last_below h keeps c (b ∷ p) l = let f = base_before h keeps c b false l.0 in let r = last_below h keeps b p l.1 in omega arith
-
-pub virtual_below : (h : Classes) → IsHierarchy h → (c v : ClassId) → HasVirtualBase h c v → v.0 < c.0
-virtual_below h keeps _ _ (direct c v d) = base_before h keeps c v true d
-virtual_below h keeps _ _ (further c b v way d rest) = let f = base_before h keeps c b way d in let r = virtual_below h keeps b v rest in omega arith
-
--- a subobject is the whole, or of a class before
-pub smaller : (h : Classes) → IsHierarchy h → (c d : ClassId) (s : Subobject) → IsSubobject h c s → class_of s ≡ Some d → (s ≡ whole_of c) ⊎ (d.0 < c.0)
-smaller h keeps c d _ (whole [] l) e = inl refl
-smaller h keeps c d _ (whole (b ∷ p) l) e =
-    let same : last_of b p ≡ d = cc in
-    let f = base_before h keeps c b false l.0 in
-    let r = last_below h keeps b p l.1 in
-    let g : (last_of b p).0 ≡ d.0 = ap (λ (x : ClassId). x.0) same in inr (omega arith)
-smaller h keeps c d _ (shared v p has l) e =
-    let same : last_of v p ≡ d = cc in
-    let f = virtual_below h keeps c v has in
-    let r = last_below h keeps v p l in
-    let g : (last_of v p).0 ≡ d.0 = ap (λ (x : ClassId). x.0) same in inr (omega arith)
 
 -- what a direct base is in the class
 base_valid : (h : Classes) (c b : ClassId) (w : Bool) → IsDirectBase h c w b → IsSubobject h c (base_subobject w c b)
@@ -284,14 +191,14 @@ joined_same : (w : Bool) (c b : ClassId) (p q : List ClassId) → join (base_sub
 joined_same true c b p q e = let f : b ∷ p ≡ b ∷ q = ap (λ (s : Subobject). s.path) e in cc
 joined_same false c b p q e = let f : c ∷ b ∷ p ≡ c ∷ b ∷ q = ap (λ (s : Subobject). s.path) e in cc
 
-join_injective : (h : Classes) → IsHierarchy h → (c : ClassId) (base : Base ClassId) (s t : Subobject) → IsSubobject h base.class s → IsSubobject h base.class t → join (base_of c base) s ≡ join (base_of c base) t → s ≡ t
-join_injective h keeps c base _ _ (whole p l) (whole q m) e = ap (λ (x : List ClassId). subobject Whole (base.class ∷ x)) (joined_same base.is_virtual c base.class p q e)
-join_injective h keeps c base _ _ (whole p l) (shared v q has m) e = absurd (joined_apart h keeps base.is_virtual c base.class v p q has (sym e))
-join_injective h keeps c base _ _ (shared v p has l) (whole q m) e = absurd (joined_apart h keeps base.is_virtual c base.class v q p has e)
-join_injective h keeps c base _ _ (shared v p has l) (shared w q hw m) e = e
+same_part : (h : Classes) → IsHierarchy h → (c : ClassId) (base : Base ClassId) (s t : Subobject) → IsSubobject h base.class s → IsSubobject h base.class t → join (base_of c base) s ≡ join (base_of c base) t → s ≡ t
+same_part h keeps c base _ _ (whole p l) (whole q m) e = ap (λ (x : List ClassId). subobject Whole (base.class ∷ x)) (joined_same base.is_virtual c base.class p q e)
+same_part h keeps c base _ _ (whole p l) (shared v q has m) e = absurd (joined_apart h keeps base.is_virtual c base.class v p q has (sym e))
+same_part h keeps c base _ _ (shared v p has l) (whole q m) e = absurd (joined_apart h keeps base.is_virtual c base.class v q p has e)
+same_part h keeps c base _ _ (shared v p has l) (shared w q hw m) e = e
 
 pub through_apart : (h : Classes) → IsHierarchy h → (c : ClassId) (base : Base ClassId) (s t : Subobject) → (a : IsThrough h c base s) → (b : IsThrough h c base t) → s ≡ t → a.part ≡ b.part
-through_apart h keeps c base s t a b e = join_injective h keeps c base a.part b.part a.valid b.valid (sym a.joined ∙ e ∙ b.joined)
+through_apart h keeps c base s t a b e = same_part h keeps c base a.part b.part a.valid b.valid (sym a.joined ∙ e ∙ b.joined)
 
 abbrev pub through_join : (h : Classes) (c : ClassId) (base : Base ClassId) (part : Subobject) → IsSubobject h base.class part → IsThrough h c base (join (base_of c base) part)
 through_join h c base part valid = record { part = part; valid = valid; joined = refl }

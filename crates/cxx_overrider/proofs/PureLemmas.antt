@@ -9,9 +9,9 @@ use Rattle.cxx_hierarchy.specs.VirtualBases.{IsDirectBase}
 use Rattle.cxx_overrider.specs.declared.FunctionId.{FunctionId}
 use Rattle.cxx_overrider.specs.Functions.{Signature, signature_of, is_pure}
 use Rattle.cxx_overrider.specs.Overriding.{HasVirtual, IsVirtual}
-use Rattle.cxx_overrider.specs.Numbers.{number_of, IsNumbering, IsNumberOf}
-use Rattle.cxx_overrider.specs.Marks.{mark_of, AreMarks, HasMarkedPart}
-use Rattle.cxx_overrider.specs.Pure.{DeclaresNone, StandsFirst, here, below, LeavesPure}
+use Rattle.cxx_overrider.specs.invariants.Numbers.{number_of, IsNumbering, IsNumberOf}
+use Rattle.cxx_overrider.specs.invariants.Marks.{mark_of, AreMarks, HasMarkedPart}
+use Rattle.cxx_overrider.specs.invariants.Pure.{DeclaresNone, StandsFirst, here, below, LeavesPure}
 use Rattle.cxx_overrider.proofs.Numbering.{same_function}
 use Rattle.cxx_overrider.proofs.MarkLemmas.{says_number}
 

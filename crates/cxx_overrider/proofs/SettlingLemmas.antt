@@ -1,7 +1,7 @@
 -- The overriders of a virtual base's functions, from those of the direct bases.
 use Rattle.std.proofs.Common.{◌≡◌, ◌≢◌, ℕ, ◌+◌, ◌<◌, ◌≤◌, ◌⊎◌, inl, inr, ⊎_elim, Bool, true, false, get_or, ◌↔◌, Option, Some, None, List, [], ◌∷◌, ◌++◌, length, refl, ap, subst, sym, ◌∙◌, arith}
 use Rattle.std.specs.List.{slice_get, Contains}
-use Rattle.std.proofs.lemmas.Option.{slice_get-get_or}
+use Rattle.std.proofs.lemmas.Option.{slice_get-get_or, slice_get_within}
 use Rattle.cxx_hierarchy.specs.declared.records.ClassId.{ClassId}
 use Rattle.cxx_hierarchy.specs.declared.records.Base.{Base}
 use Rattle.cxx_hierarchy.specs.Classes.{Classes, bases_of}
@@ -11,7 +11,8 @@ use Rattle.cxx_subobject.specs.declared.Root.TheVariants.{Whole, Shared}
 use Rattle.cxx_subobject.specs.declared.Subobject.{Subobject}
 use Rattle.cxx_subobject.specs.Subobjects.{IsSubobject, whole, shared, subobject, whole_of, class_of, join}
 use Rattle.cxx_subobject.specs.Inside.{IsInside}
-use Rattle.cxx_subobject.proofs.InsideLemmas.{join_valid, inside_through, inside_itself}
+use Rattle.cxx_subobject.proofs.InsideLemmas.{join_valid, inside_through, inside_itself, join_class, inside_virtual, virtual_inside}
+use Rattle.cxx_subobject.proofs.PathLemmas.{part_virtual}
 use Rattle.cxx_overrider.specs.declared.FunctionId.{FunctionId}
 use Rattle.cxx_overrider.specs.declared.Overrider.{Overrider}
 use Rattle.cxx_overrider.specs.declared.places.Place.{Place}
@@ -19,19 +20,20 @@ use Rattle.cxx_overrider.specs.declared.places.Place.TheVariants.{Itself, InBase
 use Rattle.cxx_overrider.specs.declared.entries.Entry.{Entry}
 use Rattle.cxx_overrider.specs.declared.entries.Key.{Key}
 use Rattle.cxx_overrider.specs.declared.entries.EntryTable.{EntryTable}
-use Rattle.cxx_overrider.specs.EntryTables.{entry_of}
+use Rattle.cxx_overrider.specs.invariants.EntryTables.{entry_of}
 use Rattle.cxx_overrider.specs.declared.settling.Settled.{Settled}
 use Rattle.cxx_overrider.specs.declared.settling.Settled.TheVariants.{Nothing, One, Two}
 use Rattle.cxx_overrider.specs.Functions.{Signature, signature_of}
 use Rattle.cxx_overrider.specs.Overriding.{HasVirtual, IsVirtualIn, IsCandidate, IsLeft, HasTwoFinalOverriders}
-use Rattle.cxx_overrider.specs.Places.{place_of, lifted, base_place, base_of, IsThrough}
-use Rattle.cxx_overrider.specs.Entries.{Declares, IsGreatest, Tells, TellsOf}
-use Rattle.cxx_overrider.specs.Settling.{Holds, StandsFor, HasHolder, AreCandidates, IsAmong, IsOrder, IsTop, IsUnheld, IsAbove, AreTwoTops, IsPicked, IsSettled, TellsBefore, key}
-use Rattle.cxx_overrider.specs.Pure.{DeclaresNone}
-use Rattle.cxx_overrider.proofs.Lists.{get_front, get_last, get_pushed, get_within, get_contains, contains_get, either}
+use Rattle.cxx_overrider.specs.invariants.Places.{place_of, lifted, base_place, base_of, IsThrough}
+use Rattle.cxx_overrider.specs.invariants.Entries.{Declares, IsGreatest, Tells, TellsOf}
+use Rattle.cxx_overrider.specs.invariants.Settling.{Holds, StandsFor, HasHolder, AreCandidates, IsAmong, IsOrder, IsTop, IsUnheld, IsAbove, AreTwoTops, IsPicked, IsSettled, TellsBefore, key}
+use Rattle.cxx_overrider.specs.invariants.Pure.{DeclaresNone}
+use Rattle.foundation.proofs.Places.{get_front, get_last, get_pushed, contains_at, place_of as contains_get}
+use Rattle.std.proofs.lemmas.Bool.{cases_lt}
 use Rattle.cxx_overrider.proofs.Numbering.{same_function}
 use Rattle.cxx_overrider.proofs.MarkLemmas.{part_itself}
-use Rattle.cxx_overrider.proofs.Paths.{inside_antisymmetric, through_cases, through_valid, through_class, through_place, through_inside, through_join, place_through, place_shared, inside_cases, inside_virtual, virtual_inside, whole_inside, part_virtual, join_class}
+use Rattle.cxx_overrider.proofs.Paths.{inside_antisymmetric, through_cases, through_valid, through_class, through_place, through_inside, through_join, place_through, place_shared, inside_cases, whole_inside}
 
 abbrev pub overrider : Subobject → FunctionId → Overrider
 overrider s f = record { at = s; function = f }
@@ -100,7 +102,7 @@ has_holder h c v s xs p none are d = ⊎_elim
     (λ b.
     let at = contains_get (bases_of h c) b.0 b.1 in
     let below = declares_below h c v s b.0 p b.2 d in
-    subst (λ (z : Subobject). HasHolder h c v s xs z) (sym b.2.joined) (are.all at.0 b.0 (overrider b.2.part p.function) (get_within (bases_of h c) at.0 b.0 at.1) at.1 below))
+    subst (λ (z : Subobject). HasHolder h c v s xs z) (sym b.2.joined) (are.all at.0 b.0 (overrider b.2.part p.function) (slice_get_within (bases_of h c) at.0 b.0 at.1) at.1 below))
     (through_cases h c p.at d.valid)
 
 pub nothing_tells : (h : Classes) (c v : ClassId) (s : Signature) (xs : List Entry) → DeclaresNone h c s → AreCandidates h c v s (length (bases_of h c)) xs → xs ≡ [] → TellsOf h c v s None
@@ -216,7 +218,7 @@ candidates_skip h c v s count xs base listed are none = record {
   stand = are.stand;
   all = λ i b p lt at d. ⊎_elim (λ small. are.all i b p small at d)
       (λ past. absurd (none p (subst (λ (x : Base ClassId). Declares h x.class v s p) (same_base h c i count b base at listed (omega arith)) d)))
-      (either i count);
+      (cases_lt i count);
 }
 
 pub candidates_push : (h : Classes) (c v : ClassId) (s : Signature) (count : ℕ) (xs : List Entry) (base : Base ClassId) (e : Entry) → slice_get (bases_of h c) count ≡ Some base → AreCandidates h c v s count xs → Tells h base.class v s e → AreCandidates h c v s (count + 1) (xs ++ (record { place = lifted base e.place; function = e.function }) ∷ [])
@@ -226,7 +228,7 @@ candidates_push h c v s count xs base e listed are tells =
     let t : IsThrough h c base sub = through_join h c base tells.subobject tells.greatest.declares.valid in
     let stands : StandsFor h c v s x = record {
       base = base;
-      listed = get_contains (bases_of h c) count base listed;
+      listed = contains_at (bases_of h c) count base listed;
       subobject = sub;
       through = t;
       greatest = tells.greatest;
@@ -246,7 +248,7 @@ candidates_push h c v s count xs base e listed are tells =
             stands = stands;
             holds = through_inside h c base sub (join (base_of c base) p.at) t (through_join h c base p.at moved.valid) (tells.greatest.all p moved);
           }))
-          (either i count);
+          (cases_lt i count);
     }
 
 -- the scan for the highest
@@ -262,7 +264,7 @@ above_keep h xs start e y count at not so = record {
   above = so.above;
   none = λ j x lt f k. ⊎_elim (λ small. so.none j x small f k)
       (λ past. let same : j ≡ count = omega arith in let moved : slice_get xs j ≡ Some y = ap (slice_get xs) same ∙ at in let one : x ≡ y = cc in absurd (not (subst (λ (z : Entry). Holds h z e) one k)))
-      (either j count);
+      (cases_lt j count);
 }
 
 pub above_take : (h : Classes) (xs : List Entry) (start e y : Entry) (count : ℕ) → IsOrder h xs → IsAmong xs start → IsAmong xs e → slice_get xs count ≡ Some y → Holds h y e → IsAboveSoFar h xs start count e → IsAboveSoFar h xs start (count + 1) y
@@ -274,12 +276,12 @@ above_take h xs start e y count order is ie at holds so =
           (λ small. let ix : IsAmong xs x = record { number = j; listed = f } in
           order.through y e x iy ie ix holds (so.none j x small f (order.through x y e ix iy ie k holds)))
           (λ past. let same : j ≡ count = omega arith in let moved : slice_get xs j ≡ Some y = ap (slice_get xs) same ∙ at in let one : y ≡ x = cc in inl (ap (λ (z : Entry). z.place) one))
-          (either j count);
+          (cases_lt j count);
     }
 
 pub above_all : (h : Classes) (xs : List Entry) (start e : Entry) (count : ℕ) → length xs ≤ count → IsAmong xs e → IsAboveSoFar h xs start count e → IsAbove h xs start e
 above_all h xs start e count all ie so = record {
-  unheld = record { among = ie; none = λ x ix k. let lt = get_within xs ix.number x ix.listed in so.none ix.number x (omega arith) ix.listed k };
+  unheld = record { among = ie; none = λ x ix k. let lt = slice_get_within xs ix.number x ix.listed in so.none ix.number x (omega arith) ix.listed k };
   above = so.above;
 }
 
@@ -299,7 +301,7 @@ next_all P xs i d within so at k x lt e = ⊎_elim (λ small. so k x small e)
     let same : k ≡ i = omega arith in
     let moved : slice_get xs k ≡ Some (get_or xs i d) = ap (slice_get xs) same ∙ slice_get-get_or xs i d within in
     let one : get_or xs i d ≡ x = cc in subst (λ (z : Entry). P z) one at)
-    (either k i)
+    (cases_lt k i)
 
 pub settled_picked : (h : Classes) → IsHierarchy h → (c v : ClassId) (s : Signature) (xs : List Entry) (settled : Settled) → DeclaresNone h c s → AreCandidates h c v s (length (bases_of h c)) xs → HasVirtualBase h c v → IsPicked h xs settled → IsSettled h c v s settled
 settled_picked h keeps c v s xs Nothing none are has picked = nothing_tells h c v s xs none are picked

@@ -8,16 +8,18 @@ use Rattle.cxx_hierarchy.specs.Hierarchies.{IsHierarchy}
 use Rattle.cxx_hierarchy.specs.VirtualBases.{IsDirectBase}
 use Rattle.cxx_subobject.specs.declared.Root.TheVariants.{Whole}
 use Rattle.cxx_subobject.specs.Subobjects.{Leads, whole, subobject, last_of, join}
-use Rattle.cxx_subobject.proofs.InsideLemmas.{join_valid}
+use Rattle.cxx_subobject.proofs.InsideLemmas.{join_valid, join_class}
 use Rattle.cxx_overrider.specs.declared.FunctionId.{FunctionId}
 use Rattle.cxx_overrider.specs.Functions.{Signature, signature_of}
 use Rattle.cxx_overrider.specs.Overriding.{HasPart, HasVirtual, IsVirtual}
-use Rattle.cxx_overrider.specs.Numbers.{IsNumbering, IsNumberOf}
-use Rattle.cxx_overrider.specs.Marks.{AreMarks, HasMarkedPart}
-use Rattle.cxx_overrider.specs.Pure.{DeclaresNone}
-use Rattle.cxx_overrider.specs.Within.{HasVirtualWithin, ListsMarked, AreListed, AreWithin}
-use Rattle.cxx_overrider.proofs.Lists.{get_front, get_last, get_pushed, get_within, or_front, or_last, either}
-use Rattle.cxx_overrider.proofs.Paths.{join_class}
+use Rattle.cxx_overrider.specs.invariants.Numbers.{IsNumbering, IsNumberOf}
+use Rattle.cxx_overrider.specs.invariants.Marks.{AreMarks, HasMarkedPart}
+use Rattle.cxx_overrider.specs.invariants.Pure.{DeclaresNone}
+use Rattle.cxx_overrider.specs.invariants.Within.{HasVirtualWithin, ListsMarked, AreListed, AreWithin}
+use Rattle.cxx_overrider.proofs.Lists.{or_front, or_last}
+use Rattle.foundation.proofs.Places.{get_front, get_last, get_pushed}
+use Rattle.std.proofs.lemmas.Option.{slice_get_within}
+use Rattle.std.proofs.lemmas.Bool.{cases_lt}
 
 -- the class itself declares one, or the non-virtual part of a direct non-virtual base does
 pub record DeclaresVirtual (h : Classes) (c : ClassId) (s : Signature) : Type 0 where
@@ -129,7 +131,7 @@ marked_skip row bound list b is not k = record {
   marked = k.marked;
   listed = λ n lt e. ⊎_elim (λ small. k.listed n small e)
       (λ past. let at : n ≡ bound = omega arith in let value : get_or row bound false ≡ true = subst (λ (x : ℕ). get_or row x false ≡ true) at e in cc)
-      (either n bound);
+      (cases_lt n bound);
   ordered = k.ordered;
 }
 
@@ -139,9 +141,9 @@ marked_push row bound list b is yet k = record {
   marked = λ i n e. ⊎_elim (λ a. k.marked i n a) (λ a. subst (λ (x : ℕ). get_or row x false ≡ true) (sym a.1) (sym is ∙ yet)) (get_pushed list bound i n e);
   listed = λ n lt e. ⊎_elim (λ small. let r = k.listed n small e in (r.0, get_front list (bound ∷ []) r.0 n r.1))
       (λ past. let at : n ≡ bound = omega arith in (length list, subst (λ (x : ℕ). slice_get (list ++ bound ∷ []) (length list) ≡ Some x) (sym at) (get_last list bound)))
-      (either n bound);
+      (cases_lt n bound);
   ordered = λ i j m n lt e f. ⊎_elim
-      (λ b. let inner = get_within list j n b in
+      (λ b. let inner = slice_get_within list j n b in
       ⊎_elim (λ a. k.ordered i j m n lt a b) (λ a. let at = a.0 in absurd (omega arith)) (get_pushed list bound i m e))
       (λ b. let at = b.0 in let last = b.1 in
       ⊎_elim (λ a. let small = k.below i m a in omega arith) (λ a. let here = a.0 in absurd (omega arith)) (get_pushed list bound i m e))
@@ -159,7 +161,7 @@ lists_more rows bound lists list number are size new = record {
       let at : c.0 ≡ length lists = let l : length (lists ++ list ∷ []) ≡ length lists + 1 = length-append lists (list ∷ []) in omega arith in
       let value : get_or (lists ++ list ∷ []) c.0 [] ≡ list = ap (λ i. get_or (lists ++ list ∷ []) i []) at ∙ or_last lists list [] in
       subst (λ (x : List ℕ). ListsMarked (get_or rows c.0 []) bound x) (sym value) (subst (λ (i : ℕ). ListsMarked (get_or rows i []) bound list) (sym (at ∙ size)) new))
-      (either c.0 (length lists));
+      (cases_lt c.0 (length lists));
 }
 
 pub within_made : (h : Classes) (numbers : List (List ℕ)) (count : ℕ) (rows : List (List Bool)) (lists : List (List ℕ)) → IsNumbering h numbers count → AreMarks h numbers (HasVirtualWithin h) rows → length rows ≡ length lists → AreListed rows count lists → AreWithin h numbers count lists

@@ -76,6 +76,18 @@ pub record IsFirstFault (h : Classes) (c : ClassId) (stop : Stop) : Type 0 where
 pub record HasNoFault (h : Classes) : Type 0 where
   pub none : (b : Spot) (stop : Stop) → Fault h b stop → ⊥
 
+-- the first fault among those of the class, whatever other classes have
+pub record IsFirstFaultIn (h : Classes) (c : ClassId) (stop : Stop) : Type 0 where
+  pub part : ℕ
+  pub item : ℕ
+  pub test : ℕ
+  pub fault : Fault h (spot c part item test) stop
+  pub first : (p i t : ℕ) (other : Stop) → Fault h (spot c p i t) other → IsBefore (spot c p i t) (spot c part item test) → ⊥
+
+-- no condition refuses the class
+pub record HasNoFaultIn (h : Classes) (c : ClassId) : Type 0 where
+  pub none : (part item test : ℕ) (stop : Stop) → Fault h (spot c part item test) stop → ⊥
+
 -- the pass stops at this class with the first fault, or for want of memory
 abbrev pub StopsIn : Classes → ClassId → Stop → Type 0
 StopsIn h c stop = (stop ≡ NoMemory) ⊎ IsFirstFault h c stop

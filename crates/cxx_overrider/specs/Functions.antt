@@ -5,7 +5,7 @@ use Rattle.cxx_hierarchy.specs.declared.records.Function.{Function}
 use Rattle.cxx_hierarchy.specs.declared.records.ValueType.{ValueType}
 use Rattle.cxx_hierarchy.specs.declared.records.ReturnType.{ReturnType}
 use Rattle.cxx_hierarchy.specs.declared.records.Destructor.{Destructor}
-use Rattle.cxx_hierarchy.specs.declared.records.Destructor.TheVariants.{Implicit, Plain, Virtual}
+use Rattle.cxx_hierarchy.specs.Declarations.{is_virtual_destructor}
 use Rattle.cxx_hierarchy.specs.Classes.{Class, Classes, class_at, functions_of}
 use Rattle.cxx_overrider.specs.declared.FunctionId.{FunctionId}
 
@@ -31,11 +31,6 @@ signature_in (Some class) index = signature_at (slice_get class.functions index)
 -- counts as declared where it is implicit
 abbrev pub signature_of : Classes → FunctionId → Option Signature
 signature_of h f = signature_in (class_at h f.class) f.index
-
-abbrev pub is_virtual_destructor : Destructor → Bool
-is_virtual_destructor Implicit = false
-is_virtual_destructor Plain = false
-is_virtual_destructor Virtual = true
 
 abbrev pub says_virtual_at : Option (Function ClassId) → Destructor → Bool
 says_virtual_at (Some f) d = f.is_virtual

@@ -53,6 +53,19 @@ pub record IsFinalOverrider (h : Classes) (c : ClassId) (s : Subobject) (f : Fun
   pub left : IsLeft h c s signature o
   pub only : (p : Overrider) → IsLeft h c s signature p → p ≡ o
 
+-- a candidate that lies in the subobject x
+pub record IsCandidateIn (h : Classes) (c : ClassId) (x s : Subobject) (signature : Signature) (o : Overrider) : Type 0 where
+  pub candidate : IsCandidate h c s signature o
+  pub inside : IsInside h x o.at
+
+-- the final overrider of f in s by a table for the subobject x of c, which is used while x is under construction (ISO
+-- C++03 12.7 p3): of the candidates in x the one that contains all others
+pub record IsFinalIn (h : Classes) (c : ClassId) (x s : Subobject) (f : FunctionId) (o : Overrider) : Type 0 where
+  pub signature : Signature
+  pub is : signature_of h f ≡ Some signature
+  pub candidate : IsCandidateIn h c x s signature o
+  pub all : (p : Overrider) → IsCandidateIn h c x s signature p → IsInside h o.at p.at
+
 -- a virtual function of some subobject of c has two candidates left
 pub record HasTwoFinalOverriders (h : Classes) (c : ClassId) : Type 0 where
   pub subobject : Subobject

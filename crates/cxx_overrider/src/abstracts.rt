@@ -5,11 +5,11 @@ ghost use Rattle.cxx_hierarchy.specs.VirtualBases.{HasVirtualBase};
 ghost use Rattle.cxx_subobject.specs.declared.Root.TheVariants.{Whole, Shared};
 ghost use Rattle.cxx_overrider.specs.Functions.{Signature};
 ghost use Rattle.cxx_overrider.specs.Overriding.{IsAbstract};
-ghost use Rattle.cxx_overrider.specs.Numbers.{IsNumberOf};
-ghost use Rattle.cxx_overrider.specs.Within.{HasVirtualWithin};
-ghost use Rattle.cxx_overrider.specs.Settling.{IsMade};
-ghost use Rattle.cxx_overrider.specs.Tables.{AreTables};
-ghost use Rattle.cxx_overrider.specs.Abstract.{HasPureAt};
+ghost use Rattle.cxx_overrider.specs.invariants.Numbers.{IsNumberOf};
+ghost use Rattle.cxx_overrider.specs.invariants.Within.{HasVirtualWithin};
+ghost use Rattle.cxx_overrider.specs.invariants.Settling.{IsMade};
+ghost use Rattle.cxx_overrider.specs.invariants.Tables.{AreTables};
+ghost use Rattle.cxx_overrider.specs.invariants.Abstract.{HasPureAt};
 
 use crate::entries::{EntryTable, key_of};
 use crate::pure::is_pure;

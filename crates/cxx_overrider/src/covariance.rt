@@ -4,10 +4,11 @@ ghost use Rattle.std.specs.Prelude.{◌≡◌, ◌<◌, ◌↔◌, ℕ, true, Is
 ghost use Rattle.cxx_hierarchy.specs.declared.records.ClassId.{ClassId};
 ghost use Rattle.cxx_overrider.specs.declared.FunctionId.{FunctionId};
 ghost use Rattle.cxx_overrider.specs.Overriding.{HasPart};
-ghost use Rattle.cxx_overrider.specs.Numbers.{number_of};
-ghost use Rattle.cxx_overrider.specs.Kinds.{AreKinds};
-ghost use Rattle.cxx_overrider.specs.Tables.{AreTables};
-ghost use Rattle.cxx_overrider.specs.Covariance.{pointer_to, IsCovariant, IsAmbiguousBase, IsOverridden, merged_faults, AreFaultsBetween, AreFaults, HasFineReturn, IsReturnFault};
+ghost use Rattle.cxx_overrider.specs.invariants.Numbers.{number_of};
+ghost use Rattle.cxx_overrider.specs.invariants.Kinds.{AreKinds};
+ghost use Rattle.cxx_overrider.specs.invariants.Tables.{AreTables};
+ghost use Rattle.cxx_overrider.specs.Covariance.{pointer_to, IsCovariant, IsAmbiguousBase, Overrides};
+ghost use Rattle.cxx_overrider.specs.invariants.ReturnFlags.{merged_faults, AreFaultsBetween, AreFaults, HasFineReturn, IsReturnFault};
 
 use crate::FunctionId;
 use crate::kinds::{BaseKind, KindRow, kind_of};
@@ -175,7 +176,7 @@ fn overridden(
     requires known { f.class.0 < length h.now }
     requires number { number_of tables.now.numbering.rows.items f ≡ Some n }
     requires before { d.0 < f.class.0 }
-    ensures { MatchOption result ((g : FunctionId) → g.class ≡ d → IsOverridden h.now f g → ⊥) (λ g. (g.class ≡ d) × IsOverridden h.now f g) }
+    ensures { MatchOption result ((g : FunctionId) → g.class ≡ d → Overrides h.now f g → ⊥) (λ g. (g.class ≡ d) × Overrides h.now f g) }
 {
     h.keeps();
     if !is_marked(&tables.virtuals, d, n) {

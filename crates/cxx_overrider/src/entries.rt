@@ -1,9 +1,9 @@
 //! A table of what overrides the functions of virtual bases.
 
-ghost use Rattle.std.specs.Prelude.{◌≡◌, OnOk, None, Some, if◌then◌else◌};
-ghost use Rattle.cxx_overrider.specs.EntryTables.{entry_of, same_key};
+ghost use Rattle.std.specs.Prelude.{◌≡◌, OnOk, OnErr, None, Some, if◌then◌else◌};
+ghost use Rattle.cxx_overrider.specs.invariants.EntryTables.{entry_of, same_key};
 ghost use Rattle.cxx_overrider.specs.declared.entries.Key.{Key};
-ghost use Rattle.cxx_overrider.specs.Settling.{key};
+ghost use Rattle.cxx_overrider.specs.invariants.Settling.{key};
 
 use crate::FunctionId;
 use crate::places::Place;
@@ -61,9 +61,10 @@ impl EntryTable {
         self.entries.get(&key).copied()
     }
 
-    /// Puts an entry under a key.
+    /// Puts an entry under a key. Where memory is wanting nothing is put.
     pub fn put(&mut self, key: Key, entry: Entry) -> Result<(), NoMemory>
-        ensures { OnOk result ((q : Key) → entry_of self.new q ≡ (if same_key q key then Some entry else entry_of self.old q)) }
+        ensures put { OnOk result ((q : Key) → entry_of self.new q ≡ (if same_key q key then Some entry else entry_of self.old q)) }
+        ensures err { OnErr result ((q : Key) → entry_of self.new q ≡ entry_of self.old q) }
     {
         self.entries.insert(key, entry)?;
         Ok(())

@@ -5,7 +5,7 @@ ghost use Rattle.cxx_hierarchy.specs.declared.records.ClassId.{ClassId};
 ghost use Rattle.cxx_hierarchy.specs.declared.records.Param.{Param};
 ghost use Rattle.cxx_hierarchy.specs.declared.records.ValueType.TheVariants.{Pointer};
 ghost use Rattle.cxx_overrider.specs.Functions.{Signature, signature_of};
-ghost use Rattle.cxx_overrider.specs.Keys.{scalar_code, first_code, second_code, type_codes, signature_key};
+ghost use Rattle.cxx_overrider.specs.invariants.Keys.{scalar_code, first_code, second_code, type_codes, signature_key};
 
 use crate::FunctionId;
 use crate::signatures::declaration;

@@ -4,7 +4,7 @@ ghost use Rattle.std.specs.Prelude.{◌≡◌, ◌<◌, ◌≤◌, [], length, t
 ghost use Rattle.cxx_hierarchy.specs.declared.records.ClassId.{ClassId};
 ghost use Rattle.cxx_hierarchy.specs.declared.records.Base.{Base};
 ghost use Rattle.cxx_hierarchy.specs.Classes.{bases_of};
-ghost use Rattle.cxx_overrider.specs.Kinds.{Counts, IsPartThrough, AreKinds, IsKindRow, IsMerged, kind_of, lifted_kind};
+ghost use Rattle.cxx_overrider.specs.invariants.Kinds.{Counts, IsPartThrough, AreKinds, IsKindRow, IsMerged, kind_of, lifted_kind};
 
 use crate::places::{Place, lifted};
 use cxx_hierarchy::{Base, ClassId, Hierarchy};

@@ -17,20 +17,22 @@ pub mod covariance;
 pub mod entries;
 pub mod keys;
 pub mod kinds;
+pub mod laws;
 pub mod overriding;
 pub mod pass;
 pub mod places;
 pub mod pure;
 pub mod settling;
 pub mod signatures;
-#[cfg(test)]
-mod table_tests;
 pub mod tables;
 #[cfg(test)]
 mod tests;
 pub mod virtuals;
 pub mod within;
 
+pub use crate::laws::{
+    final_contains_all, final_in_view, final_same, one_final, returns_fit, some_answer,
+};
 pub use crate::pass::{ClassStop, Overriders, check_by_class, check_overriders};
 use cxx_hierarchy::ClassId;
 use cxx_subobject::Subobject;

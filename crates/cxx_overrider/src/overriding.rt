@@ -4,10 +4,10 @@ ghost use Rattle.std.specs.Prelude.{◌≡◌, ◌<◌, ℕ, Some, IfOk, MatchOp
 ghost use Rattle.cxx_hierarchy.specs.declared.records.ClassId.{ClassId};
 ghost use Rattle.cxx_subobject.specs.Subobjects.{IsSubobject, class_of};
 ghost use Rattle.cxx_overrider.specs.Overriding.{HasPart, IsVirtual, IsFinalOverrider};
-ghost use Rattle.cxx_overrider.specs.Numbers.{AreShort, IsNumbering, number_of};
-ghost use Rattle.cxx_overrider.specs.Settling.{IsMade};
-ghost use Rattle.cxx_overrider.specs.Tables.{AreTables};
-ghost use Rattle.cxx_overrider.specs.Finals.{IsFirstAt, DeclareNone, IsFirstOverrider};
+ghost use Rattle.cxx_overrider.specs.invariants.Numbers.{AreShort, IsNumbering, number_of};
+ghost use Rattle.cxx_overrider.specs.invariants.Settling.{IsMade};
+ghost use Rattle.cxx_overrider.specs.invariants.Tables.{AreTables};
+ghost use Rattle.cxx_overrider.specs.invariants.Finals.{IsFirstAt, DeclareNone, IsFirstOverrider};
 
 use crate::entries::{EntryTable, key_of};
 use crate::signatures::{NumberRow, Numbering, number_of, own_function};

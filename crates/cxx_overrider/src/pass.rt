@@ -8,9 +8,9 @@ ghost use Rattle.cxx_subobject.specs.Subobjects.{IsSubobject, class_of};
 ghost use Rattle.cxx_subobject.specs.Parts.{TellsLimits};
 ghost use Rattle.cxx_overrider.specs.Overriding.{IsVirtual, IsFinalOverrider, IsAbstract};
 ghost use Rattle.cxx_overrider.specs.Faults.{HasNoFault, StopsIn, StopsAtFault, spot, limit_part, function_part, overrider_part, member_part};
-ghost use Rattle.cxx_overrider.specs.Settling.{IsMade};
-ghost use Rattle.cxx_overrider.specs.Tables.{AreTables};
-ghost use Rattle.cxx_overrider.specs.Pass.{TellsAbstract, IsFineTo, is_abstract_object, class_after};
+ghost use Rattle.cxx_overrider.specs.invariants.Settling.{IsMade};
+ghost use Rattle.cxx_overrider.specs.invariants.Tables.{AreTables};
+ghost use Rattle.cxx_overrider.specs.invariants.Pass.{TellsAbstract, IsFineTo, is_abstract_object, class_after};
 ghost use Rattle.cxx_overrider.specs.Overriders.{AreOverriders};
 
 use crate::abstracts::is_abstract_class;

@@ -1,7 +1,7 @@
 //! Where in an object a subobject lies.
 
 ghost use Rattle.std.specs.Prelude.{◌≡◌, ◌↔◌, IsTrue};
-ghost use Rattle.cxx_overrider.specs.Places.{base_place, lifted};
+ghost use Rattle.cxx_overrider.specs.invariants.Places.{base_place, lifted};
 
 use cxx_hierarchy::{Base, ClassId};
 

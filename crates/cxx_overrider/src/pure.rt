@@ -3,9 +3,9 @@
 ghost use Rattle.std.specs.Prelude.{◌≡◌, ◌<◌, ◌↔◌, true, IsTrue, IfOk, length};
 ghost use Rattle.cxx_overrider.specs.Functions.{Signature, is_pure};
 ghost use Rattle.cxx_overrider.specs.Overriding.{HasVirtual};
-ghost use Rattle.cxx_overrider.specs.Numbers.{IsNumbering, IsNumberOf};
-ghost use Rattle.cxx_overrider.specs.Marks.{mark_of, AreMarks, IsMarkRow, HasMarkedPart};
-ghost use Rattle.cxx_overrider.specs.Pure.{LeavesPure};
+ghost use Rattle.cxx_overrider.specs.invariants.Numbers.{IsNumbering, IsNumberOf};
+ghost use Rattle.cxx_overrider.specs.invariants.Marks.{mark_of, AreMarks, IsMarkRow, HasMarkedPart};
+ghost use Rattle.cxx_overrider.specs.invariants.Pure.{LeavesPure};
 
 use crate::FunctionId;
 use crate::signatures::{Numbering, declaration, own_function};

@@ -6,10 +6,11 @@ ghost use Rattle.cxx_hierarchy.specs.VirtualBases.{HasVirtualBase};
 ghost use Rattle.cxx_overrider.specs.declared.entries.Entry.{Entry};
 ghost use Rattle.cxx_overrider.specs.Functions.{Signature};
 ghost use Rattle.cxx_overrider.specs.Overriding.{HasTwoFinalOverriders};
-ghost use Rattle.cxx_overrider.specs.Numbers.{row_of, IsNumbering, IsNumberOf};
-ghost use Rattle.cxx_overrider.specs.Within.{HasVirtualWithin};
-ghost use Rattle.cxx_overrider.specs.Settling.{Holds, AreCandidates, IsAmong, IsOrder, IsAbove, IsPicked, IsSettled, TellsBefore, IsMade};
-ghost use Rattle.cxx_overrider.specs.Tables.{AreTables};
+ghost use Rattle.cxx_overrider.specs.invariants.Numbers.{row_of, IsNumbering, IsNumberOf};
+ghost use Rattle.cxx_overrider.specs.invariants.Within.{HasVirtualWithin};
+ghost use Rattle.cxx_overrider.specs.invariants.EntryTables.{KeepsBefore};
+ghost use Rattle.cxx_overrider.specs.invariants.Settling.{Holds, AreCandidates, IsAmong, IsOrder, IsAbove, IsPicked, IsSettled, TellsBefore, IsMade};
+ghost use Rattle.cxx_overrider.specs.invariants.Tables.{AreTables};
 
 use crate::entries::{Entry, EntryTable, key_of};
 use crate::places::{Place, lifted};
@@ -154,7 +155,8 @@ fn settle_number(
     requires number { n < tables.now.numbering.count }
     requires within { (s : Signature) → IsNumberOf h.now tables.now.numbering.rows.items n s → HasVirtualWithin h.now v s }
     requires made { IsMade h.now tables.now.numbering.rows.items entries.old c.0 v.0 n }
-    ensures { IfOk result (λ is_one. MatchBool is_one (IsMade h.now tables.now.numbering.rows.items entries.new c.0 v.0 (n + 1)) (HasTwoFinalOverriders h.now c)) }
+    ensures one { IfOk result (λ is_one. MatchBool is_one (IsMade h.now tables.now.numbering.rows.items entries.new c.0 v.0 (n + 1)) (HasTwoFinalOverriders h.now c)) }
+    ensures kept { KeepsBefore c entries.old entries.new }
 {
     match settle(alloc, h, &tables.numbering, entries, c, v, n)? {
         Settled::Nothing => Ok(true),
@@ -187,7 +189,8 @@ fn settle_base(
     requires base { HasVirtualBase h.now c v }
     requires tables { AreTables h.now tables.now }
     requires made { IsMade h.now tables.now.numbering.rows.items entries.old c.0 v.0 0 }
-    ensures { IfOk result (λ is_one. MatchBool is_one (IsMade h.now tables.now.numbering.rows.items entries.new c.0 (v.0 + 1) 0) (HasTwoFinalOverriders h.now c)) }
+    ensures one { IfOk result (λ is_one. MatchBool is_one (IsMade h.now tables.now.numbering.rows.items entries.new c.0 (v.0 + 1) 0) (HasTwoFinalOverriders h.now c)) }
+    ensures kept { KeepsBefore c entries.old entries.new }
 {
     h.keeps();
     for n in numbers_within(tables, v) {
@@ -210,7 +213,8 @@ fn settle_if_base(
     requires known { c.0 < length h.now }
     requires tables { AreTables h.now tables.now }
     requires made { IsMade h.now tables.now.numbering.rows.items entries.old c.0 v.0 0 }
-    ensures { IfOk result (λ is_one. MatchBool is_one (IsMade h.now tables.now.numbering.rows.items entries.new c.0 (v.0 + 1) 0) (HasTwoFinalOverriders h.now c)) }
+    ensures one { IfOk result (λ is_one. MatchBool is_one (IsMade h.now tables.now.numbering.rows.items entries.new c.0 (v.0 + 1) 0) (HasTwoFinalOverriders h.now c)) }
+    ensures kept { KeepsBefore c entries.old entries.new }
 {
     if h.has_virtual_base(c, v) {
         settle_base(alloc, h, tables, entries, c, v)
@@ -220,7 +224,8 @@ fn settle_if_base(
 }
 
 /// Puts down what overrides the virtual functions of the virtual bases of a class, and tells whether each virtual
-/// function of its subobjects has one final overrider (ISO C++03 10.3 p2, p10).
+/// function of its subobjects has one final overrider (ISO C++03 10.3 p2, p10). Whatever it answers, what is told of the
+/// classes before stays.
 pub fn settle_class(
     alloc: Global,
     h: &Hierarchy,
@@ -233,6 +238,7 @@ pub fn settle_class(
     requires made { IsMade h.now tables.now.numbering.rows.items entries.old c.0 0 0 }
     ensures made { IfOk result (λ is_one. IsTrue is_one → IsMade h.now tables.now.numbering.rows.items entries.new (c.0 + 1) 0 0) }
     ensures one { IfOk result (λ is_one. MatchBool is_one (HasTwoFinalOverriders h.now c → ⊥) (HasTwoFinalOverriders h.now c)) }
+    ensures kept { KeepsBefore c entries.old entries.new }
 {
     h.keeps();
     for number in 0..c.0 {

@@ -5,8 +5,8 @@ ghost use Rattle.std.specs.Option.{option_copied};
 ghost use Rattle.cxx_hierarchy.specs.declared.records.ClassId.{ClassId};
 ghost use Rattle.cxx_overrider.specs.declared.FunctionId.{FunctionId};
 ghost use Rattle.cxx_overrider.specs.Functions.{declaration_of, signature_of};
-ghost use Rattle.cxx_overrider.specs.Keys.{AreKeyed};
-ghost use Rattle.cxx_overrider.specs.Numbers.{number_of, IsNumbering, AreShort, AreFirst, IsFirstOf, IsRow};
+ghost use Rattle.cxx_overrider.specs.invariants.Keys.{AreKeyed};
+ghost use Rattle.cxx_overrider.specs.invariants.Numbers.{number_of, IsNumbering, AreShort, AreFirst, IsFirstOf, IsRow};
 
 use crate::FunctionId;
 use crate::keys::signature_key;

@@ -1,7 +1,7 @@
 //! What is known of all classes of a hierarchy before the class-meaning pass.
 
 ghost use Rattle.std.specs.Prelude.{IfOk};
-ghost use Rattle.cxx_overrider.specs.Tables.{AreTables};
+ghost use Rattle.cxx_overrider.specs.invariants.Tables.{AreTables};
 
 use crate::kinds::{KindRow, kind_rows};
 use crate::pure::pure_rows;

@@ -184,47 +184,38 @@ fn virtual_diamond(alloc: Global, overrides: bool) -> Result<RecordList, NoMemor
     with(with(left_side(alloc)?, r)?, d)
 }
 
-#[test]
-fn refuses_two_final_overriders(rt: HostRuntime) -> Result<(), Fail> {
-    let alloc = rt.alloc();
-    assert_eq!(rt;
-        refusal(alloc, &virtual_diamond(alloc, true)?),
-        Some(Stop::Refused(Rule::TwoFinalOverriders, 133))
-    );
-    assert_eq!(rt; refusal(alloc, &virtual_diamond(alloc, false)?), None);
-    Ok(())
-}
-
 /// `struct A { virtual int f() { return 1; } }; struct B : A { virtual long f() { return 1; } };`
-#[test]
-fn refuses_another_return(rt: HostRuntime) -> Result<(), Fail> {
-    let alloc = rt.alloc();
+fn another_return(alloc: Global) -> Result<RecordList, NoMemory>
+    ensures { IfOk result (All IsInOrder) }
+{
     let int = ReturnType::Value(ValueType::Number(Scalar::Int));
     let long = ReturnType::Value(ValueType::Number(Scalar::Long));
     let a = class(alloc, "A", 7)?;
     let a = with_function(a, function(alloc, int, false, 23)?)?;
     let b = with_base(alloc, class(alloc, "B", 51)?, "A", false)?;
     let b = with_function(b, function(alloc, long, false, 72)?)?;
-    let records = with(with(Sequence::new(alloc), a)?, b)?;
-    assert_eq!(rt;
-        refusal(alloc, &records),
-        Some(Stop::Refused(Rule::ReturnMismatch, 72))
-    );
-    Ok(())
+    with(with(Sequence::new(alloc), a)?, b)
 }
 
 /// `struct P { virtual void f() = 0; }; struct Q { P p; };`
-#[test]
-fn refuses_an_abstract_member(rt: HostRuntime) -> Result<(), Fail> {
-    let alloc = rt.alloc();
+fn abstract_member(alloc: Global) -> Result<RecordList, NoMemory>
+    ensures { IfOk result (All IsInOrder) }
+{
     let p = class(alloc, "P", 7)?;
     let p = with_function(p, function(alloc, ReturnType::Void, true, 24)?)?;
     let q = with_object(alloc, class(alloc, "Q", 43)?, "P", "p", 49)?;
-    let records = with(with(Sequence::new(alloc), p)?, q)?;
-    assert_eq!(rt;
-        refusal(alloc, &records),
-        Some(Stop::Refused(Rule::Abstract, 49))
-    );
+    with(with(Sequence::new(alloc), p)?, q)
+}
+
+#[test]
+fn refusals_stand_at_their_bytes(rt: HostRuntime) -> Result<(), Fail> {
+    let alloc = rt.alloc();
+    let two = refusal(alloc, &virtual_diamond(alloc, true)?);
+    assert_eq!(rt; two, Some(Stop::Refused(Rule::TwoFinalOverriders, 133)));
+    let other = refusal(alloc, &another_return(alloc)?);
+    assert_eq!(rt; other, Some(Stop::Refused(Rule::ReturnMismatch, 72)));
+    let member = refusal(alloc, &abstract_member(alloc)?);
+    assert_eq!(rt; member, Some(Stop::Refused(Rule::Abstract, 49)));
     Ok(())
 }
 

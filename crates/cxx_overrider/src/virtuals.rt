@@ -3,8 +3,8 @@
 ghost use Rattle.std.specs.Prelude.{◌≡◌, ◌<◌, ◌↔◌, false, IsTrue, IfOk, Some, None, IsSome, length, slice_index_or};
 ghost use Rattle.cxx_overrider.specs.Functions.{Signature, signature_of, says_virtual};
 ghost use Rattle.cxx_overrider.specs.Overriding.{HasVirtual};
-ghost use Rattle.cxx_overrider.specs.Numbers.{IsNumbering, IsNumberOf};
-ghost use Rattle.cxx_overrider.specs.Marks.{mark_of, AreMarks, IsMarkRow, HasMarkedBase, SaysVirtual};
+ghost use Rattle.cxx_overrider.specs.invariants.Numbers.{IsNumbering, IsNumberOf};
+ghost use Rattle.cxx_overrider.specs.invariants.Marks.{mark_of, AreMarks, IsMarkRow, HasMarkedBase, SaysVirtual};
 
 use crate::FunctionId;
 use crate::signatures::{Numbering, declaration, own_function};

@@ -4,9 +4,9 @@ ghost use Rattle.std.specs.Prelude.{◌≡◌, ◌<◌, ◌↔◌, [], IsTrue, I
 ghost use Rattle.cxx_hierarchy.specs.declared.records.ClassId.{ClassId};
 ghost use Rattle.cxx_overrider.specs.Functions.{Signature};
 ghost use Rattle.cxx_overrider.specs.Overriding.{HasVirtual};
-ghost use Rattle.cxx_overrider.specs.Numbers.{IsNumbering, IsNumberOf};
-ghost use Rattle.cxx_overrider.specs.Marks.{AreMarks, IsMarkRow};
-ghost use Rattle.cxx_overrider.specs.Within.{HasVirtualWithin, ListsMarked, AreListed, AreWithin};
+ghost use Rattle.cxx_overrider.specs.invariants.Numbers.{IsNumbering, IsNumberOf};
+ghost use Rattle.cxx_overrider.specs.invariants.Marks.{AreMarks, IsMarkRow};
+ghost use Rattle.cxx_overrider.specs.invariants.Within.{HasVirtualWithin, ListsMarked, AreListed, AreWithin};
 
 use crate::pure::has_marked_part;
 use crate::signatures::{NumberRow, Numbering, own_function};

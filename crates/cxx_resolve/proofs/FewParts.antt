@@ -10,14 +10,14 @@ use Rattle.cxx_subobject.specs.Subobjects.{class_of}
 use Rattle.cxx_subobject.specs.Preorder.{preorder}
 use Rattle.cxx_subobject.specs.Parts.{elements_of, parts_in, member_parts, parts_within, parts_of, IsWithinLimits}
 use Rattle.cxx_resolve.specs.SimpleHierarchy.{HasSimpleClasses, IsSimpleMember}
-use Rattle.cxx_resolve.proofs.Each.{is_first, behind}
+use Rattle.foundation.proofs.Places.{contains_first, contains_later}
 
 -- sums of ones, and of terms of at most 65
 sum_ones : {X : Type 0} (f : X → ℕ) (xs : List X) → ((x : X) → Contains xs x → f x ≡ 1) → sum_by f xs ≡ length xs
 sum_ones f [] each = refl
 sum_ones f (x ∷ xs) each =
-    let here : f x ≡ 1 = each x (is_first x xs) in
-    let rest : sum_by f xs ≡ length xs = sum_ones f xs (λ y has. each y (behind x xs y has)) in
+    let here : f x ≡ 1 = each x (contains_first x xs) in
+    let rest : sum_by f xs ≡ length xs = sum_ones f xs (λ y has. each y (contains_later x xs y has)) in
     sum_by-cons f x xs ∙ omega arith
 
 sum_few : {X : Type 0} (f : X → ℕ) (xs : List X) → ((x : X) → f x ≤ 65) → sum_by f xs ≤ length xs * 65

@@ -14,7 +14,7 @@ use Rattle.cxx_resolve.specs.declared.known.Pair.{Pair}
 use Rattle.cxx_resolve.specs.declared.known.KnownMember.{KnownMember}
 use Rattle.cxx_resolve.specs.declared.known.Known.{Known}
 use Rattle.cxx_resolve.specs.Resolves.{IsMemberOf}
-use Rattle.cxx_resolve.specs.Known.{key_of, same_pair, member_at, base_at, Knows}
+use Rattle.cxx_resolve.specs.invariants.Known.{key_of, same_pair, member_at, base_at, Knows}
 use Rattle.cxx_resolve.proofs.Lines.{same_id}
 
 both : (a b : Bool) → (a && b) ≡ true → (a ≡ true) × (b ≡ true)

@@ -1,6 +1,6 @@
 pub mod Bases
 pub mod ClassTests
-pub mod Each
+pub mod NoItems
 pub mod FewParts
 pub mod FormCases
 pub mod FormLines
@@ -11,3 +11,5 @@ pub mod Programs
 pub mod Reached
 pub mod SoFar
 pub mod Whole
+pub mod LineDecisions
+pub mod MainDecisions

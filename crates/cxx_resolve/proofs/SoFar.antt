@@ -1,5 +1,5 @@
 -- What is resolved so far, and what is left.
-use Rattle.std.proofs.Common.{◌≡◌, ℕ, suc, ◌+◌, ◌<◌, ◌≤◌, List, [], ◌∷◌, ◌++◌, length, take, drop, get_or, sym, ◌∙◌, ap, subst, refl, append-nil, append_assoc, drop-cons, add-one, length-append}
+use Rattle.std.proofs.Common.{◌≡◌, ℕ, suc, ◌+◌, ◌<◌, ◌≤◌, List, [], ◌∷◌, ◌++◌, length, take, drop, get_or, sym, ◌∙◌, ap, subst, refl, append-nil, append_assoc, drop-cons, add-one, length-append, arith}
 use Rattle.std.proofs.Math.Seq.{take-suc}
 use Rattle.std.proofs.Math.ListN.{drop_of_length-le}
 use mathlib.Core.Path.{fun_ext}
@@ -121,3 +121,18 @@ pub ends : (h : Classes) (lines : List SimpleLine) (i : ℕ) (table : NameTable)
 ends h lines i table types out far all_of =
     subst (λ (zs : List TypedLine). LinesResolve h [] [] lines zs types) (append-nil out)
     (far.completes [] types (subst (λ (ls : List SimpleLine). LinesResolve h (names_in (take i lines)) types ls [] types) (sym (drop_of_length-le lines all_of)) (done (names_in (take i lines)) types)))
+
+-- variables are only added
+types_grow : (h : Classes) (names : List Text) (types : Types) (lines : List SimpleLine) (whole : List TypedLine) (all : Types) → LinesResolve h names types lines whole all → length types ≤ length all
+types_grow h _ _ _ _ _ (done names types) = omega arith
+types_grow h _ _ _ _ _ (more names types all line rest s after r e d) =
+    let more_than = types_grow h (names ++ name_declared line.what) (types ++ type_declared s.what) rest after all d in
+    let sum : length (types ++ type_declared s.what) ≡ length types + length (type_declared s.what) = length-append types (type_declared s.what) in
+    omega arith
+
+-- where too many are declared already no program has few
+pub too_many : (h : Classes) (lines : List SimpleLine) (i : ℕ) (table : NameTable) (types : Types) (out : List TypedLine) → SoFar h lines i table types out → 256 < length types → (program : SimpleProgram) → Resolves h lines program → length program.variables ≤ 256 → ⊥
+too_many h lines i table types out far many program r few =
+    let g = far.goes_on program.lines program.variables r in
+    let grown = types_grow h (names_in (take i lines)) types (drop i lines) g.rest program.variables g.resolves in
+    omega arith

@@ -1,6 +1,6 @@
 -- The body of a `main` and its program.
 use Rattle.std.proofs.Common.{◌≡◌, ℕ, ◌<◌, ◌≤◌, List, ap, subst, arith, Bool, true, false}
-use Rattle.std.specs.Prelude.{length}
+use Rattle.std.specs.Prelude.{length, Result, Ok, Err, IfErr}
 use Rattle.std.proofs.lemmas.Int.{ints}
 use Rattle.cxx_hierarchy.specs.declared.records.Scalar.TheVariants.{Int}
 use Rattle.cxx_hierarchy.specs.Scalars.{IsInRange}
@@ -17,6 +17,9 @@ use Rattle.cxx_resolve.specs.Typed.{IsTypedProgram}
 use Rattle.cxx_resolve.specs.Form.{spelled, IsSimple, new, write, read, convert, equal, print, SayLines, none, next, AreSimpleLines}
 use Rattle.cxx_resolve.specs.Resolves.{Resolves, IsSmallWrite, HasSmallNumbers}
 use Rattle.cxx_resolve.specs.Main.{MainResolves}
+use Rattle.cxx_resolve.specs.Answers.{IsRefusal}
+use Rattle.cxx_hierarchy.specs.declared.stop.Stop.{Stop}
+use Rattle.cxx_resolve.proofs.Lines.{refused_more}
 use Rattle.cxx_resolve.proofs.FormLines.{lines_one, bodies_say}
 use Rattle.cxx_resolve.proofs.Programs.{one_program, typed_program}
 
@@ -45,19 +48,14 @@ one_main h a b p q keeps one m n =
 pub typed_main : (h : Classes) (tree : BodyTree) (program : SimpleProgram) → MainResolves h tree program → IsTypedProgram h program
 typed_main h tree program m = typed_program h m.lines program m.resolves (small_lines (out-BodyTree tree).statements.items m.lines m.form)
 
--- no program, where the lines of the body resolve to none
-pub none_resolves : (h : Classes) (tree : BodyTree) (lines : List SimpleLine) → AreSimpleLines tree lines → ((program : SimpleProgram) → Resolves h lines program → ⊥) →
+-- no program, where the lines of the body resolve to none with so few variables
+pub none_resolves : (h : Classes) (tree : BodyTree) (lines : List SimpleLine) → AreSimpleLines tree lines → ((program : SimpleProgram) → Resolves h lines program → length program.variables ≤ 256 → ⊥) →
     (program : SimpleProgram) → MainResolves h tree program → ⊥
 none_resolves h tree lines form nothing program m =
     let same = lines_one (out-BodyTree tree).statements.items m.lines lines m.form form in
-    nothing program (subst (λ (ls : List SimpleLine). Resolves h ls program) same m.resolves)
+    nothing program (subst (λ (ls : List SimpleLine). Resolves h ls program) same m.resolves) m.few
 
--- nor where the one that they resolve to has too many variables
-pub too_many : (h : Classes) (tree : BodyTree) (lines : List SimpleLine) (p : SimpleProgram) → IsHierarchy h → AreSimpleLines tree lines → Resolves h lines p → 256 < length p.variables →
-    (program : SimpleProgram) → MainResolves h tree program → ⊥
-too_many h tree lines p keeps form resolves many program m =
-    let same = lines_one (out-BodyTree tree).statements.items m.lines lines m.form form in
-    let e : program ≡ p = one_program h lines program p keeps (subst (λ (ls : List SimpleLine). Resolves h ls program) same m.resolves) resolves in
-    let n : length program.variables ≡ length p.variables = ap (λ (q : SimpleProgram). length q.variables) e in
-    let few = m.few in
-    absurd (omega arith)
+-- a refusal, for another reason
+pub refused_result : (A B : Type 0) (r : Result SimpleProgram Stop) → (A → B) → IfErr r (IsRefusal A) → IfErr r (IsRefusal B)
+refused_result A B (Ok program) f k = tt
+refused_result A B (Err stop) f k = refused_more A B stop f k

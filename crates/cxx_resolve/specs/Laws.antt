@@ -1,5 +1,5 @@
 -- Laws of what a `main` resolves to.
-use Rattle.std.specs.Prelude.{◌≡◌}
+use Rattle.std.specs.Prelude.{◌≡◌, ◌⊎◌}
 use Rattle.cxx_hierarchy.specs.Classes.{Classes}
 use Rattle.cxx_hierarchy.specs.Hierarchies.{IsHierarchy}
 use Rattle.cxx_body_parser.specs.declared.tree.BodyTree.{BodyTree}
@@ -15,3 +15,7 @@ ResolveToOne = (h : Classes) (a b : BodyTree) (p q : SimpleProgram) → IsHierar
 -- and its types fit
 abbrev pub ResolveToTyped : Type 0
 ResolveToTyped = (h : Classes) (tree : BodyTree) (program : SimpleProgram) → MainResolves h tree program → IsTypedProgram h program
+
+-- a body gives a program, or gives none
+abbrev pub ResolveOrNot : Type 0
+ResolveOrNot = (h : Classes) (tree : BodyTree) → IsHierarchy h → ((program : SimpleProgram) × MainResolves h tree program) ⊎ ((program : SimpleProgram) → MainResolves h tree program → ⊥)

@@ -6,4 +6,4 @@ pub mod Resolves
 pub mod Answers
 pub mod Main
 pub mod Laws
-pub mod Known
+pub mod invariants

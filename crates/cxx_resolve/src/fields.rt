@@ -14,7 +14,7 @@ ghost use Rattle.cxx_resolve.specs.SimpleHierarchy.{IsSimpleHierarchy};
 ghost use Rattle.cxx_lookup.specs.Lookup.{IsFound, IsLookupFault};
 ghost use Rattle.cxx_lookup.specs.UniqueBase.{IsUniqueBase, IsBaseFault};
 ghost use Rattle.cxx_resolve.specs.Resolves.{IsField, IsMemberOf, IsPointerTo};
-ghost use Rattle.cxx_resolve.specs.Known.{Knows};
+ghost use Rattle.cxx_resolve.specs.invariants.Known.{Knows};
 ghost use Rattle.cxx_resolve.specs.Answers.{IsRefusal, IsNumberAt, IsLesser, IsPointerAt, HasCommon, HasPointerTo};
 
 use crate::known::Known;

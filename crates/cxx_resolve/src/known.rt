@@ -5,7 +5,7 @@ ghost use Rattle.std.specs.Option.{option_copied};
 ghost use Rattle.cxx_hierarchy.specs.Classes.{Classes};
 ghost use Rattle.cxx_lookup.specs.UniqueBase.{IsUniqueBase};
 ghost use Rattle.cxx_resolve.specs.Resolves.{IsMemberOf};
-ghost use Rattle.cxx_resolve.specs.Known.{Knows, key_of, same_pair, member_at, base_at};
+ghost use Rattle.cxx_resolve.specs.invariants.Known.{Knows, key_of, same_pair, member_at, base_at};
 ghost use Rattle.cxx_resolve.specs.declared.known.Pair.{Pair};
 
 use crate::program::MemberPlace;

@@ -5,7 +5,7 @@ ghost use Rattle.cxx_subobject.specs.declared.Subobject.{Subobject};
 ghost use Rattle.cxx_lookup.specs.UniqueBase.{IsUniqueBase};
 ghost use Rattle.cxx_resolve.specs.Resolves.{IsMemberOf};
 ghost use Rattle.cxx_resolve.specs.Answers.{IsRefusal};
-ghost use Rattle.cxx_resolve.specs.Known.{Knows};
+ghost use Rattle.cxx_resolve.specs.invariants.Known.{Knows};
 ghost use Rattle.cxx_resolve.specs.declared.program.MemberPlace.{MemberPlace};
 
 use crate::known::Known;

@@ -13,9 +13,6 @@ use cxx_body_parser::BodyTree;
 use cxx_hierarchy::{Hierarchy, Rule, Stop};
 use std::alloc::Global;
 
-/// The largest number of declarations of a `main`.
-const DECLARATION_LIMIT: usize = 256;
-
 /// The program of the body of a `main`, over the classes of its source.
 ///
 /// Errors: `Syntax` at 0 exactly where there is none, since the classes or the body are not of the form that `run`
@@ -31,9 +28,5 @@ pub fn resolve_main(alloc: Global, h: &Hierarchy, tree: &BodyTree) -> Result<Sim
     let Some(lines) = simple_main(alloc, tree)? else {
         return Err(Stop::Refused(Rule::Syntax, 0));
     };
-    let program = resolve_simple(alloc, h, &lines)?;
-    if program.variables.len() > DECLARATION_LIMIT {
-        return Err(Stop::Refused(Rule::Syntax, 0));
-    }
-    Ok(program)
+    resolve_simple(alloc, h, &lines)
 }

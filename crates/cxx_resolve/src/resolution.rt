@@ -1,6 +1,6 @@
 //! From the names of a `main` to numbers.
 
-ghost use Rattle.std.specs.Prelude.{◌≡◌, ◌↔◌, IsTrue, IfOk, IfErr, OnOk};
+ghost use Rattle.std.specs.Prelude.{◌≡◌, ◌↔◌, ◌≤◌, IsTrue, IfOk, IfErr, OnOk, length};
 ghost use Rattle.cxx_hierarchy.specs.Scalars.{PromotesToInt};
 ghost use Rattle.cxx_hierarchy.specs.Classes.{Classes};
 ghost use Rattle.cxx_hierarchy.specs.NameTables.{number_in};
@@ -10,7 +10,7 @@ ghost use Rattle.cxx_resolve.specs.declared.program.SimpleProgram.{SimpleProgram
 ghost use Rattle.cxx_resolve.specs.SimpleHierarchy.{IsSimpleHierarchy};
 ghost use Rattle.cxx_resolve.specs.Resolves.{LineResolves, Resolves};
 ghost use Rattle.cxx_resolve.specs.Answers.{IsRefusal, Declares};
-ghost use Rattle.cxx_resolve.specs.Known.{Knows};
+ghost use Rattle.cxx_resolve.specs.invariants.Known.{Knows};
 
 use crate::fields::{common_class, field_of, pointer_to};
 use crate::known::Known;
@@ -20,6 +20,9 @@ use crate::variables::Variables;
 use cxx_hierarchy::{Hierarchy, Name, Rule, Scalar, Stop, ValueType};
 use foundation::Sequence;
 use std::alloc::Global;
+
+/// The largest number of declarations of a `main`.
+const DECLARATION_LIMIT: u32 = 256;
 
 /// Whether numbers of the type are an `int`'s by promotion.
 fn promotes_to_int(scalar: Scalar) -> bool
@@ -39,6 +42,7 @@ fn resolve_new(
     class: &Name,
     variable: &Name,
 ) -> Result<Statement, Stop>
+    requires { length variables.old.types ≤ 256 }
     ensures ok { IfOk result (LineResolves h.now (number_in variables.old.table) variables.old.types (New class.now variable.now)) }
     ensures declares { IfOk result (λ s. Declares variables.old.table variables.old.types (New class.now variable.now) s variables.new.table variables.new.types) }
     ensures err { IfErr result (IsRefusal ((s : Statement) → LineResolves h.now (number_in variables.old.table) variables.old.types (New class.now variable.now) s → ⊥)) }
@@ -90,6 +94,7 @@ fn resolve_read(
     pointer: &Name,
     field: &Name,
 ) -> Result<Statement, Stop>
+    requires few { length variables.old.types ≤ 256 }
     requires simple { IsSimpleHierarchy h.now }
     requires knows { Knows h.now known.old }
     ensures ok { IfOk result (LineResolves h.now (number_in variables.old.table) variables.old.types (Read variable.now pointer.now field.now)) }
@@ -123,6 +128,7 @@ fn resolve_convert(
     variable: &Name,
     pointer: &Name,
 ) -> Result<Statement, Stop>
+    requires few { length variables.old.types ≤ 256 }
     requires simple { IsSimpleHierarchy h.now }
     requires knows { Knows h.now known.old }
     ensures ok { IfOk result (LineResolves h.now (number_in variables.old.table) variables.old.types (Convert class.now variable.now pointer.now)) }
@@ -155,6 +161,7 @@ fn resolve_equal(
     left: &Name,
     right: &Name,
 ) -> Result<Statement, Stop>
+    requires few { length variables.old.types ≤ 256 }
     requires simple { IsSimpleHierarchy h.now }
     requires knows { Knows h.now known.old }
     ensures ok { IfOk result (LineResolves h.now (number_in variables.old.table) variables.old.types (Equal variable.now left.now right.now)) }
@@ -198,6 +205,7 @@ fn resolve_line(
     variables: &mut Variables,
     what: &Simple,
 ) -> Result<Statement, Stop>
+    requires few { length variables.old.types ≤ 256 }
     requires simple { IsSimpleHierarchy h.now }
     requires knows { Knows h.now known.old }
     ensures ok { IfOk result (LineResolves h.now (number_in variables.old.table) variables.old.types what.now) }
@@ -225,7 +233,8 @@ fn resolve_line(
 
 /// The program that the lines of a `main` resolve to, over classes that `run` takes. Each name is declared before it
 /// is used, a field is a member of its pointer's class or of a base that is a number, a pointer is converted to its
-/// own class or to a base that its class has once, and `int` variables are read from members that promote to `int`.
+/// own class or to a base that its class has once, and `int` variables are read from members that promote to `int`. At
+/// most 256 are declared.
 /// `Syntax` at 0 is the answer exactly where the lines resolve to no program.
 pub(crate) fn resolve_simple(
     alloc: Global,
@@ -234,7 +243,8 @@ pub(crate) fn resolve_simple(
 ) -> Result<SimpleProgram, Stop>
     requires { IsSimpleHierarchy h.now }
     ensures ok { IfOk result (λ program. Resolves h.now main.now program) }
-    ensures err { IfErr result (IsRefusal ((program : SimpleProgram) → Resolves h.now main.now program → ⊥)) }
+    ensures few { IfOk result (λ program. length program.variables ≤ 256) }
+    ensures err { IfErr result (IsRefusal ((program : SimpleProgram) → Resolves h.now main.now program → length program.variables ≤ 256 → ⊥)) }
 {
     h.keeps();
     let mut known = Known::new(alloc);
@@ -242,6 +252,9 @@ pub(crate) fn resolve_simple(
     let mut lines = Sequence::new(alloc);
     for line in main.as_slice() {
         let what = resolve_line(alloc, h, &mut known, &mut variables, &line.what)?;
+        if variables.next() > DECLARATION_LIMIT {
+            return Err(Stop::Refused(Rule::Syntax, 0));
+        }
         lines.push(TypedLine {
             what,
             line: line.line,

@@ -1,4 +1,4 @@
-//! Bodies that resolve over bases, and some that do not.
+//! A body that resolves over bases.
 
 ghost use Rattle.std.specs.Prelude.{◌≡◌, ◌≤◌, [], All, IfOk, length};
 ghost use Rattle.cxx_hierarchy.specs.ClassPass.{IsInOrder};
@@ -8,7 +8,7 @@ use crate::program::{SimpleProgram, Statement};
 use cxx_body_parser::parse_body;
 use cxx_hierarchy::{
     Base, ClassRec, Destructor, FieldType, Hierarchy, Member, Name, PartAt, PartKind, RecordList,
-    Rule, Scalar, Stop, ValueType, build,
+    Scalar, Stop, ValueType, build,
 };
 use cxx_subobject::Subobject;
 use cxx_text::tokens;
@@ -157,38 +157,11 @@ fn does(statement: &Statement, numbers: &[u32], first: &[u32], second: &[u32]) -
 }
 
 #[test]
-fn resolves_over_two_paths(rt: HostRuntime) -> Result<(), Fail> {
-    let text =
-        b"{ T* t = new T;\n L* l = t;\n R* r = t;\n X* x = l;\n X* y = r;\n bool s = x == y;\n print(s);\n print(y); }";
-    let found = program(rt.alloc(), text)?;
-    assert_eq!(rt; found.variables.len(), 6);
-    let rows: [(&[u32], &[u32], &[u32]); 8] = [
-        (&[0], &[3], &[]),
-        (&[1, 0], &[3, 1], &[]),
-        (&[2, 0], &[3, 2], &[]),
-        (&[3, 1], &[1, 0], &[]),
-        (&[4, 2], &[2, 0], &[]),
-        (&[5, 3, 4], &[0], &[0]),
-        (&[5], &[], &[]),
-        (&[4], &[], &[]),
-    ];
-    assert_eq!(rt; found.lines.len(), rows.len());
-    let mut next = 0;
-    for (line, (numbers, first, second)) in found.lines.as_slice().iter().zip(&rows) {
-        assert!(rt; next < 9);
-        next += 1;
-        assert_eq!(rt; line.line, next);
-        assert!(rt; does(&line.what, numbers, first, second));
-    }
-    Ok(())
-}
-
-#[test]
 fn resolves_hidden_and_inherited_members(rt: HostRuntime) -> Result<(), Fail> {
     let text =
-        b"{ T* t = new T; t->b = -7; int v = t->b; U* u = new U; u->a = 1; u->b = -0; L* l = u; bool s = l == u; }";
+        b"{ T* t = new T; t->b = -7; int v = t->b; U* u = new U; u->a = 1; u->b = -0; L* l = u; bool s = l == u; print(s); }";
     let found = program(rt.alloc(), text)?;
-    let rows: [(&[u32], &[u32], &[u32]); 8] = [
+    let rows: [(&[u32], &[u32], &[u32]); 9] = [
         (&[0], &[3], &[]),
         (&[0, 1], &[3], &[]),
         (&[1, 0, 1], &[3], &[]),
@@ -197,6 +170,7 @@ fn resolves_hidden_and_inherited_members(rt: HostRuntime) -> Result<(), Fail> {
         (&[2, 0], &[4, 1], &[]),
         (&[3, 2], &[4, 1], &[]),
         (&[4, 3, 2], &[1], &[4, 1]),
+        (&[4], &[], &[]),
     ];
     assert_eq!(rt; found.lines.len(), rows.len());
     for (line, (numbers, first, second)) in found.lines.as_slice().iter().zip(&rows) {
@@ -212,47 +186,5 @@ fn resolves_hidden_and_inherited_members(rt: HostRuntime) -> Result<(), Fail> {
             _ => None,
         });
     assert!(rt; written.eq(values));
-    Ok(())
-}
-
-#[test]
-fn refuses_what_has_no_meaning(rt: HostRuntime) -> Result<(), Fail> {
-    let rows: [(&[u8], bool); 24] = [
-        (b"{}", true),
-        (b"{ X* x = new X; x->a = 2147483647; }", true),
-        (b"{ X* x = new X; x->a = -2147483647; }", true),
-        (b"{ X* x = new X; X* y = x; bool s = x == y; }", true),
-        (b"{ X* x = new X; x->a = 2147483648; }", false),
-        (b"{ X* x = new X; x->a = true; }", false),
-        (b"{ X* x = new X; x->c = 1; }", false),
-        (b"{ X* x = new L; }", false),
-        (b"{ Y* y = new Y; }", false),
-        (b"{ X* x = new X; X* x = new X; }", false),
-        (b"{ int v = x->a; X* x = new X; }", false),
-        (b"{ X* x = x; }", false),
-        (b"{ T* t = new T; X* x = t; }", false),
-        (b"{ T* t = new T; t->a = 1; }", false),
-        (b"{ X* x = new X; L* l = x; }", false),
-        (b"{ L* l = new L; R* r = new R; bool s = l == r; }", false),
-        (b"{ T* t = new T; X* x = new X; bool s = t == x; }", false),
-        (b"{ X* x = new X; bool s = x != x; }", false),
-        (b"{ X* x = new X; int s = x == x; }", false),
-        (b"{ X* x = new X; bool s = x->a; }", false),
-        (b"{ print(x); }", false),
-        (b"{ X* x = new X; dump(x); }", false),
-        (b"{ int v; }", false),
-        (b"{ X* x = new X; int v = x->a; v->a = 1; }", false),
-    ];
-    for (text, resolves) in &rows {
-        if text.len() < 262144 {
-            match program(rt.alloc(), text) {
-                Ok(_) => assert!(rt; *resolves),
-                Err(stop) => {
-                    assert!(rt; !*resolves);
-                    assert_eq!(rt; stop, Stop::Refused(Rule::Syntax, 0));
-                }
-            }
-        }
-    }
     Ok(())
 }

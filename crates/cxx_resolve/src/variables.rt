@@ -1,6 +1,6 @@
 //! The variables of a `main` that are declared so far.
 
-ghost use Rattle.std.specs.Prelude.{◌≡◌, ◌<◌, ◌^◌, ◌++◌, ◌∷◌, [], None, Some, List, ℕ, is_none, length, MatchOption, OnOk};
+ghost use Rattle.std.specs.Prelude.{◌≡◌, ◌<◌, ◌≤◌, ◌^◌, ◌++◌, ◌∷◌, [], None, Some, List, ℕ, is_none, length, MatchOption, OnOk};
 ghost use Rattle.cxx_hierarchy.specs.NameTables.{Text, Numbers, number_in};
 ghost use Rattle.cxx_hierarchy.specs.declared.records.ClassId.{ClassId};
 ghost use Rattle.cxx_resolve.specs.Answers.{IsPointerAt};
@@ -65,19 +65,17 @@ impl Variables {
         Some(number as u32)
     }
 
-    /// Declares one more variable, whose name is free.
+    /// Declares one more variable, whose name is free. After want of memory the variables are good for nothing.
     pub(crate) fn declare(
         &mut self,
         alloc: Global,
         name: &Name,
         ty: ValueType<ClassId>,
     ) -> Result<(), NoMemory>
+        requires { length self.old.types ≤ 256 }
         ensures types { OnOk result (self.new.types ≡ self.old.types ++ ty ∷ []) }
         ensures names { OnOk result ((names : List Text) → Numbers self.old.table names → length names ≡ length self.old.types → Numbers self.new.table (names ++ name.now ∷ [])) }
     {
-        if self.types.len() >= 4294967295 {
-            return Err(NoMemory);
-        }
         self.table.note(alloc, name.as_slice(), self.types.len())?;
         self.types.push(ty)
     }

@@ -21,10 +21,11 @@ use Rattle.cxx_subobject.specs.declared.parts.Counts.{Counts}
 use Rattle.cxx_subobject.specs.Subobjects.{Leads, IsSubobject, whole, shared, subobject, shared_base, whole_of, base_subobject, last_of, class_of}
 use Rattle.cxx_subobject.specs.Preorder.{tree, preorder}
 use Rattle.cxx_subobject.specs.Parts.{elements_of, parts_in, member_parts, parts_within, parts_of, IsWithinLimits}
-use Rattle.cxx_subobject.specs.Counts.{own_bases, own_within, own_of, parts_weight, parts_of_members, IsCapped, ListsVirtualBases, IsSharedSum, IsSharedValue, AreWithin, KnowsObject, HasGoodCount, AreCounts}
-use Rattle.cxx_subobject.proofs.ListLemmas.{Has, EachOnce, AreApart, EachApart, has_left, has_right, has_cases, has_mapped, has_from_mapped, once_append, once_mapped, has_at, contains_from_has, has_from_contains, once_by_place, split}
+use Rattle.cxx_subobject.specs.invariants.Counts.{own_bases, own_within, own_of, parts_weight, parts_of_members, IsCapped, ListsVirtualBases, IsSharedSum, IsSharedValue, AreWithin, KnowsObject, HasGoodCount, AreCounts}
+use Rattle.foundation.proofs.Truth.{split}
+use Rattle.foundation.proofs.Members.{Has, EachOnce, AreApart, EachApart, has_left, has_right, has_cases, has_flat_map, from_flat_map, once_append, once_flat_map, has_at, contains_from_has, has_from_contains, once_by_place}
 use Rattle.cxx_subobject.proofs.TreeLemmas.{base_down, edge, preorder_has, has_preorder, firsts_once}
-use Rattle.cxx_subobject.proofs.InsideLemmas.{last_below, virtual_below}
+use Rattle.cxx_subobject.proofs.PathLemmas.{last_below, virtual_below, not_longer}
 use Rattle.cxx_subobject.proofs.TestLemmas.{base_class}
 use Rattle.cxx_subobject.proofs.SumLemmas.{sum_same, sum_flat, sum_ones, same_sum}
 
@@ -47,7 +48,7 @@ own_sound h zero c s t has = absurd has
 own_sound h (suc n) c s t has = ⊎_elim
     (λ e. record { path = []; leads = tt; is = sym e ∙ ap (λ p. subobject s.root p) (sym (append-nil s.path)) })
     (λ r.
-    let m = has_from_mapped (own_below h n s) (bases_of h c) t r in
+    let m = from_flat_map (own_below h n s) (bases_of h c) t r in
     let base = m.0 in
     let listed = contains_from_has (bases_of h c) base m.1 in
     split base.is_virtual (λ b. Has (if b then [] else own_tree h n base.class (base_subobject s base)) t → IsDown h c s t)
@@ -73,11 +74,7 @@ own_complete h keeps (suc n) c s (b ∷ path) lt leads =
     let inner = own_complete h keeps n d.base.class (subobject s.root (s.path ++ d.base.class ∷ [])) path (omega arith) further_down in
     let is : subobject s.root ((s.path ++ d.base.class ∷ []) ++ path) ≡ subobject s.root (s.path ++ b ∷ path) = ap (λ p. subobject s.root p) (append_assoc s.path (d.base.class ∷ []) path ∙ ap (λ (x : ClassId). s.path ++ x ∷ path) same) in
     let there : Has (own_below h n s d.base) (subobject s.root ((s.path ++ d.base.class ∷ []) ++ path)) = rw d.way inner in
-    inr (subst (λ x. Has (flat_map (own_below h n s) (bases_of h c)) x) is (has_mapped (own_below h n s) (bases_of h c) d.base (subobject s.root ((s.path ++ d.base.class ∷ []) ++ path)) (has_from_contains (bases_of h c) d.base d.listed) there))
-
-not_longer : (p q : List ClassId) (b : ClassId) → p ≡ p ++ b ∷ q → ⊥
-not_longer [] q b e = absurd (cc)
-not_longer (c ∷ p) q b e = not_longer p q b (let f : p ≡ p ++ b ∷ q = cc in f)
+    inr (subst (λ x. Has (flat_map (own_below h n s) (bases_of h c)) x) is (has_flat_map (own_below h n s) (bases_of h c) d.base (subobject s.root ((s.path ++ d.base.class ∷ []) ++ path)) (has_from_contains (bases_of h c) d.base d.listed) there))
 
 place_in : (xs : List (Base ClassId)) (y : Base ClassId) → Has xs y → (i : ℕ) × (slice_get xs i ≡ Some y)
 place_in [] y has = absurd has
@@ -115,10 +112,10 @@ own_once : (h : Classes) → IsHierarchy h → (n : ℕ) (c : ClassId) (s : Subo
 own_once h keeps zero c s = tt
 own_once h keeps (suc n) c s = (
   λ has.
-      let m = has_from_mapped (own_below h n s) (bases_of h c) s has in
+      let m = from_flat_map (own_below h n s) (bases_of h c) s has in
       let f = own_found h n c s m.0 s m.1 m.2 in
       not_longer s.path f.0 m.0.class (ap (λ (x : Subobject). x.path) f.1),
-  once_mapped (own_below h n s) (bases_of h c)
+  once_flat_map (own_below h n s) (bases_of h c)
       (λ base has. split base.is_virtual (λ b. EachOnce (if b then [] else own_tree h n base.class (base_subobject s base))) (λ e. tt) (λ e. own_once h keeps n base.class (base_subobject s base)))
       (bases_apart (own_below h n s) (bases_of h c) (keeps.once c) (own_apart h n c s)),
 )
@@ -146,14 +143,14 @@ roots_have : (h : Classes) → IsHierarchy h → (c : ClassId) (vs : List ClassI
 roots_have h keeps c vs lists _ (whole path l) = has_left _ _ (subobject Whole (c ∷ path)) (own_complete h keeps (c.0 + 1) c (whole_of c) path (omega arith) l)
 roots_have h keeps c vs lists _ (shared v path has l) =
     has_right (own_tree h (c.0 + 1) c (whole_of c)) _ (subobject (Shared v) (v ∷ path))
-    (has_mapped (λ (x : ClassId). own_tree h (x.0 + 1) x (shared_base x)) vs v (subobject (Shared v) (v ∷ path)) (has_from_contains vs v (lists.listed v has (virtual_below h keeps c v has)))
+    (has_flat_map (λ (x : ClassId). own_tree h (x.0 + 1) x (shared_base x)) vs v (subobject (Shared v) (v ∷ path)) (has_from_contains vs v (lists.listed v has (virtual_below h keeps c v has)))
     (own_complete h keeps (v.0 + 1) v (shared_base v) path (omega arith) l))
 
 have_roots : (h : Classes) (c : ClassId) (vs : List ClassId) → ListsVirtualBases h c c.0 vs → (t : Subobject) → Has (by_roots h c vs) t → IsSubobject h c t
 have_roots h c vs lists t has = ⊎_elim
     (λ a. let d = own_sound h (c.0 + 1) c (whole_of c) t a in subst (λ x. IsSubobject h c x) (sym d.is) (whole d.path d.leads))
     (λ a.
-    let m = has_from_mapped (λ (x : ClassId). own_tree h (x.0 + 1) x (shared_base x)) vs t a in
+    let m = from_flat_map (λ (x : ClassId). own_tree h (x.0 + 1) x (shared_base x)) vs t a in
     let d = own_sound h (m.0.0 + 1) m.0 (shared_base m.0) t m.2 in
     subst (λ x. IsSubobject h c x) (sym d.is) (shared m.0 d.path (lists.valid m.0 (contains_from_has vs m.0 m.1)) d.leads))
     (has_cases (own_tree h (c.0 + 1) c (whole_of c)) _ t has)
@@ -181,11 +178,11 @@ each_apart h (v ∷ vs) once = (
 
 roots_once : (h : Classes) → IsHierarchy h → (c : ClassId) (vs : List ClassId) → ListsVirtualBases h c c.0 vs → EachOnce (by_roots h c vs)
 roots_once h keeps c vs lists = once_append _ _ (own_once h keeps (c.0 + 1) c (whole_of c))
-    (once_mapped (λ (v : ClassId). own_tree h (v.0 + 1) v (shared_base v)) vs (λ v has. own_once h keeps (v.0 + 1) v (shared_base v)) (each_apart h vs lists.once))
+    (once_flat_map (λ (v : ClassId). own_tree h (v.0 + 1) v (shared_base v)) vs (λ v has. own_once h keeps (v.0 + 1) v (shared_base v)) (each_apart h vs lists.once))
     (record {
       none = λ t p q.
           let a = own_sound h (c.0 + 1) c (whole_of c) t p in
-          let m = has_from_mapped (λ (x : ClassId). own_tree h (x.0 + 1) x (shared_base x)) vs t q in
+          let m = from_flat_map (λ (x : ClassId). own_tree h (x.0 + 1) x (shared_base x)) vs t q in
           let b = own_sound h (m.0.0 + 1) m.0 (shared_base m.0) t m.2 in
           let roots : Whole ≡ Shared m.0 = ap (λ (x : Subobject). x.root) (sym a.is ∙ b.is) in cc;
     })

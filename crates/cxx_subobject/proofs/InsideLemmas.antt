@@ -10,27 +10,7 @@ use Rattle.cxx_hierarchy.specs.VirtualBases.{IsDirectBase, HasVirtualBase, direc
 use Rattle.cxx_subobject.specs.Subobjects.{Leads, IsSubobject, whole, shared, subobject, whole_of, last_of, class_of_path, class_of, tail_of, join_at, join, shared_base}
 use Rattle.cxx_hierarchy.specs.Hierarchies.{IsHierarchy}
 use Rattle.cxx_subobject.specs.Inside.{IsInside}
-
-pub last_append : (c : ClassId) (p q : List ClassId) → last_of c (p ++ q) ≡ last_of (last_of c p) q
-last_append c [] q = refl
-last_append c (b ∷ p) q = last_append b p q
-
-pub leads_more : (h : Classes) (c : ClassId) (p q : List ClassId) → Leads h c p → Leads h (last_of c p) q → Leads h c (p ++ q)
-leads_more h c [] q l m = m
-leads_more h c (b ∷ p) q l m = (l.0, leads_more h b p q l.1 m)
-
-pub leads_rest : (h : Classes) (c : ClassId) (p q : List ClassId) → Leads h c (p ++ q) → Leads h (last_of c p) q
-leads_rest h c [] q l = l
-leads_rest h c (b ∷ p) q l = leads_rest h b p q l.1
-
--- a virtual base of a base is one of the class
-pub virtual_along : (h : Classes) (c v : ClassId) (p : List ClassId) → Leads h c p → HasVirtualBase h (last_of c p) v → HasVirtualBase h c v
-virtual_along h c v [] l has = has
-virtual_along h c v (b ∷ p) l has = further c b v false l.0 (virtual_along h b v p l.1 has)
-
-pub virtual_through : (h : Classes) (c v w : ClassId) → HasVirtualBase h c v → HasVirtualBase h v w → HasVirtualBase h c w
-virtual_through h _ _ w (direct c v d) has = further c v w true d has
-virtual_through h _ _ w (further c b v way d rest) has = further c b w way d (virtual_through h b v w rest has)
+use Rattle.cxx_subobject.proofs.PathLemmas.{leads_more, virtual_along, virtual_through, class_of_longer, class_there, part_virtual, smaller, class_low, virtual_below, last_below}
 
 pub join_valid : (h : Classes) (c d : ClassId) (s t : Subobject) → IsSubobject h c s → class_of s ≡ Some d → IsSubobject h d t → IsSubobject h c (join s t)
 join_valid h c d _ _ (whole p l) e (whole q m) = let same : last_of c p ≡ d = cc in whole (p ++ q) (leads_more h c p q l (subst (λ (x : ClassId). Leads h x q) (sym same) m))
@@ -47,24 +27,15 @@ join_shared outer inner v e =
 pub join_below : (outer inner : Subobject) (more : List ClassId) → inner.root ≡ Whole → more ≡ tail_of inner.path → subobject outer.root (outer.path ++ more) ≡ join outer inner
 join_below outer inner more e is = ap (λ p. subobject outer.root (outer.path ++ p)) is ∙ sym (ap (λ r. join_at r outer inner) e)
 
--- the class of a subobject of a subobject
-pub class_of_longer : (path q : List ClassId) (d : ClassId) → class_of_path path ≡ Some d → class_of_path (path ++ q) ≡ Some (last_of d q)
-class_of_longer [] q d e = cc
-class_of_longer (c ∷ p) q d e = let same : last_of c p ≡ d = cc in ap (λ x. Some x) (last_append c p q ∙ ap (λ (x : ClassId). last_of x q) same)
-
 pub join_class : (h : Classes) (d : ClassId) (s t : Subobject) → class_of s ≡ Some d → IsSubobject h d t → class_of (join s t) ≡ class_of t
 join_class h d s _ e (whole q m) = class_of_longer s.path q d e
 join_class h d s _ e (shared v q has m) = refl
 
-join_join : (h : Classes) (d e : ClassId) (s t u : Subobject) → IsSubobject h d t → IsSubobject h e u → join (join s t) u ≡ join s (join t u)
+pub join_join : (h : Classes) (d e : ClassId) (s t u : Subobject) → IsSubobject h d t → IsSubobject h e u → join (join s t) u ≡ join s (join t u)
 join_join h d e s _ _ (whole p l) (whole q m) = ap (λ x. subobject s.root x) (append_assoc s.path p q)
 join_join h d e s _ _ (whole p l) (shared v q has m) = refl
 join_join h d e s _ _ (shared w p hw l) (whole q m) = refl
 join_join h d e s _ _ (shared w p hw l) (shared v q has m) = refl
-
-pub class_there : (h : Classes) (c : ClassId) (s : Subobject) → IsSubobject h c s → (d : ClassId) × (class_of s ≡ Some d)
-class_there h c _ (whole p l) = (last_of c p, refl)
-class_there h c _ (shared v p has l) = (last_of v p, refl)
 
 pub inside_itself : (h : Classes) (c : ClassId) (s : Subobject) → IsSubobject h c s → IsInside h s s
 inside_itself h c s valid =
@@ -83,32 +54,7 @@ inside_through h s t u a b =
       joined = b.joined ∙ (ap (λ x. join x b.part) a.joined ∙ join_join h a.class b.class s a.part b.part a.valid b.valid);
     }
 
-pub base_before : (h : Classes) → IsHierarchy h → (c b : ClassId) (way : Bool) → IsDirectBase h c way b → b.0 < c.0
-base_before h keeps c b way d = let f = keeps.bases c d.base d.listed in let e : d.base.class.0 ≡ b.0 = ap (λ (x : ClassId). x.0) d.class in omega arith
-
-pub last_below : (h : Classes) → IsHierarchy h → (c : ClassId) (p : List ClassId) → Leads h c p → (last_of c p).0 ≤ c.0
-last_below h keeps c [] l = omega arith
-last_below h keeps c (b ∷ p) l = let f = base_before h keeps c b false l.0 in let r = last_below h keeps b p l.1 in omega arith
-
-pub virtual_below : (h : Classes) → IsHierarchy h → (c v : ClassId) → HasVirtualBase h c v → v.0 < c.0
-virtual_below h keeps _ _ (direct c v d) = base_before h keeps c v true d
-virtual_below h keeps _ _ (further c b v way d rest) = let f = base_before h keeps c b way d in let r = virtual_below h keeps b v rest in omega arith
-
--- a subobject of a class is the whole or of a class before
-smaller : (h : Classes) → IsHierarchy h → (c d : ClassId) (s : Subobject) → IsSubobject h c s → class_of s ≡ Some d → (s ≡ whole_of c) ⊎ (d.0 < c.0)
-smaller h keeps c d _ (whole [] l) e = inl refl
-smaller h keeps c d _ (whole (b ∷ p) l) e =
-    let same : last_of b p ≡ d = cc in
-    let f = base_before h keeps c b false l.0 in
-    let r = last_below h keeps b p l.1 in
-    let g : (last_of b p).0 ≡ d.0 = ap (λ (x : ClassId). x.0) same in inr (omega arith)
-smaller h keeps c d _ (shared v p has l) e =
-    let same : last_of v p ≡ d = cc in
-    let f = virtual_below h keeps c v has in
-    let r = last_below h keeps v p l in
-    let g : (last_of v p).0 ≡ d.0 = ap (λ (x : ClassId). x.0) same in inr (omega arith)
-
-join_whole : (s : Subobject) (c : ClassId) → join s (whole_of c) ≡ s
+pub join_whole : (s : Subobject) (c : ClassId) → join s (whole_of c) ≡ s
 join_whole s c = let e : subobject s.root (s.path ++ []) ≡ subobject s.root s.path = ap (λ p. subobject s.root p) (append-nil s.path) in e
 
 pub inside_back : (h : Classes) (s t : Subobject) → IsHierarchy h → IsInside h s t → IsInside h t s → s ≡ t
@@ -138,3 +84,58 @@ inside_same h keeps s t d class_s class_t k =
     (λ e. k.joined ∙ (ap (λ x. join s x) e ∙ join_whole s k.class))
     (λ lt. absurd (omega arith))
     (smaller h keeps k.class d k.part k.valid part)
+
+-- what goes on from one front alike is one
+same_rest : (front p q : List ClassId) → front ++ p ≡ front ++ q → p ≡ q
+same_rest [] p q e = e
+same_rest (c ∷ front) p q e = same_rest front p q (let f : front ++ p ≡ front ++ q = cc in f)
+
+-- a subobject that is not shared, of an outer one, is none that is shared
+never_shared : (h : Classes) → IsHierarchy h → (c d w : ClassId) (s : Subobject) (p q : List ClassId) → IsSubobject h c s → class_of s ≡ Some d → HasVirtualBase h d w → subobject s.root (s.path ++ p) ≡ subobject (Shared w) (w ∷ q) → ⊥
+never_shared h keeps c d w _ p q (whole o l) e has same = let f : Whole ≡ Shared w = ap (λ (x : Subobject). x.root) same in cc
+never_shared h keeps c d w _ p q (shared v o hv l) e has same =
+    let f : Shared v ≡ Shared w = ap (λ (x : Subobject). x.root) same in
+    let roots : v ≡ w = cc in
+    let number : v.0 ≡ w.0 = ap (λ (x : ClassId). x.0) roots in
+    let class : last_of v o ≡ d = cc in
+    let last : (last_of v o).0 ≡ d.0 = ap (λ (x : ClassId). x.0) class in
+    let low = last_below h keeps v o l in
+    let lower = virtual_below h keeps d w has in
+    absurd (omega arith)
+
+-- two subobjects of the class of an outer one that are one in the whole are one
+pub join_injective : (h : Classes) → IsHierarchy h → (c d : ClassId) (s t u : Subobject) → IsSubobject h c s → class_of s ≡ Some d → IsSubobject h d t → IsSubobject h d u → join s t ≡ join s u → t ≡ u
+join_injective h keeps c d s _ _ valid e (whole p l) (whole q m) same =
+    let paths : s.path ++ p ≡ s.path ++ q = ap (λ (x : Subobject). x.path) same in
+    ap (λ (o : List ClassId). subobject Whole (d ∷ o)) (same_rest s.path p q paths)
+join_injective h keeps c d s _ _ valid e (whole p l) (shared w q has m) same = absurd (never_shared h keeps c d w s p q valid e has same)
+join_injective h keeps c d s _ _ valid e (shared w p has l) (whole q m) same = absurd (never_shared h keeps c d w s q p valid e has (sym same))
+join_injective h keeps c d s _ _ valid e (shared w p hw l) (shared v q hv m) same = same
+
+-- what lies in a subobject is one part of it
+pub inside_part : (h : Classes) → IsHierarchy h → (c : ClassId) (s t : Subobject) → IsSubobject h c s → (a b : IsInside h s t) → a.part ≡ b.part
+inside_part h keeps c s t valid a b =
+    let here : Some b.class ≡ Some a.class = sym b.of_class ∙ a.of_class in
+    let same : b.class ≡ a.class = cc in
+    join_injective h keeps c a.class s a.part b.part valid a.of_class a.valid (subst (λ (x : ClassId). IsSubobject h x b.part) same b.valid) (sym a.joined ∙ b.joined)
+
+-- what lies in a part lies there as a part of the whole
+pub join_inside : (h : Classes) (d : ClassId) (s a b : Subobject) → class_of s ≡ Some d → IsSubobject h d a → IsInside h a b → IsInside h (join s a) (join s b)
+join_inside h d s a b e valid k = record {
+  class = k.class;
+  of_class = join_class h d s a e valid ∙ k.of_class;
+  part = k.part;
+  valid = k.valid;
+  joined = ap (λ x. join s x) k.joined ∙ sym (join_join h d k.class s a k.part valid k.valid);
+}
+
+-- the class of an inner subobject has no virtual base that the outer one's has not
+pub inside_virtual : (h : Classes) (d e v : ClassId) (s t : Subobject) → IsInside h s t → class_of s ≡ Some d → class_of t ≡ Some e → HasVirtualBase h e v → HasVirtualBase h d v
+inside_virtual h d e v s t k ds et has =
+    let part_class : class_of k.part ≡ Some e = sym (join_class h k.class s k.part k.of_class k.valid) ∙ (ap class_of (sym k.joined) ∙ et) in
+    let same : k.class ≡ d = let f = k.of_class in cc in
+    subst (λ (x : ClassId). HasVirtualBase h x v) same (part_virtual h k.class e v k.part k.valid part_class has)
+
+-- a shared subobject lies in each one whose class has its root as a virtual base
+pub virtual_inside : (h : Classes) (s : Subobject) (d w : ClassId) (q : List ClassId) → class_of s ≡ Some d → HasVirtualBase h d w → Leads h w q → IsInside h s (subobject (Shared w) (w ∷ q))
+virtual_inside h s d w q e has l = record { class = d; of_class = e; part = subobject (Shared w) (w ∷ q); valid = shared w q has l; joined = refl }

@@ -1,7 +1,11 @@
 pub mod ListLemmas
 pub mod TreeLemmas
+pub mod PathLemmas
 pub mod InsideLemmas
 pub mod TestLemmas
 pub mod WalkLemmas
 pub mod SumLemmas
 pub mod CountLemmas
+pub mod VirtualBaseLemmas
+pub mod LocationLemmas
+pub mod DecidingLemmas

@@ -1,8 +1,8 @@
 -- The tests on paths say whether one subobject lies in another, and whether public edges lead there.
 use Rattle.std.proofs.Common.{◌≡◌, ℕ, zero, suc, ◌+◌, ◌-◌, ◌<◌, ◌≤◌, ◌⊎◌, inl, inr, ⊎_elim, Bool, true, false, List, [], ◌∷◌, ◌++◌, length, drop, get_or, refl, ap, subst, sym, ◌∙◌, arith, append_assoc, length-append}
-use Rattle.std.specs.Prelude.{slice_index_or, Option, Some, None, nat_eq, not, ◌&&◌, ◌||◌, Contains}
+use Rattle.std.specs.Prelude.{slice_index_or, Option, Some, None, nat_eq, not, ◌&&◌, ◌||◌, ◌↔◌, Contains}
 use Rattle.std.specs.List.{list_any}
-use Rattle.std.proofs.lemmas.Bool.{eqb-true, eq-eqb}
+use Rattle.std.proofs.lemmas.Bool.{eqb-true, eq-eqb, and_parts, and_from}
 use Rattle.std.proofs.lemmas.Bool.Decides.{nat_tests}
 use Rattle.std.proofs.lemmas.List.{append-nil}
 use Rattle.cxx_hierarchy.specs.declared.records.ClassId.{ClassId}
@@ -15,20 +15,10 @@ use Rattle.cxx_subobject.specs.declared.Root.TheVariants.{Whole, Shared}
 use Rattle.cxx_subobject.specs.declared.Subobject.{Subobject}
 use Rattle.cxx_subobject.specs.Subobjects.{Leads, IsSubobject, whole, shared, subobject, shared_base, base_subobject, last_of, class_of_path, class_of, same_root}
 use Rattle.cxx_subobject.specs.Inside.{IsInside, IsPublicWalk, stays, steps}
-use Rattle.cxx_subobject.specs.Tests.{begins, is_longer, ReachesRoot, ReachesRootPublicly, leads_publicly, is_public_path, is_public_down}
-use Rattle.cxx_subobject.proofs.ListLemmas.{split}
+use Rattle.cxx_subobject.specs.invariants.Tests.{begins, is_longer, ReachesRoot, ReachesRootPublicly, leads_publicly, is_public_path, is_public_down}
+use Rattle.foundation.proofs.Truth.{split}
 use Rattle.cxx_subobject.proofs.TreeLemmas.{base_down, base_across, root_same, root_itself}
-use Rattle.cxx_subobject.proofs.InsideLemmas.{last_append, leads_rest}
-
-same_id : (x y : ClassId) → x.0 ≡ y.0 → x ≡ y
-same_id x y e = let make : ℕ → ClassId = λ n. record { 0 = n } in let f : make x.0 ≡ make y.0 = ap make e in f
-
-both_true : (a b : Bool) → (a && b) ≡ true → (a ≡ true) × (b ≡ true)
-both_true true b h = (refl, h)
-both_true false b h = absurd (cc)
-
-true_both : (a b : Bool) → a ≡ true → b ≡ true → (a && b) ≡ true
-true_both a b p q = rw (p, q) refl
+use Rattle.cxx_subobject.proofs.PathLemmas.{same_id, last_append, leads_rest, class_there}
 
 -- the class of a path that is not empty
 pub last_there : (path : List ClassId) (d : ClassId) → 0 < length path → Some (slice_index_or path (length path - 1) d) ≡ class_of_path path
@@ -46,7 +36,7 @@ begins_rest : (p path : List ClassId) → begins p path ≡ true → (q : List C
 begins_rest [] path e = (path, refl)
 begins_rest (c ∷ p) [] e = absurd (cc)
 begins_rest (c ∷ p) (d ∷ path) e =
-    let both = both_true (nat_eq c.0 d.0) (begins p path) e in
+    let both = and_parts (nat_eq c.0 d.0) (begins p path) e in
     let r = begins_rest p path both.1 in
     (r.0, ap (λ (x : ClassId). x ∷ path) (sym (same_id c d (eqb-true c.0 d.0 both.0))) ∙ ap (λ xs. c ∷ xs) r.1)
 
@@ -54,15 +44,7 @@ pub begins_shorter : (p path : List ClassId) → begins p path ≡ true → leng
 begins_shorter p path e = let r = begins_rest p path e in let f : length path ≡ length p + length r.0 = ap length r.1 ∙ length-append p r.0 in omega arith
 
 pub longer_shorter : (outer inner : Subobject) → is_longer outer inner ≡ true → length outer.path ≤ length inner.path
-longer_shorter outer inner e = begins_shorter outer.path inner.path (both_true (same_root outer.root inner.root) (begins outer.path inner.path) e).1
-
-pub path_some : (h : Classes) (c : ClassId) (s : Subobject) → IsSubobject h c s → 0 < length s.path
-path_some h c _ (whole path l) = omega arith
-path_some h c _ (shared v path has l) = omega arith
-
-pub true_false : (b : Bool) → b ≡ true → b ≡ false → ⊥
-true_false true e f = absurd (cc)
-true_false false e f = absurd (cc)
+longer_shorter outer inner e = begins_shorter outer.path inner.path (and_parts (same_root outer.root inner.root) (begins outer.path inner.path) e).1
 
 -- what a longer path is
 pub record IsLonger (outer inner : Subobject) : Type 0 where
@@ -71,14 +53,14 @@ pub record IsLonger (outer inner : Subobject) : Type 0 where
 
 pub longer_sound : (outer inner : Subobject) → is_longer outer inner ≡ true → IsLonger outer inner
 longer_sound outer inner e =
-    let both = both_true (same_root outer.root inner.root) (begins outer.path inner.path) e in
+    let both = and_parts (same_root outer.root inner.root) (begins outer.path inner.path) e in
     let r = begins_rest outer.path inner.path both.1 in
     let is : subobject inner.root inner.path ≡ subobject outer.root (outer.path ++ r.0) = ap (λ x. subobject x inner.path) (sym (root_same outer.root inner.root both.0)) ∙ ap (λ p. subobject outer.root p) r.1 in
     record { rest = r.0; is = is }
 
 pub longer_complete : (outer inner : Subobject) (rest : List ClassId) → inner ≡ subobject outer.root (outer.path ++ rest) → is_longer outer inner ≡ true
 longer_complete outer inner rest is = subst (λ (x : Subobject). is_longer outer x ≡ true) (sym is)
-    (true_both (same_root outer.root outer.root) (begins outer.path (outer.path ++ rest)) (root_itself outer.root) (begins_from outer.path rest))
+    (and_from (same_root outer.root outer.root) (begins outer.path (outer.path ++ rest)) (root_itself outer.root) (begins_from outer.path rest))
 
 -- the head of a subobject's path, and what its path leads along
 pub record HasPath (h : Classes) (s : Subobject) : Type 0 where
@@ -142,6 +124,13 @@ inside_cases h outer inner k = by_part k.part k.valid k.joined
     by_part _ (whole q m) e = inl (longer_complete outer inner q e)
     by_part _ (shared v q has m) e = inr (subst (λ (r : Root). ReachesRoot h (class_of outer) r) (sym (ap (λ (x : Subobject). x.root) e)) (subst (λ (o : Option ClassId). ReachesRoot h o (Shared v)) (sym k.of_class) has))
 
+-- containment in closed form: the path goes on, or a shared base that the class of the outer one has holds the inner one
+pub inside_closed : (h : Classes) (c : ClassId) (outer inner : Subobject) → IsSubobject h c outer → IsSubobject h c inner → IsInside h outer inner ↔ (IsLonger outer inner ⊎ ReachesRoot h (class_of outer) inner.root)
+inside_closed h c outer inner valid_outer valid_inner = (
+  λ k. ⊎_elim (λ l. inl (longer_sound outer inner l)) (λ r. inr r) (inside_cases h outer inner k),
+  λ o. ⊎_elim (λ l. inside_longer h c outer inner valid_outer valid_inner l) (λ r. inside_reached h c outer inner valid_inner r) o,
+)
+
 -- the path leads along public edges
 abbrev pub LeadsPublicly : Classes → ClassId → List ClassId → Type 0
 LeadsPublicly h c [] = Unit {0}
@@ -149,24 +138,24 @@ LeadsPublicly h c (b ∷ path) = IsPublicBase h c false b × LeadsPublicly h b p
 
 edge_test : (b : ClassId) (base : Base ClassId) → leads_publicly b base ≡ true → (base.class ≡ b) × (base.is_virtual ≡ false) × (base.is_public ≡ true)
 edge_test b base e =
-    let one = both_true (nat_eq base.class.0 b.0) (not base.is_virtual && base.is_public) e in
-    let two = both_true (not base.is_virtual) base.is_public one.1 in
+    let one = and_parts (nat_eq base.class.0 b.0) (not base.is_virtual && base.is_public) e in
+    let two = and_parts (not base.is_virtual) base.is_public one.1 in
     (same_id base.class b (eqb-true base.class.0 b.0 one.0), split base.is_virtual (λ t. not t ≡ true → t ≡ false) (λ g k. absurd (cc)) (λ g k. refl) two.0, two.1)
 
 path_sound : (h : Classes) (c : ClassId) (path : List ClassId) → is_public_path h (c ∷ path) ≡ true → LeadsPublicly h c path
 path_sound h c [] e = tt
 path_sound h c (b ∷ path) e =
-    let both = both_true (list_any (leads_publicly b) (bases_of h c)) (is_public_path h (b ∷ path)) e in
+    let both = and_parts (list_any (leads_publicly b) (bases_of h c)) (is_public_path h (b ∷ path)) e in
     let found = any_item (leads_publicly b) (bases_of h c) both.0 in
     let is = edge_test b found.item found.passes in
-    (record { base = found.item; listed = found.listed; class = is.0; way = is.1; is_public = is.2 }, path_sound h b path both.1)
+    (record { edge = record { base = found.item; listed = found.listed; class = is.0; way = is.1 }; is_public = is.2 }, path_sound h b path both.1)
 
 path_complete : (h : Classes) (c : ClassId) (path : List ClassId) → LeadsPublicly h c path → is_public_path h (c ∷ path) ≡ true
 path_complete h c [] l = refl
 path_complete h c (b ∷ path) l =
-    let d = l.0 in
-    let passes : leads_publicly b d.base ≡ true = true_both (nat_eq d.base.class.0 b.0) (not d.base.is_virtual && d.base.is_public) (eq-eqb d.base.class.0 b.0 (ap (λ (x : ClassId). x.0) d.class)) (true_both (not d.base.is_virtual) d.base.is_public (ap not d.way) d.is_public) in
-    true_both (list_any (leads_publicly b) (bases_of h c)) (is_public_path h (b ∷ path)) (any_listed (leads_publicly b) (bases_of h c) d.base d.listed passes) (path_complete h b path l.1)
+    let d = l.0.edge in
+    let passes : leads_publicly b d.base ≡ true = and_from (nat_eq d.base.class.0 b.0) (not d.base.is_virtual && d.base.is_public) (eq-eqb d.base.class.0 b.0 (ap (λ (x : ClassId). x.0) d.class)) (and_from (not d.base.is_virtual) d.base.is_public (ap not d.way) l.0.is_public) in
+    and_from (list_any (leads_publicly b) (bases_of h c)) (is_public_path h (b ∷ path)) (any_listed (leads_publicly b) (bases_of h c) d.base d.listed passes) (path_complete h b path l.1)
 
 -- where a public walk leads
 data IsWalk (h : Classes) (c : ClassId) (s : Subobject) : Subobject → Type 0 where
@@ -191,7 +180,7 @@ walk_from_across h c s base d _ (goes_down path t l is) = goes_across base.class
 walk_from_across h c s base d _ (goes_across v path t has l is) = goes_across v path t (public_further c base.class v true d has) l is
 
 public_edge : (h : Classes) (c : ClassId) (base : Base ClassId) (way : Bool) → Contains (bases_of h c) base → base.is_public ≡ true → base.is_virtual ≡ way → IsPublicBase h c way base.class
-public_edge h c base way listed e g = record { base = base; listed = listed; class = refl; way = g; is_public = e }
+public_edge h c base way listed e g = record { edge = record { base = base; listed = listed; class = refl; way = g }; is_public = e }
 
 walk_case : (h : Classes) (s t : Subobject) (c : ClassId) → class_of s ≡ Some c → IsPublicWalk h s t → IsWalk h c s t
 walk_case h _ _ c class (stays s) = goes_down [] s tt (ap (λ p. subobject s.root p) (sym (append-nil s.path)))
@@ -206,18 +195,20 @@ walk_case h _ _ c class (steps s t d base class_d listed is_public rest) =
 walk_down : (h : Classes) (path : List ClassId) (s : Subobject) (c : ClassId) → class_of s ≡ Some c → LeadsPublicly h c path → IsPublicWalk h s (subobject s.root (s.path ++ path))
 walk_down h [] s c class l = subst (λ x. IsPublicWalk h s x) (ap (λ p. subobject s.root p) (sym (append-nil s.path))) (stays s)
 walk_down h (b ∷ path) s c class l =
-    let d = l.0 in
+    let d = l.0.edge in
     let inner = walk_down h path (subobject s.root (s.path ++ b ∷ [])) b (class_below s.path c b class) l.1 in
     let is : subobject s.root ((s.path ++ b ∷ []) ++ path) ≡ subobject s.root (s.path ++ b ∷ path) = ap (λ p. subobject s.root p) (append_assoc s.path (b ∷ []) path) in
     let from : base_subobject s d.base ≡ subobject s.root (s.path ++ b ∷ []) = base_down s d.base d.way ∙ ap (λ (x : ClassId). subobject s.root (s.path ++ x ∷ [])) d.class in
-    steps s _ c d.base class d.listed d.is_public (subst (λ (x : Subobject). IsPublicWalk h x (subobject s.root (s.path ++ b ∷ path))) (sym from) (subst (λ (x : Subobject). IsPublicWalk h (subobject s.root (s.path ++ b ∷ [])) x) is inner))
+    steps s _ c d.base class d.listed l.0.is_public (subst (λ (x : Subobject). IsPublicWalk h x (subobject s.root (s.path ++ b ∷ path))) (sym from) (subst (λ (x : Subobject). IsPublicWalk h (subobject s.root (s.path ++ b ∷ [])) x) is inner))
 
 walk_across : (h : Classes) (s : Subobject) (c v : ClassId) (path : List ClassId) → class_of s ≡ Some c → HasPublicVirtualBase h c v → LeadsPublicly h v path → IsPublicWalk h s (subobject (Shared v) (v ∷ path))
-walk_across h s _ _ path class (public_direct c v d) l =
+walk_across h s _ _ path class (public_direct c v e) l =
+    let d = e.edge in
     let from : base_subobject s d.base ≡ shared_base v = base_across s d.base d.way ∙ ap shared_base d.class in
-    steps s _ c d.base class d.listed d.is_public (subst (λ (x : Subobject). IsPublicWalk h x (subobject (Shared v) (v ∷ path))) (sym from) (walk_down h path (shared_base v) v refl l))
-walk_across h s _ _ path class (public_further c b v way d rest) l =
-    steps s _ c d.base class d.listed d.is_public (walk_across h (base_subobject s d.base) b v path (base_class s c d.base class ∙ ap (λ x. Some x) d.class) rest l)
+    steps s _ c d.base class d.listed e.is_public (subst (λ (x : Subobject). IsPublicWalk h x (subobject (Shared v) (v ∷ path))) (sym from) (walk_down h path (shared_base v) v refl l))
+walk_across h s _ _ path class (public_further c b v way e rest) l =
+    let d = e.edge in
+    steps s _ c d.base class d.listed e.is_public (walk_across h (base_subobject s d.base) b v path (base_class s c d.base class ∙ ap (λ x. Some x) d.class) rest l)
 
 drop_to_last : (path q : List ClassId) (c : ClassId) → class_of_path path ≡ Some c → drop (length path - 1) (path ++ q) ≡ c ∷ q
 drop_to_last [] q c e = absurd (cc)
@@ -226,15 +217,11 @@ drop_to_last (d ∷ b ∷ path) q c e =
     let f : length (d ∷ b ∷ path) - 1 ≡ suc (length (b ∷ path) - 1) = omega arith in
     ap (λ n. drop n (d ∷ b ∷ (path ++ q))) f ∙ drop_to_last (b ∷ path) q c e
 
-class_is : (h : Classes) (c : ClassId) (s : Subobject) → IsSubobject h c s → (d : ClassId) × (class_of s ≡ Some d)
-class_is h c _ (whole path l) = (last_of c path, refl)
-class_is h c _ (shared v path has l) = (last_of v path, refl)
-
 pub down_sound : (h : Classes) (c : ClassId) (outer inner : Subobject) → IsSubobject h c outer → is_public_down h outer inner ≡ true → IsPublicWalk h outer inner
 down_sound h c outer inner valid e =
-    let both = both_true (is_longer outer inner) (is_public_path h (drop (length outer.path - 1) inner.path)) e in
+    let both = and_parts (is_longer outer inner) (is_public_path h (drop (length outer.path - 1) inner.path)) e in
     let longer = longer_sound outer inner both.0 in
-    let k = class_is h c outer valid in
+    let k = class_there h c outer valid in
     let rest : drop (length outer.path - 1) inner.path ≡ k.0 ∷ longer.rest = ap (λ (x : Subobject). drop (length outer.path - 1) x.path) longer.is ∙ drop_to_last outer.path longer.rest k.0 k.1 in
     let leads = path_sound h k.0 longer.rest (ap (is_public_path h) (sym rest) ∙ both.1) in
     subst (λ (x : Subobject). IsPublicWalk h outer x) (sym longer.is) (walk_down h longer.rest outer k.0 k.1 leads)
@@ -251,12 +238,12 @@ across_sound h c outer inner valid reaches e = by_inner inner valid (reach_publi
 
 pub walk_cases : (h : Classes) (c : ClassId) (outer inner : Subobject) → IsSubobject h c outer → IsPublicWalk h outer inner →
     (is_public_down h outer inner ≡ true) ⊎ (ReachesRootPublicly h (class_of outer) inner.root × (is_public_path h inner.path ≡ true))
-walk_cases h c outer inner valid walk = let k = class_is h c outer valid in by_walk k.0 k.1 inner (walk_case h outer inner k.0 k.1 walk)
+walk_cases h c outer inner valid walk = let k = class_there h c outer valid in by_walk k.0 k.1 inner (walk_case h outer inner k.0 k.1 walk)
   where
     by_walk : (d : ClassId) → class_of outer ≡ Some d → (inner : Subobject) → IsWalk h d outer inner → (is_public_down h outer inner ≡ true) ⊎ (ReachesRootPublicly h (class_of outer) inner.root × (is_public_path h inner.path ≡ true))
     by_walk d class _ (goes_down path t l is) =
         let rest : drop (length outer.path - 1) t.path ≡ d ∷ path = ap (λ (x : Subobject). drop (length outer.path - 1) x.path) is ∙ drop_to_last outer.path path d class in
-        inl (true_both (is_longer outer t) (is_public_path h (drop (length outer.path - 1) t.path)) (longer_complete outer t path is) (ap (is_public_path h) rest ∙ path_complete h d path l))
+        inl (and_from (is_longer outer t) (is_public_path h (drop (length outer.path - 1) t.path)) (longer_complete outer t path is) (ap (is_public_path h) rest ∙ path_complete h d path l))
     by_walk d class _ (goes_across v path t has l is) = inr (
       subst (λ (r : Root). ReachesRootPublicly h (class_of outer) r) (sym (ap (λ (x : Subobject). x.root) is)) (subst (λ (o : Option ClassId). ReachesRootPublicly h o (Shared v)) (sym class) has),
       ap (λ (x : Subobject). is_public_path h x.path) is ∙ path_complete h v path l,

@@ -17,7 +17,9 @@ use Rattle.cxx_subobject.specs.declared.Root.TheVariants.{Whole, Shared}
 use Rattle.cxx_subobject.specs.declared.Subobject.{Subobject}
 use Rattle.cxx_subobject.specs.Subobjects.{Leads, IsSubobject, whole, shared, subobject, shared_base, whole_of, base_subobject, same_path, same_root, same_subobject}
 use Rattle.cxx_subobject.specs.Preorder.{tree, firsts, preorder, ListsSubobjects}
-use Rattle.cxx_subobject.proofs.ListLemmas.{Has, EachOnce, has_mapped, has_from_mapped, mapped_same, has_at, contains_from_has, has_from_contains, once_by_place, split}
+pub use Rattle.foundation.proofs.Chosen.{has_filter, filter_has, once_filter}
+use Rattle.foundation.proofs.Truth.{split}
+use Rattle.foundation.proofs.Members.{Has, EachOnce, has_flat_map, from_flat_map, flat_map_same, has_at, contains_from_has, has_from_contains, once_by_place}
 
 -- t is what a walk down from s, of class c, leads to
 pub data IsBelow (h : Classes) (c : ClassId) (s : Subobject) : Subobject → Type 0 where
@@ -51,12 +53,12 @@ tree_sound h zero c s t has = absurd has
 tree_sound h (suc n) c s t has = ⊎_elim
     (λ e. down [] t tt (sym e ∙ ap (λ p. subobject s.root p) (sym (append-nil s.path))))
     (λ r.
-    let m = has_from_mapped (λ base. tree h n base.class (base_subobject s base)) (bases_of h c) t r in
+    let m = from_flat_map (λ base. tree h n base.class (base_subobject s base)) (bases_of h c) t r in
     from_base h c s m.0 t (contains_from_has (bases_of h c) m.0 m.1) (tree_sound h n m.0.class (base_subobject s m.0) t m.2))
     has
 
 in_base : (h : Classes) (n : ℕ) (c : ClassId) (s : Subobject) (base : Base ClassId) (inner t : Subobject) → Contains (bases_of h c) base → base_subobject s base ≡ inner → Has (tree h n base.class inner) t → Has (tree h (suc n) c s) t
-in_base h n c s base inner t listed e there = inr (has_mapped (λ b. tree h n b.class (base_subobject s b)) (bases_of h c) base t (has_from_contains (bases_of h c) base listed)
+in_base h n c s base inner t listed e there = inr (has_flat_map (λ b. tree h n b.class (base_subobject s b)) (bases_of h c) base t (has_from_contains (bases_of h c) base listed)
     (subst (λ (x : Subobject). Has (tree h n base.class x) t) (sym e) there))
 
 tree_down : (h : Classes) → IsHierarchy h → (n : ℕ) (c : ClassId) (s : Subobject) (path : List ClassId) → c.0 < n → Leads h c path → Has (tree h n c s) (subobject s.root (s.path ++ path))
@@ -93,7 +95,7 @@ pub tree_steps : (h : Classes) → IsHierarchy h → (n m : ℕ) (c : ClassId) (
 tree_steps h keeps zero m c s a b = absurd (omega arith)
 tree_steps h keeps (suc n) zero c s a b = absurd (omega arith)
 tree_steps h keeps (suc n) (suc m) c s a b =
-    ap (λ t. s ∷ t) (mapped_same (λ base. tree h n base.class (base_subobject s base)) (λ base. tree h m base.class (base_subobject s base)) (bases_of h c)
+    ap (λ t. s ∷ t) (flat_map_same (λ base. tree h n base.class (base_subobject s base)) (λ base. tree h m base.class (base_subobject s base)) (bases_of h c)
     (λ base has. let f = keeps.bases c base (contains_from_has (bases_of h c) base has) in tree_steps h keeps n m base.class (base_subobject s base) (omega arith) (omega arith)))
 
 path_same : (p q : List ClassId) → same_path p q ≡ true → p ≡ q
@@ -131,27 +133,6 @@ root_itself (Shared v) = eq-eqb v.0 v.0 refl
 pub same_itself : (s : Subobject) → same_subobject s s ≡ true
 same_itself s = rw (root_itself s.root, path_itself s.path) refl
 
-pub has_filter : {X : Type 0} (p : X → Bool) (xs : List X) (x : X) → Has (filter p xs) x → Has xs x × (p x ≡ true)
-has_filter p [] x = λ h. absurd h
-has_filter {X} p (y ∷ xs) x =
-    split (p y) (λ b. Has (if b then y ∷ filter p xs else filter p xs) x → Has (y ∷ xs) x × (p x ≡ true))
-    (λ e h. ⊎_elim (λ same. (inl same, ap p (sym same) ∙ e)) (λ k. let r = has_filter p xs x k in (inr r.0, r.1)) h)
-    (λ e h. let r = has_filter p xs x h in (inr r.0, r.1))
-
-pub filter_has : {X : Type 0} (p : X → Bool) (xs : List X) (x : X) → Has xs x → p x ≡ true → Has (filter p xs) x
-filter_has p [] x h k = absurd h
-filter_has {X} p (y ∷ xs) x h k =
-    split (p y) (λ b. Has (if b then y ∷ filter p xs else filter p xs) x)
-    (λ e. ⊎_elim (λ same. inl same) (λ r. inr (filter_has p xs x r k)) h)
-    (λ e. ⊎_elim (λ same. absurd (let f : p x ≡ false = ap p (sym same) ∙ e in let g : true ≡ false = sym k ∙ f in cc)) (λ r. filter_has p xs x r k) h)
-
-pub once_filter : {X : Type 0} (p : X → Bool) (xs : List X) → EachOnce xs → EachOnce (filter p xs)
-once_filter p [] once = tt
-once_filter {X} p (x ∷ xs) once =
-    split (p x) (λ b. EachOnce (if b then x ∷ filter p xs else filter p xs))
-    (λ e. (λ h. once.0 (has_filter p xs x h).0, once_filter p xs once.1))
-    (λ e. once_filter p xs once.1)
-
 not_true : (b : Bool) → not b ≡ true → b ≡ false
 not_true true h = absurd (cc)
 not_true false h = refl
@@ -187,6 +168,9 @@ preorder_has h c keeps s valid = firsts_has (tree h (c.0 + 1) c (whole_of c)) s 
 
 pub has_preorder : (h : Classes) (c : ClassId) (s : Subobject) → Has (preorder h c) s → IsSubobject h c s
 has_preorder h c s has = whole_below h c s (tree_sound h (c.0 + 1) c (whole_of c) s (has_firsts (tree h (c.0 + 1) c (whole_of c)) s has))
+
+pub preorder_once : (h : Classes) (c : ClassId) → EachOnce (preorder h c)
+preorder_once h c = firsts_once (tree h (c.0 + 1) c (whole_of c))
 
 pub preorder_lists : (h : Classes) (c : ClassId) → IsHierarchy h → ListsSubobjects h c (preorder h c)
 preorder_lists h c keeps = record {

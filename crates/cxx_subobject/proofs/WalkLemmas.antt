@@ -17,10 +17,12 @@ use Rattle.cxx_subobject.specs.declared.Root.TheVariants.{Whole, Shared}
 use Rattle.cxx_subobject.specs.declared.Subobject.{Subobject}
 use Rattle.cxx_subobject.specs.Subobjects.{Leads, IsSubobject, whole, shared, subobject, shared_base, whole_of, base_subobject, last_of, class_of_path, class_of, same_subobject, join}
 use Rattle.cxx_subobject.specs.Preorder.{tree, firsts, preorder}
-use Rattle.cxx_subobject.specs.Walks.{is_listed, with_new, IsFresh, AreMarks, IsPlaced, IsClosed}
-use Rattle.cxx_subobject.proofs.ListLemmas.{Has, has_left, has_right, has_cases, has_from_mapped, contains_from_has, has_from_contains, split}
+use Rattle.cxx_subobject.specs.invariants.Walks.{is_listed, with_new, IsFresh, AreMarks, IsPlaced, IsClosed}
+use Rattle.foundation.proofs.Truth.{split}
+use Rattle.foundation.proofs.Members.{Has, has_left, has_right, has_cases, from_flat_map, has_at, contains_from_has, has_from_contains}
 use Rattle.cxx_subobject.proofs.TreeLemmas.{IsBelow, down, across, base_down, base_across, edge, from_base, tree_sound, tree_complete, tree_steps, subobject_same, same_itself, one_more, base_listed}
-use Rattle.cxx_subobject.proofs.InsideLemmas.{virtual_through, virtual_below, last_below, join_valid}
+use Rattle.cxx_subobject.proofs.InsideLemmas.{join_valid}
+use Rattle.cxx_subobject.proofs.PathLemmas.{virtual_through, virtual_below, last_below, not_longer}
 use Rattle.cxx_subobject.proofs.TestLemmas.{class_below, base_class}
 
 -- the test
@@ -190,11 +192,6 @@ placed_down h c s base placed listed = record {
   class = base_class s c base placed.class;
 }
 
--- a path that is longer than itself
-not_longer : (p q : List ClassId) (b : ClassId) → p ≡ p ++ b ∷ q → ⊥
-not_longer [] q b e = absurd (cc)
-not_longer (c ∷ p) q b e = not_longer p q b (let f : p ≡ p ++ b ∷ q = cc in f)
-
 -- what lies below one base within the root of s is no part of what another base leads to
 record IsLow (h : Classes) (c : ClassId) (s : Subobject) (base : Base ClassId) (t : Subobject) : Type 0 where
   place : ((w : ClassId) × (t.root ≡ Shared w) × (w.0 < c.0)) ⊎ ((path : List ClassId) × (t ≡ subobject s.root (s.path ++ base.class ∷ path)))
@@ -240,7 +237,7 @@ fresh_next h keeps c s base before old placed fresh others = record { none = λ 
         (λ b. ⊎_elim (λ e. not_longer s.path path base.class (ap (λ (x : Subobject). x.path) e ∙ append_assoc s.path (base.class ∷ []) path)) (λ bad. bad) b)
         (has_cases old (s ∷ []) (subobject s.root ((s.path ++ base.class ∷ []) ++ path)) a))
         (λ a.
-        let m = has_from_mapped (below h c s) before (subobject s.root ((s.path ++ base.class ∷ []) ++ path)) a in
+        let m = from_flat_map (below h c s) before (subobject s.root ((s.path ++ base.class ∷ []) ++ path)) a in
         let o = others m.0 m.1 in
         below_one path m.0 o.0 o.1 (low h keeps c s m.0 o.0 (subobject s.root ((s.path ++ base.class ∷ []) ++ path)) (tree_sound h c.0 m.0.class (base_subobject s m.0) (subobject s.root ((s.path ++ base.class ∷ []) ++ path)) m.2)))
         (from_new (old ++ s ∷ []) (flat_map (below h c s) before) (subobject s.root ((s.path ++ base.class ∷ []) ++ path)) there)
@@ -253,11 +250,6 @@ taken_place (y ∷ xs) (suc i) x h = ⊎_elim
     (λ e. (zero, omega arith, ap (λ z. Some z) e))
     (λ k. let r = taken_place xs i x k in let lt = r.1 in (suc r.0, omega arith, r.2)) h
 
-listed_at : {X : Type 0} (xs : List X) (j : ℕ) (x : X) → slice_get xs j ≡ Some x → Has xs x
-listed_at [] j x e = absurd (cc)
-listed_at (y ∷ xs) zero x e = inl (let same : y ≡ x = cc in same)
-listed_at (y ∷ xs) (suc j) x e = inr (listed_at xs j x e)
-
 -- the bases before the next one are of other classes
 pub others_before : (h : Classes) → IsHierarchy h → (c : ClassId) (bases : List (Base ClassId)) (i : ℕ) (d : Base ClassId) → bases ≡ bases_of h c → i < length bases →
     (x : Base ClassId) → Has (take i bases) x → Contains (bases_of h c) x × (x.class ≡ (get_or bases i d).class → ⊥)
@@ -266,16 +258,11 @@ others_before h keeps c bases i d is lt x has =
     let less = p.1 in
     let at_x : slice_get (bases_of h c) p.0 ≡ Some x = ap (λ (bs : List (Base ClassId)). slice_get bs p.0) (sym is) ∙ p.2 in
     let at_d : slice_get (bases_of h c) i ≡ Some (get_or bases i d) = ap (λ (bs : List (Base ClassId)). slice_get bs i) (sym is) ∙ slice_get-get_or bases i d lt in
-    (contains_from_has (bases_of h c) x (listed_at (bases_of h c) p.0 x at_x), λ same. let e = keeps.once c p.0 i x (get_or bases i d) at_x at_d same in absurd (omega arith))
+    (contains_from_has (bases_of h c) x (has_at (bases_of h c) p.0 x at_x), λ same. let e = keeps.once c p.0 i x (get_or bases i d) at_x at_d same in absurd (omega arith))
 
 longer_shared : (p q : List ClassId) (v b c : ClassId) → class_of_path p ≡ Some c → v ∷ q ≡ p ++ b ∷ [] → (r : List ClassId) × (p ≡ v ∷ r)
 longer_shared [] q v b c class e = absurd (cc)
 longer_shared (x ∷ p) q v b c class e = (p, let same : v ≡ x = cc in ap (λ (y : ClassId). y ∷ p) (sym same))
-
-no_single : (p : List ClassId) (v b c : ClassId) → class_of_path p ≡ Some c → v ∷ [] ≡ p ++ b ∷ [] → ⊥
-no_single [] v b c class e = cc
-no_single (x ∷ []) v b c class e = let f : [] ≡ b ∷ [] = cc in cc
-no_single (x ∷ y ∷ p) v b c class e = let f : [] ≡ y ∷ (p ++ b ∷ []) = cc in cc
 
 pub marks_down : (marks : List Bool) (found : List Subobject) (s : Subobject) (c b : ClassId) → AreMarks marks found → Has found s → class_of s ≡ Some c → AreMarks marks (found ++ subobject s.root (s.path ++ b ∷ []) ∷ [])
 marks_down marks found s c b are there class = record {

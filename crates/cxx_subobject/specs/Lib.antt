@@ -1,7 +1,7 @@
 pub mod Subobjects
 pub mod Preorder
+pub mod VirtualBases
+pub mod Locations
 pub mod Inside
-pub mod Tests
 pub mod Parts
-pub mod Counts
-pub mod Walks
+pub mod invariants

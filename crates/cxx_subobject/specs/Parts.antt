@@ -7,14 +7,10 @@ use Rattle.cxx_hierarchy.specs.declared.records.ValueType.{ValueType}
 use Rattle.cxx_hierarchy.specs.declared.records.FieldType.{FieldType}
 use Rattle.cxx_hierarchy.specs.declared.records.FieldType.TheVariants.{Value, Object}
 use Rattle.cxx_hierarchy.specs.Classes.{Classes, members_in, class_at, members_of}
+pub use Rattle.cxx_hierarchy.specs.Declarations.{elements_of}
 use Rattle.cxx_subobject.specs.declared.Subobject.{Subobject}
 use Rattle.cxx_subobject.specs.Subobjects.{class_of}
 use Rattle.cxx_subobject.specs.Preorder.{preorder}
-
--- how many elements a member has: one where it is no array
-abbrev pub elements_of : Option ℕ → ℕ
-elements_of None = 1
-elements_of (Some count) = count
 
 -- the parts of one element of a member: a leaf is one, an object has those of its class
 abbrev pub parts_in : (ClassId → ℕ) → FieldType ClassId → ℕ
@@ -37,10 +33,17 @@ parts_within h (suc steps) c = sum_by (λ s. 1 + member_parts h (parts_within h 
 abbrev pub parts_of : Classes → ClassId → ℕ
 parts_of h c = parts_within h (c.0 + 1) c
 
--- a class has at most 1024 subobjects and 65536 parts
+-- the limits on the subobjects and on the parts of a class
+abbrev pub most_subobjects : ℕ
+most_subobjects = 1024
+
+abbrev pub most_parts : ℕ
+most_parts = 65536
+
+-- a class has no more subobjects and parts than that
 pub record IsWithinLimits (h : Classes) (c : ClassId) : Type 0 where
-  pub subobjects : length (preorder h c) ≤ 1024
-  pub parts : parts_of h c ≤ 65536
+  pub subobjects : length (preorder h c) ≤ most_subobjects
+  pub parts : parts_of h c ≤ most_parts
 
 -- a table that tells of each class of a hierarchy whether it is within the limits
 pub record TellsLimits (h : Classes) (table : List Bool) : Type 0 where

@@ -9,7 +9,7 @@ ghost use Rattle.cxx_hierarchy.specs.declared.records.ClassId.{ClassId};
 ghost use Rattle.cxx_subobject.specs.declared.Subobject.{Subobject};
 ghost use Rattle.cxx_subobject.specs.Subobjects.{IsSubobject, join, tail_of, class_of, shared_base, same_root};
 ghost use Rattle.cxx_subobject.specs.Inside.{IsInside, IsPart, IsPublicWalk};
-ghost use Rattle.cxx_subobject.specs.Tests.{begins, is_longer, ReachesRoot, ReachesRootPublicly, leads_publicly, is_public_path, is_public_down};
+ghost use Rattle.cxx_subobject.specs.invariants.Tests.{begins, is_longer, ReachesRoot, ReachesRootPublicly, leads_publicly, is_public_path, is_public_down};
 
 use crate::listing::subobject_below;
 use crate::{Root, Subobject};

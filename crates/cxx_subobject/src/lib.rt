@@ -13,15 +13,19 @@
 #![tactic(auto)]
 
 pub mod containment;
+pub mod laws;
 pub mod listing;
+pub mod locations;
 pub mod parts;
 #[cfg(test)]
 mod tests;
 
 pub use crate::containment::{class_of, containment_is_order, contains, is_public_base, join};
+pub use crate::laws::{hops_are_of_owners, joins_are_subobjects, virtual_bases_are_listed};
 pub use crate::listing::{
     SubobjectList, list_subobjects, no_marks, subobject_below, subobjects_of,
 };
+pub use crate::locations::{Hop, HopList, Location};
 pub use crate::parts::PartCounts;
 use cxx_hierarchy::ClassId;
 use foundation::Sequence;

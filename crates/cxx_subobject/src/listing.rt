@@ -4,7 +4,7 @@ ghost use Rattle.std.specs.Prelude.{◌≡◌, ◌+◌, ◌≤◌, ◌<◌, ◌+
 ghost use Rattle.cxx_subobject.specs.Subobjects.{subobject, shared_base};
 ghost use Rattle.cxx_subobject.specs.Preorder.{tree, preorder, ListsSubobjects};
 ghost use Rattle.cxx_subobject.specs.Parts.{IsWithinLimits};
-ghost use Rattle.cxx_subobject.specs.Walks.{with_new, IsFresh, AreMarks, IsClosed, IsPlaced};
+ghost use Rattle.cxx_subobject.specs.invariants.Walks.{with_new, IsFresh, AreMarks, IsClosed, IsPlaced};
 
 use crate::parts::PartCounts;
 use crate::{ClassPath, Root, Subobject};

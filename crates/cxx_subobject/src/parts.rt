@@ -6,7 +6,7 @@ ghost use Rattle.cxx_hierarchy.specs.declared.records.Base.{Base};
 ghost use Rattle.cxx_hierarchy.specs.declared.records.Member.{Member};
 ghost use Rattle.cxx_hierarchy.specs.Classes.{Classes};
 ghost use Rattle.cxx_subobject.specs.Parts.{IsWithinLimits, TellsLimits, elements_of, parts_in};
-ghost use Rattle.cxx_subobject.specs.Counts.{AreWithin, IsCapped, IsSharedSum, IsSharedValue, KnowsObject, HasGoodCount, own_bases, parts_of_members, AreCounts};
+ghost use Rattle.cxx_subobject.specs.invariants.Counts.{AreWithin, IsCapped, IsSharedSum, IsSharedValue, KnowsObject, HasGoodCount, own_bases, parts_of_members, AreCounts};
 
 use cxx_hierarchy::{Base, ClassId, FieldType, Hierarchy, Member};
 use foundation::NoMemory;
@@ -14,10 +14,10 @@ use std::alloc::Global;
 use std::marker::Model;
 
 /// The largest number of inheritance subobjects of a class.
-const SUBOBJECT_LIMIT: u32 = 1024;
+const MOST_SUBOBJECTS: u32 = 1024;
 
 /// The largest number of parts of a class.
-const PART_LIMIT: u32 = 65536;
+const MOST_PARTS: u32 = 65536;
 
 /// A sum, or one more than the limit where it is larger.
 fn capped(limit: u32, one: u32, other: u32) -> u32
@@ -85,16 +85,6 @@ fn shared_sum(h: &Hierarchy, c: ClassId, values: &[u32], limit: u32, start: u32)
     sum
 }
 
-/// How many elements a member has.
-fn elements(count: Option<u32>) -> u32
-    ensures { result ≡ elements_of count }
-{
-    match count {
-        Some(count) => count,
-        None => 1,
-    }
-}
-
 /// The parts of one element.
 fn element_parts(ty: &FieldType<ClassId>, parts: &[u32]) -> u32
     requires known { KnowsObject parts.now ty.now }
@@ -116,14 +106,14 @@ fn parts_of_member(member: &Member<ClassId>, parts: &[u32]) -> u32
     ensures within { result ≤ 268439552 }
     ensures parts { (f : ClassId → ℕ) → IsCapped 65536 f parts.now → min result 65537 ≡ min (elements_of member.now.count * parts_in f member.now.ty) 65537 }
 {
-    elements(member.count) * element_parts(&member.ty, parts)
+    member.elements() * element_parts(&member.ty, parts)
 }
 
 /// Whether a class with so many subobjects and parts is within the limits.
 fn is_small(subobjects: u32, parts: u32) -> bool
     ensures { IsTrue result ↔ ((subobjects ≤ 1024) × (parts ≤ 65536)) }
 {
-    subobjects <= SUBOBJECT_LIMIT && parts <= PART_LIMIT
+    subobjects <= MOST_SUBOBJECTS && parts <= MOST_PARTS
 }
 
 /// A class subobject, and the parts of its members.
@@ -136,7 +126,7 @@ fn member_sum(members: &[Member<ClassId>], parts: &[u32]) -> u32
 {
     let mut sum = 1;
     for member in members {
-        sum = capped(PART_LIMIT, sum, parts_of_member(member, parts));
+        sum = capped(MOST_PARTS, sum, parts_of_member(member, parts));
     }
     sum
 }
@@ -164,11 +154,11 @@ impl Counts {
         h.keeps();
         let class = h.class(c);
         let bases = class.bases.as_slice();
-        let own = base_sum(bases, &self.own, SUBOBJECT_LIMIT, 1);
+        let own = base_sum(bases, &self.own, MOST_SUBOBJECTS, 1);
         let itself = member_sum(class.members.as_slice(), &self.parts);
-        let own_parts = base_sum(bases, &self.own_parts, PART_LIMIT, itself);
-        let all = shared_sum(h, c, &self.own, SUBOBJECT_LIMIT, own);
-        let parts = shared_sum(h, c, &self.own_parts, PART_LIMIT, own_parts);
+        let own_parts = base_sum(bases, &self.own_parts, MOST_PARTS, itself);
+        let all = shared_sum(h, c, &self.own, MOST_SUBOBJECTS, own);
+        let parts = shared_sum(h, c, &self.own_parts, MOST_PARTS, own_parts);
         self.own.push(own)?;
         self.own_parts.push(own_parts)?;
         self.parts.push(parts)?;

@@ -6,7 +6,7 @@ use Rattle.std.proofs.lemmas.List.Sums.{prefix_len-le-length}
 use Rattle.std.proofs.Math.Seq.{take-append_seam, drop-append_seam}
 use Rattle.cxx_text.specs.Bytes.{is_space, is_line_end, begins}
 use Rattle.cxx_text.specs.Blank.{ClosesFirst, LineEnds, Blank, space, line_comment, block_comment, NoBlank}
-use Rattle.cxx_text.specs.Front.{close_len, blank_len}
+use Rattle.cxx_text.specs.invariants.Front.{close_len, blank_len}
 use Rattle.cxx_text.proofs.Lists.{and_left, and_right, prefix_all, rest_stops, all_exact}
 use Rattle.cxx_text.proofs.Classes.{space_not_slash}
 

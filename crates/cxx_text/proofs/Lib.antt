@@ -5,3 +5,4 @@ pub mod Blanks
 pub mod LongestPiece
 pub mod Steps
 pub mod Unique
+pub mod SomeTokens

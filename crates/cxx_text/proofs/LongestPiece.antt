@@ -9,7 +9,7 @@ use Rattle.cxx_text.specs.declared.token.Kind.TheVariants.{Word, Number, Sign}
 use Rattle.cxx_text.specs.Bytes.{is_letter, is_digit, is_word_byte, is_one_byte_sign, is_two_byte_sign, begins}
 use Rattle.cxx_text.specs.OneToken.{decimal, IsToken, word, number, one_byte_sign, two_byte_sign}
 use Rattle.cxx_text.specs.Longest.{Stands, IsLongest, NoToken}
-use Rattle.cxx_text.specs.Front.{number_value, sign_len}
+use Rattle.cxx_text.specs.invariants.Front.{number_value, sign_len}
 use Rattle.cxx_text.proofs.Lists.{and_right, both, apart, all_within, prefix_all, rest_stops, all_exact, begins_front}
 use Rattle.cxx_text.proofs.Classes.{two_first, letter_not_digit, sign_not_letter, sign_not_digit, letter_in_word, begins_apart}
 use Rattle.cxx_text.proofs.Pieces.{numeral_begins, numeral_in_word, number_some, number_made, token_some}
@@ -136,8 +136,3 @@ pub no_sign : (text : List ℕ) (n : ℕ) → begins is_letter text ≡ false �
 no_sign text n l d e z p r k v w t =
     let m = no_longer_sign text p r k v l d w t.token in
     let some = token_some p k v t.token in absurd (omega arith)
-
-pub no_empty : (text : List ℕ) → length text < 1 → NoToken text
-no_empty [] h [] r k v e t = (let some = token_some [] k v t.token in omega arith)
-no_empty [] h (c ∷ p) r k v e t = absurd (cc)
-no_empty (b ∷ bs) h p r k v e t = absurd (omega arith)

@@ -8,7 +8,7 @@ use Rattle.cxx_text.specs.declared.token.Kind.{Kind}
 use Rattle.cxx_text.specs.declared.token.Kind.TheVariants.{Word, Number, Sign}
 use Rattle.cxx_text.specs.Bytes.{is_letter, is_digit, is_word_byte, is_one_byte_sign, begins}
 use Rattle.cxx_text.specs.OneToken.{is_numeral, decimal, decimal_from, IsToken, word, number, one_byte_sign, two_byte_sign}
-use Rattle.cxx_text.specs.Front.{number_value, value_below}
+use Rattle.cxx_text.specs.invariants.Front.{number_value, value_below}
 use Rattle.cxx_text.proofs.Lists.{and_left, and_right, both, all_weaker}
 use Rattle.cxx_text.proofs.Classes.{two_first, letter_not_digit, sign_not_letter, sign_not_digit, digit_in_word, begins_apart}
 

@@ -6,7 +6,7 @@ use Rattle.cxx_text.specs.Longest.{IsLongest}
 use Rattle.cxx_text.specs.OneToken.{IsToken}
 use Rattle.cxx_text.specs.Blank.{Blank}
 use Rattle.cxx_text.specs.Cover.{Covers, end, blank, token, stops, AreTokens, token_after}
-use Rattle.cxx_text.specs.Front.{blank_len}
+use Rattle.cxx_text.specs.invariants.Front.{blank_len}
 use Rattle.cxx_text.proofs.Blanks.{blank_found, blank_some}
 use Rattle.cxx_text.proofs.Pieces.{token_same, token_some}
 

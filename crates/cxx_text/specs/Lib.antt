@@ -3,4 +3,4 @@ pub mod OneToken
 pub mod Longest
 pub mod Blank
 pub mod Cover
-pub mod Front
+pub mod invariants

@@ -3,7 +3,7 @@
 ghost use Rattle.std.specs.Prelude.{◌≡◌, ℕ, ◌≤◌, ◌<◌, length, not, IfSome};
 ghost use Rattle.std.specs.List.{prefix_len};
 ghost use Rattle.cxx_text.specs.Bytes.{is_line_end};
-ghost use Rattle.cxx_text.specs.Front.{close_len, blank_len};
+ghost use Rattle.cxx_text.specs.invariants.Front.{close_len, blank_len};
 
 use crate::bytes::is_space;
 

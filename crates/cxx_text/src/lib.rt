@@ -5,7 +5,7 @@
 //!
 //! The layer above may rely on: `tokens` gives each token with its place in bytes, its line from 1 and the value
 //! of a number, up to the end of the text or up to the first place where no token stands; each token is the
-//! longest that may stand at its place; and a text has one list of tokens and one such place. Which words are
+//! longest that may stand at its place; and each text has one list of tokens and one such place. Which words are
 //! names, and which tokens make a source, is not judged here.
 #![tactic(auto)]
 
@@ -17,5 +17,5 @@ pub mod scan;
 mod tests;
 pub mod token;
 
-pub use crate::scan::{one_token_list, tokens};
+pub use crate::scan::{one_token_list, some_token_list, tokens};
 pub use crate::token::{Kind, Token, TokenList, Tokens};

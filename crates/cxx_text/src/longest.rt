@@ -5,7 +5,7 @@ ghost use Rattle.std.specs.List.{list_all, prefix_len};
 ghost use Rattle.cxx_text.specs.Bytes.{is_digit, is_word_byte};
 ghost use Rattle.cxx_text.specs.OneToken.{is_numeral, decimal};
 ghost use Rattle.cxx_text.specs.Longest.{IsLongest, NoToken};
-ghost use Rattle.cxx_text.specs.Front.{sign_len, number_value, value_below};
+ghost use Rattle.cxx_text.specs.invariants.Front.{sign_len, number_value, value_below};
 
 use crate::bytes::{is_digit, is_letter, is_one_byte_sign, is_two_byte_sign, is_word_byte};
 use crate::token::Kind;

@@ -3,7 +3,7 @@
 ghost use Rattle.std.specs.Prelude.{◌≡◌, ℕ, ◌+◌, ◌≤◌, List, Option, length, count_by, IfOk};
 ghost use Rattle.cxx_text.specs.declared.token.Token.{Token};
 ghost use Rattle.cxx_text.specs.Bytes.{is_line_end};
-ghost use Rattle.cxx_text.specs.Cover.{AreTokens};
+ghost use Rattle.cxx_text.specs.Cover.{AreTokens, max_text_bytes};
 
 use crate::blank::blank_len;
 use crate::longest::{Found, token_at};
@@ -13,7 +13,7 @@ use std::alloc::Global;
 
 // The ends of lines in a piece of text.
 fn line_ends(piece: &[u8]) -> u32
-    requires { length piece.now ≤ 262144 }
+    requires { length piece.now ≤ max_text_bytes }
     ensures value { result ≡ count_by is_line_end piece.now }
 {
     piece.iter().filter(|b| **b == b'\n').count() as u32
@@ -23,8 +23,9 @@ fn line_ends(piece: &[u8]) -> u32
 ///
 /// The error is want of memory alone: a place where no token stands is part of the answer.
 pub fn tokens(alloc: Global, text: &[u8]) -> Result<TokenList, NoMemory>
-    requires { length text.now ≤ 262144 }
-    ensures { IfOk result (λ list. AreTokens text.now list.tokens list.bad) }
+    requires { length text.now ≤ max_text_bytes }
+    ensures cover { IfOk result (λ list. AreTokens text.now list.tokens list.bad) }
+    ensures few { IfOk result (λ list. length list.tokens ≤ length text.now + 1) }
 {
     let mut tokens = Tokens::new(alloc);
     let mut rest = text;
@@ -69,4 +70,9 @@ pub fn tokens(alloc: Global, text: &[u8]) -> Result<TokenList, NoMemory>
 #[tactic(auto, using(crate::proofs::Unique::tokens_same))]
 pub fn one_token_list()
     ensures { (text : List ℕ) (ts us : List Token) (bad worse : Option ℕ) → AreTokens text ts bad → AreTokens text us worse → (ts ≡ us) × (bad ≡ worse) }
+{}
+
+/// A text has a list of tokens, and one first place where no token stands or none.
+pub fn some_token_list()
+    ensures { (text : List ℕ) → (ts : List Token) × (bad : Option ℕ) × AreTokens text ts bad }
 {}

@@ -3,6 +3,7 @@ use Rattle.std.proofs.Common.{◌≡◌, ℕ, zero, suc, List, [], ◌∷◌, Al
 use Rattle.std.specs.Prelude.{slice_get, Some}
 use Rattle.std.specs.List.{AllByRecursion}
 use Rattle.std.proofs.lemmas.List.Elements.{recursion_from_All}
+use Rattle.foundation.proofs.Places.{each_at}
 use Rattle.cxx_hierarchy.specs.Classes.{Classes}
 use Rattle.cxx_hierarchy.specs.ClassPass.{faults_of, IsInOrder}
 use Rattle.cxx_hierarchy.specs.Resolved.{resolved}
@@ -12,15 +13,10 @@ use Rattle.cxx_decl_parser.specs.declared.source_text.SourceText.{SourceText}
 use Rattle.cxx_decl_parser.proofs.Numbers.{source_in_order}
 use Rattle.cxxabi_cmd.specs.Verdict.{Verdict, Judgement, Stops, Accepts, by_text, by_records, by_classes, accepted, IsSource}
 
-each_of : {X : Type 0} (P : X → Type 0) (xs : List X) (i : ℕ) (x : X) → AllByRecursion P xs → slice_get xs i ≡ Some x → P x
-each_of P [] i x all at = cc
-each_of P (y ∷ ys) zero x all at = let same : y ≡ x = cc in subst P same all.0
-each_of P (y ∷ ys) (suc i) x all at = each_of P ys i x all.1 at
-
 -- the classes of an accepted source are a hierarchy
-source_keeps : (text : List ℕ) (s : SourceText) → IsSource text s → faults_of s.records ≡ [] → IsHierarchy (resolved s.records)
+pub source_keeps : (text : List ℕ) (s : SourceText) → IsSource text s → faults_of s.records ≡ [] → IsHierarchy (resolved s.records)
 source_keeps text s is none =
-    is_hierarchy s.records (record { none = none; in_order = λ i r at. each_of IsInOrder s.records i r (recursion_from_All IsInOrder s.records (source_in_order text s is.all is.rest is.reads)) at })
+    is_hierarchy s.records (record { none = none; in_order = λ i r at. each_at IsInOrder s.records i r (recursion_from_All IsInOrder s.records (source_in_order text s is.all is.rest is.reads)) at })
 
 abbrev pub Kept : Judgement → Type 0
 Kept (Stops stop) = Unit {0}

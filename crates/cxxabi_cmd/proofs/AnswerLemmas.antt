@@ -2,8 +2,6 @@
 use Rattle.std.proofs.Common.{◌≡◌, ℕ, ◌⊎◌, ⊎_elim, Option, Some, None, Result, Ok, Err, List, ◌++◌, refl, sym, ◌∙◌, ap, subst}
 use Rattle.std.specs.Prelude.{IfOk, MatchOption}
 use Rattle.foundation.specs.declared.memory.NoMemory.{NoMemory as Want}
-use Rattle.byte_code.specs.declared.code.Code.{Code}
-use Rattle.byte_machine.specs.Turn.{State}
 use Rattle.cxx_hierarchy.specs.declared.stop.Stop.{Stop}
 use Rattle.cxx_hierarchy.specs.declared.stop.Stop.TheVariants as stop
 use Rattle.cxx_body_parser.specs.declared.tree.BodyTree.{BodyTree}
@@ -11,15 +9,15 @@ use Rattle.cxx_decl_parser.specs.declared.source_text.SourceText.{SourceText}
 use Rattle.cxx_resolve.specs.declared.program.SimpleProgram.{SimpleProgram}
 use Rattle.cxx_resolve.specs.Answers.{IsRefusal}
 use Rattle.cxx_resolve.specs.Main.{MainResolves}
-use Rattle.abi_layout.specs.DynamicLaid.{IsLaid}
+use Rattle.abi_layout.specs.Layouts.{IsLaid}
 use Rattle.cxxabi_cmd.specs.declared.command.Command.{Command}
 use Rattle.cxxabi_cmd.specs.declared.command.Command.TheVariants.{Run}
 use Rattle.cxxabi_cmd.specs.declared.reply.Reply.{Reply}
-use Rattle.cxxabi_cmd.specs.Handed.{IsMachineOf}
-use Rattle.cxxabi_cmd.specs.Replies.{answer_of, machine_of, HandsBy}
+use Rattle.cxxabi_cmd.specs.Handed.{Seen, IsMachineOf}
+use Rattle.cxxabi_cmd.specs.invariants.Replies.{answer_of, machine_of, HandsBy}
 use Rattle.cxx_hierarchy.specs.Classes.{Classes}
-use Rattle.abi_layout.specs.declared.class_layout.ClassLayout.{ClassLayout}
-use Rattle.abi_layout.specs.Places.{places_of}
+use Rattle.abi_sound.specs.declared.class_layout.ClassLayout.{ClassLayout}
+use Rattle.abi_sound.specs.Places.{places_of}
 use Rattle.abi_print.specs.Texts.{text_of}
 use Rattle.path_model.specs.Runs.{Ran, Ending, Done, UndefinedAt, OutOfSteps, LimitMet}
 use Rattle.cxxabi_cmd.specs.declared.status.Status.{Status}
@@ -60,17 +58,17 @@ yields (Err w) size source h c a same is = same
 -- no machine, for a reason
 pub hands_none : (r : Result Reply Want) (c : Command) (source : SourceText) (h : Classes) → IfOk r (λ reply. machine_of reply ≡ None) →
     (c ≡ Run → (program : SimpleProgram) (rows : List ClassLayout) → IsProgram source h program → IsLaid h rows → ⊥) → IfOk r (λ reply. HandsBy c source h (machine_of reply))
-hands_none (Ok reply) c source h none why = subst (λ (m : Option (Code × State)). HandsBy c source h m) (sym none) why
+hands_none (Ok reply) c source h none why = subst (λ (m : Option Seen). HandsBy c source h m) (sym none) why
 hands_none (Err w) c source h none why = none
 
-hands_some : (c : Command) (source : SourceText) (h : Classes) (program : SimpleProgram) (rows : List ClassLayout) (m : Option (Code × State)) → c ≡ Run → IsProgram source h program → IsLaid h rows →
-    (m ≡ None → ⊥) × (MatchOption m (Unit {0}) (λ n. IsMachineOf h rows program n.0 n.1)) → HandsBy c source h m
+hands_some : (c : Command) (source : SourceText) (h : Classes) (program : SimpleProgram) (rows : List ClassLayout) (m : Option Seen) → c ≡ Run → IsProgram source h program → IsLaid h rows →
+    (m ≡ None → ⊥) × (MatchOption m (Unit {0}) (IsMachineOf h rows program)) → HandsBy c source h m
 hands_some c source h program rows None is_run is laid machine = absurd (machine.0 refl)
-hands_some c source h program rows (Some m) is_run is laid machine = (is_run, record { rows = rows; program = program; is_program = is; laid = laid; machine = machine.1 })
+hands_some c source h program rows (Some m) is_run is laid machine = (is_run, record { rows = rows; program = program; is_program = is; laid = laid; is_machine = machine.1 })
 
 -- the machine of the run
 pub hands_machine : (r : Result Reply Want) (c : Command) (source : SourceText) (h : Classes) (program : SimpleProgram) (rows : List ClassLayout) → c ≡ Run → IsProgram source h program → IsLaid h rows →
-    IfOk r (λ reply. (machine_of reply ≡ None → ⊥) × (MatchOption (machine_of reply) (Unit {0}) (λ m. IsMachineOf h rows program m.0 m.1))) → IfOk r (λ reply. HandsBy c source h (machine_of reply))
+    IfOk r (λ reply. (machine_of reply ≡ None → ⊥) × (MatchOption (machine_of reply) (Unit {0}) (IsMachineOf h rows program))) → IfOk r (λ reply. HandsBy c source h (machine_of reply))
 hands_machine (Ok reply) c source h program rows is_run is laid machine = hands_some c source h program rows (machine_of reply) is_run is laid machine
 hands_machine (Err w) c source h program rows is_run is laid machine = machine
 

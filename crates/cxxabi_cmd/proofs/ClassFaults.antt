@@ -9,14 +9,14 @@ use Rattle.cxx_hierarchy.specs.Classes.{Classes}
 use Rattle.cxx_hierarchy.specs.Hierarchies.{IsHierarchy}
 use Rattle.cxx_overrider.specs.Faults.{Spot, spot, size_part, place_part, IsBefore, by_class, by_part, by_item, by_test, Fault as MeaningFault, IsFirstFault as IsFirstMeaning, HasNoFault as HasNoMeaning, StopsIn}
 use Rattle.cxx_overrider.proofs.PassLemmas.{fault_known}
-use Rattle.abi_layout.specs.declared.class_layout.ClassLayout.{ClassLayout}
+use Rattle.abi_sound.specs.declared.class_layout.ClassLayout.{ClassLayout}
 use Rattle.abi_layout.specs.Refusals.{IsWellLaid, IsLargeClass, StopsAt, by_size, by_place, IsFirstStop}
-use Rattle.abi_layout.proofs.OneLayoutFronts.{not_large, not_shared, not_large_small}
+use Rattle.abi_layout.proofs.rules.OneLayoutFirst.{not_large, not_shared, not_large_small}
 use Rattle.cxxabi_cmd.specs.Verdict.{Fault, of_meaning, large, shared, IsFirstFault, HasNoFault}
 use Rattle.cxxabi_cmd.proofs.MeaningFaults.{part_below}
 
 -- what is asked before a spot is of no later class, and in its class of no later part
-class_before : (a b : Spot) → IsBefore a b → a.class.0 ≤ b.class.0
+pub class_before : (a b : Spot) → IsBefore a b → a.class.0 ≤ b.class.0
 class_before _ _ (by_class a b lower) = omega arith
 class_before _ _ (by_part a b same lower) = let e = ap (λ (x : ClassId). x.0) same in omega arith
 class_before _ _ (by_item a b same part lower) = let e = ap (λ (x : ClassId). x.0) same in omega arith
@@ -41,7 +41,7 @@ laid_fine h count rows keeps well le _ _ (of_meaning at stop fault) lt = fault
 laid_fine h count rows keeps well le _ _ (large c known is) lt = absurd (not_large h count rows c keeps le lt well is)
 laid_fine h count rows keeps well le _ _ (shared c class at is) lt = absurd (not_shared h count rows c keeps le lt well is)
 
-fault_class : (h : Classes) (at : Spot) (stop : Stop) → Fault h at stop → at.class.0 < length h
+pub fault_class : (h : Classes) (at : Spot) (stop : Stop) → Fault h at stop → at.class.0 < length h
 fault_class h _ _ (of_meaning at stop fault) = fault_known h at stop fault
 fault_class h _ _ (large c known is) = known
 fault_class h _ _ (shared c class at is) = slice_get_within h c.0 class at
@@ -51,16 +51,16 @@ pub none_met : (h : Classes) (rows : List ClassLayout) → IsHierarchy h → Has
 none_met h rows keeps meaning well = record { none = λ at stop fault. meaning.none at stop (laid_fine h (length h) rows keeps well (omega arith) at stop fault (fault_class h at stop fault)) }
 
 -- no meaning refuses the classes up to this one
-abbrev NoMeaningTo : Classes → ClassId → Type 0
+abbrev pub NoMeaningTo : Classes → ClassId → Type 0
 NoMeaningTo h k = (at : Spot) (stop : Stop) → MeaningFault h at stop → at.class.0 ≤ k.0 → ⊥
 
 -- before the size of a class, and before its shared places
-before_size : (h : Classes) (k : ClassId) → NoMeaningTo h k → (at : Spot) (stop : Stop) → Fault h at stop → IsBefore at (spot k size_part 0 0) → at.class.0 ≡ k.0 → ⊥
+pub before_size : (h : Classes) (k : ClassId) → NoMeaningTo h k → (at : Spot) (stop : Stop) → Fault h at stop → IsBefore at (spot k size_part 0 0) → at.class.0 ≡ k.0 → ⊥
 before_size h k none _ _ (of_meaning at stop fault) before same = none at stop fault (omega arith)
 before_size h k none _ _ (large c known is) before same = front_before c k size_part before same
 before_size h k none _ _ (shared c class at is) before same = let le = part_before (spot c place_part 0 0) (spot k size_part 0 0) before same in omega arith
 
-before_place : (h : Classes) (k : ClassId) → NoMeaningTo h k → (IsLargeClass h k → ⊥) → (at : Spot) (stop : Stop) → Fault h at stop → IsBefore at (spot k place_part 0 0) → at.class.0 ≡ k.0 → ⊥
+pub before_place : (h : Classes) (k : ClassId) → NoMeaningTo h k → (IsLargeClass h k → ⊥) → (at : Spot) (stop : Stop) → Fault h at stop → IsBefore at (spot k place_part 0 0) → at.class.0 ≡ k.0 → ⊥
 before_place h k none small _ _ (of_meaning at stop fault) before same = none at stop fault (omega arith)
 before_place h k none small _ _ (large c known is) before same = small (subst (IsLargeClass h) (one_number c k same) is)
   where
@@ -100,7 +100,7 @@ layout_before h k stop other keeps refused first =
     (λ at s fault le. refused.first at s fault (by_class at (spot k refused.part refused.item refused.test) (omega arith)))
     first.before first.stops
 
-at_class : (h : Classes) (k : ClassId) (part item test : ℕ) → part < size_part → (at : Spot) (stop : Stop) → Fault h at stop → IsBefore at (spot k part item test) → at.class.0 ≡ k.0 → MeaningFault h at stop
+pub at_class : (h : Classes) (k : ClassId) (part item test : ℕ) → part < size_part → (at : Spot) (stop : Stop) → Fault h at stop → IsBefore at (spot k part item test) → at.class.0 ≡ k.0 → MeaningFault h at stop
 at_class h k part item test low _ _ (of_meaning at stop fault) before same = fault
 at_class h k part item test low _ _ (large c known is) before same = let le = part_before (spot c size_part 0 0) (spot k part item test) before same in absurd (omega arith)
 at_class h k part item test low _ _ (shared c class at is) before same = let le = part_before (spot c place_part 0 0) (spot k part item test) before same in absurd (omega arith)

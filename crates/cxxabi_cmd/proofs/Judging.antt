@@ -5,7 +5,7 @@ use Rattle.cxx_text.specs.Cover.{AreTokens}
 use Rattle.cxx_grammar.specs.declared.sort.Lexeme.{Lexeme}
 use Rattle.cxx_grammar.specs.Grammar.{source_form}
 use Rattle.cxx_grammar.specs.Lexemes.{lexemes, source_start}
-use Rattle.cxx_grammar.specs.Fault.{FrontIs, Fault as Event}
+use Rattle.cxx_grammar.specs.Event.{DerivesPrefix, Event, at_start}
 use Rattle.cxx_hierarchy.specs.declared.stop.Stop.{Stop}
 use Rattle.cxx_hierarchy.specs.declared.stop.Stop.TheVariants as stop
 use Rattle.cxx_hierarchy.specs.Classes.{Classes}
@@ -13,11 +13,11 @@ use Rattle.cxx_hierarchy.specs.ClassPass.{faults_of, StopsAt}
 use Rattle.cxx_hierarchy.specs.Resolved.{resolved}
 use Rattle.cxx_decl_parser.specs.declared.source_text.SourceText.{SourceText}
 use Rattle.cxx_decl_parser.specs.Sources.{SourceReads}
-use Rattle.cxxabi_cmd.specs.Verdict.{AreLexemes, IsSource, at_start, IsFirstFault, HasNoFault, Verdict, Stops, Accepts, by_text, by_records, by_classes, accepted}
+use Rattle.cxxabi_cmd.specs.Verdict.{AreLexemes, IsSource, IsFirstFault, HasNoFault, Verdict, Stops, Accepts, by_text, by_records, by_classes, accepted}
 
 -- what the reader of sources gives
 abbrev pub Reads : List ℕ → List Token → Option ℕ → SourceText → Type 0
-Reads text tokens bad source = (rest : List Lexeme) × SourceReads text source (lexemes text source_start tokens bad) rest × FrontIs source_form at_start (lexemes text source_start tokens bad) rest
+Reads text tokens bad source = (rest : List Lexeme) × SourceReads text source (lexemes text source_start tokens bad) rest × DerivesPrefix source_form at_start (lexemes text source_start tokens bad) rest
 
 lexemes_of : (text : List ℕ) (tokens : List Token) (bad : Option ℕ) → AreTokens text tokens bad → AreLexemes text (lexemes text source_start tokens bad)
 lexemes_of text tokens bad cover = record { tokens = tokens; bad = bad; cover = cover; sorted = refl }

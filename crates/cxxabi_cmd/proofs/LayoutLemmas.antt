@@ -5,8 +5,8 @@ use Rattle.std.proofs.lemmas.Grind.{flat_map-append}
 use Rattle.std.proofs.lemmas.Bool.{cases_order}
 use Rattle.cxx_hierarchy.specs.declared.records.ClassId.{ClassId}
 use Rattle.cxx_hierarchy.specs.Classes.{Classes}
-use Rattle.abi_layout.specs.declared.class_layout.ClassLayout.{ClassLayout}
-use Rattle.abi_layout.specs.Places.{places_of}
+use Rattle.abi_sound.specs.declared.class_layout.ClassLayout.{ClassLayout}
+use Rattle.abi_sound.specs.Places.{places_of}
 use Rattle.abi_print.specs.LayoutTexts.{layout_text}
 use Rattle.cxxabi_cmd.specs.Output.{numbered, first_classes, layouts_text}
 

@@ -12,3 +12,6 @@ pub mod OneFault
 pub mod OneVerdict
 pub mod OneProgram
 pub mod OneOutput
+pub mod SomeCommand
+pub mod SomeFault
+pub mod SomeOutput

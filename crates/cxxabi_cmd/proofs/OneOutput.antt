@@ -10,10 +10,10 @@ use Rattle.cxx_body_parser.specs.declared.tree.BodyTree.{BodyTree}
 use Rattle.cxx_decl_parser.specs.declared.source_text.SourceText.{SourceText}
 use Rattle.cxx_decl_parser.specs.Same.{SameSource}
 use Rattle.cxx_resolve.specs.declared.program.SimpleProgram.{SimpleProgram}
-use Rattle.abi_layout.specs.declared.class_layout.ClassLayout.{ClassLayout}
-use Rattle.abi_layout.specs.DynamicLaid.{IsLaid}
-use Rattle.abi_layout.proofs.Lists.{has_at}
-use Rattle.abi_layout.proofs.OneLayoutFronts.{layout_is_one}
+use Rattle.abi_sound.specs.declared.class_layout.ClassLayout.{ClassLayout}
+use Rattle.abi_layout.specs.Layouts.{IsLaid}
+use Rattle.foundation.proofs.Places.{contains_at}
+use Rattle.abi_layout.proofs.rules.OneLayoutFirst.{layout_is_one}
 use Rattle.cxxabi_cmd.specs.declared.command.Command.{Command}
 use Rattle.cxxabi_cmd.specs.declared.command.Command.TheVariants.{Check, Run, LayoutOf}
 use Rattle.cxxabi_cmd.specs.Commands.{Says, check, run, layout, layout_of}
@@ -133,7 +133,7 @@ asks_same h _ _ _ _ keeps (one_class name c at) (one_class name' d at') same =
 
 not_unknown : (h : Classes) (name : List ℕ) (c : Command) (classes : List ClassId) → AsksFor h c classes → LayoutOf name ≡ c → (Contains (class_names h) name → ⊥) → ⊥
 not_unknown h name _ _ all_classes same none = absurd (cc)
-not_unknown h name _ _ (one_class name' c at) same none = none (let names : name ≡ name' = cc in subst (λ (n : List ℕ). Contains (class_names h) n) (sym names) (has_at (class_names h) c.0 name' at))
+not_unknown h name _ _ (one_class name' c at) same none = none (let names : name ≡ name' = cc in subst (λ (n : List ℕ). Contains (class_names h) n) (sym names) (contains_at (class_names h) c.0 name' at))
 
 lays_same : (h : Classes) (xs ys : List ClassId) (a b : Answer) → IsHierarchy h → LaysOut h xs a → LaysOut h ys b → xs ≡ ys → a ≡ b
 lays_same h xs ys _ _ keeps (whole rows laid short) (whole rows' laid' short') same =

@@ -5,8 +5,8 @@ use Rattle.cxx_text.proofs.Unique.{tokens_same}
 use Rattle.cxx_grammar.specs.declared.sort.Lexeme.{Lexeme}
 use Rattle.cxx_grammar.specs.Grammar.{source_form}
 use Rattle.cxx_grammar.specs.Lexemes.{lexemes, source_start}
-use Rattle.cxx_grammar.specs.Fault.{Fault as Event}
-use Rattle.cxx_grammar.proofs.OneFault.{fault_same, no_source_fault}
+use Rattle.cxx_grammar.specs.Event.{Event, at_start}
+use Rattle.cxx_grammar.proofs.OneEvent.{event_same as events_same, no_source_event}
 use Rattle.cxx_hierarchy.specs.declared.stop.Stop.{Stop}
 use Rattle.cxx_hierarchy.specs.ClassPass.{Record, faults_of, first_of}
 use Rattle.cxx_hierarchy.specs.Resolved.{resolved}
@@ -14,7 +14,7 @@ use Rattle.cxx_decl_parser.specs.declared.source_text.SourceText.{SourceText}
 use Rattle.cxx_decl_parser.specs.Sources.{SourceReads}
 use Rattle.cxx_decl_parser.specs.Same.{SameSource}
 use Rattle.cxx_decl_parser.proofs.SameSources.{source_same}
-use Rattle.cxxabi_cmd.specs.Verdict.{AreLexemes, IsSource, StopsText, at_start, IsFirstFault, HasNoFault, Judgement, Stops, Accepts, Verdict, by_text, by_records, by_classes, accepted}
+use Rattle.cxxabi_cmd.specs.Verdict.{AreLexemes, IsSource, StopsText, IsFirstFault, HasNoFault, Judgement, Stops, Accepts, Verdict, by_text, by_records, by_classes, accepted}
 use Rattle.cxxabi_cmd.proofs.OneFault.{first_same, first_or_none}
 
 lexemes_same : (text : List ℕ) (a b : List Lexeme) → AreLexemes text a → AreLexemes text b → a ≡ b
@@ -32,12 +32,12 @@ spells_one text s t x y =
 no_event : (text : List ℕ) (s : SourceText) (e : Stop) → IsSource text s → StopsText text e → ⊥
 no_event text s e x y =
     let same = lexemes_same text x.all y.all x.sorts y.sorts in
-    no_source_fault at_start x.all x.rest e x.derives (subst (λ (all : List Lexeme). Event source_form at_start all e) (sym same) y.event)
+    no_source_event at_start x.all x.rest e x.derives (subst (λ (all : List Lexeme). Event source_form at_start all e) (sym same) y.event)
 
 event_same : (text : List ℕ) (d e : Stop) → StopsText text d → StopsText text e → d ≡ e
 event_same text d e x y =
     let same = lexemes_same text x.all y.all x.sorts y.sorts in
-    fault_same source_form at_start x.all d e x.event (subst (λ (all : List Lexeme). Event source_form at_start all e) (sym same) y.event)
+    events_same source_form at_start x.all d e x.event (subst (λ (all : List Lexeme). Event source_form at_start all e) (sym same) y.event)
 
 -- what two judgements have in common that say the same
 abbrev pub SameJudgement : Judgement → Judgement → Type 0

@@ -12,10 +12,8 @@ use Rattle.cxxabi_cmd.specs.declared.status.Status.TheVariants.{Usage, Limit, Wr
 use Rattle.cxxabi_cmd.specs.Streams.{IsPartOf}
 use Rattle.cxxabi_cmd.specs.Commands.{Says, IsCommand}
 use Rattle.cxxabi_cmd.specs.Output.{Output, usage, too_long, Answer, line_alone, Answers, BreaksOff, IsAnswered}
-use Rattle.byte_code.specs.declared.code.Code.{Code}
-use Rattle.byte_machine.specs.Turn.{State}
-use Rattle.cxxabi_cmd.specs.Handed.{HandsOut}
-use Rattle.cxxabi_cmd.specs.Replies.{answer_of, machine_of}
+use Rattle.cxxabi_cmd.specs.Handed.{Seen, HandsOut}
+use Rattle.cxxabi_cmd.specs.invariants.Replies.{answer_of, machine_of}
 
 -- a front that is shorter than was asked for is the whole
 whole_read : (n : ℕ) (bytes all : List ℕ) → bytes ≡ take n all → length bytes < n → bytes ≡ all
@@ -62,7 +60,7 @@ broken_off words bytes before after answer written output is part =
 pub limit_machine : (r : Result Reply Want) (bytes : List ℕ) (command : Command) → IfOk r (λ reply. machine_of reply ≡ None) → 262144 < length bytes →
     IfOk r (λ reply. (words : List (List ℕ)) (all : List ℕ) → Says words command → bytes ≡ take 262145 all → HandsOut words all (machine_of reply))
 limit_machine (Ok reply) bytes command none long =
-    λ words all says same. subst (λ (m : Option (Code × State)). HandsOut words all m) (sym none)
+    λ words all says same. subst (λ (m : Option Seen). HandsOut words all m) (sym none)
     (λ h rows program has. absurd (let short = has.short in let size : length bytes ≡ length (take 262145 all) = ap length same in omega (arith, size, length-take 262145 all)))
 limit_machine (Err e) bytes command none long = none
 
@@ -75,7 +73,7 @@ read_machine (Err e) bytes command hands short = hands
 
 -- no machine where the words are no command
 pub usage_machine : (words : List (List ℕ)) (bytes : List ℕ) (reply : Reply) → machine_of reply ≡ None → (IsCommand words → ⊥) → HandsOut words bytes (machine_of reply)
-usage_machine words bytes reply none no_command = subst (λ (m : Option (Code × State)). HandsOut words bytes m) (sym none) (λ h rows program has. no_command (Run, has.asked))
+usage_machine words bytes reply none no_command = subst (λ (m : Option Seen). HandsOut words bytes m) (sym none) (λ h rows program has. no_command (Run, has.asked))
 
 -- what was read is what the source told
 pub told_bytes : (remaining : Option (List ℕ)) (text bytes : List ℕ) → IfSome remaining (λ all. text ≡ take 262145 all) → remaining ≡ Some bytes → text ≡ take 262145 bytes

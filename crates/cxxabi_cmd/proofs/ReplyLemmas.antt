@@ -4,8 +4,6 @@ use Rattle.std.specs.Prelude.{IfOk, slice_get}
 use Rattle.std.specs.Bool.{OnTrue, OnFalse}
 use Rattle.std.specs.Option.{is_some}
 use Rattle.foundation.specs.declared.memory.NoMemory.{NoMemory as Want}
-use Rattle.byte_code.specs.declared.code.Code.{Code}
-use Rattle.byte_machine.specs.Turn.{State}
 use Rattle.cxx_hierarchy.specs.declared.records.ClassId.{ClassId}
 use Rattle.cxx_hierarchy.specs.declared.stop.LimitNo.TheVariants.{L9}
 use Rattle.cxx_hierarchy.specs.declared.stop.Stop.{Stop}
@@ -13,17 +11,17 @@ use Rattle.cxx_hierarchy.specs.declared.stop.Stop.TheVariants as stop
 use Rattle.cxx_hierarchy.specs.Classes.{Classes, class_names}
 use Rattle.cxx_body_parser.specs.declared.tree.BodyTree.{BodyTree}
 use Rattle.cxx_decl_parser.specs.declared.source_text.SourceText.{SourceText}
-use Rattle.abi_layout.specs.declared.class_layout.ClassLayout.{ClassLayout}
-use Rattle.abi_layout.specs.DynamicLaid.{IsLaid}
+use Rattle.abi_sound.specs.declared.class_layout.ClassLayout.{ClassLayout}
+use Rattle.abi_layout.specs.Layouts.{IsLaid}
 use Rattle.cxxabi_cmd.specs.declared.command.Command.{Command}
 use Rattle.cxxabi_cmd.specs.declared.command.Command.TheVariants.{Run}
 use Rattle.cxxabi_cmd.specs.declared.reply.Reply.{Reply}
 use Rattle.cxxabi_cmd.specs.declared.status.Status.TheVariants.{Limit}
 use Rattle.cxxabi_cmd.specs.Commands.{Says}
 use Rattle.cxxabi_cmd.specs.Verdict.{Verdict, Stops, Accepts}
-use Rattle.cxxabi_cmd.specs.Handed.{HandsOut}
+use Rattle.cxxabi_cmd.specs.Handed.{Seen, HandsOut}
 use Rattle.cxxabi_cmd.specs.Output.{Answer, AsksFor, IsProgram, Output, stopped, yielded, Yields, counted, no_main, not_taken, ran, unknown_class, laid_out, LaysOut, whole, too_much, IsAnswered, line_alone, text_answer, layouts_text, status_of_stop, run_by}
-use Rattle.cxxabi_cmd.specs.Replies.{answer_of, machine_of, HandsBy}
+use Rattle.cxxabi_cmd.specs.invariants.Replies.{answer_of, machine_of, HandsBy}
 use Rattle.abi_layout.specs.AbiLayouts.{IsAbiLayout}
 use Rattle.cxxabi_cmd.proofs.AnswerLemmas.{answered_end}
 use Rattle.cxxabi_cmd.proofs.LayoutLemmas.{class_text, one_layout}
@@ -106,7 +104,7 @@ accepted_output (Ok reply) size bytes source h command is same short verdict =
 accepted_output (Err w) size bytes source h command is same short verdict = is
 
 -- the machine for an accepted source
-hands : (words : List (List ℕ)) (bytes : List ℕ) (source : SourceText) (h : Classes) (command : Command) (m : Option (Code × State)) → HandsBy command source h m → length bytes ≤ 262144 → Verdict bytes (Accepts source h) → Says words command → HandsOut words bytes m
+hands : (words : List (List ℕ)) (bytes : List ℕ) (source : SourceText) (h : Classes) (command : Command) (m : Option Seen) → HandsBy command source h m → length bytes ≤ 262144 → Verdict bytes (Accepts source h) → Says words command → HandsOut words bytes m
 hands words bytes source h command None nothing short verdict says = λ k rows program has.
     let same = one_verdict bytes (Accepts source h) (Accepts has.is_run.source k) verdict has.is_run.accepted in
     let here : IsProgram has.is_run.source h program = subst (λ (x : Classes). IsProgram has.is_run.source x program) (sym same.1) has.is_run.is_program in
@@ -116,7 +114,7 @@ hands words bytes source h command (Some m) run short verdict says = record {
   rows = run.1.rows;
   program = run.1.program;
   has_run = record { asked = subst (λ (c : Command). Says words c) run.0 says; short = short; is_run = record { source = source; accepted = verdict; is_program = run.1.is_program; laid = run.1.laid } };
-  machine = run.1.machine;
+  is_machine = run.1.is_machine;
 }
 
 pub accepted_machine : (r : Result Reply Want) (bytes : List ℕ) (source : SourceText) (h : Classes) (command : Command) → IfOk r (λ reply. HandsBy command source h (machine_of reply)) → length bytes ≤ 262144 → Verdict bytes (Accepts source h) →
@@ -134,8 +132,8 @@ stopped_output (Ok reply) bytes command s is either short =
     ⊎_elim (λ memory. absurd (is.0 memory)) (λ verdict. λ words says. subst (λ (a : Answer). Output words bytes a) (sym is.1) (stopped s (command, says) short verdict)) either
 stopped_output (Err w) bytes command s is either short = is
 
-stopped_hands : (words : List (List ℕ)) (bytes : List ℕ) (s : Stop) (m : Option (Code × State)) → m ≡ None → Verdict bytes (Stops s) → HandsOut words bytes m
-stopped_hands words bytes s m same verdict = subst (λ (n : Option (Code × State)). HandsOut words bytes n) (sym same) (λ h rows program has. one_verdict bytes (Stops s) (Accepts has.is_run.source h) verdict has.is_run.accepted)
+stopped_hands : (words : List (List ℕ)) (bytes : List ℕ) (s : Stop) (m : Option Seen) → m ≡ None → Verdict bytes (Stops s) → HandsOut words bytes m
+stopped_hands words bytes s m same verdict = subst (λ (n : Option Seen). HandsOut words bytes n) (sym same) (λ h rows program has. one_verdict bytes (Stops s) (Accepts has.is_run.source h) verdict has.is_run.accepted)
 
 pub stopped_machine : (r : Result Reply Want) (bytes : List ℕ) (command : Command) (s : Stop) → IfOk r (λ reply. IsStopped s reply) → IfOk r (λ reply. machine_of reply ≡ None) → (s ≡ stop.NoMemory) ⊎ Verdict bytes (Stops s) →
     IfOk r (λ reply. (words : List (List ℕ)) → Says words command → HandsOut words bytes (machine_of reply))

@@ -2,6 +2,7 @@
 use Rattle.std.specs.Prelude.{◌≡◌, ℕ, zero, suc, ◌<◌, ◌≤◌, Contains, slice_get, List, [], ◌∷◌, ◌++◌, length, map, codes, Option, Some, None, IfSome, string_bytes, String}
 use Rattle.std.specs.List.{flat_map}
 use Rattle.std.specs.Fmt.{decimal}
+use Rattle.cxx_text.specs.Cover.{max_text_bytes}
 use Rattle.cxx_hierarchy.specs.declared.records.ClassId.{ClassId}
 use Rattle.cxx_hierarchy.specs.declared.stop.Rule.TheVariants.{Syntax, UnknownName}
 use Rattle.cxx_hierarchy.specs.declared.stop.LimitNo.TheVariants.{L1, L9}
@@ -14,9 +15,9 @@ use Rattle.cxx_resolve.specs.declared.program.SimpleProgram.{SimpleProgram}
 use Rattle.cxx_resolve.specs.Main.{MainResolves}
 use Rattle.path_model.specs.Runs.{Ran, Ending, Done as IsDone, UndefinedAt, OutOfSteps as IsOutOfSteps, LimitMet, run_of}
 use Rattle.path_model.specs.Rules.{undefined_no}
-use Rattle.abi_layout.specs.declared.class_layout.ClassLayout.{ClassLayout}
-use Rattle.abi_layout.specs.Places.{places_of}
-use Rattle.abi_layout.specs.DynamicLaid.{IsLaid}
+use Rattle.abi_sound.specs.declared.class_layout.ClassLayout.{ClassLayout}
+use Rattle.abi_sound.specs.Places.{places_of}
+use Rattle.abi_layout.specs.Layouts.{IsLaid}
 use Rattle.abi_print.specs.Texts.{text_of}
 use Rattle.abi_print.specs.LayoutTexts.{layout_text}
 use Rattle.cxxabi_cmd.specs.declared.command.Command.{Command}
@@ -42,6 +43,14 @@ status_of IsDone = Done
 status_of (UndefinedAt rule line) = Undefined (undefined_no rule) line
 status_of IsOutOfSteps = OutOfSteps
 status_of (LimitMet limit) = Limit limit
+
+-- the bytes that a source may have (limit L1)
+abbrev pub source_limit : ℕ
+source_limit = max_text_bytes
+
+-- the bytes that the text of a command may have (limit L9)
+abbrev pub text_limit : ℕ
+text_limit = 16777216
 
 -- the steps that a run may take
 abbrev pub budget : ℕ
@@ -104,8 +113,8 @@ pub record IsProgram (source : SourceText) (h : Classes) (program : SimpleProgra
 
 -- what is answered to the layout of these classes
 pub data LaysOut (h : Classes) (classes : List ClassId) : Answer → Type 0 where
-  whole : (rows : List ClassLayout) → IsLaid h rows → length (layouts_text h rows classes) ≤ 16777216 → LaysOut h classes (text_answer (layouts_text h rows classes))
-  too_much : (rows : List ClassLayout) → IsLaid h rows → 16777216 < length (layouts_text h rows classes) → LaysOut h classes (line_alone (Limit L9))
+  whole : (rows : List ClassLayout) → IsLaid h rows → length (layouts_text h rows classes) ≤ text_limit → LaysOut h classes (text_answer (layouts_text h rows classes))
+  too_much : (rows : List ClassLayout) → IsLaid h rows → text_limit < length (layouts_text h rows classes) → LaysOut h classes (line_alone (Limit L9))
 
 -- what a command answers to an accepted source of so many bytes
 pub data Yields (size : ℕ) (source : SourceText) (h : Classes) : Command → Answer → Type 0 where
@@ -121,9 +130,9 @@ pub data Yields (size : ℕ) (source : SourceText) (h : Classes) : Command → A
 -- what is answered to words and the bytes of a source
 pub data Output (words : List (List ℕ)) (bytes : List ℕ) : Answer → Type 0 where
   usage : (IsCommand words → ⊥) → Output words bytes (line_alone Usage)
-  too_long : IsCommand words → 262144 < length bytes → Output words bytes (line_alone (Limit L1))
-  stopped : (stop : Stop) → IsCommand words → length bytes ≤ 262144 → Verdict bytes (Stops stop) → Output words bytes (line_alone (status_of_stop stop))
-  yielded : (command : Command) (source : SourceText) (h : Classes) (answer : Answer) → Says words command → length bytes ≤ 262144 →
+  too_long : IsCommand words → source_limit < length bytes → Output words bytes (line_alone (Limit L1))
+  stopped : (stop : Stop) → IsCommand words → length bytes ≤ source_limit → Verdict bytes (Stops stop) → Output words bytes (line_alone (status_of_stop stop))
+  yielded : (command : Command) (source : SourceText) (h : Classes) (answer : Answer) → Says words command → length bytes ≤ source_limit →
       Verdict bytes (Accepts source h) → Yields (length bytes) source h command answer → Output words bytes answer
 
 -- an answer was written: neither a fault nor want of memory

@@ -5,7 +5,7 @@ use Rattle.cxx_text.specs.Cover.{AreTokens}
 use Rattle.cxx_grammar.specs.declared.sort.Lexeme.{Lexeme}
 use Rattle.cxx_grammar.specs.Grammar.{source_form}
 use Rattle.cxx_grammar.specs.Lexemes.{lexemes, source_start}
-use Rattle.cxx_grammar.specs.Fault.{State, FrontIs, Fault as Event}
+use Rattle.cxx_grammar.specs.Event.{DerivesPrefix, Event, at_start}
 use Rattle.cxx_hierarchy.specs.declared.records.ClassId.{ClassId}
 use Rattle.cxx_hierarchy.specs.declared.stop.Stop.{Stop}
 use Rattle.cxx_hierarchy.specs.declared.stop.Stop.TheVariants.{Refused, Limit}
@@ -26,16 +26,12 @@ pub record AreLexemes (text : List ℕ) (all : List Lexeme) : Type 0 where
   pub cover : AreTokens text tokens bad
   pub sorted : all ≡ lexemes text source_start tokens bad
 
--- no block is open, and no main was read
-abbrev pub at_start : State
-at_start = record { blocks = 0; main = false }
-
 -- the text spells the source: the grammar derives its tokens, and they say the source
 pub record IsSource (text : List ℕ) (source : SourceText) : Type 0 where
   pub all : List Lexeme
   pub sorts : AreLexemes text all
   pub rest : List Lexeme
-  pub derives : FrontIs source_form at_start all rest
+  pub derives : DerivesPrefix source_form at_start all rest
   pub reads : SourceReads text source all rest
 
 -- the first event of reading the text

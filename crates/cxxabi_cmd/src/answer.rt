@@ -1,21 +1,19 @@
 //! What each command answers to an accepted source.
 
-ghost use Rattle.std.specs.Prelude.{◌≡◌, ℕ, Some, None, List, IfOk, MatchOption};
+ghost use Rattle.std.specs.Prelude.{◌≡◌, ◌≤◌, ℕ, Some, None, List, IfOk, MatchOption, length};
 ghost use Rattle.std.specs.Option.{option_map};
 ghost use Rattle.cxx_hierarchy.specs.declared.stop.Stop.{Stop};
 ghost use Rattle.cxx_resolve.specs.declared.program.SimpleProgram.{SimpleProgram};
 ghost use Rattle.cxx_resolve.specs.Typed.{IsTypedProgram};
 ghost use Rattle.path_model.specs.Rules.{undefined_no};
 ghost use Rattle.path_model.specs.declared.Undefined.{Undefined};
-ghost use Rattle.abi_layout.specs.declared.class_layout.ClassLayout.{ClassLayout};
+ghost use Rattle.abi_sound.specs.declared.class_layout.ClassLayout.{ClassLayout};
 ghost use Rattle.abi_layout.specs.AbiLayouts.{IsAbiLayout};
-ghost use Rattle.abi_layout.specs.DynamicLaid.{IsLaid};
-ghost use Rattle.abi_layout.specs.Places.{places_of};
-ghost use Rattle.abi_layout.specs.Sound.{IsSound};
+ghost use Rattle.abi_layout.specs.Layouts.{IsLaid};
 ghost use Rattle.abi_refine.specs.Endings.{ending_of};
 ghost use Rattle.cxxabi_cmd.specs.Output.{Answer, IsProgram, Yields, IsAnswered, line_alone, run_answer, run_by, status_of};
 ghost use Rattle.cxxabi_cmd.specs.Handed.{IsMachineOf};
-ghost use Rattle.cxxabi_cmd.specs.Replies.{answer_of, machine_of, HandsBy};
+ghost use Rattle.cxxabi_cmd.specs.invariants.Replies.{answer_of, machine_of, HandsBy};
 
 use crate::command::Command;
 use crate::layout_answer::{lay_out_all, lay_out_one};
@@ -70,10 +68,11 @@ fn run_program(
     program: &SimpleProgram,
     layout: &AbiLayout,
 ) -> Result<Reply, NoMemory>
-    requires sound { IsSound h.now (places_of h.now layout.now) }
+    requires laid { IsAbiLayout h.now layout.now }
     requires typed { IsTypedProgram h.now program.now }
+    requires few { length program.now.variables ≤ 256 }
     ensures answer { IfOk result (λ reply. answer_of reply ≡ run_answer h.now layout.now (run_by h.now layout.now program.now)) }
-    ensures machine { IfOk result (λ reply. (machine_of reply ≡ None → ⊥) × (MatchOption (machine_of reply) (Unit {0}) (λ m. IsMachineOf h.now layout.now program.now m.0 m.1))) }
+    ensures machine { IfOk result (λ reply. (machine_of reply ≡ None → ⊥) × (MatchOption (machine_of reply) (Unit {0}) (IsMachineOf h.now layout.now program.now))) }
 {
     let execution = execute(alloc, h, layout, program, BUDGET)?;
     let status = status_of(execution.end);

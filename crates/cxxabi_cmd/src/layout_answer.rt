@@ -3,11 +3,11 @@
 ghost use Rattle.std.specs.Prelude.{◌≡◌, ◌≤◌, ◌<◌, ◌++◌, ◌∷◌, ℕ, List, [], None, IfOk, OnOk, length};
 ghost use Rattle.std.specs.Bool.{OnTrue, OnFalse};
 ghost use Rattle.cxx_hierarchy.specs.declared.records.ClassId.{ClassId};
-ghost use Rattle.abi_layout.specs.Places.{places_of};
+ghost use Rattle.abi_sound.specs.Places.{places_of};
 ghost use Rattle.abi_layout.specs.AbiLayouts.{IsAbiLayout};
 ghost use Rattle.abi_print.specs.LayoutTexts.{layout_text};
-ghost use Rattle.cxxabi_cmd.specs.Output.{Yields, AsksFor, first_classes, layouts_text, line_alone, text_answer};
-ghost use Rattle.cxxabi_cmd.specs.Replies.{answer_of, machine_of, HandsBy};
+ghost use Rattle.cxxabi_cmd.specs.Output.{Yields, AsksFor, first_classes, layouts_text, line_alone, text_answer, text_limit};
+ghost use Rattle.cxxabi_cmd.specs.invariants.Replies.{answer_of, machine_of, HandsBy};
 
 use crate::command::Command;
 use crate::reply::{Reply, line_alone};
@@ -34,8 +34,8 @@ fn append_class(
     requires layout { IsAbiLayout h.now layout.now }
     requires known { c.0 < length h.now }
     ensures text { OnOk result (text.new.items ≡ text.old.items ++ layout_text h.now layout.now (places_of h.now layout.now).place c) }
-    ensures within { IfOk result (λ within. OnTrue within (length text.new.items ≤ 16777216)) }
-    ensures past { IfOk result (λ within. OnFalse within (16777216 < length text.new.items)) }
+    ensures within { IfOk result (λ within. OnTrue within (length text.new.items ≤ text_limit)) }
+    ensures past { IfOk result (λ within. OnFalse within (text_limit < length text.new.items)) }
 {
     let list = list_subobjects(alloc, h, c)?;
     append_layout(alloc, text, h, layout, c, list.as_slice())?;
@@ -69,8 +69,8 @@ fn append_all(
     requires layout { IsAbiLayout h.now layout.now }
     requires start { text.old.items ≡ [] }
     ensures text { IfOk result (λ within. OnTrue within (text.new.items ≡ layouts_text h.now layout.now (first_classes (length h.now)))) }
-    ensures within { IfOk result (λ within. OnTrue within (length text.new.items ≤ 16777216)) }
-    ensures past { IfOk result (λ within. OnFalse within (16777216 < length (layouts_text h.now layout.now (first_classes (length h.now))))) }
+    ensures within { IfOk result (λ within. OnTrue within (length text.new.items ≤ text_limit)) }
+    ensures past { IfOk result (λ within. OnFalse within (text_limit < length (layouts_text h.now layout.now (first_classes (length h.now))))) }
 {
     for n in 0..h.len() {
         if !append_class(alloc, h, layout, ClassId(n), text)? {

@@ -11,8 +11,6 @@
 #![tactic(auto)]
 
 mod answer;
-#[cfg(test)]
-mod check_tests;
 pub mod command;
 mod layout_answer;
 pub mod reading;
@@ -28,7 +26,7 @@ mod tests;
 mod verdict;
 pub mod writing;
 
-pub use crate::run::{one_output, run_cxxabi};
+pub use crate::run::{one_output, run_cxxabi, some_output};
 pub use crate::sink::{Sink, SinkFailed};
 pub use crate::sinks::{BytesSink, StdoutSink, SteadySink};
 pub use crate::source::{Source, SourceFailed};

@@ -2,7 +2,7 @@
 
 ghost use Rattle.std.specs.Prelude.{◌≡◌, None, IfOk};
 ghost use Rattle.cxxabi_cmd.specs.Output.{line_alone, count_answer};
-ghost use Rattle.cxxabi_cmd.specs.Replies.{answer_of, machine_of};
+ghost use Rattle.cxxabi_cmd.specs.invariants.Replies.{answer_of, machine_of};
 
 use crate::status::{Status, last_line_of};
 use byte_machine::Machine;

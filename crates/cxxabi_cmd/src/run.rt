@@ -2,12 +2,11 @@
 
 ghost use Rattle.std.specs.Prelude.{ℕ, ◌≡◌, ◌↔◌, ◌≤◌, ◌<◌, ◌⊎◌, ◌∷◌, ◌++◌, [], List, Some, None, IsTrue, IfSome, IfOk, IfErr, IsSome, OnOk, take, drop, length, string_bytes};
 ghost use Rattle.std.specs.Option.{option_map};
-ghost use Rattle.byte_machine.specs.MachineState.{code_of, state_of};
 ghost use Rattle.cxxabi_cmd.specs.Streams.{Rose, IsPartOf};
 ghost use Rattle.cxxabi_cmd.specs.Commands.{Says, IsCommand};
-ghost use Rattle.cxxabi_cmd.specs.Output.{texts_of, Tells, Output, Answer, Answers, BreaksOff, IsAnswered, IsSilent, line_alone, status_of_stop};
-ghost use Rattle.cxxabi_cmd.specs.Replies.{answer_of, machine_of};
-ghost use Rattle.cxxabi_cmd.specs.Handed.{HandsOut};
+ghost use Rattle.cxxabi_cmd.specs.Output.{source_limit, texts_of, Tells, Output, Answer, Answers, BreaksOff, IsAnswered, IsSilent, line_alone, status_of_stop};
+ghost use Rattle.cxxabi_cmd.specs.invariants.Replies.{answer_of, machine_of};
+ghost use Rattle.cxxabi_cmd.specs.Handed.{HandsOut, seen_of};
 
 use crate::answer::answer;
 use crate::command::{Command, command_of};
@@ -38,7 +37,7 @@ fn stopped(alloc: Global, stop: Stop) -> Result<Reply, NoMemory>
 
 // What a command answers to the bytes of a source.
 fn reply_to(alloc: Global, command: &Command, bytes: &[u8]) -> Result<Reply, NoMemory>
-    requires { length bytes.now ≤ 262144 }
+    requires { length bytes.now ≤ source_limit }
     ensures output { IfOk result (λ reply. (words : List (List ℕ)) → Says words command.now → Output words bytes.now (answer_of reply)) }
     ensures machine { IfOk result (λ reply. (words : List (List ℕ)) → Says words command.now → HandsOut words bytes.now (machine_of reply)) }
     ensures answered { IfOk result (λ reply. IsAnswered reply.status) }
@@ -116,9 +115,9 @@ pub fn run_cxxabi<S: Source, K: Sink>(
     ensures write_fault { result ≡ Status.WriteFault → Rose (K.fault_count sink.old) (K.fault_count sink.new) }
     // After a fault of the source, or without memory, the sink is as it was.
     ensures silent { IsSilent result → sink.new ≡ sink.old }
-    // The machine that is handed out is that of the run: its own turns made the text.
+    // The machine that is handed out is that of the run: its own turns made the text, and it has ended as the run did.
     ensures last { (bytes : List ℕ) → Tells (texts_of words.now) (S.remaining source.old) bytes → (IsSilent result → ⊥) →
-        HandsOut (texts_of words.now) bytes (option_map (λ m. (code_of m, state_of m)) last.new) }
+        HandsOut (texts_of words.now) bytes (option_map (λ m. seen_of m) last.new) }
     ensures no_machine { IsSilent result → last.new ≡ None }
     // The source was read to its end, or to one byte past the limit; where the words are no command it is as it was.
     ensures read { IsCommand (texts_of words.now) → (IsSilent result → ⊥) → IfSome (S.remaining source.old) (λ bytes. S.remaining source.new ≡ Some (drop 262145 bytes)) }
@@ -139,4 +138,9 @@ pub fn run_cxxabi<S: Source, K: Sink>(
 #[tactic(auto, using(crate::proofs::OneOutput::one_output))]
 pub fn one_output()
     ensures { (words : List (List ℕ)) (bytes : List ℕ) (a b : Answer) → Output words bytes a → Output words bytes b → a ≡ b }
+{}
+
+/// Words and the bytes of a source have an answer, as a law for readers of `Output`. It does nothing.
+pub fn some_output()
+    ensures { (words : List (List ℕ)) (bytes : List ℕ) → (answer : Answer) × Output words bytes answer }
 {}

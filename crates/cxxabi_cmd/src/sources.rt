@@ -1,7 +1,7 @@
 //! Sources: bytes in memory with or without faults, and standard input.
 
-ghost use Rattle.std.specs.Prelude.{ℕ, ◌≡◌, ◌<◌, ◌≤◌, List, Option, Some, None, length, drop};
-ghost use Rattle.cxxabi_cmd.specs.Streams.{ReadsNext};
+ghost use Rattle.std.specs.Prelude.{ℕ, ◌≡◌, ◌<◌, ◌≤◌, ◌↔◌, List, Option, Some, None, length, drop, Contains, IfOk, IsErr, IsOk, OnOk, OnErr};
+ghost use Rattle.cxxabi_cmd.specs.Streams.{ReadsNext, Reads};
 
 use crate::source::{Source, SourceFailed};
 use std::io::Read;
@@ -18,10 +18,14 @@ pub struct BytesSource {
 }
 
 impl BytesSource {
+    ghost use Rattle.cxxabi_cmd.specs.BytesStreams.{failing_reads, reads_made};
+
     /// A source of these bytes, of which the calls with these numbers fail.
     pub fn new(bytes: Vec<u8>, fails: Vec<u64>) -> BytesSource
         ensures remaining { ⟦<BytesSource as Source>⟧.remaining result ≡ Some bytes.items }
         ensures faults { ⟦<BytesSource as Source>⟧.fault_count result ≡ 0 }
+        ensures fails { failing_reads result ≡ fails.items }
+        ensures calls { reads_made result ≡ 0 }
     {
         BytesSource {
             bytes,
@@ -48,6 +52,7 @@ fn copy_front(bytes: &[u8], into: &mut [u8]) -> usize
 
 impl Source for BytesSource {
     ghost use Rattle.std.specs.Prelude.{Some, drop};
+    ghost use Rattle.cxxabi_cmd.specs.BytesStreams.{bytes_left, read_faults, failing_reads, reads_made, one_more};
 
     ghost remaining = { λ s. Some (drop s.at s.bytes.items) };
 
@@ -57,7 +62,19 @@ impl Source for BytesSource {
         self.faults
     }
 
-    fn read(&mut self, into: &mut [u8]) -> Result<usize, SourceFailed> {
+    // It fails exactly where the number of the call is listed; each fault is counted.
+    fn read(&mut self, into: &mut [u8]) -> Result<usize, SourceFailed>
+        requires { 0 < length into.old }
+        ensures within { IfOk result (λ n. n ≤ length into.old) }
+        ensures reads { IfOk result (λ n. ReadsNext (bytes_left self.old) (Some (bytes_left self.new)) n into.new) }
+        ensures fails { IsErr result ↔ Contains (failing_reads self.old) (reads_made self.new) }
+        ensures calls { reads_made self.new ≡ one_more (reads_made self.old) }
+        ensures listed { failing_reads self.new ≡ failing_reads self.old }
+        ensures kept { OnErr result (bytes_left self.new ≡ bytes_left self.old) }
+        ensures counted { OnErr result (read_faults self.new ≡ one_more (read_faults self.old)) }
+        ensures not_counted { OnOk result (read_faults self.new ≡ read_faults self.old) }
+        ensures counts { read_faults self.old ≤ read_faults self.new }
+    {
         self.calls = self.calls.saturating_add(1);
         if self.fails.contains(&self.calls) {
             self.faults = self.faults.saturating_add(1);
@@ -78,9 +95,10 @@ pub struct SteadySource {
 }
 
 impl SteadySource {
-    /// A source of these bytes.
+    /// A source of these bytes, whose count of faults is always 0.
     pub fn new(bytes: Vec<u8>) -> SteadySource
-        ensures { ⟦<SteadySource as Source>⟧.remaining result ≡ Some bytes.items }
+        ensures remaining { ⟦<SteadySource as Source>⟧.remaining result ≡ Some bytes.items }
+        ensures faults { ⟦<SteadySource as Source>⟧.fault_count result ≡ 0 }
     {
         SteadySource { bytes, at: 0 }
     }
@@ -88,6 +106,7 @@ impl SteadySource {
 
 impl Source for SteadySource {
     ghost use Rattle.std.specs.Prelude.{Some, drop};
+    ghost use Rattle.cxxabi_cmd.specs.BytesStreams.{steady_left};
 
     ghost remaining = { λ s. Some (drop s.at s.bytes.items) };
 
@@ -97,7 +116,12 @@ impl Source for SteadySource {
         0
     }
 
-    fn read(&mut self, into: &mut [u8]) -> Result<usize, SourceFailed> {
+    fn read(&mut self, into: &mut [u8]) -> Result<usize, SourceFailed>
+        requires { 0 < length into.old }
+        ensures ok { IsOk result }
+        ensures within { IfOk result (λ n. n ≤ length into.old) }
+        ensures reads { IfOk result (λ n. ReadsNext (steady_left self.old) (Some (steady_left self.new)) n into.new) }
+    {
         let count = copy_front(&self.bytes[self.at..], into);
         self.at += count;
         Ok(count)
@@ -114,7 +138,8 @@ pub struct StdinSource<R> {
 impl<R: Read> StdinSource<R> {
     /// A source over a reader.
     pub fn new(reader: R) -> StdinSource<R>
-        ensures { ⟦<StdinSource<R> as Source>⟧.fault_count result ≡ 0 }
+        ensures silent { ⟦<StdinSource<R> as Source>⟧.remaining result ≡ None }
+        ensures faults { ⟦<StdinSource<R> as Source>⟧.fault_count result ≡ 0 }
     {
         StdinSource { reader, faults: 0 }
     }

@@ -3,6 +3,7 @@
 ghost use Rattle.std.specs.Prelude.{◌≡◌, ◌≤◌, ◌⊎◌, IfOk, IfErr, OnOk, length};
 ghost use Rattle.cxx_overrider.specs.Faults.{StopsIn};
 ghost use Rattle.abi_layout.specs.AbiLayouts.{IsAbiLayout};
+ghost use Rattle.cxxabi_cmd.specs.Output.{source_limit};
 ghost use Rattle.cxxabi_cmd.specs.Verdict.{Verdict, Stops, Accepts, IsFirstFault, HasNoFault};
 
 use abi_layout::{AbiLayout, lay_out, lay_out_first};
@@ -64,7 +65,7 @@ fn check_classes(alloc: Global, h: &Hierarchy) -> Result<AbiLayout, Stop>
 //
 // Errors: the first refusal or limit that they meet, or want of memory.
 pub(crate) fn judge(alloc: Global, bytes: &[u8]) -> Result<Accepted, Stop>
-    requires { length bytes.now ≤ 262144 }
+    requires { length bytes.now ≤ source_limit }
     ensures ok { IfOk result (λ accepted. Verdict bytes.now (Accepts accepted.source accepted.hierarchy)) }
     ensures layout { IfOk result (λ accepted. IsAbiLayout accepted.hierarchy accepted.layout) }
     ensures err { IfErr result (λ stop. (stop ≡ Stop.NoMemory) ⊎ Verdict bytes.now (Stops stop)) }

@@ -1,9 +1,6 @@
 //! The program: the words of the command line, standard input and standard output, and one call.
 #![tactic(auto)]
 
-#[cfg(test)]
-mod tests;
-
 use cxxabi_cmd::{StdinSource, StdoutSink, run_cxxabi};
 use std::alloc::AllocError;
 use std::process::ExitCode;

@@ -1,12 +1,13 @@
 use Rattle.std.proofs.Common.{◌≡◌, ℕ, ◌≤◌, ◌++◌, List, sym, arith, ◌∙◌, inl, inr, ⊎_elim, ap, subst}
 use Rattle.std.proofs.lemmas.Result.{err_from_is_err_and}
+use Rattle.abi_layout.specs.Limits.{size_limit}
 use Rattle.abi_layout.specs.declared.component.Stage.{Stage}
 use Rattle.std.specs.Prelude.{All}
 use Rattle.abi_emptybase.specs.declared.Part.{Part}
-use Rattle.abi_layout.specs.Laid.{ArePlaced, after_all, parts_at}
-use Rattle.abi_layout.specs.Alignments.{IsPastLimit}
-use Rattle.abi_layout.specs.DynamicLaid.{start_stage}
-use Rattle.abi_layout.proofs.ArrangeLemmas.{fronts_past, members_past_by, frees_past, placed_little, arranged_within}
+use Rattle.abi_layout.specs.Placements.{ArePlaced, after_all, parts_at}
+use Rattle.abi_layout.specs.invariants.Alignments.{IsPastLimit}
+use Rattle.abi_layout.specs.Layouts.{start_stage}
+use Rattle.abi_layout.proofs.algorithm.ArrangeLemmas.{fronts_past, members_past_by, frees_past, placed_little, arranged_within}
 use Rattle.abi_layout.proofs.arrangement.arrange.Goals as goal
 
 pub returns-in_err-front_places-clause-limit : goal.returns-in_err-front_places-clause-limit
@@ -56,7 +57,7 @@ pub push_placed-requires-clause-places : goal.push_placed-requires-clause-places
 push_placed-requires-clause-places c =
     let small = c.in_ok-member_places.ensures.placing.size in
     let is : c.place_all-2.new.placing.stage.size ≡ (after_all c.place_all.new.placing.stage c.args.members.now c.in_ok-member_places.member_places).size = ap (λ (s : Stage). s.size) c.in_ok-member_places.ensures.after in
-    subst (λ (ps : List ℕ). All (λ (p : ℕ). p ≤ 500000) ps) (sym c.as_slice.ensures) (placed_little c.place_all.new.placing.stage c.args.members.now c.in_ok-member_places.member_places c.in_ok-member_places.ensures.placed (omega arith))
+    subst (λ (ps : List ℕ). All (λ (p : ℕ). p ≤ size_limit) ps) (sym c.as_slice.ensures) (placed_little c.place_all.new.placing.stage c.args.members.now c.in_ok-member_places.member_places c.in_ok-member_places.ensures.placed (omega arith))
 
 pub returns-clause-within : goal.returns-clause-within
 returns-clause-within c =

@@ -1,6 +1,6 @@
 use Rattle.std.proofs.Common.{refl}
 use Rattle.abi_layout.specs.declared.placing.Placing.{Placing}
-use Rattle.abi_layout.proofs.ArrangeLemmas.{start_is_placing}
+use Rattle.abi_layout.proofs.algorithm.ArrangeLemmas.{start_is_placing}
 use Rattle.abi_layout.proofs.arrangement.start.Goals as goal
 
 pub returns-clause-placing : goal.returns-clause-placing

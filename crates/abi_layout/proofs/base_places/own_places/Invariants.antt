@@ -1,5 +1,5 @@
 use Rattle.std.proofs.Common.{◌≡◌, take}
-use Rattle.abi_layout.specs.OwnPlaces.{own_places}
+use Rattle.abi_layout.specs.invariants.OwnPlaces.{own_places}
 use Rattle.abi_layout.proofs.base_places.own_places.Given as goal
 
 -- the places of the bases so far

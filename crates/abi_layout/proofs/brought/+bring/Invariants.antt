@@ -1,8 +1,8 @@
 use Rattle.std.proofs.Common.{◌≡◌, ◌+◌, ◌*◌, ◌++◌, ◌∷◌, map, take}
 use Rattle.std.specs.List.{flat_map}
 use Rattle.abi_emptybase.specs.Table.{moved}
-use Rattle.abi_layout.specs.Laid.{part_at}
-use Rattle.abi_layout.specs.Known.{parts_in}
+use Rattle.abi_layout.specs.Placements.{part_at}
+use Rattle.abi_layout.specs.invariants.Known.{parts_in}
 use Rattle.abi_layout.specs.Brought.{member_parts, base_brings, brought_by}
 use Rattle.abi_layout.proofs.brought.+bring.Given as goal
 
@@ -12,8 +12,8 @@ decreases-bring l = 2 * l.d.0 + 1
 abbrev pub decreases-bring_base : goal.decreases-bring_base
 decreases-bring_base l = 2 * l.d.0
 
-abbrev pub decreases-bring_shared : goal.decreases-bring_shared
-decreases-bring_shared l = 2 * l.d.0
+abbrev pub decreases-bring_virtual : goal.decreases-bring_virtual
+decreases-bring_virtual l = 2 * l.d.0
 
 -- the subobject itself, its members and its bases so far have brought what they bring
 abbrev pub invariant-bring-loop-base : goal.invariant-bring-loop-base

@@ -1,8 +1,8 @@
 use Rattle.std.proofs.Common.{◌≡◌, List, arith, subst, sym}
 use Rattle.std.proofs.lemmas.Result.{err_from_is_err_and}
-use Rattle.abi_layout.specs.declared.class_layout.ClassLayout.{ClassLayout}
+use Rattle.abi_sound.specs.declared.class_layout.ClassLayout.{ClassLayout}
 use Rattle.abi_layout.specs.Refusals.{IsWellLaid}
-use Rattle.abi_layout.proofs.NextSteps.{well_laid, first_stop}
+use Rattle.abi_layout.proofs.algorithm.NextSteps.{well_laid, first_stop}
 use Rattle.abi_layout.proofs.class_layouts.lay_out_first.Goals as goal
 
 pub loop-n-init : goal.loop-n-init

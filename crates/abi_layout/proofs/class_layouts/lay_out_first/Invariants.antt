@@ -1,4 +1,4 @@
-use Rattle.abi_layout.specs.LaidSoFar.{IsLaidSoFar}
+use Rattle.abi_layout.specs.invariants.LaidSoFar.{IsLaidSoFar}
 use Rattle.abi_layout.proofs.class_layouts.lay_out_first.Given as goal
 
 -- the classes so far are laid out

@@ -1,4 +1,4 @@
-use Rattle.abi_layout.proofs.OneLayoutStops.{laid_or_stopped, stop_is_one}
+use Rattle.abi_layout.proofs.rules.OneLayoutStops.{laid_or_stopped, stop_is_one}
 use Rattle.abi_layout.proofs.hierarchy_layout.one_answer.Goals as goal
 
 pub returns-clause-stop : goal.returns-clause-stop

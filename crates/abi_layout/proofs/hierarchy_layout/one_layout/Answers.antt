@@ -1,5 +1,5 @@
 use Rattle.std.proofs.Common.{length, arith}
-use Rattle.abi_layout.proofs.OneLayoutFronts.{layout_is_one}
+use Rattle.abi_layout.proofs.rules.OneLayoutFirst.{layout_is_one}
 use Rattle.abi_layout.proofs.hierarchy_layout.one_layout.Goals as goal
 
 pub returns : goal.returns

@@ -1,4 +1,4 @@
-use Rattle.abi_layout.proofs.HoldingLemmas.{AreFirst}
+use Rattle.abi_layout.proofs.rules.HoldingLemmas.{AreFirst}
 use Rattle.abi_layout.proofs.holding.holders.Given as goal
 
 -- the holders among the subobjects so far

@@ -1,6 +1,6 @@
 use Rattle.std.proofs.Common.{◌≡◌, take}
 use Rattle.std.specs.List.{filter_map}
-use Rattle.abi_layout.specs.Holding.{shared_class}
+use Rattle.cxx_subobject.specs.VirtualBases.{shared_class}
 use Rattle.abi_layout.proofs.holding.virtual_bases.Given as goal
 
 -- the virtual bases among the subobjects so far

@@ -1,6 +1,6 @@
 use Rattle.std.proofs.Common.{◌≡◌, map, take, get_or, None}
 use Rattle.cxx_hierarchy.specs.declared.records.ClassId.{ClassId}
-use Rattle.abi_layout.specs.Settled.{held_at}
+use Rattle.abi_layout.specs.invariants.Settled.{held_at}
 use Rattle.abi_layout.proofs.laid_row.holder_list.Given as goal
 
 -- the holders of the virtual bases so far

@@ -3,7 +3,7 @@ use Rattle.std.specs.Prelude.{◌||◌}
 use Rattle.std.specs.List.{list_any}
 use Rattle.abi_emptybase.specs.declared.Part.{Part}
 use Rattle.abi_emptybase.specs.Table.{holds, moved, same_part}
-use Rattle.abi_layout.proofs.Parts.{holds_more}
+use Rattle.abi_layout.proofs.rules.Parts.{holds_more}
 use Rattle.abi_layout.proofs.placing.add_parts.Goals as goal
 
 pub returns-clause-table : goal.returns-clause-table

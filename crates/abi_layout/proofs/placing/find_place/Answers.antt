@@ -1,7 +1,7 @@
 use Rattle.std.proofs.Common.{◌≡◌, ◌∙◌, true, sym, arith}
 use Rattle.abi_emptybase.specs.Table.{has_conflict}
-use Rattle.abi_layout.proofs.Parts.{opposed}
-use Rattle.abi_layout.proofs.PlacingLemmas.{place_at_start, first_least, place_behind, next_least, multiple_more}
+use Rattle.abi_layout.proofs.rules.Parts.{opposed}
+use Rattle.abi_layout.proofs.rules.PlacingLemmas.{place_at_start, first_least, place_behind, next_least, multiple_more}
 use Rattle.abi_layout.proofs.placing.find_place.Goals as goal
 use Rattle.abi_layout.proofs.placing.find_place.Goals.{else-component-via-then-component+else-not-is_taken, else-component-via-else-component}
 

@@ -1,7 +1,8 @@
 use Rattle.std.proofs.Common.{◌≡◌, ℕ, ◌+◌, ◌-◌, ◌≤◌, false}
 use Rattle.abi_emptybase.specs.Table.{has_conflict}
-use Rattle.abi_layout.specs.Laid.{IsCandidate}
-use Rattle.abi_layout.specs.Sound.{Divides}
+use Rattle.abi_layout.specs.Limits.{size_limit}
+use Rattle.abi_layout.specs.Placements.{IsCandidate}
+use Rattle.abi_sound.specs.Sound.{Divides}
 use Rattle.abi_layout.proofs.placing.find_place.Given as goal
 
 -- the place is a multiple of the alignment behind the data, and no candidate before it is free
@@ -13,4 +14,4 @@ invariant-loop-at l = record {
 }
 
 abbrev pub decreases-loop-at : goal.decreases-loop-at
-decreases-loop-at l = 500000 + 1 - l.at
+decreases-loop-at l = size_limit + 1 - l.at

@@ -1,8 +1,8 @@
 use Rattle.std.proofs.Common.{◌∙◌, List, sym, subst, ap, arith}
 use Rattle.abi_emptybase.specs.declared.Part.{Part}
 use Rattle.abi_emptybase.specs.Table.{has_conflict}
-use Rattle.abi_layout.specs.Alignments.{AreWithin}
-use Rattle.abi_layout.proofs.Parts.{within_fits, conflict_same}
+use Rattle.abi_layout.specs.invariants.Alignments.{AreWithin}
+use Rattle.abi_layout.proofs.rules.Parts.{within_fits, conflict_same}
 use Rattle.abi_layout.proofs.placing.is_taken.Goals as goal
 
 pub conflicts-requires : goal.conflicts-requires

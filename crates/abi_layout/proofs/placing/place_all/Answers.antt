@@ -3,7 +3,7 @@ use Rattle.std.specs.List.{slice_get}
 use Rattle.std.proofs.lemmas.Option.{slice_get_read}
 use Rattle.abi_layout.specs.declared.component.Component.{Component}
 use Rattle.abi_layout.specs.declared.component.Stage.{Stage}
-use Rattle.abi_layout.proofs.PlacingLemmas.{Completes, completes_more, completes_past, completes_all, completes_stage, drop_none, fit_at, place_is_one}
+use Rattle.abi_layout.proofs.rules.PlacingLemmas.{Completes, completes_more, completes_past, completes_all, completes_stage, drop_none, fit_at, place_is_one}
 use Rattle.abi_layout.proofs.placing.place_all.Goals as goal
 
 -- the item of a list at a place, and the items behind it

@@ -1,6 +1,6 @@
 use Rattle.std.proofs.Common.{drop}
-use Rattle.abi_layout.specs.Alignments.{IsPlacing}
-use Rattle.abi_layout.proofs.PlacingLemmas.{Completes}
+use Rattle.abi_layout.specs.invariants.Alignments.{IsPlacing}
+use Rattle.abi_layout.proofs.rules.PlacingLemmas.{Completes}
 use Rattle.abi_layout.proofs.placing.place_all.Given as goal
 
 -- the components so far are placed

@@ -2,9 +2,9 @@ use Rattle.std.proofs.Common.{◌∙◌, List, map, sym, ap, subst, arith}
 use Rattle.abi_emptybase.specs.declared.Part.{Part}
 use Rattle.abi_emptybase.specs.Table.{moved}
 use Rattle.abi_layout.specs.declared.placing.Placing.{Placing}
-use Rattle.abi_layout.specs.Alignments.{AreWithin, with_parts}
-use Rattle.abi_layout.proofs.Parts.{within_fits}
-use Rattle.abi_layout.proofs.PlacingLemmas.{put_keeps, stage_of, stage_is_after}
+use Rattle.abi_layout.specs.invariants.Alignments.{AreWithin, with_parts}
+use Rattle.abi_layout.proofs.rules.Parts.{within_fits}
+use Rattle.abi_layout.proofs.rules.PlacingLemmas.{put_keeps, stage_of, stage_is_after}
 use Rattle.abi_layout.proofs.placing.put.Goals as goal
 
 pub add_parts-requires-clause-bounded : goal.add_parts-requires-clause-bounded

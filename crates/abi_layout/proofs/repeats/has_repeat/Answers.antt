@@ -1,8 +1,8 @@
 use Rattle.std.proofs.Common.{◌∙◌, get_or, sym}
 use Rattle.abi_emptybase.specs.declared.Part.{Part}
-use Rattle.abi_layout.proofs.Each.{never, always}
-use Rattle.abi_layout.proofs.HoldingLemmas.{any_default}
-use Rattle.abi_layout.proofs.RepeatLemmas.{repeated, single_more, none_twice}
+use Rattle.abi_layout.proofs.lists.Each.{never, always}
+use Rattle.abi_layout.proofs.rules.HoldingLemmas.{any_default}
+use Rattle.abi_layout.proofs.rules.RepeatLemmas.{repeated, single_more, none_twice}
 use Rattle.abi_layout.proofs.repeats.has_repeat.Goals as goal
 
 abbrev no_part : Part

@@ -1,4 +1,4 @@
-use Rattle.abi_layout.proofs.RepeatLemmas.{AreSingle}
+use Rattle.abi_layout.proofs.rules.RepeatLemmas.{AreSingle}
 use Rattle.abi_layout.proofs.repeats.has_repeat.Given as goal
 
 -- none of the parts so far stands twice

@@ -1,5 +1,5 @@
 use Rattle.std.proofs.Common.{◌≡◌}
-use Rattle.abi_layout.specs.Laid.{copies}
+use Rattle.abi_layout.specs.Placements.{copies}
 use Rattle.abi_layout.proofs.rows.copies.Given as goal
 
 -- the copies so far

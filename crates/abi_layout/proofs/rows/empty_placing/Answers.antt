@@ -1,7 +1,7 @@
 use Rattle.std.proofs.Common.{◌∙◌, List, ap, subst, sym, arith}
 use Rattle.abi_emptybase.specs.declared.Part.{Part}
 use Rattle.abi_emptybase.specs.Table.{holds}
-use Rattle.abi_layout.specs.Alignments.{byte, AreWithin}
+use Rattle.abi_layout.specs.invariants.Alignments.{byte, AreWithin}
 use Rattle.abi_layout.proofs.rows.empty_placing.Goals as goal
 
 pub returns-clause-placing : goal.returns-clause-placing

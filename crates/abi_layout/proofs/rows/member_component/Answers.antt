@@ -1,4 +1,4 @@
-use Rattle.abi_layout.proofs.RowLemmas.{type_within}
+use Rattle.abi_layout.proofs.algorithm.RowLemmas.{type_within}
 use Rattle.abi_layout.proofs.rows.member_component.Goals as goal
 
 pub member_parts-requires-clause-within : goal.member_parts-requires-clause-within

@@ -1,10 +1,10 @@
 use Rattle.std.proofs.Common.{◌∙◌, ◌++◌, ◌∷◌, [], List, map, take, inl, inr, ⊎_elim, ap, subst, sym}
 use Rattle.std.proofs.lemmas.Result.{err_from_is_err_and}
 use Rattle.abi_layout.specs.declared.component.Component.{Component}
-use Rattle.abi_layout.specs.Laid.{member_component}
-use Rattle.abi_layout.specs.Known.{parts_in}
-use Rattle.abi_layout.specs.Alignments.{AreLittle}
-use Rattle.abi_layout.proofs.RowLemmas.{little_more, map_more, get_map}
+use Rattle.abi_layout.specs.Placements.{member_component}
+use Rattle.abi_layout.specs.invariants.Known.{parts_in}
+use Rattle.abi_layout.specs.invariants.Alignments.{AreLittle}
+use Rattle.abi_layout.proofs.algorithm.RowLemmas.{little_more, map_more, get_map}
 use Rattle.abi_layout.proofs.rows.member_components.Goals as goal
 
 pub member_component-requires-clause-earlier : goal.member_component-requires-clause-earlier

@@ -1,7 +1,7 @@
 use Rattle.std.proofs.Common.{◌≡◌, map, take}
-use Rattle.abi_layout.specs.Laid.{member_component}
-use Rattle.abi_layout.specs.Known.{parts_in}
-use Rattle.abi_layout.specs.Alignments.{AreLittle}
+use Rattle.abi_layout.specs.Placements.{member_component}
+use Rattle.abi_layout.specs.invariants.Known.{parts_in}
+use Rattle.abi_layout.specs.invariants.Alignments.{AreLittle}
 use Rattle.abi_layout.proofs.rows.member_components.Given as goal
 
 -- the components of the members so far

@@ -1,5 +1,5 @@
-use Rattle.abi_layout.proofs.AbiLaws.{laid_sound}
+use Rattle.abi_layout.proofs.sound.ObjectLaws.{rules_are_sound}
 use Rattle.abi_layout.proofs.soundness.laid_is_sound.Goals as goal
 
 pub returns : goal.returns
-returns c = laid_sound
+returns c = rules_are_sound

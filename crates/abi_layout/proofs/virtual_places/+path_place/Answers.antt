@@ -1,8 +1,8 @@
 use Rattle.std.proofs.Common.{◌<◌, ◌^◌, List, subst, arith}
 use Rattle.cxx_hierarchy.specs.declared.records.ClassId.{ClassId}
 use Rattle.cxx_subobject.specs.Subobjects.{Leads}
-use Rattle.abi_layout.specs.Places.{place_along}
-use Rattle.abi_layout.proofs.SettledLemmas.{base_below}
+use Rattle.abi_sound.specs.Places.{place_along}
+use Rattle.abi_layout.proofs.algorithm.SettledLemmas.{base_below}
 use Rattle.abi_layout.proofs.virtual_places.+path_place.Goals as goal
 
 pub path_place-requires : goal.path_place-requires

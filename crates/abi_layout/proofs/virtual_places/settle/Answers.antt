@@ -1,5 +1,5 @@
 use Rattle.std.proofs.Common.{ℕ, ◌+◌, ◌-◌, List, refl, subst, sym}
-use Rattle.abi_layout.proofs.SettledLemmas.{SettledFrom, settled_none, settled_more, settled_all}
+use Rattle.abi_layout.proofs.algorithm.SettledLemmas.{SettledFrom, settled_none, settled_more, settled_all}
 use Rattle.abi_layout.proofs.virtual_places.settle.Goals as goal
 
 pub loop-i-init : goal.loop-i-init

@@ -1,4 +1,4 @@
-use Rattle.abi_layout.proofs.SettledLemmas.{SettledFrom}
+use Rattle.abi_layout.proofs.algorithm.SettledLemmas.{SettledFrom}
 use Rattle.abi_layout.proofs.virtual_places.settle.Given as goal
 
 -- the virtual bases of the greatest numbers, so far, lie where their holders do

@@ -1,6 +1,6 @@
 use Rattle.std.proofs.Common.{None, get_or, sym, arith}
-use Rattle.abi_layout.specs.Settled.{held_at}
-use Rattle.abi_layout.proofs.SettledLemmas.{held_here, put_here}
+use Rattle.abi_layout.specs.invariants.Settled.{held_at}
+use Rattle.abi_layout.proofs.algorithm.SettledLemmas.{held_here, put_here}
 use Rattle.abi_layout.proofs.virtual_places.settle_one.Goals as goal
 
 pub subobject_place-place-requires-clause-path : goal.subobject_place-place-requires-clause-path

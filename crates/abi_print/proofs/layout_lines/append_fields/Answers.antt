@@ -4,8 +4,8 @@ use Rattle.std.proofs.lemmas.Option.{slice_get_read}
 use Rattle.cxx_hierarchy.specs.declared.records.ClassId.{ClassId}
 use Rattle.cxx_hierarchy.specs.declared.records.Member.{Member}
 use Rattle.cxx_hierarchy.specs.Classes.{Class, Classes, members_in, members_of}
-use Rattle.abi_layout.specs.declared.class_layout.ClassLayout.{ClassLayout}
-use Rattle.abi_layout.specs.Places.{number_in, members_in as places_in}
+use Rattle.abi_sound.specs.declared.class_layout.ClassLayout.{ClassLayout}
+use Rattle.abi_sound.specs.Places.{number_in, members_in as places_in}
 use Rattle.abi_print.specs.LayoutTexts.{field_in, field_text, fields_text, member_place}
 use Rattle.abi_print.proofs.layout_lines.append_fields.Goals as goal
 

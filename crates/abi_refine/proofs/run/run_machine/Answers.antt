@@ -2,15 +2,16 @@ use Rattle.std.proofs.Common.{◌≢◌, ◌+◌, Some, refl, sym, ap, ◌∙◌
 use Rattle.byte_machine.specs.declared.turn.MachineTurn.TheVariants.{Went}
 use Rattle.path_model.specs.Runs.{run_of}
 use Rattle.byte_machine.specs.MachineState.{code_of, state_of}
-use Rattle.abi_layout.specs.Places.{places_of}
+use Rattle.abi_sound.specs.Places.{places_of}
 use Rattle.abi_lower.specs.Blocks.{setup}
+use Rattle.abi_lower.proofs.SoundPlaces.{sound_places}
 use Rattle.abi_refine.specs.Reaches.{none, further}
 use Rattle.abi_refine.proofs.Running.{Going-went, Going-ended, Going-start, ReachesWith-last, answer_is}
 use Rattle.abi_refine.proofs.run.run_machine.Goals as goal
 
 pub loop-outs-init : goal.loop-outs-init
 loop-outs-init g c =
-    let x = setup c.args.h.now (places_of c.args.h.now c.args.layout.now) c.args.program.now.variables in
+    let x = setup c.args.h.now (places_of c.args.h.now (g.L.SoundLayout.rows c.args.layout.now)) c.args.program.now.variables in
     let b = state_of c.args.machine.now in
     record {
       code = refl;
@@ -23,13 +24,13 @@ loop-outs-init g c =
 
 pub loop-outs-preserved : goal.loop-outs-preserved
 loop-outs-preserved g c =
-    let x = setup c.args.h.now (places_of c.args.h.now c.args.layout.now) c.args.program.now.variables in
-    let all = run_of c.args.h.now (places_of c.args.h.now c.args.layout.now).size c.args.program.now (state_of c.args.machine.now).left in
+    let x = setup c.args.h.now (places_of c.args.h.now (g.L.SoundLayout.rows c.args.layout.now)) c.args.program.now.variables in
+    let all = run_of c.args.h.now (places_of c.args.h.now (g.L.SoundLayout.rows c.args.layout.now)).size c.args.program.now (state_of c.args.machine.now).left in
     let mid = state_of c.loop-outs.machine in
     let new = state_of c.turn.new.machine in
     let agreed = rw c.in-Went.is at c.in_ok-answer.ensures.agreed in
     let turned = rw c.loop-outs.invariant.code at c.in_ok-answer.ensures.turned in
-    let gone = Going-went x c.args.program.now all mid new c.loop-outs.text.items c.turn.new.outs c.requires.sound c.loop-outs.invariant.going agreed in
+    let gone = Going-went x c.args.program.now all mid new c.loop-outs.text.items c.turn.new.outs (sound_places c.args.h.now (g.L.SoundLayout.rows c.args.layout.now) (g.met.L.SoundLayout.sound c.args.layout.now c.args.h.now c.requires.layout)) c.loop-outs.invariant.going agreed in
     record {
       code = c.in_ok-answer.ensures.code ∙ c.loop-outs.invariant.code;
       image = c.in_ok-answer.ensures.image ∙ c.loop-outs.invariant.image;
@@ -41,8 +42,8 @@ loop-outs-preserved g c =
 
 pub returns-in_default : goal.returns-in_default
 returns-in_default g c =
-    let x = setup c.args.h.now (places_of c.args.h.now c.args.layout.now) c.args.program.now.variables in
-    let all = run_of c.args.h.now (places_of c.args.h.now c.args.layout.now).size c.args.program.now (state_of c.args.machine.now).left in
+    let x = setup c.args.h.now (places_of c.args.h.now (g.L.SoundLayout.rows c.args.layout.now)) c.args.program.now.variables in
+    let all = run_of c.args.h.now (places_of c.args.h.now (g.L.SoundLayout.rows c.args.layout.now)).size c.args.program.now (state_of c.args.machine.now).left in
     let mid = state_of c.loop-outs.machine in
     let new = state_of c.turn.new.machine in
     let turned = rw c.loop-outs.invariant.code at c.in_ok-answer.ensures.turned in
@@ -59,8 +60,8 @@ returns-in_default g c =
 
 pub returns-in-OutOfSteps : goal.returns-in-OutOfSteps
 returns-in-OutOfSteps g c =
-    let x = setup c.args.h.now (places_of c.args.h.now c.args.layout.now) c.args.program.now.variables in
-    let all = run_of c.args.h.now (places_of c.args.h.now c.args.layout.now).size c.args.program.now (state_of c.args.machine.now).left in
+    let x = setup c.args.h.now (places_of c.args.h.now (g.L.SoundLayout.rows c.args.layout.now)) c.args.program.now.variables in
+    let all = run_of c.args.h.now (places_of c.args.h.now (g.L.SoundLayout.rows c.args.layout.now)).size c.args.program.now (state_of c.args.machine.now).left in
     let mid = state_of c.loop-outs.machine in
     let new = state_of c.turn.new.machine in
     let turned = rw c.loop-outs.invariant.code at c.in_ok-answer.ensures.turned in

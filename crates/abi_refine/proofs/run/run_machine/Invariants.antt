@@ -1,7 +1,7 @@
 use Rattle.std.proofs.Common.{◌≡◌, false}
 use Rattle.path_model.specs.Runs.{run_of}
 use Rattle.byte_machine.specs.MachineState.{code_of, image_of, state_of, has_failed}
-use Rattle.abi_layout.specs.Places.{places_of}
+use Rattle.abi_sound.specs.Places.{places_of}
 use Rattle.abi_lower.specs.Blocks.{setup}
 use Rattle.abi_refine.specs.Reaches.{ReachesWith}
 use Rattle.abi_refine.proofs.Running.{Going}
@@ -9,7 +9,7 @@ use Rattle.abi_refine.proofs.run.run_machine.Given as goal
 
 abbrev pub invariant-loop-outs : goal.invariant-loop-outs
 invariant-loop-outs g l =
-    let places = places_of l.h l.layout in
+    let places = places_of l.h (g.L.SoundLayout.rows l.layout) in
     let x = setup l.h places l.program.variables in
     record {
       code : code_of l.machine ≡ code_of l.fn.machine;

@@ -1,7 +1,7 @@
 use Rattle.std.proofs.Common.{rules, refl, arith, sym, ap, length, append_assoc, ◌∷◌, ◌++◌, [], ◌∙◌}
 use Rattle.cxx_grammar.specs.declared.sort.Sort.TheVariants.{This, Arrow, Star, Assign, Semicolon, Delete, Return, Print, Dump, OpenParen, CloseParen}
 use Rattle.cxx_grammar.specs.Table.{Only, StatementsEnd, AfterName, AName, Member, Written, APointer, ResultEnd, PrintEnd, InitEnd, scalar_rest}
-use Rattle.cxx_grammar.specs.Run.{run}
+use Rattle.cxx_grammar.specs.invariants.Run.{run}
 use Rattle.cxx_grammar.proofs.Tails.{name_statement, scalar_statement}
 use Rattle.cxx_grammar.proofs.Steps.{then_same, takes}
 use Rattle.cxx_body_parser.specs.Statements.{a_body, an_if, an_if_else, a_while}

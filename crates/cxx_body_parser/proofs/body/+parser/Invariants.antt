@@ -1,7 +1,7 @@
 use Rattle.std.proofs.Common.{◌+◌, ◌*◌, ◌≤◌, Bool, [], ◌∷◌, length}
 use Rattle.cxx_body_parser.proofs.Lists.{StatementsSoFar}
 use Rattle.cxx_grammar.specs.Table.{StatementsEnd}
-use Rattle.cxx_grammar.specs.Run.{Leads}
+use Rattle.cxx_grammar.specs.invariants.Run.{Leads}
 use Rattle.cxx_body_parser.proofs.body.+parser.Given as goal
 
 abbrev pub decreases-block : goal.decreases-block

@@ -1,7 +1,7 @@
 use Rattle.std.proofs.Common.{◌≤◌, [], ◌∷◌, length}
 use Rattle.cxx_grammar.specs.Table.{ArgumentsEnd, MoreArgumentsEnd}
-use Rattle.cxx_grammar.specs.Fault.{State}
-use Rattle.cxx_grammar.specs.Run.{Leads}
+use Rattle.cxx_grammar.specs.Event.{State}
+use Rattle.cxx_grammar.specs.invariants.Run.{Leads}
 use Rattle.cxx_body_parser.proofs.Lists.{ArgumentsSoFar}
 use Rattle.cxx_body_parser.proofs.place.arguments.Given as goal
 

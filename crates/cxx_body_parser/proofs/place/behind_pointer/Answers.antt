@@ -1,6 +1,6 @@
 use Rattle.std.proofs.Common.{rules, refl, sym, ap, Some, ◌∷◌, [], ◌∙◌}
 use Rattle.cxx_grammar.specs.Table.{AName, Member, Named}
-use Rattle.cxx_body_parser.specs.Through.{tasks_after}
+use Rattle.cxx_body_parser.specs.invariants.Through.{tasks_after}
 use Rattle.cxx_grammar.proofs.Tails.{no_call}
 use Rattle.cxx_grammar.proofs.Steps.{same_error_by}
 use Rattle.cxx_body_parser.specs.Operands.{a_call, a_qualified_call, a_place}

@@ -1,23 +1,24 @@
 use Rattle.std.proofs.Common.{rules, refl, arith, sym, ap, subst, length, ℕ, Bool, true, false, Some, None, Ok, Err, List, ◌≡◌, ◌∷◌, ◌++◌, [], ◌∙◌, append_assoc}
 use Rattle.cxx_grammar.specs.declared.sort.Sort.TheVariants.{Struct, Class, Public, Protected, Private, Virtual, Boolean, Char, Short, Int, Long, Signed, Unsigned, Void, Main, Name, OwnName, OpenBrace, CloseBrace, OpenParen, OpenBracket, CloseParen, CloseBracket, Semicolon, Colon, Comma, Star, Assign, Tilde, Zero, End}
 use Rattle.cxx_grammar.specs.Table.{Task, Only, AName, AConstant, AParam, ABlock, BaseAfterVirtual, BaseAfterAccess, ABase, BasesEnd, ClassTail, FieldEnd, ParamsEnd, MoreParamsEnd, AfterDeclared, AfterType, AfterOwnName, AnInit, ConstructorEnd, InitsEnd, AfterVirtual, VirtualEnd, PartsEnd, AfterInt, ItemsEnd, scalar_rest}
-use Rattle.cxx_grammar.specs.Run.{run}
-use Rattle.cxx_grammar.specs.Fault.{State}
+use Rattle.cxx_grammar.specs.invariants.Run.{run}
+use Rattle.cxx_grammar.specs.Event.{State}
 use Rattle.cxx_grammar.proofs.Steps.{same_error, same_answer, same_tasks, then_same, takes}
 use Rattle.cxx_body_parser.specs.Statements.{a_scalar, a_class_pointer, IsFirst}
 use Rattle.cxx_decl_parser.specs.Parts as parts
 use Rattle.cxx_decl_parser.specs.Sources as sources
-use Rattle.cxx_decl_parser.specs.Readers.{outside, value_rest, HeadReads}
+use Rattle.cxx_decl_parser.specs.invariants.Readers.{outside, value_rest, HeadReads}
 use Rattle.cxx_decl_parser.proofs.Turns as turns
 use Rattle.cxx_decl_parser.proofs.Series as series
 use Rattle.std.proofs.Common.{is_some}
 use Rattle.cxx_grammar.specs.declared.sort.Lexeme.{Lexeme}
-use Rattle.cxx_decl_parser.specs.Readers.{main_after}
+use Rattle.cxx_decl_parser.specs.invariants.Readers.{main_after}
 use Rattle.cxx_decl_parser.proofs.Others.{same_error_to}
 use Rattle.cxx_decl_parser.proofs.source.items.Goals as goal
 
 pub loop-source-init : goal.loop-source-init
 loop-source-init c = record {
+  shorter = omega arith;
   reads = ([], (λ is r h. h), c.empty_source-source.ensures.items);
   follows = λ k. rw c.empty_source-source.ensures.main refl;
 }
@@ -33,6 +34,10 @@ returns-in_err-read-clause-follows c = let e : c.is_some.result ≡ is_some c.lo
 
 pub loop-source-preserved : goal.loop-source-preserved
 loop-source-preserved c = let e : c.is_some.result ≡ is_some c.loop-source.source.main = search rules in record {
+  shorter = omega (arith, c.loop-source.invariant.shorter, ap length c.in_ok-first.ensures.ok, c.in_ok-read.ensures.shorter);
   reads = (c.loop-source.invariant.reads.0 ++ c.in_ok-read.read ∷ [], series.next_item _ _ _ _ _ _ c.loop-source.invariant.reads.1 (rw c.in_ok-first.ensures.ok c.in_ok-read.ensures.reads), c.in_ok-add.ensures.items c.loop-source.invariant.reads.0 c.loop-source.invariant.reads.2);
   follows = λ k. c.loop-source.invariant.follows k ∙ (rw (c.in_ok-first.ensures.ok, c.in_ok-add.ensures.main) (subst (λ (b : Bool). run (c.in_ok-first.first ∷ c.in_ok-first.after.now) (outside b) (ItemsEnd ∷ k) ≡ run c.in_ok-read.more.now (outside (main_after b c.in_ok-read.read)) (ItemsEnd ∷ k)) e (c.in_ok-read.ensures.follows k)));
 }
+
+pub item-requires-clause-few : goal.item-requires-clause-few
+item-requires-clause-few c = omega (arith, c.loop-source.invariant.shorter, ap length c.in_ok-first.ensures.ok, c.requires)

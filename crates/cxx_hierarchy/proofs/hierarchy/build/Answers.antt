@@ -7,7 +7,7 @@ use Rattle.cxx_hierarchy.specs.declared.names.NameTable.{NameTable}
 use Rattle.cxx_hierarchy.specs.NameTables.{Numbers}
 use Rattle.cxx_hierarchy.specs.Resolved.{resolved, resolved_class, class_in}
 use Rattle.cxx_hierarchy.specs.Hierarchies.{IsHierarchy}
-use Rattle.cxx_hierarchy.specs.VirtualRows.{AreRows}
+use Rattle.cxx_hierarchy.specs.invariants.VirtualRows.{AreRows}
 use Rattle.cxx_hierarchy.proofs.Builds.{accepted, small_numbers, same_references, built}
 use Rattle.cxx_hierarchy.proofs.hierarchy.build.Goals as goal
 

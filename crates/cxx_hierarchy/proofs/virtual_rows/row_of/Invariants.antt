@@ -1,6 +1,6 @@
 use Rattle.std.proofs.Common.{◌≡◌, ℕ, false, length, get_or, take}
 use Rattle.std.specs.List.{list_any}
-use Rattle.cxx_hierarchy.specs.VirtualRows.{gives}
+use Rattle.cxx_hierarchy.specs.invariants.VirtualRows.{gives}
 use Rattle.cxx_hierarchy.proofs.virtual_rows.row_of.Given as goal
 
 -- the row has what the bases so far give

@@ -6,7 +6,7 @@ use Rattle.std.proofs.lemmas.List.{length_push}
 use Rattle.std.proofs.lemmas.Option.{slice_get-get_or}
 use Rattle.cxx_hierarchy.specs.declared.records.Base.{Base}
 use Rattle.cxx_hierarchy.specs.declared.records.ClassId.{ClassId}
-use Rattle.cxx_hierarchy.specs.VirtualRows.{Row, AreRows, gives}
+use Rattle.cxx_hierarchy.specs.invariants.VirtualRows.{Row, AreRows, gives}
 use Rattle.cxx_hierarchy.proofs.VirtualRows.{rows_none, rows_push, known_bases}
 use Rattle.cxx_hierarchy.proofs.virtual_rows.virtual_rows.Goals as goal
 

@@ -1,5 +1,5 @@
 use Rattle.std.proofs.Common.{◌≡◌, length}
-use Rattle.cxx_hierarchy.specs.VirtualRows.{AreRows}
+use Rattle.cxx_hierarchy.specs.invariants.VirtualRows.{AreRows}
 use Rattle.cxx_hierarchy.proofs.virtual_rows.virtual_rows.Given as goal
 
 -- there are rows for the classes so far

@@ -3,7 +3,7 @@ use Rattle.std.proofs.Common.{◌∙◌, sym, ap, subst, List, length, take, dro
 use Rattle.std.specs.Prelude.{position}
 use Rattle.cxx_subobject.specs.declared.Subobject.{Subobject}
 use Rattle.cxx_subobject.specs.Preorder.{ListsSubobjects}
-use Rattle.cxx_lookup.specs.Searches.{is_of_class}
+use Rattle.cxx_lookup.specs.Findings.{is_of_class}
 use Rattle.cxx_lookup.proofs.OfClass.{none_of_class, two_by_test, one_by_test}
 use Rattle.cxx_lookup.proofs.base_lookup.unique_base.Goals as goal
 

@@ -3,7 +3,7 @@ use Rattle.std.proofs.Common.{◌+◌, sym, subst, List, Vec, Global}
 use Rattle.std.proofs.lemmas.Option.{MatchOption-at_some, MatchOption-at_none}
 use Rattle.cxx_subobject.specs.Preorder.{ListsSubobjects}
 use Rattle.cxx_lookup.specs.declared.Found.{Found}
-use Rattle.cxx_lookup.specs.Searches.{IsDeclaredAt}
+use Rattle.cxx_lookup.specs.invariants.Searches.{IsDeclaredAt}
 use Rattle.cxx_lookup.proofs.Gathered.{AreGathered, none_yet, none_more, one_more, all_gathered}
 use Rattle.cxx_lookup.proofs.declarations.declarations.Goals.{in-Some+in_ok-push, in_default}
 use Rattle.cxx_lookup.proofs.declarations.declarations.Goals as goal

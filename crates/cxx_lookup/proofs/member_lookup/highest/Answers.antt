@@ -1,6 +1,6 @@
 -- One declaration after the other is compared with the best one so far.
 use Rattle.std.proofs.Common.{◌≡◌, ◌+◌, ℕ, sym, subst, length, Option, true, false, arith}
-use Rattle.cxx_lookup.specs.Searches.{found_at}
+use Rattle.cxx_lookup.specs.invariants.Searches.{found_at}
 use Rattle.cxx_lookup.proofs.Highest.{IsOrder, IsBest, Tells, none_yet, skipped, taken, kept}
 use Rattle.cxx_lookup.proofs.Listing.{not_both}
 use Rattle.cxx_lookup.proofs.member_lookup.highest.Goals.{then-goes_over, else-goes_over}

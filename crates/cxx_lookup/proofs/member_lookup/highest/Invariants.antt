@@ -1,4 +1,4 @@
-use Rattle.cxx_lookup.specs.Searches.{found_at}
+use Rattle.cxx_lookup.specs.invariants.Searches.{found_at}
 use Rattle.cxx_lookup.proofs.Highest.{IsBest}
 use Rattle.cxx_lookup.proofs.member_lookup.highest.Given as goal
 

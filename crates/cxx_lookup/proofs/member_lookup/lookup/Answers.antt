@@ -3,7 +3,7 @@ use Rattle.std.proofs.Common.{subst, List, length, arith, None}
 use Rattle.std.specs.Prelude.{slice_get}
 use Rattle.std.proofs.lemmas.Option.{slice_get_within}
 use Rattle.cxx_lookup.specs.declared.Found.{Found}
-use Rattle.cxx_lookup.specs.Searches.{IsHighest}
+use Rattle.cxx_lookup.specs.invariants.Searches.{IsHighest}
 use Rattle.cxx_lookup.proofs.Highest.{IsOrder, Tells, found_once, found_twice}
 use Rattle.cxx_lookup.proofs.member_lookup.lookup.Goals as goal
 

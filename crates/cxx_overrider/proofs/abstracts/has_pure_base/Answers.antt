@@ -1,12 +1,14 @@
 use Rattle.std.proofs.Common.{◌≡◌, ℕ, List, Some, get_or, ⊎_elim, subst, sym, arith}
 use Rattle.std.specs.List.{slice_get}
 use Rattle.cxx_subobject.specs.declared.Root.TheVariants.{Shared}
+use Rattle.cxx_subobject.proofs.PathLemmas.{virtual_below}
 use Rattle.cxx_overrider.specs.Functions.{Signature}
 use Rattle.cxx_overrider.specs.Overriding.{IsAbstract}
-use Rattle.cxx_overrider.specs.Numbers.{row_of, IsNumberOf}
-use Rattle.cxx_overrider.specs.Abstract.{HasPureAt}
-use Rattle.cxx_overrider.proofs.Lists.{either, get_at, get_within, match_false}
-use Rattle.cxx_overrider.proofs.Paths.{virtual_below}
+use Rattle.cxx_overrider.specs.invariants.Numbers.{row_of, IsNumberOf}
+use Rattle.cxx_overrider.specs.invariants.Abstract.{HasPureAt}
+use Rattle.cxx_overrider.proofs.Lists.{get_at}
+use Rattle.std.proofs.lemmas.Bool.{cases_lt, MatchBool-at_false}
+use Rattle.std.proofs.lemmas.Option.{slice_get_within}
 use Rattle.cxx_overrider.proofs.AbstractLemmas.{signature_number, shared_within, same_item}
 use Rattle.cxx_overrider.proofs.abstracts.has_pure_base.Goals as goal
 
@@ -43,9 +45,9 @@ loop-n-preserved c =
           (λ past.
           let here : i ≡ c.loop-n.n-index = omega arith in
           let same : n ≡ get_or xs c.loop-n.n-index 0 = same_item xs i c.loop-n.n-index n 0 here at in
-          let none = match_false c.has_pure_number.result (IsAbstract h c.args.c) ((t : Signature) → IsNumberOf h rows (get_or xs c.loop-n.n-index 0) t → HasPureAt h c.args.c (Shared c.args.v) t → ⊥) c.if-has_pure_number.false c.has_pure_number.ensures in
+          let none = MatchBool-at_false (IsAbstract h c.args.c) ((t : Signature) → IsNumberOf h rows (get_or xs c.loop-n.n-index 0) t → HasPureAt h c.args.c (Shared c.args.v) t → ⊥) c.if-has_pure_number.false c.has_pure_number.ensures in
           none s (subst (λ (m : ℕ). IsNumberOf h rows m s) same k) there)
-          (either i c.loop-n.n-index);
+          (cases_lt i c.loop-n.n-index);
     }
 
 pub returns : goal.returns
@@ -59,6 +61,6 @@ returns c = λ s at.
     let k = signature_number h t.numbering.rows.items t.numbering.count at.function s c.requires.tables.numbering at.same in
     let r = c.requires.tables.within.listed c.args.v k.0 s (omega arith) k.1 (shared_within h c.args.c c.args.v s at) in
     let listed : slice_get xs r.0 ≡ Some k.0 = subst (λ (x : List ℕ). slice_get x r.0 ≡ Some k.0) (sym c.loop-n.invariant.items) r.1 in
-    let small = get_within xs r.0 k.0 listed in
+    let small = slice_get_within xs r.0 k.0 listed in
     let f = c.loop-n-test.false in
     c.loop-n.invariant.none r.0 k.0 s (omega arith) listed k.1 at

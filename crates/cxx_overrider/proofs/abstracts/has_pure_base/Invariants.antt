@@ -2,8 +2,8 @@ use Rattle.std.proofs.Common.{◌≡◌, ◌<◌, ℕ, Some}
 use Rattle.std.specs.List.{slice_get}
 use Rattle.cxx_subobject.specs.declared.Root.TheVariants.{Shared}
 use Rattle.cxx_overrider.specs.Functions.{Signature}
-use Rattle.cxx_overrider.specs.Numbers.{row_of, IsNumberOf}
-use Rattle.cxx_overrider.specs.Abstract.{HasPureAt}
+use Rattle.cxx_overrider.specs.invariants.Numbers.{row_of, IsNumberOf}
+use Rattle.cxx_overrider.specs.invariants.Abstract.{HasPureAt}
 use Rattle.cxx_overrider.proofs.abstracts.has_pure_base.Given as goal
 
 -- no signature so far

@@ -1,9 +1,9 @@
 use Rattle.std.proofs.Common.{◌≡◌, List, Bool, Option, Some, None, inl, ap, subst, sym, ◌∙◌, arith}
 use Rattle.cxx_overrider.specs.declared.entries.Entry.{Entry}
-use Rattle.cxx_overrider.specs.Marks.{mark_of}
-use Rattle.cxx_overrider.specs.Entries.{Tells, TellsOf}
-use Rattle.cxx_overrider.specs.EntryTables.{entry_of}
-use Rattle.cxx_overrider.specs.Settling.{key}
+use Rattle.cxx_overrider.specs.invariants.Marks.{mark_of}
+use Rattle.cxx_overrider.specs.invariants.Entries.{Tells, TellsOf}
+use Rattle.cxx_overrider.specs.invariants.EntryTables.{entry_of}
+use Rattle.cxx_overrider.specs.invariants.Settling.{key}
 use Rattle.cxx_overrider.proofs.Numbering.{signature_class}
 use Rattle.cxx_overrider.proofs.AbstractLemmas.{number_signature, pure_entry, pure_left_over}
 use Rattle.cxx_overrider.proofs.abstracts.has_pure_number.Goals as goal

@@ -1,7 +1,7 @@
 use Rattle.std.proofs.Common.{◌≡◌, ℕ, List, Bool, ⊎_elim, ap, subst, sym, ◌∙◌, arith}
-use Rattle.cxx_overrider.specs.Numbers.{IsNumberOf}
-use Rattle.cxx_overrider.specs.Marks.{mark_of}
-use Rattle.cxx_overrider.proofs.Lists.{either}
+use Rattle.cxx_overrider.specs.invariants.Numbers.{IsNumberOf}
+use Rattle.cxx_overrider.specs.invariants.Marks.{mark_of}
+use Rattle.std.proofs.lemmas.Bool.{cases_lt}
 use Rattle.cxx_overrider.proofs.AbstractLemmas.{marked_abstract, unmarked_whole, signature_number}
 use Rattle.cxx_overrider.proofs.abstracts.has_pure_whole.Goals as goal
 
@@ -19,7 +19,7 @@ loop-n-preserved c = λ m s lt k at.
     (λ past.
     let here : m ≡ c.loop-n.n = omega arith in
     unmarked_whole h c.keeps.ensures c.args.tables.now c.requires.tables c.args.c c.requires.known c.loop-n.n s (subst (λ (i : ℕ). IsNumberOf h c.args.tables.now.numbering.rows.items i s) here k) (sym is ∙ c.if-is_marked.false) at)
-    (either m c.loop-n.n)
+    (cases_lt m c.loop-n.n)
 
 pub returns : goal.returns
 returns c = λ s at.

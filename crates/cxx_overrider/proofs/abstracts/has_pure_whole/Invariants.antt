@@ -1,8 +1,8 @@
 use Rattle.std.proofs.Common.{◌<◌, ℕ}
 use Rattle.cxx_subobject.specs.declared.Root.TheVariants.{Whole}
 use Rattle.cxx_overrider.specs.Functions.{Signature}
-use Rattle.cxx_overrider.specs.Numbers.{IsNumberOf}
-use Rattle.cxx_overrider.specs.Abstract.{HasPureAt}
+use Rattle.cxx_overrider.specs.invariants.Numbers.{IsNumberOf}
+use Rattle.cxx_overrider.specs.invariants.Abstract.{HasPureAt}
 use Rattle.cxx_overrider.proofs.abstracts.has_pure_whole.Given as goal
 
 -- no signature so far

@@ -1,11 +1,11 @@
 use Rattle.std.proofs.Common.{◌<◌, ⊎_elim, subst, arith}
 use Rattle.cxx_hierarchy.specs.declared.records.ClassId.{ClassId}
 use Rattle.cxx_subobject.specs.declared.Root.TheVariants.{Whole, Shared}
+use Rattle.cxx_subobject.proofs.PathLemmas.{same_id}
 use Rattle.cxx_overrider.specs.Functions.{Signature}
 use Rattle.cxx_overrider.specs.Overriding.{IsAbstract}
-use Rattle.cxx_overrider.specs.Abstract.{HasPureAt}
-use Rattle.cxx_overrider.proofs.Lists.{either, match_false}
-use Rattle.cxx_overrider.proofs.Paths.{same_id}
+use Rattle.cxx_overrider.specs.invariants.Abstract.{HasPureAt}
+use Rattle.std.proofs.lemmas.Bool.{cases_lt, MatchBool-at_false}
 use Rattle.cxx_overrider.proofs.AbstractLemmas.{none_abstract}
 use Rattle.cxx_overrider.proofs.abstracts.is_abstract_class.Goals as goal
 
@@ -16,14 +16,14 @@ loop-number-preserved c = λ v s lt at.
     ⊎_elim (λ small. c.loop-number.invariant v s small at)
     (λ past.
     let here = same_id v d (omega arith) in
-    match_false c.has_pure_if_base.result (IsAbstract h c.args.c) ((t : Signature) → HasPureAt h c.args.c (Shared d) t → ⊥) c.if-has_pure_if_base.false c.has_pure_if_base.ensures s
+    MatchBool-at_false (IsAbstract h c.args.c) ((t : Signature) → HasPureAt h c.args.c (Shared d) t → ⊥) c.if-has_pure_if_base.false c.has_pure_if_base.ensures s
     (subst (λ (x : ClassId). HasPureAt h c.args.c (Shared x) s) here at))
-    (either v.0 c.loop-number.number)
+    (cases_lt v.0 c.loop-number.number)
 
 pub returns : goal.returns
 returns c =
     let h = c.args.h.now in
-    let whole_none = match_false c.has_pure_whole.result (IsAbstract h c.args.c) ((t : Signature) → HasPureAt h c.args.c Whole t → ⊥) c.if-has_pure_whole.false c.has_pure_whole.ensures in
+    let whole_none = MatchBool-at_false (IsAbstract h c.args.c) ((t : Signature) → HasPureAt h c.args.c Whole t → ⊥) c.if-has_pure_whole.false c.has_pure_whole.ensures in
     let f = c.loop-number-test.false in
     let shared_none = λ (v : ClassId) (s : Signature) (lt : v.0 < c.args.c.0) (at : HasPureAt h c.args.c (Shared v) s). c.loop-number.invariant v s (omega arith) at in
     (λ e. cc, λ k. absurd (none_abstract h c.keeps.ensures c.args.c whole_none shared_none k))

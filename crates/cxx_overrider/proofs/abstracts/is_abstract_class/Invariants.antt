@@ -2,7 +2,7 @@ use Rattle.std.proofs.Common.{◌<◌}
 use Rattle.cxx_hierarchy.specs.declared.records.ClassId.{ClassId}
 use Rattle.cxx_subobject.specs.declared.Root.TheVariants.{Shared}
 use Rattle.cxx_overrider.specs.Functions.{Signature}
-use Rattle.cxx_overrider.specs.Abstract.{HasPureAt}
+use Rattle.cxx_overrider.specs.invariants.Abstract.{HasPureAt}
 use Rattle.cxx_overrider.proofs.abstracts.is_abstract_class.Given as goal
 
 -- no virtual base so far

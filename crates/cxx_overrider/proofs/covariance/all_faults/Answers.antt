@@ -1,8 +1,8 @@
 use Rattle.std.proofs.Common.{◌≡◌, ◌<◌, ◌+◌, ◌↔◌, ℕ, Bool, true, List, subst, sym, arith}
 use Rattle.cxx_hierarchy.specs.declared.records.ClassId.{ClassId}
 use Rattle.cxx_overrider.specs.declared.covariance.ReturnFaults.{ReturnFaults}
-use Rattle.cxx_overrider.specs.Marks.{HasMarkedBase}
-use Rattle.cxx_overrider.specs.Covariance.{AreFaults}
+use Rattle.cxx_overrider.specs.invariants.Marks.{HasMarkedBase}
+use Rattle.cxx_overrider.specs.invariants.ReturnFlags.{AreFaults}
 use Rattle.cxx_overrider.proofs.CovarianceLemmas.{none_faults, no_base, more_faults}
 use Rattle.cxx_overrider.proofs.covariance.all_faults.Goals as goal
 

@@ -1,5 +1,5 @@
 use Rattle.std.proofs.Common.{◌<◌}
-use Rattle.cxx_overrider.specs.Covariance.{AreFaults}
+use Rattle.cxx_overrider.specs.invariants.ReturnFlags.{AreFaults}
 use Rattle.cxx_overrider.proofs.covariance.all_faults.Given as goal
 
 -- the flags of the classes so far

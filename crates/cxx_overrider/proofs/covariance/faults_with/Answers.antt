@@ -1,7 +1,7 @@
 use Rattle.std.proofs.Common.{◌≡◌, length, Some, ap, sym, arith}
 use Rattle.cxx_hierarchy.specs.Classes.{functions_of}
 use Rattle.cxx_overrider.specs.Functions.{return_of, return_at}
-use Rattle.cxx_overrider.proofs.Lists.{get_contains}
+use Rattle.foundation.proofs.Places.{contains_at}
 use Rattle.cxx_overrider.proofs.CovarianceLemmas.{none_faults, one_faults}
 use Rattle.cxx_overrider.proofs.covariance.faults_with.Goals as goal
 
@@ -12,7 +12,7 @@ pub faults_between-requires-clause-known : goal.faults_between-requires-clause-k
 faults_between-requires-clause-known c = λ x e.
     let h = c.args.h.now in
     let f = c.in-Some-declaration.a.now in
-    let lt = c.keeps.ensures.returns c.args.f.class x f (get_contains (functions_of h c.args.f.class) c.args.f.index f (sym c.in-Some-declaration.ensures)) e in
+    let lt = c.keeps.ensures.returns c.args.f.class x f (contains_at (functions_of h c.args.f.class) c.args.f.index f (sym c.in-Some-declaration.ensures)) e in
     let all = c.requires.tables.all_kinds in
     let kinds : length c.deref.result.now ≡ length c.args.tables.now.kinds.items = ap length c.deref.ensures.value in
     omega arith

@@ -1,7 +1,7 @@
 use Rattle.std.proofs.Common.{◌≡◌, ℕ, List, Bool, Some, MatchOption, ap, subst, sym, ◌∙◌}
 use Rattle.cxx_overrider.specs.declared.FunctionId.{FunctionId}
-use Rattle.cxx_overrider.specs.Numbers.{number_of}
-use Rattle.cxx_overrider.specs.Marks.{mark_of}
+use Rattle.cxx_overrider.specs.invariants.Numbers.{number_of}
+use Rattle.cxx_overrider.specs.invariants.Marks.{mark_of}
 use Rattle.cxx_overrider.proofs.CovarianceLemmas.{unmarked, own_overridden}
 use Rattle.cxx_overrider.proofs.covariance.overridden.Goals as goal
 

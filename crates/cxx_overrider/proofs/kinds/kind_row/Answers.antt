@@ -1,7 +1,7 @@
 use Rattle.std.proofs.Common.{◌≡◌, ◌++◌, ◌∷◌, [], ◌+◌, ℕ, List, length, subst, sym, ap, arith, length-append}
 use Rattle.cxx_hierarchy.specs.declared.records.ClassId.{ClassId}
 use Rattle.cxx_overrider.specs.declared.kinds.BaseKind.{BaseKind}
-use Rattle.cxx_overrider.specs.Kinds.{IsKindRow}
+use Rattle.cxx_overrider.specs.invariants.Kinds.{IsKindRow}
 use Rattle.cxx_overrider.proofs.KindLemmas.{CountsBelow, below_more, counts_all, kind_row_made}
 use Rattle.cxx_overrider.proofs.kinds.kind_row.Goals as goal
 

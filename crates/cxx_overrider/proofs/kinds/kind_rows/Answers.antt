@@ -1,7 +1,7 @@
 use Rattle.std.proofs.Common.{◌≡◌, ◌++◌, ◌∷◌, [], ◌+◌, ℕ, List, length, subst, sym, ap, arith, length-append}
 use Rattle.cxx_hierarchy.specs.declared.records.ClassId.{ClassId}
 use Rattle.cxx_overrider.specs.declared.kinds.BaseKind.{BaseKind}
-use Rattle.cxx_overrider.specs.Kinds.{AreKinds}
+use Rattle.cxx_overrider.specs.invariants.Kinds.{AreKinds}
 use Rattle.cxx_overrider.proofs.KindLemmas.{kinds_more}
 use Rattle.cxx_overrider.proofs.kinds.kind_rows.Goals as goal
 

@@ -1,5 +1,5 @@
 use Rattle.std.proofs.Common.{◌≡◌, length}
-use Rattle.cxx_overrider.specs.Kinds.{AreKinds}
+use Rattle.cxx_overrider.specs.invariants.Kinds.{AreKinds}
 use Rattle.cxx_overrider.proofs.kinds.kind_rows.Given as goal
 
 abbrev pub invariant-loop-number : goal.invariant-loop-number

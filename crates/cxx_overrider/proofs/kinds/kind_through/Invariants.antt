@@ -1,6 +1,6 @@
 use Rattle.std.proofs.Common.{◌≡◌}
 use Rattle.cxx_hierarchy.specs.Classes.{bases_of}
-use Rattle.cxx_overrider.specs.Kinds.{Counts, IsPartThrough}
+use Rattle.cxx_overrider.specs.invariants.Kinds.{Counts, IsPartThrough}
 use Rattle.cxx_overrider.proofs.kinds.kind_through.Given as goal
 
 -- the kind counts what the bases so far give

@@ -2,9 +2,9 @@ use Rattle.std.proofs.Common.{◌≡◌, ℕ, Some, None}
 use Rattle.std.proofs.lemmas.Result.{IfOk-weaker}
 use Rattle.cxx_overrider.specs.declared.Overrider.{Overrider}
 use Rattle.cxx_overrider.specs.Overriding.{IsVirtualIn, IsFinalOverrider}
-use Rattle.cxx_overrider.specs.Numbers.{IsNumberOf}
-use Rattle.cxx_overrider.specs.Entries.{TellsOf}
-use Rattle.cxx_overrider.specs.Finals.{IsFirstOverrider}
+use Rattle.cxx_overrider.specs.invariants.Numbers.{IsNumberOf}
+use Rattle.cxx_overrider.specs.invariants.Entries.{TellsOf}
+use Rattle.cxx_overrider.specs.invariants.Finals.{IsFirstOverrider}
 use Rattle.cxx_overrider.proofs.FinalLemmas.{path_declares, whole_final, none_final, entry_part, entry_final, shared_tells, entry_tells}
 use Rattle.cxx_overrider.proofs.overriding.final_overrider.Goals as goal
 

@@ -1,4 +1,4 @@
-use Rattle.cxx_overrider.specs.Finals.{DeclareNone}
+use Rattle.cxx_overrider.specs.invariants.Finals.{DeclareNone}
 use Rattle.cxx_overrider.proofs.overriding.first_on_path.Given as goal
 
 -- the classes so far declare none

@@ -1,7 +1,7 @@
 use Rattle.std.proofs.Common.{◌≡◌, ◌≤◌, ◌+◌, ◌++◌, ◌∷◌, [], ◌<◌, ℕ, Bool, List, length, refl, ap, sym, subst, ◌∙◌, arith, length-append}
 use Rattle.cxx_hierarchy.specs.declared.records.ClassId.{ClassId}
-use Rattle.cxx_overrider.specs.Pass.{TellsAbstract}
-use Rattle.cxx_overrider.specs.Settling.{IsMade}
+use Rattle.cxx_overrider.specs.invariants.Pass.{TellsAbstract}
+use Rattle.cxx_overrider.specs.invariants.Settling.{IsMade}
 use Rattle.cxx_overrider.proofs.Made.{made_start}
 use Rattle.cxx_overrider.proofs.PassLemmas.{fine_start, fine_end, no_abstracts}
 use Rattle.cxx_overrider.proofs.pass.check_by_class.Goals as goal
@@ -35,6 +35,7 @@ returns-clause-ok c =
       made = subst (λ (n : ℕ). IsMade h c.in_ok-tables.tables.numbering.rows.items c.loop-number.entries n 0 0) all c.loop-number.invariant.made;
       abstracts = c.loop-number.invariant.abstracts;
       all_abstracts = c.loop-number.invariant.size ∙ all;
+      fine = fine_end h (record { 0 = c.loop-number.number }) (omega arith) c.loop-number.invariant.fine;
     }
 
 pub returns-clause-fine : goal.returns-clause-fine

@@ -1,8 +1,8 @@
 use Rattle.std.proofs.Common.{◌≡◌, length}
 use Rattle.cxx_hierarchy.specs.declared.records.ClassId.{ClassId}
 use Rattle.cxx_overrider.specs.Faults.{spot, limit_part}
-use Rattle.cxx_overrider.specs.Settling.{IsMade}
-use Rattle.cxx_overrider.specs.Pass.{IsFineTo, TellsAbstract}
+use Rattle.cxx_overrider.specs.invariants.Settling.{IsMade}
+use Rattle.cxx_overrider.specs.invariants.Pass.{IsFineTo, TellsAbstract}
 use Rattle.cxx_overrider.proofs.pass.check_by_class.Given as goal
 
 -- the classes so far are fine, and the tables tell of them

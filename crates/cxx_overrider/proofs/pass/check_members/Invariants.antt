@@ -1,7 +1,7 @@
 use Rattle.std.proofs.Common.{◌≡◌}
 use Rattle.cxx_hierarchy.specs.Classes.{members_of}
 use Rattle.cxx_overrider.specs.Faults.{spot, member_part}
-use Rattle.cxx_overrider.specs.Pass.{IsFineTo}
+use Rattle.cxx_overrider.specs.invariants.Pass.{IsFineTo}
 use Rattle.cxx_overrider.proofs.pass.check_members.Given as goal
 
 -- no condition refuses before the member

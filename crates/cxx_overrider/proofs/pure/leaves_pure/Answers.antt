@@ -2,8 +2,8 @@ use Rattle.std.proofs.Common.{◌≡◌, ℕ, List, Bool, Some, true, ap, sym, s
 use Rattle.cxx_hierarchy.specs.declared.records.ClassId.{ClassId}
 use Rattle.cxx_overrider.specs.declared.FunctionId.{FunctionId}
 use Rattle.cxx_overrider.specs.Overriding.{HasVirtual}
-use Rattle.cxx_overrider.specs.Numbers.{number_of}
-use Rattle.cxx_overrider.specs.Marks.{mark_of}
+use Rattle.cxx_overrider.specs.invariants.Numbers.{number_of}
+use Rattle.cxx_overrider.specs.invariants.Marks.{mark_of}
 use Rattle.cxx_overrider.proofs.MarkLemmas.{number_says}
 use Rattle.cxx_overrider.proofs.PureLemmas.{none_declared, pure_own, pure_below}
 use Rattle.cxx_overrider.proofs.pure.leaves_pure.Goals as goal

@@ -1,6 +1,6 @@
 use Rattle.std.proofs.Common.{◌≡◌, ◌++◌, ◌∷◌, [], Bool, List, length, subst, sym, ap, arith, length-append}
-use Rattle.cxx_overrider.specs.Pure.{LeavesPure}
-use Rattle.cxx_overrider.specs.Marks.{MarksEach}
+use Rattle.cxx_overrider.specs.invariants.Pure.{LeavesPure}
+use Rattle.cxx_overrider.specs.invariants.Marks.{MarksEach}
 use Rattle.cxx_overrider.proofs.MarkLemmas.{marks_more}
 use Rattle.cxx_overrider.proofs.pure.pure_row.Goals as goal
 

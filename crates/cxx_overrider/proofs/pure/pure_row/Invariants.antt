@@ -1,6 +1,6 @@
 use Rattle.std.proofs.Common.{◌≡◌, length}
-use Rattle.cxx_overrider.specs.Pure.{LeavesPure}
-use Rattle.cxx_overrider.specs.Marks.{MarksEach}
+use Rattle.cxx_overrider.specs.invariants.Pure.{LeavesPure}
+use Rattle.cxx_overrider.specs.invariants.Marks.{MarksEach}
 use Rattle.cxx_overrider.proofs.pure.pure_row.Given as goal
 
 abbrev pub invariant-loop-n : goal.invariant-loop-n

@@ -1,7 +1,7 @@
 use Rattle.std.proofs.Common.{◌≡◌, ◌++◌, ◌∷◌, [], Bool, List, length, subst, sym, ap, arith, length-append}
 use Rattle.cxx_hierarchy.specs.declared.records.ClassId.{ClassId}
-use Rattle.cxx_overrider.specs.Pure.{LeavesPure}
-use Rattle.cxx_overrider.specs.Marks.{AreMarks}
+use Rattle.cxx_overrider.specs.invariants.Pure.{LeavesPure}
+use Rattle.cxx_overrider.specs.invariants.Marks.{AreMarks}
 use Rattle.cxx_overrider.proofs.MarkLemmas.{mark_rows_more}
 use Rattle.cxx_overrider.proofs.pure.pure_rows.Goals as goal
 

@@ -1,6 +1,6 @@
 use Rattle.std.proofs.Common.{◌≡◌, length}
-use Rattle.cxx_overrider.specs.Pure.{LeavesPure}
-use Rattle.cxx_overrider.specs.Marks.{AreMarks}
+use Rattle.cxx_overrider.specs.invariants.Pure.{LeavesPure}
+use Rattle.cxx_overrider.specs.invariants.Marks.{AreMarks}
 use Rattle.cxx_overrider.proofs.pure.pure_rows.Given as goal
 
 abbrev pub invariant-loop-number : goal.invariant-loop-number

@@ -4,8 +4,9 @@ use Rattle.cxx_hierarchy.specs.declared.records.ClassId.{ClassId}
 use Rattle.cxx_hierarchy.specs.declared.records.Base.{Base}
 use Rattle.cxx_hierarchy.specs.Classes.{bases_of}
 use Rattle.cxx_overrider.specs.declared.entries.Entry.{Entry}
-use Rattle.cxx_overrider.specs.Settling.{AreCandidates}
-use Rattle.cxx_overrider.proofs.Lists.{get_contains, get_at}
+use Rattle.cxx_overrider.specs.invariants.Settling.{AreCandidates}
+use Rattle.cxx_overrider.proofs.Lists.{get_at}
+use Rattle.foundation.proofs.Places.{contains_at}
 use Rattle.cxx_overrider.proofs.SettlingLemmas.{found_step, missing_step}
 use Rattle.cxx_overrider.proofs.settling.candidates.Goals as goal
 use Rattle.cxx_overrider.proofs.settling.candidates.Goals.{in-Some+in_ok-push, in_default}
@@ -19,7 +20,7 @@ loop-base-preserved c =
     let i = c.loop-base.base-index in
     let base = get_or c.as_slice-base-items.result.now i no_base in
     let listed : slice_get (bases_of h c.args.c) i ≡ Some base = get_at c.as_slice-base-items.result.now (bases_of h c.args.c) i no_base c.loop-base.invariant.items c.loop-base-test.true in
-    let before = c.keeps.ensures.bases c.args.c base (get_contains (bases_of h c.args.c) i base listed) in
+    let before = c.keeps.ensures.bases c.args.c base (contains_at (bases_of h c.args.c) i base listed) in
     record {
       items = c.loop-base.invariant.items;
       found = λ s tells. elim c.match-below.branch [

@@ -1,7 +1,7 @@
 use Rattle.std.proofs.Common.{◌≡◌}
 use Rattle.cxx_hierarchy.specs.Classes.{bases_of}
 use Rattle.cxx_overrider.specs.Functions.{Signature}
-use Rattle.cxx_overrider.specs.Settling.{TellsBefore, AreCandidates}
+use Rattle.cxx_overrider.specs.invariants.Settling.{TellsBefore, AreCandidates}
 use Rattle.cxx_overrider.proofs.settling.candidates.Given as goal
 
 -- the entries of the bases so far

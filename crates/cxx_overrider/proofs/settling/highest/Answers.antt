@@ -2,7 +2,7 @@ use Rattle.std.proofs.Common.{◌≡◌, Some, sym, ap, subst, ◌∙◌, ◌+�
 use Rattle.std.specs.List.{slice_get}
 use Rattle.std.proofs.lemmas.Option.{slice_get-get_or}
 use Rattle.cxx_overrider.specs.declared.entries.Entry.{Entry}
-use Rattle.cxx_overrider.specs.Settling.{Holds, IsAmong}
+use Rattle.cxx_overrider.specs.invariants.Settling.{Holds, IsAmong}
 use Rattle.cxx_overrider.proofs.SettlingLemmas.{IsAboveSoFar, above_keep, above_take, above_all, refuted}
 use Rattle.cxx_overrider.proofs.settling.highest.Goals as goal
 use Rattle.cxx_overrider.proofs.settling.highest.Goals.{then-holds, else-holds}

@@ -1,4 +1,4 @@
-use Rattle.cxx_overrider.specs.Settling.{IsAmong, IsOrder}
+use Rattle.cxx_overrider.specs.invariants.Settling.{IsAmong, IsOrder}
 use Rattle.cxx_overrider.proofs.SettlingLemmas.{IsAboveSoFar}
 use Rattle.cxx_overrider.proofs.settling.highest.Given as goal
 

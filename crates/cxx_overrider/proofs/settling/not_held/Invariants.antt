@@ -1,7 +1,7 @@
 use Rattle.std.proofs.Common.{◌≡◌, ◌<◌, ℕ, Some}
 use Rattle.std.specs.List.{slice_get}
 use Rattle.cxx_overrider.specs.declared.entries.Entry.{Entry}
-use Rattle.cxx_overrider.specs.Settling.{Holds}
+use Rattle.cxx_overrider.specs.invariants.Settling.{Holds}
 use Rattle.cxx_overrider.proofs.settling.not_held.Given as goal
 
 abbrev pub invariant-loop-x : goal.invariant-loop-x

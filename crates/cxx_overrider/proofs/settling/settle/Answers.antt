@@ -2,8 +2,8 @@ use Rattle.std.proofs.Common.{◌≡◌, ℕ, List, Some, ap, sym, subst, ◌∙
 use Rattle.cxx_hierarchy.specs.Classes.{bases_of}
 use Rattle.cxx_overrider.specs.declared.FunctionId.{FunctionId}
 use Rattle.cxx_overrider.specs.declared.entries.Entry.{Entry}
-use Rattle.cxx_overrider.specs.Numbers.{number_of}
-use Rattle.cxx_overrider.specs.Settling.{IsPicked}
+use Rattle.cxx_overrider.specs.invariants.Numbers.{number_of}
+use Rattle.cxx_overrider.specs.invariants.Settling.{IsPicked}
 use Rattle.cxx_overrider.proofs.MarkLemmas.{number_says}
 use Rattle.cxx_overrider.proofs.PureLemmas.{none_declared}
 use Rattle.cxx_overrider.proofs.SettlingLemmas.{own_tells, settled_picked}

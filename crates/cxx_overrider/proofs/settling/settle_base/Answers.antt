@@ -1,8 +1,9 @@
 use Rattle.std.proofs.Common.{length, ap, arith}
-use Rattle.cxx_overrider.specs.Numbers.{row_of}
-use Rattle.cxx_overrider.proofs.Lists.{get_at, match_true}
-use Rattle.cxx_overrider.proofs.Made.{between_here, made_to_start, made_to_next, made_to_end, made_end}
-use Rattle.cxx_overrider.proofs.Paths.{virtual_below}
+use Rattle.cxx_subobject.proofs.PathLemmas.{virtual_below}
+use Rattle.cxx_overrider.specs.invariants.Numbers.{row_of}
+use Rattle.cxx_overrider.proofs.Lists.{get_at}
+use Rattle.std.proofs.lemmas.Bool.{MatchBool-at_true}
+use Rattle.cxx_overrider.proofs.Made.{between_here, made_to_start, made_to_next, made_to_end, made_end, keeps_all, keeps_through}
 use Rattle.cxx_overrider.proofs.settling.settle_base.Goals as goal
 
 pub numbers_within-n-items-requires : goal.numbers_within-n-items-requires
@@ -21,6 +22,7 @@ loop-n-init c =
     let all = c.requires.tables.all_within in
     record {
       items = c.numbers_within-n-items.ensures;
+      kept = keeps_all c.args.c c.args.entries.now;
       made = made_to_start h t.numbering.rows.items t.numbering.count t.within.items c.args.v c.requires.tables.within (omega arith) c.args.entries.now c.args.c.0 c.requires.made;
     }
 
@@ -60,11 +62,12 @@ loop-n-preserved c =
     let at = get_at c.numbers_within-n-items.result.now (row_of t.within.items c.args.v) c.loop-n.n-index 0 c.loop-n.invariant.items c.loop-n-test.true in
     record {
       items = c.loop-n.invariant.items;
-      made = made_to_next h t.numbering.rows.items t.numbering.count t.within.items c.args.v c.requires.tables.within (omega arith) c.settle_number.new.entries c.args.c.0 c.loop-n.n-index _ at (match_true c.in_ok-settle_number.field-0 _ _ c.if-not-branch.false (c.in_ok-settle_number.ensures));
+      kept = keeps_through c.args.c c.args.entries.now c.loop-n.entries c.settle_number.new.entries c.loop-n.invariant.kept c.in_ok-settle_number.ensures.kept;
+      made = made_to_next h t.numbering.rows.items t.numbering.count t.within.items c.args.v c.requires.tables.within (omega arith) c.settle_number.new.entries c.args.c.0 c.loop-n.n-index _ at (MatchBool-at_true _ _ c.if-not-branch.false c.in_ok-settle_number.ensures.one);
     }
 
-pub returns : goal.returns
-returns c =
+pub returns-clause-one : goal.returns-clause-one
+returns-clause-one c =
     let h = c.args.h.now in
     let t = c.args.tables.now in
     let lt = virtual_below h c.keeps.ensures c.args.c c.args.v c.requires.base in

@@ -1,6 +1,7 @@
 use Rattle.std.proofs.Common.{◌≡◌, ◌+◌, ℕ, subst, arith}
-use Rattle.cxx_overrider.specs.Settling.{IsMade}
-use Rattle.cxx_overrider.proofs.Made.{made_class}
+use Rattle.cxx_overrider.specs.invariants.Settling.{IsMade}
+use Rattle.cxx_overrider.proofs.Made.{made_class, keeps_all, keeps_through}
+use Rattle.std.proofs.lemmas.Bool.{MatchBool-at_true}
 use Rattle.cxx_overrider.proofs.OneFinal.{one_final}
 use Rattle.cxx_overrider.proofs.settling.settle_class.Goals as goal
 
@@ -12,5 +13,14 @@ returns c =
     let all : c.loop-number.number ≡ c.args.c.0 = let f = c.loop-number-test.false in omega arith in
     let made : IsMade h numbers c.loop-number.entries (c.args.c.0 + 1) 0 0 =
     made_class h c.keeps.ensures numbers c.loop-number.entries c.args.c
-    (subst (λ (n : ℕ). IsMade h numbers c.loop-number.entries c.args.c.0 n 0) all c.loop-number.invariant) in
-    record { made = λ t. made; one = one_final h c.args.tables.now c.loop-number.entries c.args.c (c.args.c.0 + 1) (omega arith) c.requires.tables made }
+    (subst (λ (n : ℕ). IsMade h numbers c.loop-number.entries c.args.c.0 n 0) all c.loop-number.invariant.made) in
+    record { made = λ t. made; kept = c.loop-number.invariant.kept; one = one_final h c.args.tables.now c.loop-number.entries c.args.c (c.args.c.0 + 1) (omega arith) c.requires.tables made }
+
+pub loop-number-init : goal.loop-number-init
+loop-number-init c = record { made = c.requires.made; kept = keeps_all c.args.c c.args.entries.now }
+
+pub loop-number-preserved : goal.loop-number-preserved
+loop-number-preserved c = record {
+  made = MatchBool-at_true _ _ c.if-not-branch.false c.in_ok-settle_if_base.ensures.one;
+  kept = keeps_through c.args.c c.args.entries.now c.loop-number.entries c.settle_if_base.new.entries c.loop-number.invariant.kept c.in_ok-settle_if_base.ensures.kept;
+}

@@ -1,5 +1,9 @@
-use Rattle.cxx_overrider.specs.Settling.{IsMade}
+use Rattle.cxx_overrider.specs.invariants.EntryTables.{KeepsBefore}
+use Rattle.cxx_overrider.specs.invariants.Settling.{IsMade}
 use Rattle.cxx_overrider.proofs.settling.settle_class.Given as goal
 
 abbrev pub invariant-loop-number : goal.invariant-loop-number
-invariant-loop-number l = IsMade l.h l.tables.numbering.rows.items l.entries l.fn.c.0 l.number 0
+invariant-loop-number l = record {
+  made : IsMade l.h l.tables.numbering.rows.items l.entries l.fn.c.0 l.number 0;
+  kept : KeepsBefore l.fn.c l.fn.entries l.entries;
+}

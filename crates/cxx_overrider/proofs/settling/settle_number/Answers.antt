@@ -2,33 +2,33 @@ use Rattle.std.proofs.Common.{◌≡◌, Some, subst}
 use Rattle.std.specs.Prelude.{if◌then◌else◌}
 use Rattle.cxx_overrider.specs.declared.entries.Key.{Key}
 use Rattle.cxx_overrider.specs.declared.settling.Settled.{Settled}
-use Rattle.cxx_overrider.specs.Numbers.{IsNumberOf}
-use Rattle.cxx_overrider.specs.EntryTables.{same_key, entry_of}
-use Rattle.cxx_overrider.specs.Settling.{IsSettled}
-use Rattle.cxx_overrider.proofs.Made.{made_tells, made_skip, made_put}
+use Rattle.cxx_overrider.specs.invariants.Numbers.{IsNumberOf}
+use Rattle.cxx_overrider.specs.invariants.EntryTables.{same_key, entry_of}
+use Rattle.cxx_overrider.specs.invariants.Settling.{IsSettled}
+use Rattle.cxx_overrider.proofs.Made.{made_tells, made_skip, made_put, keeps_all, keeps_put}
 use Rattle.cxx_overrider.proofs.WithinLemmas.{within_virtual}
 use Rattle.cxx_overrider.proofs.settling.settle_number.Goals as goal
 
-pub returns-in-Nothing : goal.returns-in-Nothing
-returns-in-Nothing c =
+pub returns-in-Nothing-clause-one : goal.returns-in-Nothing-clause-one
+returns-in-Nothing-clause-one c =
     let h = c.args.h.now in
     let numbers = c.args.tables.now.numbering.rows.items in
     made_skip h numbers c.args.entries.now c.args.c c.args.v c.args.n c.requires.made
     (λ s k has. subst (λ (x : Settled). IsSettled h c.args.c c.args.v s x) c.in-Nothing.is
     (c.in_ok-settle.ensures s k (made_tells h numbers c.args.entries.now c.args.c c.args.v c.args.n c.requires.made s k has)))
 
-pub returns-in_ok-put-in-One : goal.returns-in_ok-put-in-One
-returns-in_ok-put-in-One c =
+pub returns-in_ok-put-in-One-clause-one : goal.returns-in_ok-put-in-One-clause-one
+returns-in_ok-put-in-One-clause-one c =
     let h = c.args.h.now in
     let numbers = c.args.tables.now.numbering.rows.items in
     let old = c.args.entries.now in
     made_put h numbers old c.args.c c.args.v c.args.n c.requires.made c.put.new.self c.in-One.entry
     (λ s k has. subst (λ (x : Settled). IsSettled h c.args.c c.args.v s x) c.in-One.is
     (c.in_ok-settle.ensures s k (made_tells h numbers old c.args.c c.args.v c.args.n c.requires.made s k has)))
-    (subst (λ (k : Key). (q : Key) → entry_of c.put.new.self q ≡ (if same_key q k then Some c.in-One.entry else entry_of old q)) c.key_of.ensures c.in_ok-put-in-One.ensures)
+    (subst (λ (k : Key). (q : Key) → entry_of c.put.new.self q ≡ (if same_key q k then Some c.in-One.entry else entry_of old q)) c.key_of.ensures c.in_ok-put-in-One.ensures.put)
 
-pub returns-in-Two : goal.returns-in-Two
-returns-in-Two c =
+pub returns-in-Two-clause-one : goal.returns-in-Two-clause-one
+returns-in-Two-clause-one c =
     let h = c.args.h.now in
     let t = c.requires.tables in
     let numbers = c.args.tables.now.numbering.rows.items in
@@ -39,3 +39,12 @@ returns-in-Two c =
     let settled = subst (λ (x : Settled). IsSettled h c.args.c c.args.v s.0 x) c.in-Two.is
     (c.in_ok-settle.ensures s.0 k (made_tells h numbers c.args.entries.now c.args.c c.args.v c.args.n c.requires.made s.0 k has)) in
     settled (within_virtual h c.args.v s.0 has)
+
+pub returns-in-Nothing-clause-kept : goal.returns-in-Nothing-clause-kept
+returns-in-Nothing-clause-kept c = keeps_all c.args.c c.args.entries.now
+
+pub returns-in_ok-put-in-One-clause-kept : goal.returns-in_ok-put-in-One-clause-kept
+returns-in_ok-put-in-One-clause-kept c = keeps_put c.args.c c.args.v c.args.n c.args.entries.now c.put.new.self c.in-One.entry _ c.key_of.ensures c.in_ok-put-in-One.ensures.put
+
+pub returns-in-Two-clause-kept : goal.returns-in-Two-clause-kept
+returns-in-Two-clause-kept c = keeps_all c.args.c c.args.entries.now

@@ -1,8 +1,8 @@
 use Rattle.std.proofs.Common.{◌≡◌, ℕ, Some, length}
 use Rattle.std.specs.List.{slice_get}
 use Rattle.cxx_overrider.specs.declared.FunctionId.{FunctionId}
-use Rattle.cxx_overrider.specs.Numbers.{AreFirst, IsFirstOf}
-use Rattle.cxx_overrider.specs.Keys.{AreKeyed}
+use Rattle.cxx_overrider.specs.invariants.Numbers.{AreFirst, IsFirstOf}
+use Rattle.cxx_overrider.specs.invariants.Keys.{AreKeyed}
 use Rattle.cxx_overrider.proofs.Numbering.{HasFirsts}
 use Rattle.cxx_overrider.proofs.signatures.number_class.Given as goal
 

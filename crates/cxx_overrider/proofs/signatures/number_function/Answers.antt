@@ -1,8 +1,8 @@
 use Rattle.std.proofs.Common.{◌≡◌, ℕ, ◌++◌, ◌∷◌, [], List, length, ap, subst, sym, ◌∙◌, rules}
 use Rattle.cxx_overrider.specs.declared.FunctionId.{FunctionId}
 use Rattle.cxx_overrider.specs.Functions.{signature_of}
-use Rattle.cxx_overrider.specs.Keys.{AreKeyed}
-use Rattle.cxx_overrider.specs.Numbers.{AreFirst, IsFirstOf}
+use Rattle.cxx_overrider.specs.invariants.Keys.{AreKeyed}
+use Rattle.cxx_overrider.specs.invariants.Numbers.{AreFirst, IsFirstOf}
 use Rattle.cxx_overrider.proofs.Numbering.{some_value, first_kept, first_new, firsts_pushed}
 use Rattle.cxx_overrider.proofs.KeyLemmas.{found_first, missing_first, keyed_pushed}
 use Rattle.cxx_overrider.proofs.signatures.number_function.Goals as goal

@@ -1,5 +1,5 @@
 use Rattle.std.proofs.Common.{◌≡◌, ◌++◌, ◌∷◌, [], ℕ, List, length, subst, sym, ap, arith, length-append, rules}
-use Rattle.cxx_overrider.specs.Numbers.{IsNumbering}
+use Rattle.cxx_overrider.specs.invariants.Numbers.{IsNumbering}
 use Rattle.cxx_overrider.proofs.Numbering.{HasRows, rows_more, numbering_made}
 use Rattle.cxx_overrider.proofs.signatures.number_signatures.Goals as goal
 

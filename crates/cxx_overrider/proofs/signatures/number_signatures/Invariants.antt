@@ -1,7 +1,7 @@
 use Rattle.std.proofs.Common.{◌≡◌, ℕ, Some, List, length}
 use Rattle.std.specs.List.{slice_get}
-use Rattle.cxx_overrider.specs.Numbers.{AreFirst}
-use Rattle.cxx_overrider.specs.Keys.{AreKeyed}
+use Rattle.cxx_overrider.specs.invariants.Numbers.{AreFirst}
+use Rattle.cxx_overrider.specs.invariants.Keys.{AreKeyed}
 use Rattle.cxx_overrider.proofs.Numbering.{HasRows}
 use Rattle.cxx_overrider.proofs.signatures.number_signatures.Given as goal
 

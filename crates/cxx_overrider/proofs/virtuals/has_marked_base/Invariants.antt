@@ -3,7 +3,7 @@ use Rattle.std.specs.List.{slice_get}
 use Rattle.cxx_hierarchy.specs.declared.records.ClassId.{ClassId}
 use Rattle.cxx_hierarchy.specs.declared.records.Base.{Base}
 use Rattle.cxx_hierarchy.specs.Classes.{bases_of}
-use Rattle.cxx_overrider.specs.Marks.{mark_of}
+use Rattle.cxx_overrider.specs.invariants.Marks.{mark_of}
 use Rattle.cxx_overrider.proofs.virtuals.has_marked_base.Given as goal
 
 -- no base so far has the mark

@@ -1,5 +1,5 @@
 use Rattle.std.proofs.Common.{◌≡◌, ℕ, List, Some, ap, sym, ◌∙◌}
-use Rattle.cxx_overrider.specs.Numbers.{number_of}
+use Rattle.cxx_overrider.specs.invariants.Numbers.{number_of}
 use Rattle.cxx_overrider.proofs.MarkLemmas.{number_says, own_decided}
 use Rattle.cxx_overrider.proofs.virtuals.says_own_virtual.Goals as goal
 

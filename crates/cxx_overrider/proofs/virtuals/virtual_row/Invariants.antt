@@ -1,6 +1,6 @@
 use Rattle.std.proofs.Common.{◌≡◌, length}
 use Rattle.cxx_overrider.specs.Overriding.{HasVirtual}
-use Rattle.cxx_overrider.specs.Marks.{MarksEach}
+use Rattle.cxx_overrider.specs.invariants.Marks.{MarksEach}
 use Rattle.cxx_overrider.proofs.virtuals.virtual_row.Given as goal
 
 abbrev pub invariant-loop-n : goal.invariant-loop-n

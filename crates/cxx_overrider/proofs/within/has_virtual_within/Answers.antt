@@ -1,7 +1,7 @@
 use Rattle.std.proofs.Common.{◌≡◌, ℕ, List, Some, true, ap, sym, subst, ◌∙◌, ◌↔◌, arith}
 use Rattle.cxx_overrider.specs.declared.FunctionId.{FunctionId}
 use Rattle.cxx_overrider.specs.Overriding.{HasVirtual}
-use Rattle.cxx_overrider.specs.Numbers.{number_of}
+use Rattle.cxx_overrider.specs.invariants.Numbers.{number_of}
 use Rattle.cxx_overrider.proofs.MarkLemmas.{number_says}
 use Rattle.cxx_overrider.proofs.PureLemmas.{none_declared}
 use Rattle.cxx_overrider.proofs.WithinLemmas.{within_marked, own_marked, none_marked}

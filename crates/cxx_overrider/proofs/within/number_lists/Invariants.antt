@@ -1,5 +1,5 @@
 use Rattle.std.proofs.Common.{◌≡◌, length}
-use Rattle.cxx_overrider.specs.Within.{AreListed}
+use Rattle.cxx_overrider.specs.invariants.Within.{AreListed}
 use Rattle.cxx_overrider.proofs.within.number_lists.Given as goal
 
 abbrev pub invariant-loop-number : goal.invariant-loop-number

@@ -1,5 +1,5 @@
 use Rattle.std.proofs.Common.{get_or, []}
-use Rattle.cxx_overrider.specs.Within.{ListsMarked}
+use Rattle.cxx_overrider.specs.invariants.Within.{ListsMarked}
 use Rattle.cxx_overrider.proofs.within.numbers_marked.Given as goal
 
 -- the list is made up to the number

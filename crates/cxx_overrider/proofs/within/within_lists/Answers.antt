@@ -1,5 +1,5 @@
 use Rattle.std.proofs.Common.{◌≡◌, Bool, List, length, sym, subst, ◌∙◌}
-use Rattle.cxx_overrider.specs.Within.{AreListed}
+use Rattle.cxx_overrider.specs.invariants.Within.{AreListed}
 use Rattle.cxx_overrider.proofs.WithinLemmas.{within_made}
 use Rattle.cxx_overrider.proofs.within.within_lists.Goals as goal
 

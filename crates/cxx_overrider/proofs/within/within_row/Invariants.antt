@@ -1,6 +1,6 @@
 use Rattle.std.proofs.Common.{◌≡◌, length}
-use Rattle.cxx_overrider.specs.Within.{HasVirtualWithin}
-use Rattle.cxx_overrider.specs.Marks.{MarksEach}
+use Rattle.cxx_overrider.specs.invariants.Within.{HasVirtualWithin}
+use Rattle.cxx_overrider.specs.invariants.Marks.{MarksEach}
 use Rattle.cxx_overrider.proofs.within.within_row.Given as goal
 
 abbrev pub invariant-loop-n : goal.invariant-loop-n

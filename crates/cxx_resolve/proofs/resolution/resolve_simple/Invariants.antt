@@ -1,4 +1,5 @@
-use Rattle.cxx_resolve.specs.Known.{Knows}
+use Rattle.std.proofs.Common.{◌≤◌, length}
+use Rattle.cxx_resolve.specs.invariants.Known.{Knows}
 use Rattle.cxx_resolve.proofs.SoFar.{SoFar}
 use Rattle.cxx_resolve.proofs.resolution.resolve_simple.Given as goal
 
@@ -6,4 +7,5 @@ abbrev pub invariant-loop-line : goal.invariant-loop-line
 invariant-loop-line l = record {
   far : SoFar l.h l.line-items l.line-index l.variables.table l.variables.types l.lines;
   knows : Knows l.h l.known;
+  few : length l.variables.types ≤ 256;
 }

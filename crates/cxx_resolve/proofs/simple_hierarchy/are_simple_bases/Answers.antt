@@ -1,7 +1,8 @@
 use Rattle.std.proofs.lemmas.List.{get_or_default}
 use Rattle.std.proofs.lemmas.List.Elements.{Contains-get_or}
 use Rattle.cxx_resolve.specs.SimpleHierarchy.{IsSimpleBase}
-use Rattle.cxx_resolve.proofs.Each.{one_more, all_of, never, always, not_both}
+use Rattle.foundation.proofs.Each.{one_more, all_of}
+use Rattle.foundation.proofs.Truth.{never, always, not_both}
 use Rattle.cxx_resolve.proofs.simple_hierarchy.are_simple_bases.Goals as goal
 
 pub is_simple_base-requires : goal.is_simple_base-requires

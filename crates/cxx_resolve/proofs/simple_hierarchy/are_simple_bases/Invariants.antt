@@ -1,5 +1,5 @@
 use Rattle.cxx_resolve.specs.SimpleHierarchy.{IsSimpleBase}
-use Rattle.cxx_resolve.proofs.Each.{EachBefore}
+use Rattle.foundation.proofs.Each.{EachBefore}
 use Rattle.cxx_resolve.proofs.simple_hierarchy.are_simple_bases.Given as goal
 
 abbrev pub invariant-loop-base : goal.invariant-loop-base

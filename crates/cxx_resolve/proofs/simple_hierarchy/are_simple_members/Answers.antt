@@ -1,6 +1,7 @@
 use Rattle.std.proofs.Common.{sym}
 use Rattle.cxx_resolve.specs.SimpleHierarchy.{IsSimpleMember}
-use Rattle.cxx_resolve.proofs.Each.{one_more, all_of, never, always, not_both}
+use Rattle.foundation.proofs.Each.{one_more, all_of}
+use Rattle.foundation.proofs.Truth.{never, always, not_both}
 use Rattle.cxx_resolve.proofs.simple_hierarchy.are_simple_members.Goals as goal
 
 pub returns-then-not-is_simple_member : goal.returns-then-not-is_simple_member

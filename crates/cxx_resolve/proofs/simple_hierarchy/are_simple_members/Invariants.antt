@@ -1,5 +1,5 @@
 use Rattle.cxx_resolve.specs.SimpleHierarchy.{IsSimpleMember}
-use Rattle.cxx_resolve.proofs.Each.{EachBefore}
+use Rattle.foundation.proofs.Each.{EachBefore}
 use Rattle.cxx_resolve.proofs.simple_hierarchy.are_simple_members.Given as goal
 
 abbrev pub invariant-loop-member : goal.invariant-loop-member

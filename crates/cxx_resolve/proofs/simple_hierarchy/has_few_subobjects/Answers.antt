@@ -1,4 +1,4 @@
-use Rattle.cxx_resolve.proofs.Each.{never, not_both}
+use Rattle.foundation.proofs.Truth.{never, not_both}
 use Rattle.cxx_resolve.proofs.FewParts.{few_within}
 use Rattle.cxx_resolve.proofs.simple_hierarchy.has_few_subobjects.Goals as goal
 

@@ -1,7 +1,7 @@
 use Rattle.std.proofs.Common.{arith}
 use Rattle.std.proofs.lemmas.Option.{slice_get_within}
 use Rattle.cxx_resolve.specs.SimpleHierarchy.{HasSimpleClasses}
-use Rattle.cxx_resolve.proofs.Each.{never, always, not_both}
+use Rattle.foundation.proofs.Truth.{never, always, not_both}
 use Rattle.cxx_resolve.proofs.ClassTests.{bases_known, class_more}
 use Rattle.cxx_resolve.proofs.simple_hierarchy.has_simple_classes.Goals as goal
 

@@ -4,7 +4,7 @@ use Rattle.std.specs.Prelude.{Contains}
 use Rattle.cxx_hierarchy.specs.declared.records.ClassId.{ClassId}
 use Rattle.cxx_hierarchy.specs.declared.records.Base.{Base}
 use Rattle.cxx_hierarchy.specs.declared.records.Member.{Member}
-use Rattle.cxx_resolve.proofs.Each.{no_items}
+use Rattle.cxx_resolve.proofs.NoItems.{no_items}
 use Rattle.cxx_resolve.proofs.simple_hierarchy.is_simple_class.Goals as goal
 
 pub are_simple_bases-requires : goal.are_simple_bases-requires

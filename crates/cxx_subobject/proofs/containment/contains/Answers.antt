@@ -1,5 +1,6 @@
 use Rattle.std.proofs.Common.{◌≡◌, sym, ◌∙◌, ⊎_elim}
-use Rattle.cxx_subobject.proofs.TestLemmas.{longer_sound, inside_longer, inside_reached, inside_cases, true_false}
+use Rattle.foundation.proofs.Truth.{not_both}
+use Rattle.cxx_subobject.proofs.TestLemmas.{longer_sound, inside_longer, inside_reached, inside_cases}
 use Rattle.cxx_subobject.proofs.containment.contains.Goals as goal
 
 pub returns-then-is_longer : goal.returns-then-is_longer
@@ -11,5 +12,5 @@ returns-then-is_longer c = (
 pub returns-else-is_longer : goal.returns-else-is_longer
 returns-else-is_longer c = (
   λ t. inside_reached c.args.h.now c.args._c c.args.outer.now c.args.inner.now c.requires.inner (c.has_shared.ensures.0 t),
-  λ k. ⊎_elim (λ l. absurd (true_false _ (c.is_longer.ensures ∙ l) c.if-is_longer.false)) (λ r. c.has_shared.ensures.1 r) (inside_cases c.args.h.now c.args.outer.now c.args.inner.now k),
+  λ k. ⊎_elim (λ l. absurd (not_both (c.is_longer.ensures ∙ l) c.if-is_longer.false)) (λ r. c.has_shared.ensures.1 r) (inside_cases c.args.h.now c.args.outer.now c.args.inner.now k),
 )

@@ -2,7 +2,7 @@ use Rattle.std.proofs.Common.{◌≡◌, ℕ, ◌+◌, ◌<◌, ◌≤◌, ◌�
 use Rattle.std.proofs.lemmas.List.{take_all}
 use Rattle.cxx_hierarchy.specs.declared.records.ClassId.{ClassId}
 use Rattle.cxx_hierarchy.specs.declared.records.Base.{Base}
-use Rattle.cxx_subobject.specs.Counts.{own_bases}
+use Rattle.cxx_subobject.specs.invariants.Counts.{own_bases}
 use Rattle.cxx_subobject.proofs.CountLemmas.{base_more}
 use Rattle.cxx_subobject.proofs.parts.base_sum.Goals as goal
 

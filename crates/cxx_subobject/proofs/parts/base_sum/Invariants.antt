@@ -1,6 +1,6 @@
 use Rattle.std.proofs.Common.{◌≡◌, ℕ, ◌+◌, ◌≤◌, min, take}
 use Rattle.cxx_hierarchy.specs.declared.records.ClassId.{ClassId}
-use Rattle.cxx_subobject.specs.Counts.{IsCapped, own_bases}
+use Rattle.cxx_subobject.specs.invariants.Counts.{IsCapped, own_bases}
 use Rattle.cxx_subobject.proofs.parts.base_sum.Given as goal
 
 -- the start and what the bases so far have

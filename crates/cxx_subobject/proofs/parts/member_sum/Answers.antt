@@ -2,7 +2,7 @@ use Rattle.std.proofs.Common.{◌≡◌, ℕ, ◌+◌, ◌<◌, ◌≤◌, ◌�
 use Rattle.std.proofs.lemmas.List.{take_all}
 use Rattle.cxx_hierarchy.specs.declared.records.ClassId.{ClassId}
 use Rattle.cxx_hierarchy.specs.declared.records.Member.{Member}
-use Rattle.cxx_subobject.specs.Counts.{parts_of_members}
+use Rattle.cxx_subobject.specs.invariants.Counts.{parts_of_members}
 use Rattle.cxx_subobject.proofs.CountLemmas.{member_more}
 use Rattle.cxx_subobject.proofs.parts.member_sum.Goals as goal
 

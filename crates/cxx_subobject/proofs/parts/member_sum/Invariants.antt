@@ -1,6 +1,6 @@
 use Rattle.std.proofs.Common.{◌≡◌, ℕ, ◌+◌, ◌≤◌, min, take}
 use Rattle.cxx_hierarchy.specs.declared.records.ClassId.{ClassId}
-use Rattle.cxx_subobject.specs.Counts.{IsCapped, parts_of_members}
+use Rattle.cxx_subobject.specs.invariants.Counts.{IsCapped, parts_of_members}
 use Rattle.cxx_subobject.proofs.parts.member_sum.Given as goal
 
 -- the subobject and the parts of the members so far

@@ -1,6 +1,6 @@
 use Rattle.std.proofs.Common.{◌≡◌, ℕ, ◌+◌, ◌≤◌, min}
 use Rattle.cxx_hierarchy.specs.declared.records.ClassId.{ClassId}
-use Rattle.cxx_subobject.specs.Counts.{IsCapped, IsSharedSum}
+use Rattle.cxx_subobject.specs.invariants.Counts.{IsCapped, IsSharedSum}
 use Rattle.cxx_subobject.proofs.parts.shared_sum.Given as goal
 
 -- the start and what the virtual bases so far have

@@ -1,5 +1,5 @@
 use Rattle.std.proofs.Common.{◌≡◌, ◌+◌, length, option_map}
-use Rattle.cxx_text.specs.Front.{close_len}
+use Rattle.cxx_text.specs.invariants.Front.{close_len}
 use Rattle.cxx_text.proofs.blank.close_len.Given as goal
 
 abbrev pub invariant-loop-rest : goal.invariant-loop-rest

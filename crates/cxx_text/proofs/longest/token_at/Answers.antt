@@ -1,6 +1,6 @@
 use Rattle.std.proofs.Common.{arith, true, false, ap, sym, ◌∙◌, min}
 use Rattle.cxx_text.specs.Bytes.{is_letter, is_digit}
-use Rattle.cxx_text.specs.Front.{number_value}
+use Rattle.cxx_text.specs.invariants.Front.{number_value}
 use Rattle.cxx_text.proofs.LongestPiece.{begins_is, word_here, number_here, no_number, sign_here, no_sign}
 use Rattle.cxx_text.proofs.longest.token_at.Goals as goal
 

@@ -1,12 +1,13 @@
 use Rattle.std.proofs.Common.{◌<◌, arith, sym, ap, ◌∙◌, drop}
 use Rattle.std.proofs.lemmas.List.{drop-drop}
 use Rattle.cxx_text.proofs.Blanks.{blank_is, no_blank}
+use Rattle.cxx_text.proofs.SomeTokens.{tokens_within}
 use Rattle.cxx_text.proofs.Steps.{line_further, after_blank, after_token, at_end, at_bad}
 use Rattle.cxx_text.proofs.scan.tokens.Goals as goal
 use Rattle.cxx_text.proofs.scan.tokens.Goals.{in-Some, in_default+in-Some-token_at+in_ok-push}
 
-pub returns-in_default-token_at : goal.returns-in_default-token_at
-returns-in_default-token_at c =
+pub returns-in_default-token_at-clause-cover : goal.returns-in_default-token_at-clause-cover
+returns-in_default-token_at-clause-cover c =
     at_bad c.args.text.now c.loop-rest.rest.now c.loop-rest.at c.loop-rest.tokens c.loop-rest.invariant.at c.loop-rest-test.true c.loop-rest.invariant.so_far
     (no_blank c.loop-rest.rest.now (sym c.blank_len.ensures ∙ c.in_default.is)) c.in_default-token_at.ensures.none
 
@@ -41,7 +42,13 @@ loop-rest-preserved c = record {
   ]);
 }
 
-pub returns : goal.returns
-returns c =
+pub returns-clause-cover : goal.returns-clause-cover
+returns-clause-cover c =
     at_end c.args.text.now c.loop-rest.rest.now c.loop-rest.at c.loop-rest.tokens _ c.loop-rest.line c.loop-rest.invariant.at (omega (arith, c.loop-rest-test.false)) c.loop-rest.invariant.line
     c.loop-rest.invariant.so_far c.in_ok-push-2.ensures.ok
+
+pub returns-in_default-token_at-clause-few : goal.returns-in_default-token_at-clause-few
+returns-in_default-token_at-clause-few c = tokens_within _ _ _ (returns-in_default-token_at-clause-cover c)
+
+pub returns-clause-few : goal.returns-clause-few
+returns-clause-few c = tokens_within _ _ _ (returns-clause-cover c)

@@ -44,5 +44,7 @@ returns-clause-machine c =
     let is = the_program c.args.accepted.now.source h c.in_ok-program.field-0 c.in-Some.program c.in_ok-program.ensures c.in-Some.is in
     hands_machine c.run_program.result Run c.args.accepted.now.source h c.in-Some.program rows refl is (is_laid h rows c.requires) c.run_program.ensures.machine
 
-pub run_program-requires-clause-sound : goal.run_program-requires-clause-sound
-run_program-requires-clause-sound c = c.requires.sound.sound
+pub run_program-requires-clause-few : goal.run_program-requires-clause-few
+run_program-requires-clause-few c =
+    let is = the_program c.args.accepted.now.source c.args.accepted.now.hierarchy c.in_ok-program.field-0 c.in-Some.program c.in_ok-program.ensures c.in-Some.is in
+    is.resolves.few

@@ -1,5 +1,5 @@
 use Rattle.std.proofs.Common.{string_bytes, map}
-use Rattle.cxxabi_cmd.specs.Replies.{answer_of}
+use Rattle.cxxabi_cmd.specs.invariants.Replies.{answer_of}
 use Rattle.cxxabi_cmd.proofs.OutputLemmas.{answers, broken_off}
 use Rattle.cxxabi_cmd.proofs.run.run_cxxabi.Goals as goal
 

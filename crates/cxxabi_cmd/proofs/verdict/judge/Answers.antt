@@ -9,20 +9,20 @@ pub returns-in_err-source-clause-err : goal.returns-in_err-source-clause-err
 returns-in_err-source-clause-err c =
     let r : c.from_residual-in_err-source.result ≡ Err c.in_err-source.field-0.0 = search rules in
     subst (λ r. IfErr r (λ e. (e ≡ stop.NoMemory) ⊎ Verdict c.args.bytes.now (Stops e))) (sym r)
-    (text_stop c.args.bytes.now c.in_ok-list.list.tokens c.in_ok-list.list.bad c.in_err-source.field-0.0 c.in_ok-list.ensures c.in_err-source.ensures.fault)
+    (text_stop c.args.bytes.now c.in_ok-list.list.tokens c.in_ok-list.list.bad c.in_err-source.field-0.0 c.in_ok-list.ensures.cover c.in_err-source.ensures.event)
 
 pub returns-in_err-hierarchy-clause-err : goal.returns-in_err-hierarchy-clause-err
 returns-in_err-hierarchy-clause-err c =
     let r : c.from_residual-in_err-hierarchy.result ≡ Err c.in_err-hierarchy.field-0.0 = search rules in
     subst (λ r. IfErr r (λ e. (e ≡ stop.NoMemory) ⊎ Verdict c.args.bytes.now (Stops e))) (sym r)
-    (records_stop c.args.bytes.now c.in_ok-list.list.tokens c.in_ok-list.list.bad c.in_ok-source.source c.in_err-hierarchy.field-0.0 c.in_ok-list.ensures c.in_ok-source.ensures.reads c.in_err-hierarchy.ensures.err)
+    (records_stop c.args.bytes.now c.in_ok-list.list.tokens c.in_ok-list.list.bad c.in_ok-source.source c.in_err-hierarchy.field-0.0 c.in_ok-list.ensures.cover c.in_ok-source.ensures.reads c.in_err-hierarchy.ensures.err)
 
 pub returns-in_err-layout-clause-err : goal.returns-in_err-layout-clause-err
 returns-in_err-layout-clause-err c =
     let r : c.from_residual-in_err-layout.result ≡ Err c.in_err-layout.field-0.0 = search rules in
     subst (λ r. IfErr r (λ e. (e ≡ stop.NoMemory) ⊎ Verdict c.args.bytes.now (Stops e))) (sym r)
-    (classes_stop c.args.bytes.now c.in_ok-list.list.tokens c.in_ok-list.list.bad c.in_ok-source.source c.in_ok-hierarchy.hierarchy c.in_err-layout.field-0.0 c.in_ok-list.ensures c.in_ok-source.ensures.reads c.in_ok-hierarchy.ensures.ok c.in_err-layout.ensures.err)
+    (classes_stop c.args.bytes.now c.in_ok-list.list.tokens c.in_ok-list.list.bad c.in_ok-source.source c.in_ok-hierarchy.hierarchy c.in_err-layout.field-0.0 c.in_ok-list.ensures.cover c.in_ok-source.ensures.reads c.in_ok-hierarchy.ensures.ok c.in_err-layout.ensures.err)
 
 pub returns-clause-ok : goal.returns-clause-ok
 returns-clause-ok c =
-    all_passed c.args.bytes.now c.in_ok-list.list.tokens c.in_ok-list.list.bad c.in_ok-source.source c.in_ok-hierarchy.hierarchy c.in_ok-list.ensures c.in_ok-source.ensures.reads c.in_ok-hierarchy.ensures.ok c.in_ok-layout.ensures.none
+    all_passed c.args.bytes.now c.in_ok-list.list.tokens c.in_ok-list.list.bad c.in_ok-source.source c.in_ok-hierarchy.hierarchy c.in_ok-list.ensures.cover c.in_ok-source.ensures.reads c.in_ok-hierarchy.ensures.ok c.in_ok-layout.ensures.none

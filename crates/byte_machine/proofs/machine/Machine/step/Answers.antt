@@ -1,7 +1,7 @@
 use Rattle.std.proofs.Common.{Some, sym, ap, ◌∙◌, rules}
 use Rattle.std.proofs.lemmas.Option.{slice_get-get_or}
 use Rattle.byte_machine.specs.MachineState.{code_of, state_of}
-use Rattle.byte_machine.specs.HeapState.{running}
+use Rattle.byte_machine.specs.invariants.HeapState.{running}
 use Rattle.byte_machine.proofs.Blocks.{Turns-ran}
 use Rattle.byte_machine.proofs.machine.Machine.step.Goals as goal
 

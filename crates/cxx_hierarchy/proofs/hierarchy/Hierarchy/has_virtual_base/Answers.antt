@@ -2,7 +2,7 @@
 use Rattle.std.proofs.Common.{◌≡◌, List, sym, ◌∙◌, ap, subst}
 use Rattle.cxx_hierarchy.specs.Classes.{Classes}
 use Rattle.cxx_hierarchy.specs.VirtualBases.{HasVirtualBase}
-use Rattle.cxx_hierarchy.specs.VirtualRows.{Row, mark}
+use Rattle.cxx_hierarchy.specs.invariants.VirtualRows.{Row, mark}
 use Rattle.cxx_hierarchy.proofs.VirtualRows.{virtual_sound, virtual_complete}
 use Rattle.cxx_hierarchy.proofs.hierarchy.Hierarchy.has_virtual_base.Goals as goal
 

@@ -1,6 +1,6 @@
 use Rattle.std.proofs.Common.{◌≡◌, ℕ, Some, Bool, List, ap, sym, ◌∙◌}
-use Rattle.cxx_overrider.specs.Numbers.{number_of}
-use Rattle.cxx_overrider.specs.Marks.{mark_of}
+use Rattle.cxx_overrider.specs.invariants.Numbers.{number_of}
+use Rattle.cxx_overrider.specs.invariants.Marks.{mark_of}
 use Rattle.cxx_overrider.proofs.FinalLemmas.{virtual_marked}
 use Rattle.cxx_overrider.proofs.pass.Overriders.is_virtual.Goals as goal
 

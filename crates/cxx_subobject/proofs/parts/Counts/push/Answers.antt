@@ -4,7 +4,7 @@ use Rattle.cxx_hierarchy.specs.declared.records.Base.{Base}
 use Rattle.cxx_hierarchy.specs.declared.records.Member.{Member}
 use Rattle.cxx_hierarchy.proofs.VirtualRows.{known_bases}
 use Rattle.cxx_subobject.specs.Parts.{parts_of}
-use Rattle.cxx_subobject.specs.Counts.{AreWithin, IsCapped, KnowsObject, HasGoodCount, IsSharedSum, own_of, own_bases, parts_weight, parts_of_members}
+use Rattle.cxx_subobject.specs.invariants.Counts.{AreWithin, IsCapped, KnowsObject, HasGoodCount, IsSharedSum, own_of, own_bases, parts_weight, parts_of_members}
 use Rattle.cxx_subobject.proofs.CountLemmas.{capped_within, known_member, good_count, counts_push}
 use Rattle.cxx_subobject.proofs.parts.Counts.push.Goals as goal
 

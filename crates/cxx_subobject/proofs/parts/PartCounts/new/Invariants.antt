@@ -1,4 +1,4 @@
-use Rattle.cxx_subobject.specs.Counts.{AreCounts}
+use Rattle.cxx_subobject.specs.invariants.Counts.{AreCounts}
 use Rattle.cxx_subobject.proofs.parts.PartCounts.new.Given as goal
 
 -- the classes so far were counted

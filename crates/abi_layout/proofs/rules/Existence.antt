@@ -1,0 +1,102 @@
+-- There is a place for each component, and a layout for each class.
+use Rattle.std.proofs.Common.{◌≡◌, ℕ, zero, suc, ◌+◌, ◌-◌, ◌*◌, ◌/◌, ◌≤◌, Bool, true, false, List, [], ◌∷◌, refl, arith}
+use Rattle.std.specs.Prelude.{max, ◌&&◌, nat_eq}
+use Rattle.std.proofs.lemmas.Bool.{eqb-true}
+use Rattle.std.proofs.lemmas.Nat.{div-add-mod'}
+use Rattle.std.proofs.Math.Nat.{mul-le-mul_right}
+use Rattle.abi_emptybase.specs.declared.Part.{Part}
+use Rattle.abi_emptybase.specs.Table.{same_part, holds, moved, has_conflict}
+use Rattle.abi_layout.specs.declared.component.Component.{Component}
+use Rattle.abi_layout.specs.declared.component.Stage.{Stage}
+use Rattle.abi_sound.specs.Sound.{Divides}
+use Rattle.abi_layout.specs.Placements.{IsNext, IsCandidate, IsPlace, ArePlaced, after, after_all}
+use Rattle.abi_layout.proofs.rules.Parts.{split, opposed}
+use Rattle.abi_layout.proofs.rules.PlacingLemmas.{place_at_start, first_least, place_behind, next_least, multiple_more}
+
+abbrev pub rounded : ℕ → ℕ → ℕ
+rounded start align = (start + (align - 1)) / align * align
+
+pub rounded_is_next : (start align : ℕ) → 1 ≤ align → IsNext start align (rounded start align)
+rounded_is_next start align positive =
+    let h = div-add-mod' (start + (align - 1)) align in
+    let lt : (start + (align - 1)) / align * align ≤ start + (align - 1) = omega (arith, h) in
+    record {
+      behind = omega (arith, h);
+      multiple = record { times = (start + (align - 1)) / align; is = refl };
+      least = λ other le divides. least other divides.times le divides.is lt;
+    }
+  where
+    least : (other times : ℕ) → start ≤ other → other ≡ times * align → (start + (align - 1)) / align * align ≤ start + (align - 1) → (start + (align - 1)) / align * align ≤ other
+    least other times le is lt = by_order ((start + (align - 1)) / align) lt
+      where
+        by_order : (q : ℕ) → q * align ≤ start + (align - 1) → q * align ≤ other
+        by_order q below = grind (arith, mul-le-mul_right)
+
+-- all parts lie before this place
+abbrev pub top_of : List Part → ℕ
+top_of [] = 0
+top_of (part ∷ parts) = max (part.place + 1) (top_of parts)
+
+none_holds : (table : List Part) (q : Part) → top_of table ≤ q.place → holds table q ≡ false
+none_holds [] q le = refl
+none_holds (x ∷ table) q le =
+    let rest = none_holds table q (omega arith) in
+    let other : nat_eq q.place x.place ≡ false = split (nat_eq q.place x.place) (λ b. b ≡ false) (λ t. let e = eqb-true q.place x.place t in absurd (omega arith)) (λ f. refl) in
+    let e : same_part q x ≡ false = never (nat_eq q.class x.class) (nat_eq q.place x.place) other in
+    cc
+  where
+    never : (a b : Bool) → b ≡ false → (a && b) ≡ false
+    never true b e = e
+    never false b e = refl
+
+free_behind : (table parts : List Part) (at : ℕ) → top_of table ≤ at → has_conflict table parts at ≡ false
+free_behind table [] at le = refl
+free_behind table (x ∷ parts) at le =
+    let here = none_holds table (moved at x) (omega arith) in
+    let rest = free_behind table parts at le in
+    cc
+
+pub record HasPlace (stage : Stage) (c : Component) : Type 0 where
+  pub place : ℕ
+  pub is : IsPlace stage c place
+
+-- a search from a multiple on, which ends behind all parts
+search_from : (stage : Stage) (c : Component) (fuel at : ℕ) → 1 ≤ c.align → stage.dsize ≤ at → Divides c.align at
+    → ((other : ℕ) → IsCandidate stage c other → has_conflict stage.parts c.parts other ≡ false → at ≤ other) → top_of stage.parts ≤ at + fuel → HasPlace stage c
+search_from stage c zero at positive behind multiple least top = record { place = at; is = place_behind stage c at behind multiple least (free_behind stage.parts c.parts at (omega arith)) }
+search_from stage c (suc fuel) at positive behind multiple least top = split (has_conflict stage.parts c.parts at) (λ b. HasPlace stage c)
+    (λ taken. search_from stage c fuel (at + c.align) positive (omega arith) (multiple_more c.align at multiple) (next_least stage c at multiple least taken) (omega arith))
+    (λ free. record { place = at; is = place_behind stage c at behind multiple least free })
+
+pub place_exists : (stage : Stage) (c : Component) → 1 ≤ c.align → HasPlace stage c
+place_exists stage c positive = split c.is_empty (λ b. HasPlace stage c)
+    (λ e. split (has_conflict stage.parts c.parts 0) (λ b. HasPlace stage c)
+    (λ taken. behind_data (λ _. taken))
+    (λ free. record { place = 0; is = place_at_start stage c e free }))
+    (λ e. behind_data (λ t. absurd (opposed t e)))
+  where
+    behind_data : (c.is_empty ≡ true → has_conflict stage.parts c.parts 0 ≡ true) → HasPlace stage c
+    behind_data taken =
+        let next = rounded_is_next stage.dsize c.align positive in
+        search_from stage c (top_of stage.parts) (rounded stage.dsize c.align) positive next.behind next.multiple (first_least stage c (rounded stage.dsize c.align) next taken) (omega arith)
+
+-- alignments that are not 0
+abbrev pub ArePositive : List Component → Type 0
+ArePositive [] = Unit {0}
+ArePositive (c ∷ cs) = (1 ≤ c.align) × ArePositive cs
+
+pub record HavePlaces (stage : Stage) (cs : List Component) : Type 0 where
+  pub places : List ℕ
+  pub placed : ArePlaced stage cs places
+
+pub places_exist : (stage : Stage) (cs : List Component) → ArePositive cs → HavePlaces stage cs
+places_exist stage [] positive = record { places = []; placed = tt }
+places_exist stage (c ∷ cs) positive =
+    let here = place_exists stage c positive.0 in
+    let rest = places_exist (after stage c here.place) cs positive.1 in
+    record { places = here.place ∷ rest.places; placed = (here.is, rest.placed) }
+
+pub align_grows : (stage : Stage) (cs : List Component) (ps : List ℕ) → stage.align ≤ (after_all stage cs ps).align
+align_grows stage [] ps = omega arith
+align_grows stage (c ∷ cs) [] = omega arith
+align_grows stage (c ∷ cs) (p ∷ ps) = let r = align_grows (after stage c p) cs ps in omega arith

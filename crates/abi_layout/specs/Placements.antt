@@ -1,0 +1,109 @@
+-- Which layout the rules of the ABI give (Itanium C++ ABI 2.4, and 2.2 for a class that is POD).
+use Rattle.std.specs.Prelude.{◌≡◌, ℕ, zero, suc, ◌+◌, ◌*◌, ◌≤◌, true, false, if◌then◌else◌, max, Option, Some, None, List, [], ◌∷◌, ◌++◌, map, slice_get}
+use Rattle.cxx_hierarchy.specs.declared.records.ClassId.{ClassId}
+use Rattle.cxx_hierarchy.specs.declared.records.Member.{Member}
+use Rattle.cxx_hierarchy.specs.declared.records.FieldType.{FieldType}
+use Rattle.cxx_hierarchy.specs.declared.records.FieldType.TheVariants.{Value, Object}
+use Rattle.cxx_hierarchy.specs.Classes.{Class}
+use Rattle.abi_emptybase.specs.declared.Part.{Part}
+use Rattle.abi_emptybase.specs.Table.{moved, has_conflict}
+use Rattle.abi_layout.specs.Limits.{size_limit}
+use Rattle.abi_layout.specs.declared.component.Component.{Component}
+use Rattle.abi_layout.specs.declared.component.Stage.{Stage}
+use Rattle.abi_sound.specs.declared.class_layout.ClassLayout.{ClassLayout}
+use Rattle.abi_sound.specs.Places.{size_of_value, size_in, align_in}
+use Rattle.abi_sound.specs.Sound.{Divides}
+pub use Rattle.abi_sound.specs.Places.{nvalign_in}
+pub use Rattle.cxx_hierarchy.specs.Declarations.{elements_of}
+
+-- place is the least multiple of align at or behind start
+pub record IsNext (start align place : ℕ) : Type 0 where
+  pub behind : start ≤ place
+  pub multiple : Divides align place
+  pub least : (other : ℕ) → start ≤ other → Divides align other → place ≤ other
+
+-- where a component is tried: an empty base at 0, and each component at the multiples of its alignment behind the data
+pub data IsCandidate (stage : Stage) (component : Component) : ℕ → Type 0 where
+  at_start : component.is_empty ≡ true → IsCandidate stage component 0
+  behind : (place : ℕ) → stage.dsize ≤ place → Divides component.align place → IsCandidate stage component place
+
+-- the component's place is the least candidate at which it brings no subobject of a class to where one of that class is
+-- already
+pub record IsPlace (stage : Stage) (component : Component) (place : ℕ) : Type 0 where
+  pub candidate : IsCandidate stage component place
+  pub free : has_conflict stage.parts component.parts place ≡ false
+  pub least : (other : ℕ) → IsCandidate stage component other → has_conflict stage.parts component.parts other ≡ false → place ≤ other
+
+-- what the stage is once the component is placed: an empty base takes no data
+abbrev pub after : Stage → Component → ℕ → Stage
+after stage component place = record {
+  dsize = if component.is_empty then stage.dsize else place + component.takes;
+  size = max stage.size (place + component.takes);
+  align = max stage.align component.align;
+  parts = stage.parts ++ map (moved place) component.parts;
+}
+
+-- the components lie, one after the other, at these places
+abbrev pub ArePlaced : Stage → List Component → List ℕ → Type 0
+ArePlaced stage [] [] = Unit {0}
+ArePlaced stage [] (place ∷ places) = ⊥
+ArePlaced stage (component ∷ components) [] = ⊥
+ArePlaced stage (component ∷ components) (place ∷ places) = IsPlace stage component place × ArePlaced (after stage component place) components places
+
+-- the stage once all of them are placed
+abbrev pub after_all : Stage → List Component → List ℕ → Stage
+after_all stage [] places = stage
+after_all stage (component ∷ components) [] = stage
+after_all stage (component ∷ components) (place ∷ places) = after_all (after stage component place) components places
+
+abbrev pub part_at : ClassId → ℕ → Part
+part_at c place = record { class = c.0; place = place }
+
+-- so many copies, each a stride further
+abbrev pub copies : ℕ → ℕ → List Part → List Part
+copies zero stride parts = []
+copies (suc n) stride parts = copies n stride parts ++ map (moved (n * stride)) parts
+
+abbrev pub nvsize_in : Option ClassLayout → ℕ
+nvsize_in None = 0
+nvsize_in (Some row) = row.nvsize
+
+-- the size and the alignment of a member, or of an array's element
+abbrev pub size_of_type : List ClassLayout → FieldType ClassId → ℕ
+size_of_type rows (Value type) = size_of_value type
+size_of_type rows (Object d) = size_in (slice_get rows d.0)
+
+abbrev pub align_of_type : List ClassLayout → FieldType ClassId → ℕ
+align_of_type rows (Value type) = size_of_value type
+align_of_type rows (Object d) = align_in (slice_get rows d.0)
+
+-- the class subobjects of a member or of an element
+abbrev pub parts_of_type : (ClassId → List Part) → FieldType ClassId → List Part
+parts_of_type parts (Value type) = []
+parts_of_type parts (Object d) = parts d
+
+-- what a member is to its class: it takes its whole size, an array that of all elements
+abbrev pub member_component : List ClassLayout → (ClassId → List Part) → Member ClassId → Component
+member_component rows parts member = record {
+  is_empty = false;
+  align = align_of_type rows member.ty;
+  takes = elements_of member.count * size_of_type rows member.ty;
+  parts = copies (elements_of member.count) (size_of_type rows member.ty) (parts_of_type parts member.ty);
+}
+
+abbrev pub member_components : List ClassLayout → (ClassId → List Part) → Class → List Component
+member_components rows parts class = map (member_component rows parts) class.members
+
+-- what components bring at their places
+abbrev pub parts_at : List Component → List ℕ → List Part
+parts_at [] places = []
+parts_at (component ∷ components) [] = []
+parts_at (component ∷ components) (place ∷ places) = map (moved place) component.parts ++ parts_at components places
+
+-- before the first component: the class itself is at 0
+abbrev pub first_stage : ClassId → Stage
+first_stage c = record { dsize = 0; size = 0; align = 1; parts = part_at c 0 ∷ [] }
+
+-- no size of the rows is above the limit
+pub record AreSmall (rows : List ClassLayout) : Type 0 where
+  pub each : (number : ℕ) (row : ClassLayout) → slice_get rows number ≡ Some row → row.size ≤ size_limit

@@ -1,0 +1,59 @@
+-- The alignments on LP64, and what is known of components, stages and rows within the limit of sizes.
+use Rattle.std.specs.Prelude.{◌≡◌, ℕ, ◌<◌, ◌≤◌, List, [], ◌∷◌, ◌++◌}
+use Rattle.abi_emptybase.specs.declared.Part.{Part}
+use Rattle.abi_emptybase.specs.Table.{holds}
+use Rattle.abi_layout.specs.Limits.{size_limit}
+use Rattle.abi_layout.specs.declared.component.Component.{Component}
+use Rattle.abi_layout.specs.declared.component.Stage.{Stage}
+use Rattle.abi_layout.specs.declared.placing.Placing.{Placing}
+use Rattle.abi_layout.specs.Placements.{IsPlace, ArePlaced, after_all}
+
+-- an alignment in bytes
+pub data IsAlignment : ℕ → Type 0 where
+  byte : IsAlignment 1
+  two_bytes : IsAlignment 2
+  four_bytes : IsAlignment 4
+  eight_bytes : IsAlignment 8
+
+-- no part lies behind a place
+abbrev pub AreWithin : ℕ → List Part → Type 0
+AreWithin end [] = Unit {0}
+AreWithin end (part ∷ parts) = (part.place ≤ end) × AreWithin end parts
+
+-- a component with an alignment, not above the limit of sizes
+pub record IsFit (component : Component) : Type 0 where
+  pub align : IsAlignment component.align
+  pub takes : component.takes ≤ size_limit
+  pub parts : AreWithin component.takes component.parts
+
+abbrev pub AreFit : List Component → Type 0
+AreFit [] = Unit {0}
+AreFit (component ∷ components) = IsFit component × AreFit components
+
+-- none takes more than the limit of sizes
+abbrev pub AreLittle : List Component → Type 0
+AreLittle [] = Unit {0}
+AreLittle (component ∷ components) = (component.takes ≤ size_limit) × AreLittle components
+
+-- the table has what the stage's list of parts has
+pub record HasTable (placing : Placing) : Type 0 where
+  pub same : (q : Part) → holds placing.table q ≡ holds placing.stage.parts q
+
+abbrev pub with_parts : Stage → List Part → Stage
+with_parts stage parts = record { dsize = stage.dsize; size = stage.size; align = stage.align; parts = stage.parts ++ parts }
+
+-- a stage with an alignment, within the limit of sizes, and the table of its parts
+pub record IsPlacing (placing : Placing) : Type 0 where
+  pub table : HasTable placing
+  pub align : IsAlignment placing.stage.align
+  pub dsize : placing.stage.dsize ≤ placing.stage.size
+  pub size : placing.stage.size ≤ size_limit
+  pub parts : AreWithin placing.stage.size placing.stage.parts
+
+-- wherever the rules place the component, it lies behind the limit
+pub record HasNoPlace (stage : Stage) (component : Component) : Type 0 where
+  pub past : (place : ℕ) → IsPlace stage component place → size_limit < place
+
+-- wherever the rules place the components, the size passes the limit
+pub record IsPastLimit (stage : Stage) (components : List Component) : Type 0 where
+  pub past : (places : List ℕ) → ArePlaced stage components places → size_limit < (after_all stage components places).size

@@ -1,5 +1,0 @@
-use Rattle.abi_refine.proofs.SampleLemmas.{unset_program_typed}
-use Rattle.abi_refine.proofs.tests.an_unset_leaf_is_refused_at_its_line.Goals as goal
-
-pub execute-requires-clause-typed : goal.execute-requires-clause-typed
-execute-requires-clause-typed g c = rw (c.in_ok-h.ensures, c.in_ok-program.ensures) unset_program_typed

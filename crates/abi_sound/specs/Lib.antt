@@ -1,0 +1,5 @@
+pub mod Places
+pub mod Locations
+pub mod Chains
+pub mod Sound
+pub mod Leaves

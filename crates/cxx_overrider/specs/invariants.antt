@@ -1,0 +1,15 @@
+pub mod Places
+pub mod Numbers
+pub mod Keys
+pub mod Kinds
+pub mod Marks
+pub mod Pure
+pub mod Within
+pub mod Entries
+pub mod EntryTables
+pub mod Settling
+pub mod Tables
+pub mod Abstract
+pub mod Finals
+pub mod Pass
+pub mod ReturnFlags

@@ -1,0 +1,22 @@
+-- What is known of all classes before the pass.
+use Rattle.std.specs.Prelude.{◌≡◌, length}
+use Rattle.cxx_hierarchy.specs.Classes.{Classes}
+use Rattle.cxx_overrider.specs.declared.tables.Tables.{Tables}
+use Rattle.cxx_overrider.specs.Overriding.{HasVirtual}
+use Rattle.cxx_overrider.specs.invariants.Numbers.{IsNumbering}
+use Rattle.cxx_overrider.specs.invariants.Kinds.{AreKinds}
+use Rattle.cxx_overrider.specs.invariants.Marks.{AreMarks}
+use Rattle.cxx_overrider.specs.invariants.Pure.{LeavesPure}
+use Rattle.cxx_overrider.specs.invariants.Within.{AreWithin}
+
+-- the tables are those of the hierarchy
+pub record AreTables (h : Classes) (tables : Tables) : Type 0 where
+  pub numbering : IsNumbering h tables.numbering.rows.items tables.numbering.count
+  pub kinds : AreKinds h tables.kinds.items
+  pub all_kinds : length tables.kinds.items ≡ length h
+  pub virtuals : AreMarks h tables.numbering.rows.items (HasVirtual h) tables.virtuals.items
+  pub all_virtuals : length tables.virtuals.items ≡ length h
+  pub pure : AreMarks h tables.numbering.rows.items (LeavesPure h) tables.pure.items
+  pub all_pure : length tables.pure.items ≡ length h
+  pub within : AreWithin h tables.numbering.rows.items tables.numbering.count tables.within.items
+  pub all_within : length tables.within.items ≡ length h

@@ -1,0 +1,7 @@
+pub mod Truth
+pub mod Places
+pub mod Members
+pub mod Chosen
+pub mod Each
+pub mod Deciding
+pub mod Greatest
