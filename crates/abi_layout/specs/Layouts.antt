@@ -22,7 +22,7 @@ use Rattle.abi_layout.specs.declared.placed_bases.PlacedBase.{PlacedBase}
 use Rattle.abi_layout.specs.Kinds.{is_empty, is_pod}
 use Rattle.cxx_hierarchy.specs.Declarations.{is_plain_base}
 use Rattle.abi_sound.specs.Places.{members_in}
-pub use Rattle.abi_sound.specs.Places.{virtuals_in, shared_in, virtual_place, place_from, root_place, place_of}
+pub use Rattle.abi_sound.specs.Places.{virtual_places_in, virtual_bases_in, virtual_place, place_from, root_place, place_of}
 use Rattle.abi_layout.specs.Placements.{IsNext, ArePlaced, after_all, part_at, parts_at, member_component}
 use Rattle.cxx_subobject.specs.VirtualBases.{virtual_bases}
 use Rattle.abi_layout.specs.Brought.{brought_by}

@@ -55,13 +55,13 @@ abbrev pub members_in : Option ClassLayout → List ℕ
 members_in None = []
 members_in (Some row) = row.member_places
 
-abbrev pub place_at : List ℕ → Option ℕ → ℕ
-place_at places None = 0
-place_at places (Some n) = number_in (slice_get places n)
+abbrev pub nth_place : List ℕ → Option ℕ → ℕ
+nth_place places None = 0
+nth_place places (Some n) = number_in (slice_get places n)
 
 -- the place of a direct non-virtual base in its class
 abbrev pub base_place : Classes → List ClassLayout → ClassId → ClassId → ℕ
-base_place h rows c b = place_at (bases_in (slice_get rows c.0)) (position (λ (base : Base ClassId). nat_eq base.class.0 b.0) (filter is_plain_base (bases_of h c)))
+base_place h rows c b = nth_place (bases_in (slice_get rows c.0)) (position (λ (base : Base ClassId). nat_eq base.class.0 b.0) (filter is_plain_base (bases_of h c)))
 
 -- the sum of the places along a path
 abbrev pub place_along : Classes → List ClassLayout → ClassId → List ClassId → ℕ
@@ -80,16 +80,16 @@ abbrev pub holder_in : Option ClassLayout → ClassId → Option Subobject
 holder_in None v = None
 holder_in (Some row) v = nth_holder row.holders (position (λ (w : ClassId). nat_eq w.0 v.0) row.virtual_bases)
 
-abbrev pub virtuals_in : Option ClassLayout → List ℕ
-virtuals_in None = []
-virtuals_in (Some row) = row.virtual_places
+abbrev pub virtual_places_in : Option ClassLayout → List ℕ
+virtual_places_in None = []
+virtual_places_in (Some row) = row.virtual_places
 
-abbrev pub shared_in : Option ClassLayout → List ClassId
-shared_in None = []
-shared_in (Some row) = row.virtual_bases
+abbrev pub virtual_bases_in : Option ClassLayout → List ClassId
+virtual_bases_in None = []
+virtual_bases_in (Some row) = row.virtual_bases
 
 abbrev pub virtual_place_in : Option ClassLayout → ClassId → ℕ
-virtual_place_in row v = place_at (virtuals_in row) (position (λ (w : ClassId). nat_eq w.0 v.0) (shared_in row))
+virtual_place_in row v = nth_place (virtual_places_in row) (position (λ (w : ClassId). nat_eq w.0 v.0) (virtual_bases_in row))
 
 -- the place of a virtual base in an object of class c
 abbrev pub virtual_place : List ClassLayout → ClassId → ClassId → ℕ

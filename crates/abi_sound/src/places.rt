@@ -5,7 +5,7 @@ ghost use Rattle.std.specs.Option.{option_copied};
 ghost use Rattle.cxx_hierarchy.specs.declared.records.Base.{Base};
 ghost use Rattle.cxx_hierarchy.specs.declared.records.ClassId.{ClassId};
 ghost use Rattle.cxx_hierarchy.specs.Declarations.{is_plain_base};
-ghost use Rattle.abi_sound.specs.Places.{base_place, number_in, place_along, place_at, place_from, nth_holder, holder_in, root_place_in, virtual_place_in, member_place};
+ghost use Rattle.abi_sound.specs.Places.{base_place, number_in, place_along, nth_place, place_from, nth_holder, holder_in, root_place_in, virtual_place_in, member_place};
 
 use crate::class_layout::ClassLayout;
 use crate::sound_layout::SoundLayout;
@@ -34,7 +34,7 @@ fn place_at(places: &[u32], n: usize) -> u32
 
 /// The place of a number, if there is one, 0 otherwise.
 pub fn place_of_number(places: &[u32], number: Option<usize>) -> u32
-    ensures { result ≡ place_at places.now number }
+    ensures { result ≡ nth_place places.now number }
 {
     match number {
         Some(n) => place_at(places, n),

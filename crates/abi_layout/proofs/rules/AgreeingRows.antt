@@ -24,11 +24,11 @@ use Rattle.abi_layout.proofs.lists.LastItems.{same_before}
 use Rattle.abi_layout.specs.declared.placed_bases.PlacedBase.{PlacedBase}
 use Rattle.abi_layout.specs.declared.placed_bases.PlacedBase.TheVariants.{Own, VirtualBase}
 use Rattle.cxx_hierarchy.specs.Declarations.{is_plain_base}
-use Rattle.abi_sound.specs.Places.{place_at, bases_in, base_place, place_along}
+use Rattle.abi_sound.specs.Places.{nth_place, bases_in, base_place, place_along}
 use Rattle.cxx_subobject.specs.VirtualBases.{virtual_bases}
 use Rattle.abi_layout.specs.Holding.{virtual_in, virtual_primary, is_holder, holds_base, kept_if, held_base}
 use Rattle.abi_layout.specs.PlacedBases.{front_bases, is_free, free_bases}
-use Rattle.abi_layout.specs.Layouts.{virtuals_in, shared_in, virtual_place, place_of, placed_place, primary_of, fronts}
+use Rattle.abi_layout.specs.Layouts.{virtual_places_in, virtual_bases_in, virtual_place, place_of, placed_place, primary_of, fronts}
 use Rattle.abi_layout.proofs.algorithm.SettledLemmas.{base_below}
 use Rattle.cxx_subobject.proofs.PathLemmas.{virtual_below}
 pub use Rattle.foundation.proofs.Chosen.{any_same}
@@ -131,7 +131,7 @@ free_agree h ps qs c keeps agree =
 
 -- the place of a direct base
 pub base_place_agrees : (h : Classes) (n : ℕ) (rows others : List ClassLayout) (d b : ClassId) → AgreeTo n rows others → d.0 < n → base_place h rows d b ≡ base_place h others d b
-base_place_agrees h n rows others d b agree lt = ap (λ (o : Option ClassLayout). place_at (bases_in o) (position (λ (base : Base ClassId). nat_eq base.class.0 b.0) (filter is_plain_base (bases_of h d)))) (agree.each d.0 lt)
+base_place_agrees h n rows others d b agree lt = ap (λ (o : Option ClassLayout). nth_place (bases_in o) (position (λ (base : Base ClassId). nat_eq base.class.0 b.0) (filter is_plain_base (bases_of h d)))) (agree.each d.0 lt)
 
 -- the places along a path
 pub along_agrees : (h : Classes) (n : ℕ) (rows others : List ClassLayout) (d : ClassId) (path : List ClassId) → IsHierarchy h → AgreeTo n rows others → d.0 < n → Leads h d path → place_along h rows d path ≡ place_along h others d path
@@ -143,7 +143,7 @@ along_agrees h n rows others d (b ∷ path) keeps agree lt leads =
 
 -- the place of a virtual base
 pub virtual_place_agrees : (h : Classes) (n : ℕ) (rows others : List ClassLayout) (c v : ClassId) → AgreeTo n rows others → c.0 < n → virtual_place rows c v ≡ virtual_place others c v
-virtual_place_agrees h n rows others c v agree lt = ap (λ (o : Option ClassLayout). place_at (virtuals_in o) (position (λ (w : ClassId). nat_eq w.0 v.0) (shared_in o))) (agree.each c.0 lt)
+virtual_place_agrees h n rows others c v agree lt = ap (λ (o : Option ClassLayout). nth_place (virtual_places_in o) (position (λ (w : ClassId). nat_eq w.0 v.0) (virtual_bases_in o))) (agree.each c.0 lt)
 
 -- the place of a subobject
 pub place_agrees : (h : Classes) (n : ℕ) (rows others : List ClassLayout) (c : ClassId) (s : Subobject) → IsHierarchy h → AgreeTo n rows others → c.0 < n → IsSubobject h c s → place_of h rows c s ≡ place_of h others c s

@@ -19,7 +19,7 @@ use Rattle.abi_sound.specs.declared.class_layout.ClassLayout.{ClassLayout}
 use Rattle.abi_layout.specs.declared.placed_bases.PlacedBase.{PlacedBase}
 use Rattle.abi_layout.specs.declared.placed_bases.PlacedBase.TheVariants.{Own, VirtualBase}
 use Rattle.cxx_hierarchy.specs.Declarations.{is_plain_base}
-use Rattle.abi_sound.specs.Places.{place_at, number_in, bases_in as places_of_bases, base_place, size_in}
+use Rattle.abi_sound.specs.Places.{nth_place, number_in, bases_in as places_of_bases, base_place, size_in}
 use Rattle.abi_layout.specs.Placements.{nvsize_in, ArePlaced, after, after_all}
 use Rattle.abi_layout.specs.invariants.Known.{empties_in, parts_in, AreAllSized}
 use Rattle.abi_layout.specs.PlacedBases.{class_of_placed, first_base, is_first_base, is_other_base, front_bases, placed_component}
@@ -134,10 +134,10 @@ base_place_own h rows c class row fs ps e there are i base listed way =
     let plain = filter is_plain_base class.bases in
     let first = first_that p plain base (has_plain class.bases i base listed (ap not way)) (eq_self base.class.0) in
     let same : first.item.class.0 ≡ base.class.0 = eqb-true first.item.class.0 base.class.0 first.passes in
-    ap (λ (o : Option Class). place_at (places_of_bases (slice_get rows c.0)) (position p (filter is_plain_base (bases_in o)))) e
-    ∙ (ap (λ (o : Option ClassLayout). place_at (places_of_bases o) (position p plain)) there
-    ∙ (ap (λ places. place_at places (position p plain)) are
-    ∙ (ap (place_at (own_places fs ps class.bases)) (position_is p plain first)
+    ap (λ (o : Option Class). nth_place (places_of_bases (slice_get rows c.0)) (position p (filter is_plain_base (bases_in o)))) e
+    ∙ (ap (λ (o : Option ClassLayout). nth_place (places_of_bases o) (position p plain)) there
+    ∙ (ap (λ places. nth_place places (position p plain)) are
+    ∙ (ap (nth_place (own_places fs ps class.bases)) (position_is p plain first)
     ∙ (ap number_in (slice_get-map (λ (x : Base ClassId). own_place fs ps x.class) plain first.index ∙ ap (option_map (λ (x : Base ClassId). own_place fs ps x.class)) first.there)
     ∙ ap (λ n. own_place fs ps (number n)) same))))
 

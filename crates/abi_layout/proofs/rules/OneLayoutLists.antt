@@ -18,7 +18,7 @@ use Rattle.abi_layout.specs.declared.component.Stage.{Stage}
 use Rattle.abi_sound.specs.declared.class_layout.ClassLayout.{ClassLayout}
 use Rattle.abi_layout.specs.declared.placed_bases.PlacedBase.{PlacedBase}
 use Rattle.abi_layout.specs.declared.placed_bases.PlacedBase.TheVariants.{Own, VirtualBase}
-use Rattle.abi_sound.specs.Places.{number_in, place_at}
+use Rattle.abi_sound.specs.Places.{number_in, nth_place}
 use Rattle.abi_layout.specs.Placements.{IsNext, ArePlaced, after_all}
 use Rattle.cxx_subobject.specs.VirtualBases.{shared_class, virtual_bases}
 use Rattle.cxx_subobject.proofs.VirtualBaseLemmas.{shared_is}
@@ -87,7 +87,7 @@ key_position {X} key xs i x each e =
 
 -- places that are the same for each item
 pub places_by_keys : {X : Type 0} (key : X → ℕ) (items : List X) (ps qs : List ℕ) → EachKey key items → length ps ≡ length items → length qs ≡ length items
-    → ((x : X) → Has items x → place_at ps (position (λ (y : X). nat_eq (key y) (key x)) items) ≡ place_at qs (position (λ (y : X). nat_eq (key y) (key x)) items)) → ps ≡ qs
+    → ((x : X) → Has items x → nth_place ps (position (λ (y : X). nat_eq (key y) (key x)) items) ≡ nth_place qs (position (λ (y : X). nat_eq (key y) (key x)) items)) → ps ≡ qs
 places_by_keys {X} key items ps qs each a b same = agree_whole (length items) ps qs a b (record { each = at })
   where
     at : (i : ℕ) → i < length items → slice_get ps i ≡ slice_get qs i
@@ -96,7 +96,7 @@ places_by_keys {X} key items ps qs each a b same = agree_whole (length items) ps
         let p = get_within ps i (omega arith) in
         let q = get_within qs i (omega arith) in
         let here = key_position key items i x.0 each x.1 in
-        let e : number_in (slice_get ps i) ≡ number_in (slice_get qs i) = ap (place_at ps) (sym here) ∙ (same x.0 (has_at items i x.0 x.1) ∙ ap (place_at qs) here) in
+        let e : number_in (slice_get ps i) ≡ number_in (slice_get qs i) = ap (nth_place ps) (sym here) ∙ (same x.0 (has_at items i x.0 x.1) ∙ ap (nth_place qs) here) in
         let is : p.0 ≡ q.0 = ap number_in (sym p.1) ∙ (e ∙ ap number_in q.1) in
         p.1 ∙ (ap (λ n. Some n) is ∙ sym q.1)
 

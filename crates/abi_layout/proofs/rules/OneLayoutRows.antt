@@ -24,12 +24,12 @@ use Rattle.abi_sound.specs.declared.class_layout.ClassLayout.{ClassLayout}
 use Rattle.abi_layout.specs.declared.placed_bases.PlacedBase.{PlacedBase}
 use Rattle.abi_layout.specs.declared.placed_bases.PlacedBase.TheVariants.{Own, VirtualBase}
 use Rattle.cxx_hierarchy.specs.Declarations.{is_plain_base}
-use Rattle.abi_sound.specs.Places.{place_at, bases_in, base_place, place_along}
+use Rattle.abi_sound.specs.Places.{nth_place, bases_in, base_place, place_along}
 use Rattle.abi_layout.specs.Kinds.{is_pod}
 use Rattle.abi_layout.specs.Placements.{member_component}
 use Rattle.cxx_subobject.specs.VirtualBases.{virtual_bases}
 use Rattle.abi_layout.specs.PlacedBases.{is_free, free_bases, IsPossible}
-use Rattle.abi_layout.specs.Layouts.{virtuals_in, shared_in, virtual_place, place_of, placed_place, primary_of, fronts, front_components, free_components, object_parts, start_stage, IsArrangedBy, IsLaidRow}
+use Rattle.abi_layout.specs.Layouts.{virtual_places_in, virtual_bases_in, virtual_place, place_of, placed_place, primary_of, fronts, front_components, free_components, object_parts, start_stage, IsArrangedBy, IsLaidRow}
 use Rattle.abi_layout.proofs.lists.Lists.{has_at}
 use Rattle.abi_layout.proofs.rules.SameRow.{same_row}
 use Rattle.cxx_subobject.proofs.PathLemmas.{virtual_below}
@@ -179,15 +179,15 @@ base_places_one h rows others near other ps qs c class x y r =
     (λ base has.
     let of_base = has_filter is_plain_base (bases_of h c) base has in
     let way = plain_is base.is_virtual of_base.1 in
-    ap (λ (o : Option ClassLayout). place_at (bases_in o) (position (λ (z : Base ClassId). nat_eq z.class.0 base.class.0) (filter is_plain_base (bases_of h c)))) (sym r.there)
+    ap (λ (o : Option ClassLayout). nth_place (bases_in o) (position (λ (z : Base ClassId). nat_eq z.class.0 base.class.0) (filter is_plain_base (bases_of h c)))) (sym r.there)
     ∙ (base_place_one h rows others near other ps qs c class x y r base (contains_from_has (bases_of h c) base of_base.0) way
-    ∙ ap (λ (o : Option ClassLayout). place_at (bases_in o) (position (λ (z : Base ClassId). nat_eq z.class.0 base.class.0) (filter is_plain_base (bases_of h c)))) r.other_there))
+    ∙ ap (λ (o : Option ClassLayout). nth_place (bases_in o) (position (λ (z : Base ClassId). nat_eq z.class.0 base.class.0) (filter is_plain_base (bases_of h c)))) r.other_there))
 
 -- the place of a virtual base, by its row
-virtual_by_row : (h : Classes) (rows : List ClassLayout) (c v : ClassId) (x : ClassLayout) → slice_get rows c.0 ≡ Some x → x.virtual_bases ≡ virtual_bases h c → virtual_place rows c v ≡ place_at x.virtual_places (position (λ (w : ClassId). nat_eq w.0 v.0) (virtual_bases h c))
+virtual_by_row : (h : Classes) (rows : List ClassLayout) (c v : ClassId) (x : ClassLayout) → slice_get rows c.0 ≡ Some x → x.virtual_bases ≡ virtual_bases h c → virtual_place rows c v ≡ nth_place x.virtual_places (position (λ (w : ClassId). nat_eq w.0 v.0) (virtual_bases h c))
 virtual_by_row h rows c v x there is =
-    ap (λ (o : Option ClassLayout). place_at (virtuals_in o) (position (λ (w : ClassId). nat_eq w.0 v.0) (shared_in o))) there
-    ∙ ap (λ (vs : List ClassId). place_at x.virtual_places (position (λ (w : ClassId). nat_eq w.0 v.0) vs)) is
+    ap (λ (o : Option ClassLayout). nth_place (virtual_places_in o) (position (λ (w : ClassId). nat_eq w.0 v.0) (virtual_bases_in o))) there
+    ∙ ap (λ (vs : List ClassId). nth_place x.virtual_places (position (λ (w : ClassId). nat_eq w.0 v.0) vs)) is
 
 virtual_places_one : (h : Classes) (rows others : List ClassLayout) (near other : List Bool) (ps qs : List Primary) (c : ClassId) (class : Class) (x y : ClassLayout) → AreRows h rows others near other ps qs c class x y → x.virtual_places ≡ y.virtual_places
 virtual_places_one h rows others near other ps qs c class x y r =

@@ -20,12 +20,12 @@ use Rattle.abi_primary.specs.Holder.{holder_of}
 use Rattle.abi_primary.proofs.HolderLemmas.{held}
 use Rattle.abi_sound.specs.declared.class_layout.ClassLayout.{ClassLayout}
 use Rattle.cxx_hierarchy.specs.Declarations.{is_plain_base}
-use Rattle.abi_sound.specs.Places.{place_at, number_in, bases_in, base_place, place_along}
+use Rattle.abi_sound.specs.Places.{nth_place, number_in, bases_in, base_place, place_along}
 use Rattle.cxx_subobject.specs.VirtualBases.{virtual_bases}
 use Rattle.cxx_subobject.proofs.VirtualBaseLemmas.{virtual_listed}
 use Rattle.abi_layout.specs.Holding.{AreHolders}
 use Rattle.abi_layout.specs.invariants.Settled.{place_by, held_at, AreSettled}
-use Rattle.abi_layout.specs.Layouts.{virtuals_in, shared_in, virtual_place, place_from, place_of}
+use Rattle.abi_layout.specs.Layouts.{virtual_places_in, virtual_bases_in, virtual_place, place_from, place_of}
 use Rattle.abi_layout.specs.invariants.Scenes.{TellsHolders}
 use Rattle.abi_layout.proofs.lists.Lists.{get_within}
 use Rattle.abi_layout.proofs.algorithm.Searches.{first_that, position_is}
@@ -45,7 +45,7 @@ bases_stay (x ∷ before) r s e (suc i) = bases_stay before r s e i
 along_stays : (h : Classes) (before : List ClassLayout) (r s : ClassLayout) → r.base_places ≡ s.base_places → (d : ClassId) (path : List ClassId) → place_along h (before ++ r ∷ []) d path ≡ place_along h (before ++ s ∷ []) d path
 along_stays h before r s e d [] = refl
 along_stays h before r s e d (b ∷ path) =
-    ap (λ ps. place_at ps (position (λ (base : Base ClassId). nat_eq base.class.0 b.0) (filter is_plain_base (bases_of h d))) + place_along h (before ++ r ∷ []) b path) (bases_stay before r s e d.0)
+    ap (λ ps. nth_place ps (position (λ (base : Base ClassId). nat_eq base.class.0 b.0) (filter is_plain_base (bases_of h d))) + place_along h (before ++ r ∷ []) b path) (bases_stay before r s e d.0)
     ∙ ap (λ n. base_place h (before ++ s ∷ []) d b + n) (along_stays h before r s e b path)
 
 pub from_stays : (h : Classes) (before : List ClassLayout) (r s : ClassLayout) → r.base_places ≡ s.base_places → (path : List ClassId) → place_from h (before ++ r ∷ []) path ≡ place_from h (before ++ s ∷ []) path
@@ -59,10 +59,10 @@ virtual_place_is h rows c row table there bases are v has =
     let vs = virtual_bases h c in
     let first = first_that p vs v (has_of vs v has) (eq-eqb v.0 v.0 refl) in
     let same : first.item.0 ≡ v.0 = eqb-true first.item.0 v.0 first.passes in
-    ap (λ (o : Option ClassLayout). place_at (virtuals_in o) (position p (shared_in o))) there
-    ∙ (ap (λ (ws : List ClassId). place_at row.virtual_places (position p ws)) bases
-    ∙ (ap (λ ps. place_at ps (position p vs)) are
-    ∙ (ap (place_at (map (λ (w : ClassId). get_or table w.0 0) vs)) (position_is p vs first)
+    ap (λ (o : Option ClassLayout). nth_place (virtual_places_in o) (position p (virtual_bases_in o))) there
+    ∙ (ap (λ (ws : List ClassId). nth_place row.virtual_places (position p ws)) bases
+    ∙ (ap (λ ps. nth_place ps (position p vs)) are
+    ∙ (ap (nth_place (map (λ (w : ClassId). get_or table w.0 0) vs)) (position_is p vs first)
     ∙ (ap number_in (slice_get-map (λ (w : ClassId). get_or table w.0 0) vs first.index ∙ ap (option_map (λ (w : ClassId). get_or table w.0 0)) first.there)
     ∙ ap (λ n. get_or table n 0) same))))
 
