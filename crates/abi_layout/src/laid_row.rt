@@ -17,10 +17,9 @@ use crate::arrangement::Arrangement;
 use crate::component::PartList;
 use crate::holding::{holders, virtual_bases};
 use crate::known::Known;
-use crate::placed_bases::PlacedBase;
 use crate::placed_class::{PlacedClass, place_class};
 use crate::scene::{Scene, holder};
-use crate::virtual_places::virtual_places;
+use crate::virtual_places::{VirtualScene, virtual_places};
 use abi_primary::Primary;
 use abi_sound::{ClassLayout, ClassList, HolderList, PlaceList};
 use cxx_hierarchy::{ClassId, ClassRec, Hierarchy, Stop};
@@ -144,34 +143,19 @@ fn push_row(
 /// direct bases.
 fn place_virtuals(
     alloc: Global,
-    h: &Hierarchy,
-    c: ClassId,
-    list: &[Subobject],
-    holders: &[Option<usize>],
+    scene: &VirtualScene,
     virtuals: Vec<ClassId>,
-    free: &[PlacedBase],
-    pushed: &PushedRow,
     rows: &mut Vec<ClassLayout>,
 ) -> Result<(), NoMemory>
-    requires class { c.0 < length h.now }
-    requires row { length rows.old.items ≡ c.0 + 1 }
-    requires can { CanSettle h.now rows.old.items list.now holders.now }
-    requires room { HasRoom rows.old.items (free_table c.0 free.now pushed.now.free_places) }
-    ensures { OnOk result ((places : List ℕ) × AreVirtualPlaces h.now rows.old.items list.now holders.now (free_table c.0 free.now pushed.now.free_places) virtuals.items places × ((row : ClassLayout) → slice_get rows.old.items c.0 ≡ Some row → rows.new.items ≡ slice_set rows.old.items c.0 (filled_row row virtuals.items places (map (λ (v : ClassId). held_at list.now (get_or holders.now v.0 None)) virtuals.items)))) }
+    requires class { scene.now.c.0 < length scene.now.h.now }
+    requires row { length rows.old.items ≡ scene.now.c.0 + 1 }
+    requires can { CanSettle scene.now.h.now rows.old.items scene.now.list.now scene.now.holders.now }
+    requires room { HasRoom rows.old.items (free_table scene.now.c.0 scene.now.free.now scene.now.free_places.now) }
+    ensures { OnOk result ((places : List ℕ) × AreVirtualPlaces scene.now.h.now rows.old.items scene.now.list.now scene.now.holders.now (free_table scene.now.c.0 scene.now.free.now scene.now.free_places.now) virtuals.items places × ((row : ClassLayout) → slice_get rows.old.items scene.now.c.0 ≡ Some row → rows.new.items ≡ slice_set rows.old.items scene.now.c.0 (filled_row row virtuals.items places (map (λ (v : ClassId). held_at scene.now.list.now (get_or scene.now.holders.now v.0 None)) virtuals.items)))) }
 {
-    let places = virtual_places(
-        alloc,
-        h,
-        rows,
-        list,
-        holders,
-        c.0,
-        &virtuals,
-        free,
-        pushed.free_places.as_slice(),
-    )?;
-    let held = holder_list(alloc, list, holders, &virtuals)?;
-    fill_row(rows, c, Sequence::from_vec(virtuals), places, held);
+    let places = virtual_places(alloc, scene, rows, &virtuals)?;
+    let held = holder_list(alloc, scene.list, scene.holders, &virtuals)?;
+    fill_row(rows, scene.c, Sequence::from_vec(virtuals), places, held);
     Ok(())
 }
 
@@ -239,9 +223,15 @@ pub(crate) fn lay_out_class(
         is_pod,
     } = placed;
     let pushed = push_row(alloc, next.primary, base_places, arrangement, rows)?;
-    place_virtuals(
-        alloc, h, next.c, next.list, &holders, virtuals, &free, &pushed, rows,
-    )?;
+    let placing = VirtualScene {
+        h,
+        c: next.c,
+        list: next.list,
+        holders: &holders,
+        free: &free,
+        free_places: pushed.free_places.as_slice(),
+    };
+    place_virtuals(alloc, &placing, virtuals, rows)?;
     let PushedRow {
         free_places: _,
         parts,

@@ -154,29 +154,38 @@ fn table_places(alloc: Global, table: &[u32], virtuals: &[ClassId]) -> Result<Pl
     Ok(places)
 }
 
-/// The places of the virtual bases of a class, where its row has the places of its direct bases: those that no
-/// subobject holds are placed, and each other one lies where its holder does.
+/// What the places of the virtual bases of a class follow from, where its row has the places of its direct bases:
+/// `list` has its subobjects in preorder, `holders` says by class number which of these holds a virtual base, and `free`
+/// has the virtual bases that no subobject holds, with their places in bytes.
+#[derive(Clone, Copy)]
+pub(crate) struct VirtualScene<'a> {
+    pub h: &'a Hierarchy,
+    pub c: ClassId,
+    pub list: &'a [Subobject],
+    pub holders: &'a [Option<usize>],
+    pub free: &'a [PlacedBase],
+    pub free_places: &'a [u32],
+}
+
+/// The places of the virtual bases of a class: those that no subobject holds are placed, and each other one lies where
+/// its holder does.
 ///
 /// Errors: want of memory.
 pub(crate) fn virtual_places(
     alloc: Global,
-    h: &Hierarchy,
+    scene: &VirtualScene,
     rows: &[ClassLayout],
-    list: &[Subobject],
-    holders: &[Option<usize>],
-    count: u32,
     virtuals: &[ClassId],
-    free: &[PlacedBase],
-    free_places: &[u32],
 ) -> Result<PlaceList, NoMemory>
-    requires rows { length rows.now ≤ length h.now }
-    requires can { CanSettle h.now rows.now list.now holders.now }
-    requires room { HasRoom rows.now (free_table count free.now free_places.now) }
-    ensures { IfOk result (λ places. AreVirtualPlaces h.now rows.now list.now holders.now (free_table count free.now free_places.now) virtuals.now places) }
+    requires rows { length rows.now ≤ length scene.now.h.now }
+    requires can { CanSettle scene.now.h.now rows.now scene.now.list.now scene.now.holders.now }
+    requires room { HasRoom rows.now (free_table scene.now.c.0 scene.now.free.now scene.now.free_places.now) }
+    ensures { IfOk result (λ places. AreVirtualPlaces scene.now.h.now rows.now scene.now.list.now scene.now.holders.now (free_table scene.now.c.0 scene.now.free.now scene.now.free_places.now) virtuals.now places) }
 {
+    let count = scene.c.0;
     let mut table = vec![in alloc; 0; count as usize]?;
-    put_frees(free, free_places, &mut table);
-    settle(h, rows, list, holders, count, &mut table);
+    put_frees(scene.free, scene.free_places, &mut table);
+    settle(scene.h, rows, scene.list, scene.holders, count, &mut table);
     let places = table_places(alloc, &table, virtuals)?;
     Ok(places)
 }

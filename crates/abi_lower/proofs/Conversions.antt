@@ -1,10 +1,10 @@
 -- A pointer that is converted to a base points to the base's subobject in the same object.
-use Rattle.std.proofs.Common.{◌≡◌, ℕ, ◌+◌, ◌<◌, ◌^◌, Option, Some, List, refl, ap, ◌∙◌, arith}
+use Rattle.std.proofs.Common.{◌≡◌, ℕ, ◌+◌, ◌<◌, ◌^◌, Option, Some, List, ap, ◌∙◌, arith}
 use Rattle.cxx_hierarchy.specs.declared.records.ClassId.{ClassId}
 use Rattle.cxx_subobject.specs.declared.Subobject.{Subobject}
 use Rattle.cxx_subobject.specs.Subobjects.{join}
 use Rattle.cxx_resolve.specs.declared.program.Converted.{Converted}
-use Rattle.cxx_resolve.specs.Typed.{IsPointer, IsBase, IsConverted}
+use Rattle.cxx_resolve.specs.Typed.{IsBase, IsConverted}
 use Rattle.abi_lower.proofs.SoundPlaces.{IsSound}
 use Rattle.byte_memory.specs.declared.memory.Region.{Region}
 use Rattle.byte_machine.specs.declared.heap.Opened.{Opened}

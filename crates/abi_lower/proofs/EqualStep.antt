@@ -1,5 +1,5 @@
 -- `bool v = p == q;`
-use Rattle.std.proofs.Common.{◌≡◌, ◌≢◌, ℕ, ◌+◌, ◌<◌, Option, Some, Bool, true, false, List, [], ◌∷◌, refl, ap, sym, ◌∙◌, arith, length, set}
+use Rattle.std.proofs.Common.{◌≡◌, ◌≢◌, ℕ, ◌+◌, ◌<◌, Option, Some, Bool, true, false, List, [], refl, ◌∙◌, arith, length, set}
 use Rattle.std.specs.Prelude.{nat_eq, ◌&&◌}
 use Rattle.std.specs.List.{slice_get}
 use Rattle.std.proofs.lemmas.Int.{ints}
@@ -7,11 +7,10 @@ use Rattle.std.proofs.lemmas.List.{length-set}
 use Rattle.std.proofs.lemmas.Option.{slice_get_within}
 use Rattle.cxx_hierarchy.specs.declared.records.ClassId.{ClassId}
 use Rattle.cxx_hierarchy.specs.declared.records.ValueType.TheVariants.{Pointer as PointerType}
-use Rattle.cxx_subobject.specs.declared.Subobject.{Subobject}
 use Rattle.cxx_subobject.specs.Subobjects.{join, same_subobject}
 use Rattle.cxx_resolve.specs.declared.program.Converted.{Converted}
 use Rattle.cxx_resolve.specs.declared.program.Statement.TheVariants.{Equal}
-use Rattle.cxx_resolve.specs.Typed.{bool, IsBase, IsConverted}
+use Rattle.cxx_resolve.specs.Typed.{bool, IsConverted}
 use Rattle.abi_lower.proofs.SoundPlaces.{IsSound}
 use Rattle.path_model.specs.Values.{State, Value, Unset, Number, Pointer, variable_at}
 use Rattle.path_model.specs.Steps.{converted, converted_at, compared, truth}

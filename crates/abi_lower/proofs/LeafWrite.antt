@@ -4,6 +4,7 @@ use Rattle.std.specs.Prelude.{nat_eq, ◌&&◌}
 use Rattle.std.specs.List.{slice_get}
 use Rattle.std.proofs.lemmas.Bool.Decides.{nat_tests}
 use Rattle.std.proofs.lemmas.Option.{slice_get_within}
+use Rattle.std.proofs.lemmas.Bool.{and_parts}
 use Rattle.cxx_hierarchy.specs.declared.records.ClassId.{ClassId}
 use Rattle.cxx_hierarchy.specs.declared.records.ValueType.{ValueType}
 use Rattle.cxx_hierarchy.specs.Classes.{leaf_type}
@@ -21,7 +22,7 @@ use Rattle.byte_memory.proofs.Ascending.{IsAscendingBy-apart}
 use Rattle.byte_machine.specs.declared.heap.Opened.{Opened}
 use Rattle.abi_lower.specs.Blocks.{Setup}
 use Rattle.abi_lower.specs.Stands.{Means, IsRegionOf, ObjectsStand, LeavesStand}
-use Rattle.abi_lower.proofs.Same.{both, same_subobject-true}
+use Rattle.abi_lower.proofs.Same.{same_subobject-true}
 
 -- what is written to a leaf of an object
 pub record Written (x : Setup) (classes : List ClassId) (regions : List Region) (k : ℕ) (whole : ClassId) (region : Region) (s : Subobject) (d : ClassId) (m : ℕ) (type : ValueType ClassId) (value : Value) (word : ℕ) : Type 0 where
@@ -86,7 +87,7 @@ LeavesStand-write x classes leaf memory opened heap k whole region s d m type va
         let same : k ≡ k' = grind (arith, nat_tests) in
         let ec : whole ≡ c' = object_same k' c' same here in
         let er : region ≡ r' = region_same k' r' same there in
-        let parts = both (same_subobject s s') (nat_eq m m') e' in
+        let parts = and_parts (same_subobject s s') (nat_eq m m') e' in
         let test : nat_eq m m' ≡ true = parts.1 in
         let es : s ≡ s' = same_subobject-true s s' parts.0 in
         let em : m ≡ m' = grind (arith, nat_tests) in

@@ -6,6 +6,7 @@ use Rattle.std.proofs.lemmas.Bool.Decides.{nat_tests}
 use Rattle.std.proofs.lemmas.List.{length-append}
 use Rattle.std.proofs.lemmas.List.Sums.{sum_by-append}
 use Rattle.std.proofs.lemmas.Option.{slice_get_within}
+use Rattle.foundation.proofs.Places.{get_last, get_before}
 use Rattle.cxx_hierarchy.specs.declared.records.ClassId.{ClassId}
 use Rattle.cxx_hierarchy.specs.declared.records.ValueType.{ValueType}
 use Rattle.cxx_hierarchy.specs.declared.records.ValueType.TheVariants.{Number as NumberType, Pointer as PointerType}
@@ -22,7 +23,7 @@ use Rattle.byte_memory.specs.declared.memory.Region.{Region}
 use Rattle.byte_memory.specs.Regions.{total_of}
 use Rattle.byte_memory.specs.Bytes.{number_from}
 use Rattle.byte_memory.specs.Store.{Store, IsRoom, open_of}
-use Rattle.byte_memory.proofs.Lists.{slice_get-push, slice_get-push_before, slice_get-push_cases}
+use Rattle.byte_memory.proofs.Lists.{slice_get-push_cases}
 use Rattle.byte_memory.proofs.Ascending.{IsAscendingBy-push}
 use Rattle.byte_machine.specs.declared.heap.Opened.{Opened}
 use Rattle.byte_machine.specs.Heap.{heap_limit, made as made_object}
@@ -48,8 +49,8 @@ Means-grow x classes regions n (Pointer k at) (NumberType t) word c r h = absurd
 Means-grow x classes regions n (Pointer k at) (PointerType d) word c r h = record {
   whole = h.whole;
   region = h.region;
-  object = slice_get-push_before classes c k (slice_get_within classes k h.whole h.object) ∙ h.object;
-  there = slice_get-push_before regions r k (slice_get_within regions k h.region h.there) ∙ h.there;
+  object = get_before classes c k (slice_get_within classes k h.whole h.object) ∙ h.object;
+  there = get_before regions r k (slice_get_within regions k h.region h.there) ∙ h.there;
   base = h.base;
   class = h.class;
   address = h.address;
@@ -64,14 +65,14 @@ number_from-unset (suc n) byte at some e = rw e refl
 new_region : (classes : List ClassId) (regions : List Region) (r new : Region) (k : ℕ) → length regions ≡ length classes → k ≡ length classes → slice_get (regions ++ new ∷ []) k ≡ Some r → new ≡ r
 new_region classes regions r new k count e there =
     let same : k ≡ length regions = e ∙ sym count in
-    let h = rw (same, slice_get-push regions new) at there in
+    let h = rw (same, get_last regions new) at there in
     cc
 
 -- a region of an object that stood before stood before
 old_region : (classes : List ClassId) (regions : List Region) (c : ClassId) (r new : Region) (k : ℕ) → length regions ≡ length classes → slice_get classes k ≡ Some c → slice_get (regions ++ new ∷ []) k ≡ Some r → slice_get regions k ≡ Some r
 old_region classes regions c r new k count here there =
     let inside : k < length regions = rw count (slice_get_within classes k c here) in
-    sym (slice_get-push_before regions new k inside) ∙ there
+    sym (get_before regions new k inside) ∙ there
 
 ObjectsStand-grow : (x : Setup) (classes : List ClassId) (memory : Store) (opened : List Opened) (heap : ℕ) (c : ClassId) (at : ℕ) → ObjectsStand x classes memory.regions opened heap → c.0 < length x.h → IsRoom memory at (x.places.size c) →
     ObjectsStand x (classes ++ c ∷ []) (memory.regions ++ region_at x c at ∷ []) (made_object opened at (x.places.size c) c.0) (heap + rounded (x.places.size c))
@@ -101,12 +102,12 @@ ObjectsStand-grow x classes memory opened heap c at st known room = record {
     listed_new : (k : ℕ) (c' : ClassId) (r : Region) → (k ≡ length classes) × (c ≡ c') → slice_get (memory.regions ++ new ∷ []) k ≡ Some r → slice_get (opened ++ object ∷ []) k ≡ Some (listed_as k c' r)
     listed_new k c' r l there =
         let same : k ≡ length opened = l.0 ∙ sym st.listed_count in
-        rw (← new_region classes memory.regions r new k st.count l.0 there, ← l.1, same) (slice_get-push opened object)
+        rw (← new_region classes memory.regions r new k st.count l.0 there, ← l.1, same) (get_last opened object)
 
     listed_old : (k : ℕ) (c' : ClassId) (r : Region) → slice_get classes k ≡ Some c' → slice_get (memory.regions ++ new ∷ []) k ≡ Some r → slice_get (opened ++ object ∷ []) k ≡ Some (listed_as k c' r)
     listed_old k c' r l there =
         let inside : k < length opened = rw st.listed_count (slice_get_within classes k c' l) in
-        slice_get-push_before opened object k inside ∙ st.listed k c' r l (old_region classes memory.regions c' r new k st.count l there)
+        get_before opened object k inside ∙ st.listed k c' r l (old_region classes memory.regions c' r new k st.count l there)
 
     heap_more : heap_total x.places.size (classes ++ c ∷ []) ≡ heap + rounded (x.places.size c)
     heap_more =
@@ -176,8 +177,8 @@ new_case x s r v c false sound none st p e =
     points at = record {
       whole = c;
       region = region_at x c at;
-      object = slice_get-push s.classes c;
-      there = rw (← st.objects.count) (slice_get-push r.memory.regions (region_at x c at));
+      object = get_last s.classes c;
+      there = rw (← st.objects.count) (get_last r.memory.regions (region_at x c at));
       base = whole [] tt;
       class = refl;
       address = ap Some (omega (arith, sound.root c));

@@ -6,7 +6,7 @@ use Rattle.std.proofs.lemmas.Int.{ints}
 use Rattle.std.proofs.Math.Nat.{mod-lt}
 use Rattle.cxx_hierarchy.specs.declared.records.Scalar.{Scalar}
 use Rattle.cxx_hierarchy.specs.declared.records.Scalar.TheVariants.{Bool as TheBool, Char, SChar, UChar, Short, UShort, Int, UInt, Long, ULong, LongLong, ULongLong}
-use Rattle.cxx_hierarchy.specs.Scalars.{size_of, is_signed, count_of, below_zero, IsInRange, wrapped, truth_of, stored_as, PromotesToInt}
+use Rattle.cxx_hierarchy.specs.Scalars.{size_of, is_signed, count_of, below_zero, IsInRange, wrapped, truth_of, stored_as, promoted}
 use Rattle.byte_code.specs.Numbers.{IsInBytes, IsInRange as FitsWidth}
 use Rattle.abi_lower.specs.Blocks.{width_of, register_width}
 
@@ -104,20 +104,20 @@ stored_in_range ULong z = wrapped_in_range ULong z
 stored_in_range LongLong z = wrapped_in_range LongLong z
 stored_in_range ULongLong z = wrapped_in_range ULongLong z
 
-promoted : (z : ℤ) (below count : ℕ) → below ≤ 2147483648 → count ≤ below + 2147483648 → (pos 0 ≤ℤ (z +ℤ pos below)) → ((z +ℤ pos below) <ℤ pos count) → IsInRange Int z
-promoted z below count small few least greatest = record { least = omega (arith, ints); greatest = omega (arith, ints) }
+int_by_bounds : (z : ℤ) (below count : ℕ) → below ≤ 2147483648 → count ≤ below + 2147483648 → (pos 0 ≤ℤ (z +ℤ pos below)) → ((z +ℤ pos below) <ℤ pos count) → IsInRange Int z
+int_by_bounds z below count small few least greatest = record { least = omega (arith, ints); greatest = omega (arith, ints) }
 
 -- a number of a type that promotes to int is an int
-pub promotes : (t : Scalar) (z : ℤ) → PromotesToInt t → IsInRange t z → IsInRange Int z
-promotes TheBool z p r = promoted z 0 2 (omega arith) (omega arith) r.least r.greatest
-promotes Char z p r = promoted z 128 256 (omega arith) (omega arith) r.least r.greatest
-promotes SChar z p r = promoted z 128 256 (omega arith) (omega arith) r.least r.greatest
-promotes UChar z p r = promoted z 0 256 (omega arith) (omega arith) r.least r.greatest
-promotes Short z p r = promoted z 32768 65536 (omega arith) (omega arith) r.least r.greatest
-promotes UShort z p r = promoted z 0 65536 (omega arith) (omega arith) r.least r.greatest
+pub promotes : (t : Scalar) (z : ℤ) → promoted t ≡ Int → IsInRange t z → IsInRange Int z
+promotes TheBool z p r = int_by_bounds z 0 2 (omega arith) (omega arith) r.least r.greatest
+promotes Char z p r = int_by_bounds z 128 256 (omega arith) (omega arith) r.least r.greatest
+promotes SChar z p r = int_by_bounds z 128 256 (omega arith) (omega arith) r.least r.greatest
+promotes UChar z p r = int_by_bounds z 0 256 (omega arith) (omega arith) r.least r.greatest
+promotes Short z p r = int_by_bounds z 32768 65536 (omega arith) (omega arith) r.least r.greatest
+promotes UShort z p r = int_by_bounds z 0 65536 (omega arith) (omega arith) r.least r.greatest
 promotes Int z p r = r
-promotes UInt z p r = absurd p
-promotes Long z p r = absurd p
-promotes ULong z p r = absurd p
-promotes LongLong z p r = absurd p
-promotes ULongLong z p r = absurd p
+promotes UInt z p r = absurd (cc)
+promotes Long z p r = absurd (cc)
+promotes ULong z p r = absurd (cc)
+promotes LongLong z p r = absurd (cc)
+promotes ULongLong z p r = absurd (cc)

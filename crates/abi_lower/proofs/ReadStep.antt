@@ -3,8 +3,9 @@ use Rattle.std.proofs.Common.{◌≡◌, ℕ, ◌+◌, Some, [], ◌∷◌, refl
 use Rattle.std.specs.List.{slice_get}
 use Rattle.cxx_hierarchy.specs.declared.records.ClassId.{ClassId}
 use Rattle.cxx_hierarchy.specs.declared.records.Scalar.{Scalar}
+use Rattle.cxx_hierarchy.specs.declared.records.Scalar.TheVariants.{Int}
 use Rattle.cxx_hierarchy.specs.declared.records.ValueType.TheVariants.{Number as NumberType, Pointer as PointerType}
-use Rattle.cxx_hierarchy.specs.Scalars.{size_of, PromotesToInt}
+use Rattle.cxx_hierarchy.specs.Scalars.{size_of, promoted}
 use Rattle.cxx_subobject.specs.Subobjects.{join}
 use Rattle.cxx_resolve.specs.declared.program.MemberPlace.{MemberPlace}
 use Rattle.cxx_resolve.specs.declared.program.Statement.TheVariants.{Read}
@@ -27,7 +28,7 @@ use Rattle.abi_lower.proofs.Variables.{VariablesStand-set, register_inside}
 use Rattle.abi_lower.proofs.Places.{offset-is, scalar_of-is, leaf_there, address-is, reached}
 
 -- a leaf that can be reached, and is read into a variable
-leaf_case : (x : Setup) (s : State) (r : Running) (v pointer far a : ℕ) (t : Scalar) (value : Value) → r.outs ≡ [] → Stands x s r.memory r.registers r.objects r.heap → slice_get x.types v ≡ Some int → PromotesToInt t → Reached r pointer far (size_of t) a → Means x s.classes r.memory.regions (size_of t) value (NumberType t) (number_from r.memory.byte (a + far) (size_of t)) → Leads (Check (SetLeaf pointer far (width_of t)) ∷ (Load v pointer far (width_of t) ∷ [])) r (Agrees x (set_to r.line s v value))
+leaf_case : (x : Setup) (s : State) (r : Running) (v pointer far a : ℕ) (t : Scalar) (value : Value) → r.outs ≡ [] → Stands x s r.memory r.registers r.objects r.heap → slice_get x.types v ≡ Some int → promoted t ≡ Int → Reached r pointer far (size_of t) a → Means x s.classes r.memory.regions (size_of t) value (NumberType t) (number_from r.memory.byte (a + far) (size_of t)) → Leads (Check (SetLeaf pointer far (width_of t)) ∷ (Load v pointer far (width_of t) ∷ [])) r (Agrees x (set_to r.line s v value))
 leaf_case x s r v pointer far a t Unset none st target small reach means = leads_unset_leaf pointer far (width_of t) a reach means (refl, none)
 leaf_case x s r v pointer far a t (Pointer k at) none st target small reach means = absurd means
 leaf_case x s r v pointer far a t (Number z) none st target small reach means =
@@ -38,7 +39,7 @@ leaf_case x s r v pointer far a t (Number z) none st target small reach means =
     word : Means x s.classes r.memory.regions 8 (Number z) int (Some (extended (width_of t) (low_of (size_of t) z)))
     word = (ap Some (extended-low_of (width_of t) z (fits_width t z means.1)), promotes t z small means.1)
 
-read_case : (x : Setup) (s : State) (r : Running) (v pointer : ℕ) (place : MemberPlace) (c d : ClassId) (t : Scalar) (value : Value) → IsSound x.h x.places → r.outs ≡ [] → Stands x s r.memory r.registers r.objects r.heap → slice_get x.types v ≡ Some int → LeadsToNumber x.h c place d t → PromotesToInt t → Means x s.classes r.memory.regions 8 value (PointerType c) (word_at r.registers pointer) → Leads (read_block v pointer (x.places.place c place.base + x.places.member d place.member) (width_of t)) r (Agrees x (fetched r.line s v value place))
+read_case : (x : Setup) (s : State) (r : Running) (v pointer : ℕ) (place : MemberPlace) (c d : ClassId) (t : Scalar) (value : Value) → IsSound x.h x.places → r.outs ≡ [] → Stands x s r.memory r.registers r.objects r.heap → slice_get x.types v ≡ Some int → LeadsToNumber x.h c place d t → promoted t ≡ Int → Means x s.classes r.memory.regions 8 value (PointerType c) (word_at r.registers pointer) → Leads (read_block v pointer (x.places.place c place.base + x.places.member d place.member) (width_of t)) r (Agrees x (fetched r.line s v value place))
 read_case x s r v pointer place c d t Unset sound none st target to small means = leads_unset pointer means (refl, none)
 read_case x s r v pointer place c d t (Number z) sound none st target to small means = absurd means
 read_case x s r v pointer place c d t (Pointer k at) sound none st target to small pt =
@@ -57,7 +58,7 @@ read_case x s r v pointer place c d t (Pointer k at) sound none st target to sma
     leaf = rw (address-is x s.classes r.memory.regions k at c (word_at r.registers pointer) place d t pt.region.start sound pt to)
         (st.leaves.leaves k pt.whole pt.region (join at place.base) d place.member (NumberType t) pt.object pt.there (leaf_there x s.classes r.memory.regions k at c (word_at r.registers pointer) place d t pt to))
 
-pub step_read : (x : Setup) (s : State) (r : Running) (v pointer : ℕ) (place : MemberPlace) (c d : ClassId) (t : Scalar) → IsSound x.h x.places → r.outs ≡ [] → Stands x s r.memory r.registers r.objects r.heap → slice_get x.types v ≡ Some int → IsPointer x.h x.types pointer c → LeadsToNumber x.h c place d t → PromotesToInt t → Leads (block_of x (Read v pointer place)) r (Agrees x (fetched r.line s v (variable_at s pointer) place))
+pub step_read : (x : Setup) (s : State) (r : Running) (v pointer : ℕ) (place : MemberPlace) (c d : ClassId) (t : Scalar) → IsSound x.h x.places → r.outs ≡ [] → Stands x s r.memory r.registers r.objects r.heap → slice_get x.types v ≡ Some int → IsPointer x.h x.types pointer c → LeadsToNumber x.h c place d t → promoted t ≡ Int → Leads (block_of x (Read v pointer place)) r (Agrees x (fetched r.line s v (variable_at s pointer) place))
 step_read x s r v pointer place c d t sound none st target p to small =
     rw (offset-is x pointer place c d t p to, scalar_of-is x place c d t to)
     (read_case x s r v pointer place c d t (variable_at s pointer) sound none st target to small (st.variables.values pointer (PointerType c) p.type))

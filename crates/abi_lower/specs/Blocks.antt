@@ -1,5 +1,5 @@
 -- The ops of each statement.
-use Rattle.std.specs.Prelude.{ℕ, true, ◌+◌, Option, Some, None, List, [], ◌∷◌, ◌++◌, length, map, slice_get}
+use Rattle.std.specs.Prelude.{ℕ, ◌+◌, Option, Some, None, List, [], ◌∷◌, ◌++◌, length, map, slice_get}
 use Rattle.cxx_hierarchy.specs.declared.records.ClassId.{ClassId}
 use Rattle.cxx_hierarchy.specs.declared.records.Scalar.{Scalar}
 use Rattle.cxx_hierarchy.specs.declared.records.Scalar.TheVariants.{Int}

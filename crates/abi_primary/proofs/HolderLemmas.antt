@@ -12,24 +12,19 @@ use Rattle.abi_primary.specs.Holder.{holder_of, IsHeld}
 use Rattle.abi_primary.proofs.PrimaryLemmas.{found, not_found}
 use Rattle.std.specs.Prelude.{position, ◌++◌}
 use Rattle.std.proofs.lemmas.List.{append-nil}
-
-split : (b : Bool) (P : Bool → Type 0) → (b ≡ true → P true) → (b ≡ false → P false) → P b
-split true P t f = t refl
-split false P t f = f refl
+use Rattle.foundation.proofs.Places.{contains_later}
+use Rattle.foundation.proofs.Truth.{split}
 
 -- x is an element that passes
 record Passes {X : Type 0} (p : X → Bool) (xs : List X) (x : X) : Type 0 where
   has : Contains xs x
   passes : p x ≡ true
 
-further : {X : Type 0} (y : X) (xs : List X) (x : X) → Contains xs x → Contains (y ∷ xs) x
-further y xs x (k, lt, same) = (suc k, omega arith, same)
-
 passes_when_found : {X : Type 0} (p : X → Bool) (xs : List X) (x : X) → find p xs ≡ Some x → Passes p xs x
 passes_when_found p [] x e = cc
 passes_when_found {X} p (y ∷ xs) x e = split (p y) (λ b. cond b (Some y) (find p xs) ≡ Some x → Passes p (y ∷ xs) x)
     (λ t same. let is : y ≡ x = cc in subst (Passes p (y ∷ xs)) is (record { has = (0, omega arith, refl); passes = t }))
-    (λ f rest. let later = passes_when_found p xs x rest in record { has = further y xs x later.has; passes = later.passes }) e
+    (λ f rest. let later = passes_when_found p xs x rest in record { has = contains_later y xs x later.has; passes = later.passes }) e
 
 fails_at : {X : Type 0} (p : X → Bool) (xs : List X) → find p xs ≡ None → (k : ℕ) (d : X) → k < length xs → p (get_or xs k d) ≡ false
 fails_at p [] e k d lt = absurd (omega arith)

@@ -2,7 +2,8 @@
 use Rattle.std.proofs.Common.{◌≡◌, ℕ, zero, suc, ◌+◌, ◌<◌, ◌≤◌, ◌∷◌, arith, length, Bool, true, false, Option, Some, None, List, [], refl, ap, subst, sym, ◌∙◌}
 use Rattle.std.specs.Prelude.{not, ◌&&◌, ◌==◌}
 use Rattle.std.specs.List.{Contains, list_all}
-use Rattle.std.proofs.lemmas.Bool.{eqb-true}
+use Rattle.std.proofs.lemmas.Bool.{eqb-true, and_parts}
+use Rattle.foundation.proofs.Places.{contains_later}
 use Rattle.cxx_hierarchy.specs.declared.records.Member.{Member}
 use Rattle.cxx_hierarchy.specs.declared.records.ClassId.{ClassId}
 use Rattle.cxx_hierarchy.specs.declared.records.Base.{Base}
@@ -60,12 +61,9 @@ kind_here kind h by c class e = steps (c.0 + 1) (omega arith) ∙ by.agrees c cl
     steps : (n : ℕ) → n ≡ suc c.0 → is_kind_in kind h n c ≡ kind (is_kind_in kind h c.0) class
     steps n same = rw same (ap (in_class (kind (is_kind_in kind h c.0))) e)
 
-later : {X : Type 0} (x : X) (xs : List X) (y : X) → Contains xs y → Contains (x ∷ xs) y
-later x xs y (k, lt, same) = (suc k, omega arith, same)
-
-same_all : {X : Type 0} (p q : X → Bool) (xs : List X) → ((x : X) → Contains xs x → p x ≡ q x) → list_all p xs ≡ list_all q xs
+pub same_all : {X : Type 0} (p q : X → Bool) (xs : List X) → ((x : X) → Contains xs x → p x ≡ q x) → list_all p xs ≡ list_all q xs
 same_all p q [] each = refl
-same_all p q (x ∷ xs) each = let a = each x (0, omega arith, refl) in let b = same_all p q xs (λ y h. each y (later x xs y h)) in cc
+same_all p q (x ∷ xs) each = let a = each x (0, omega arith, refl) in let b = same_all p q xs (λ y h. each y (contains_later x xs y h)) in cc
 
 pub empty_by_earlier : (h : Classes) → IsHierarchy h → IsByEarlier h empty_kind
 empty_by_earlier h keeps = record {
@@ -91,10 +89,6 @@ pub record HasEmptyParts (h : Classes) (class : Class) : Type 0 where
   pub no_function : has_virtual_function class ≡ false
   pub bases : (base : Base ClassId) → Contains class.bases base → IsEmptyBase h base
 
-both : (a b : Bool) → (a && b) ≡ true → (a ≡ true) × (b ≡ true)
-both true b e = (refl, e)
-both false b e = let f : false ≡ true = e in cc
-
 not_true : (b : Bool) → not b ≡ true → b ≡ false
 not_true true e = let f : false ≡ true = e in cc
 not_true false e = refl
@@ -105,21 +99,21 @@ none_counted (x ∷ xs) e = let z : length (x ∷ xs) ≡ 0 = eqb-true (length (
 
 each_passes : {X : Type 0} (p : X → Bool) (xs : List X) → list_all p xs ≡ true → (x : X) → Contains xs x → p x ≡ true
 each_passes p [] e x (k, lt, same) = absurd (omega arith)
-each_passes p (y ∷ xs) e x (zero, lt, same) = ap p (sym same) ∙ (both (p y) (list_all p xs) e).0
-each_passes p (y ∷ xs) e x (suc k, lt, same) = each_passes p xs (both (p y) (list_all p xs) e).1 x (k, omega arith, same)
+each_passes p (y ∷ xs) e x (zero, lt, same) = ap p (sym same) ∙ (and_parts (p y) (list_all p xs) e).0
+each_passes p (y ∷ xs) e x (suc k, lt, same) = each_passes p xs (and_parts (p y) (list_all p xs) e).1 x (k, omega arith, same)
 
 all_pass : {X : Type 0} (p : X → Bool) (xs : List X) → ((x : X) → Contains xs x → p x ≡ true) → list_all p xs ≡ true
 all_pass p [] each = refl
-all_pass p (x ∷ xs) each = let a = each x (0, omega arith, refl) in let b = all_pass p xs (λ y h. each y (later x xs y h)) in cc
+all_pass p (x ∷ xs) each = let a = each x (0, omega arith, refl) in let b = all_pass p xs (λ y h. each y (contains_later x xs y h)) in cc
 
 pub empty_parts : (h : Classes) (c : ClassId) (class : Class) → IsHierarchy h → class_at h c ≡ Some class → is_empty h c ≡ true → HasEmptyParts h class
 empty_parts h c class keeps e empty =
-    let k = both (length class.members == 0) (not (has_virtual_function class) && list_all (leaves_empty h) class.bases) (sym (empty_here h c class keeps e) ∙ empty) in
-    let l = both (not (has_virtual_function class)) (list_all (leaves_empty h) class.bases) k.1 in
+    let k = and_parts (length class.members == 0) (not (has_virtual_function class) && list_all (leaves_empty h) class.bases) (sym (empty_here h c class keeps e) ∙ empty) in
+    let l = and_parts (not (has_virtual_function class)) (list_all (leaves_empty h) class.bases) k.1 in
     record {
       no_member = none_counted class.members k.0;
       no_function = not_true (has_virtual_function class) l.0;
-      bases = λ base has. let b = both (not base.is_virtual) (is_empty h base.class) (each_passes (leaves_empty h) class.bases l.1 base has) in record { way = not_true base.is_virtual b.0; empty_is = b.1 };
+      bases = λ base has. let b = and_parts (not base.is_virtual) (is_empty h base.class) (each_passes (leaves_empty h) class.bases l.1 base has) in record { way = not_true base.is_virtual b.0; empty_is = b.1 };
     }
 
 pub empty_by : (h : Classes) (c : ClassId) (class : Class) → IsHierarchy h → class_at h c ≡ Some class → HasEmptyParts h class → is_empty h c ≡ true

@@ -1,9 +1,9 @@
 -- What holds of each base of a list, by a walk over it.
-use Rattle.std.proofs.Common.{◌≡◌, ℕ, zero, suc, ◌+◌, ◌<◌, ◌≤◌, Bool, true, false, List, [], ◌∷◌, length, get_or, refl, subst, sym, ◌∙◌, arith}
-use Rattle.std.specs.Prelude.{IsTrue}
+use Rattle.std.proofs.Common.{◌≡◌, ℕ, ◌+◌, ◌<◌, ◌≤◌, false, List, length, get_or, subst, sym, ◌∙◌, arith}
 use Rattle.std.specs.List.{Contains}
 use Rattle.std.proofs.Common.{◌⊎◌, inl, inr}
 use Rattle.std.proofs.lemmas.Bool.{cases_order}
+use Rattle.foundation.proofs.Places.{any_default}
 use Rattle.cxx_hierarchy.specs.declared.records.ClassId.{ClassId}
 use Rattle.cxx_hierarchy.specs.declared.records.Base.{Base}
 
@@ -12,11 +12,6 @@ no_base = record { class = record { 0 = 0 }; is_virtual = false; is_public = fal
 
 abbrev pub nth : List (Base ClassId) → ℕ → Base ClassId
 nth xs i = get_or xs i no_base
-
-any_default : {X : Type 0} (xs : List X) (i : ℕ) (d e : X) → i < length xs → get_or xs i d ≡ get_or xs i e
-any_default [] i d e lt = absurd (omega arith)
-any_default (x ∷ xs) zero d e lt = refl
-any_default (x ∷ xs) (suc i) d e lt = any_default xs i d e (omega arith)
 
 pub nth_listed : (xs : List (Base ClassId)) (i : ℕ) → i < length xs → Contains xs (nth xs i)
 nth_listed xs i lt = (i, lt, any_default xs i (nth xs i) no_base lt)
@@ -44,13 +39,3 @@ all_nth P xs ys i e le before x has = at (subst (λ zs. Contains zs x) (sym e) h
   where
     at : Contains xs x → P x
     at (k, lt, same) = subst P (any_default xs k no_base x lt ∙ same) (before.each k (omega arith))
-
--- a test that is false exactly where the fact is not so, and one that is true where it is
-pub never : {A : Type 0} → (A → ⊥) → (IsTrue false → A) × (A → IsTrue false)
-never f = (λ t. let e : false ≡ true = t in cc, λ a. absurd (f a))
-
-pub always : {A : Type 0} → A → (IsTrue true → A) × (A → IsTrue true)
-always a = (λ t. a, λ x. refl)
-
-pub not_both : {b : Bool} → b ≡ true → b ≡ false → ⊥
-not_both t f = let e : true ≡ false = sym t ∙ f in cc

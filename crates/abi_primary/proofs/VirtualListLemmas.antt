@@ -1,7 +1,8 @@
 -- A class without virtual bases has no virtual primary base.
-use Rattle.std.proofs.Common.{◌≡◌, ℕ, zero, suc, ◌<◌, ◌≤◌, Bool, true, false, cond, Option, Some, None, List, [], ◌∷◌, length, refl, ap, sym, ◌∙◌, arith}
+use Rattle.std.proofs.Common.{◌≡◌, ℕ, ◌<◌, ◌≤◌, Bool, true, false, cond, Option, Some, None, List, [], ◌∷◌, length, refl, ap, sym, ◌∙◌, arith}
 use Rattle.std.specs.Prelude.{◌&&◌, ◌==◌}
 use Rattle.std.specs.List.{Contains, find}
+use Rattle.foundation.proofs.Places.{contains_later}
 use Rattle.cxx_hierarchy.specs.declared.records.ClassId.{ClassId}
 use Rattle.cxx_hierarchy.specs.Classes.{Classes}
 use Rattle.cxx_hierarchy.specs.Hierarchies.{IsHierarchy}
@@ -12,18 +13,15 @@ use Rattle.cxx_subobject.specs.Preorder.{preorder}
 use Rattle.cxx_subobject.proofs.PathLemmas.{virtual_below}
 use Rattle.cxx_subobject.proofs.TreeLemmas.{preorder_lists}
 use Rattle.abi_primary.specs.declared.Primary.{Primary}
-use Rattle.abi_primary.specs.PrimaryBase.{is_nearly_base, is_free_base, is_taken_root, virtual_primary, choice}
+use Rattle.abi_primary.specs.PrimaryBase.{is_nearly_base, is_free_base, virtual_primary, choice}
 use Rattle.abi_primary.specs.VirtualLists.{ListsVirtual, has_all, left_out}
-
-later : {X : Type 0} (x : X) (xs : List X) (y : X) → Contains xs y → Contains (x ∷ xs) y
-later x xs y (k, lt, same) = (suc k, omega arith, same)
 
 -- nothing is found where each element fails
 pub none_found : {X : Type 0} (p : X → Bool) (xs : List X) → ((x : X) → Contains xs x → p x ≡ false) → find p xs ≡ None
 none_found p [] fails = refl
 none_found {X} p (x ∷ xs) fails =
     let here = fails x (0, omega arith, refl) in
-    let rest = none_found p xs (λ y has. fails y (later x xs y has)) in
+    let rest = none_found p xs (λ y has. fails y (contains_later x xs y has)) in
     ap (λ b. cond b (Some x) (find p xs)) here ∙ rest
 
 and_false : (a b : Bool) → b ≡ false → (a && b) ≡ false

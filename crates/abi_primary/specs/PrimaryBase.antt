@@ -1,5 +1,5 @@
 -- The primary base of a class, whose virtual pointer it shares (Itanium C++ ABI 2.4, II.1).
-use Rattle.std.specs.Prelude.{◌≡◌, ℕ, ◌<◌, Bool, true, false, not, ◌&&◌, ◌==◌, nat_eq, nat_lt, Option, Some, None, List, Contains, slice_get, get_or, length}
+use Rattle.std.specs.Prelude.{◌≡◌, ℕ, ◌<◌, Bool, false, not, ◌&&◌, ◌==◌, nat_eq, Option, Some, None, List, Contains, slice_get, get_or, length}
 use Rattle.std.specs.List.{list_any, find}
 use Rattle.cxx_hierarchy.specs.declared.records.ClassId.{ClassId}
 use Rattle.cxx_hierarchy.specs.declared.records.Base.{Base}

@@ -1,5 +1,5 @@
 -- A run, turn by turn.
-use Rattle.std.proofs.Common.{◌≡◌, ◌≢◌, ℕ, zero, suc, ◌+◌, ◌-◌, ◌<◌, ◌≤◌, Option, Some, None, List, [], ◌∷◌, ◌++◌, subst, sym, refl, ap, ◌∙◌, arith, length, map, append_assoc, replicate, true, false, Bool}
+use Rattle.std.proofs.Common.{◌≡◌, ◌≢◌, ℕ, zero, suc, ◌+◌, ◌-◌, ◌<◌, ◌≤◌, Option, Some, None, List, [], ◌++◌, subst, sym, refl, ap, ◌∙◌, arith, length, append_assoc, replicate, true, false, Bool}
 use Rattle.std.specs.Prelude.{nat_eq}
 use Rattle.std.specs.List.{slice_get}
 use Rattle.std.proofs.lemmas.List.{append-nil, length-replicate}
@@ -8,7 +8,7 @@ use Rattle.std.proofs.lemmas.Bool.Decides.{nat_tests}
 use Rattle.cxx_resolve.specs.declared.program.SimpleProgram.{SimpleProgram}
 use Rattle.abi_lower.proofs.SoundPlaces.{IsSound}
 use Rattle.path_model.specs.Values.{State, Unset, value_in}
-use Rattle.path_model.specs.Steps.{Out, NumberOut, Move, Goes, Refuses, Limits, Ends, step}
+use Rattle.path_model.specs.Steps.{Move, Goes, Refuses, Limits, Ends, step}
 use Rattle.path_model.specs.Runs.{Ran, run_of, run_from, ran_by, state_at, next_state, start}
 use Rattle.byte_memory.specs.Store.{empty}
 use Rattle.byte_code.specs.declared.code.Code.{Code}

@@ -1,10 +1,11 @@
 -- The text of what a machine tells is the text of what it reads as.
-use Rattle.std.proofs.Common.{◌≡◌, ℕ, ◌+◌, ◌-◌, ◌<◌, ◌≤◌, Some, Bool, true, false, List, [], ◌∷◌, ◌++◌, refl, ap, sym, ◌∙◌, arith, length, ⊎_elim}
-use Rattle.std.specs.Prelude.{nat_le, nat_lt, ◌&&◌, None, ℤ}
+use Rattle.std.proofs.Common.{◌≡◌, ℕ, ◌+◌, ◌-◌, ◌<◌, ◌≤◌, Some, true, false, List, [], ◌∷◌, ◌++◌, refl, ap, ◌∙◌, arith, length}
+use Rattle.std.specs.Prelude.{ℤ}
 use Rattle.std.specs.List.{slice_get}
 use Rattle.std.specs.Fmt.{signed_decimal}
-use Rattle.std.proofs.lemmas.Option.{slice_get_within, slice_get_cases}
+use Rattle.std.proofs.lemmas.Option.{slice_get_within}
 use Rattle.std.proofs.lemmas.Bool.Decides.{nat_tests}
+use Rattle.foundation.proofs.Places.{get_within}
 use Rattle.cxx_hierarchy.specs.declared.records.ClassId.{ClassId}
 use Rattle.cxx_subobject.specs.declared.Subobject.{Subobject}
 use Rattle.abi_lower.proofs.SoundPlaces.{IsSound}
@@ -18,9 +19,6 @@ use Rattle.byte_machine.specs.Heap.{object_at, has_address}
 use Rattle.abi_lower.specs.Blocks.{Setup}
 use Rattle.abi_lower.specs.Stands.{ObjectsStand, IsRegionOf, LiesAt, ReadsAs, ReadAs, listed_as}
 use Rattle.abi_print.specs.Texts.{address_text, location_text, line_of, text_of, raw_line, raw_text}
-
-item_there : {X : Type 0} (xs : List X) (n : ℕ) → n < length xs → (x : X) × (slice_get xs n ≡ Some x)
-item_there {X} xs n inside = ⊎_elim (λ found. (found.0, found.2)) (λ past. absurd (omega (arith, past.0))) (slice_get_cases xs n).1
 
 has : (at : ℕ) (object : Opened) → object.start ≤ at → at < object.start + object.size → has_address at object ≡ true
 has at object low high = grind (arith, nat_tests)
@@ -51,8 +49,8 @@ found_at x classes regions opened heap k c at a sound st lies =
     before : (j : ℕ) (y : Opened) → j < k → slice_get opened j ≡ Some y → has_address a y ≡ false
     before j y less here =
         let inside : k < length classes = slice_get_within classes k c lies.object in
-        let d = item_there classes j (omega arith) in
-        let r = item_there regions j (omega (arith, st.count)) in
+        let d = get_within classes j (omega arith) in
+        let r = get_within regions j (omega (arith, st.count)) in
         listed_before j y d.0 r.0 less here d.1 r.1
 
 line_read : (x : Setup) (classes : List ClassId) (regions : List Region) (opened : List Opened) (heap : ℕ) (raw : RawOut) (out : Out) → IsSound x.h x.places → ObjectsStand x classes regions opened heap → ReadsAs x classes regions raw out → raw_line opened raw ≡ line_of x.places.place out

@@ -1,11 +1,12 @@
 -- A turn agrees with the step of the state that the machine stands for.
 use Rattle.std.proofs.Common.{◌≡◌, ℕ, zero, suc, ◌+◌, ◌-◌, ◌<◌, ◌≤◌, Option, Some, None, Bool, true, false, List, [], ◌∷◌, ◌++◌, subst, sym, refl, ap, ◌∙◌, arith, length, map, ⊎_elim, get_or}
 use Rattle.std.specs.Prelude.{nat_eq, nat_lt, ℤ}
-use Rattle.std.specs.List.{slice_get, AllByRecursion}
+use Rattle.std.specs.List.{slice_get}
 use Rattle.std.specs.Option.{option_map}
 use Rattle.std.proofs.lemmas.List.{length-map}
 use Rattle.std.proofs.lemmas.Option.{slice_get-map, slice_get_within, slice_get_cases}
 use Rattle.std.proofs.lemmas.Bool.Decides.{nat_tests}
+use Rattle.foundation.proofs.Places.{each_at, get_last, get_before}
 use Rattle.cxx_hierarchy.specs.declared.records.ClassId.{ClassId}
 use Rattle.cxx_hierarchy.specs.Classes.{Classes}
 use Rattle.cxx_resolve.specs.declared.program.MemberPlace.{MemberPlace}
@@ -20,7 +21,6 @@ use Rattle.abi_lower.proofs.SoundPlaces.{IsSound}
 use Rattle.path_model.specs.Values.{State, Value, Unset, Number, Pointer, variable_at}
 use Rattle.path_model.specs.Steps.{Move, Goes, Refuses, Limits, Ends, made, written, set_to, fetched, compared, converted_at, pointer_printed, printed, move_of, move_in, step, heap_total, rounded}
 use Rattle.path_model.specs.Runs.{state_at, next_state}
-use Rattle.byte_memory.proofs.Lists.{slice_get-push, slice_get-push_before}
 use Rattle.byte_code.specs.declared.code.Block.{Block}
 use Rattle.byte_code.specs.declared.code.Code.{Code}
 use Rattle.byte_machine.specs.declared.turn.RawOut.{RawOut}
@@ -91,22 +91,16 @@ next_in h sizes (Some line) s = next_of h sizes line.line line.what s
 step_is_next : (h : Classes) (sizes : ClassId → ℕ) (program : SimpleProgram) (s : State) → IsNext s (step h sizes program s)
 step_is_next h sizes program s = next_in h sizes (slice_get program.lines s.next) s
 
--- the lines of a program whose types fit
-typed_line : {X : Type 0} (P : X → Type 0) (xs : List X) (n : ℕ) (y : X) → AllByRecursion P xs → slice_get xs n ≡ Some y → P y
-typed_line P [] n y all here = cc
-typed_line P (x ∷ xs) zero y all here = let e : x ≡ y = cc in subst P e all.0
-typed_line P (x ∷ xs) (suc n) y all here = typed_line P xs n y all.1 here
-
 -- block n is that of line n, and the last one ends the run
 block_there : (x : Setup) (lines : List TypedLine) (n : ℕ) (line : TypedLine) → slice_get lines n ≡ Some line → slice_get (map (block_for x) lines ++ closing ∷ []) n ≡ Some (block_for x line)
 block_there x lines n line here =
     let inside : n < length (map (block_for x) lines) = rw length-map (slice_get_within lines n line here) in
-    slice_get-push_before (map (block_for x) lines) closing n inside ∙ slice_get-map (block_for x) lines n ∙ ap (option_map (block_for x)) here
+    get_before (map (block_for x) lines) closing n inside ∙ slice_get-map (block_for x) lines n ∙ ap (option_map (block_for x)) here
 
 last_there : (x : Setup) (lines : List TypedLine) → slice_get (map (block_for x) lines ++ closing ∷ []) (length lines) ≡ Some closing
 last_there x lines =
     let long : length (map (block_for x) lines) ≡ length lines = simp length-map in
-    rw (← long) (slice_get-push (map (block_for x) lines) closing)
+    rw (← long) (get_last (map (block_for x) lines) closing)
 
 -- the block at the next statement leads where its step does
 pub record BlockLeads (x : Setup) (program : SimpleProgram) (code : Code) (s : State) (b : Bytes) : Type 0 where
@@ -120,7 +114,7 @@ block_leads x program code s b types sound same typed st within =
   where
     found : (line : TypedLine) × (s.next < length program.lines) × (slice_get program.lines s.next ≡ Some line) × (get_or program.lines s.next line ≡ line) → BlockLeads x program (code_for x program.lines) s b
     found (line, inside, here, got) =
-        let its : IsTyped x.h program.variables line.what = typed_line (λ (l : TypedLine). IsTyped x.h program.variables l.what) program.lines s.next line typed here in
+        let its : IsTyped x.h program.variables line.what = each_at (λ (l : TypedLine). IsTyped x.h program.variables l.what) program.lines s.next line typed here in
         record {
           block = block_for x line;
           there = block_there x program.lines s.next line here;

@@ -149,7 +149,7 @@ above_primary l c s t e =
     only _ _ (by_direct y d b class primary) = by_path d b y.root y.path class
     only _ _ (by_holder y d v class primary held) = held
 
-find_has : {X : Type 0} (test : X → Bool) (xs : List X) (x : X) → find test xs ≡ Some x → Has xs x
+pub find_has : {X : Type 0} (test : X → Bool) (xs : List X) (x : X) → find test xs ≡ Some x → Has xs x
 find_has test [] x e = let k : None ≡ Some x = e in cc
 find_has {X} test (y ∷ xs) x e = by_test (test y) e (λ f. find_has test xs x f)
   where

@@ -15,6 +15,3 @@ pub mod width;
 pub use crate::code::{Block, BlockList, ByteList, Code, ImageBytes, OpList};
 pub use crate::op::{ArithKind, Check, Op, PrintAs};
 pub use crate::width::Width;
-
-#[cfg(test)]
-mod tests;

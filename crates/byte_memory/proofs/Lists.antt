@@ -1,15 +1,6 @@
 use Rattle.std.proofs.Common.{◌≡◌, ℕ, zero, suc, ◌<◌, ◌⊎◌, inl, inr, ⊎_elim, Some, None, List, [], ◌∷◌, ◌++◌, length, refl, ap, Bool, true, false, arith}
 use Rattle.std.specs.List.{slice_get, find}
 
-pub slice_get-push : {X : Type 0} (xs : List X) (y : X) → slice_get (xs ++ y ∷ []) (length xs) ≡ Some y
-slice_get-push [] y = refl
-slice_get-push (x ∷ xs) y = slice_get-push xs y
-
-pub slice_get-push_before : {X : Type 0} (xs : List X) (y : X) (k : ℕ) → k < length xs → slice_get (xs ++ y ∷ []) k ≡ slice_get xs k
-slice_get-push_before [] y k h = absurd (omega arith)
-slice_get-push_before (x ∷ xs) y zero h = refl
-slice_get-push_before (x ∷ xs) y (suc k) h = slice_get-push_before xs y k (omega arith)
-
 -- what is found after a push is the new one, or stood before it
 pub slice_get-push_cases : {X : Type 0} (xs : List X) (y : X) (k : ℕ) (z : X) → slice_get (xs ++ y ∷ []) k ≡ Some z → ((k ≡ length xs) × (y ≡ z)) ⊎ (slice_get xs k ≡ Some z)
 slice_get-push_cases [] y zero z h = inl (refl, cc)

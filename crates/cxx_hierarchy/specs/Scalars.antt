@@ -84,21 +84,6 @@ stored_as ULong z = wrapped ULong z
 stored_as LongLong z = wrapped LongLong z
 stored_as ULongLong z = wrapped ULongLong z
 
--- a number of the type is an int's, by promotion (ISO C++03 4.5)
-abbrev pub PromotesToInt : Scalar → Type 0
-PromotesToInt TheBool = Unit {0}
-PromotesToInt Char = Unit {0}
-PromotesToInt SChar = Unit {0}
-PromotesToInt UChar = Unit {0}
-PromotesToInt Short = Unit {0}
-PromotesToInt UShort = Unit {0}
-PromotesToInt Int = Unit {0}
-PromotesToInt UInt = ⊥
-PromotesToInt Long = ⊥
-PromotesToInt ULong = ⊥
-PromotesToInt LongLong = ⊥
-PromotesToInt ULongLong = ⊥
-
 -- what a number of the type becomes before it is calculated with: an `int` holds all that is smaller (ISO C++03 4.5)
 abbrev pub promoted : Scalar → Scalar
 promoted TheBool = Int

@@ -1,5 +1,5 @@
 -- The base of a class that a class has, as a function.
-use Rattle.std.proofs.Common.{◌≡◌, ◌⊎◌, inl, inr, ⊎_elim, ◌+◌, List, [], ◌∷◌, refl, ap, sym, ◌∙◌}
+use Rattle.std.proofs.Common.{◌≡◌, inl, inr, ⊎_elim, ◌+◌, List, [], ◌∷◌, refl, ap, sym, ◌∙◌}
 use Rattle.std.specs.Prelude.{filter}
 use Rattle.foundation.proofs.Members.{Has, EachOnce}
 use Rattle.foundation.proofs.Chosen.{has_filter, filter_has, once_filter}
@@ -10,7 +10,7 @@ use Rattle.cxx_subobject.specs.declared.Subobject.{Subobject}
 use Rattle.cxx_subobject.specs.Subobjects.{whole_of, class_of}
 use Rattle.cxx_subobject.specs.Preorder.{tree, preorder}
 use Rattle.cxx_subobject.proofs.TreeLemmas.{preorder_has, has_preorder, firsts_once}
-use Rattle.cxx_lookup.specs.UniqueBase.{IsOfClass, IsUniqueBase, HasTwoBases}
+use Rattle.cxx_lookup.specs.UniqueBase.{IsOfClass}
 use Rattle.cxx_lookup.specs.Findings.{Finding, finds_none, finds_one, finds_more, is_of_class, the_only, base_by, IsBaseFinding}
 use Rattle.cxx_lookup.proofs.OfClass.{tells_class, told_class}
 

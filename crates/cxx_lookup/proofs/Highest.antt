@@ -2,6 +2,7 @@
 use Rattle.std.proofs.Common.{◌≡◌, ℕ, ◌+◌, ◌<◌, ⊎_elim, Bool, true, false, List, length, sym, ap, subst, ◌∙◌, refl, arith}
 use Rattle.std.specs.Prelude.{Option, Some, None, MatchOption, slice_get, get_or, is_some}
 use Rattle.std.proofs.lemmas.Option.{slice_get_within, slice_get_read, get_or_from_slice_get}
+use Rattle.foundation.proofs.Places.{contains_at}
 use Rattle.cxx_hierarchy.specs.declared.records.ClassId.{ClassId}
 use Rattle.cxx_hierarchy.specs.Classes.{Classes}
 use Rattle.cxx_hierarchy.specs.Hierarchies.{IsHierarchy}
@@ -11,7 +12,7 @@ use Rattle.cxx_subobject.specs.Inside.{IsInside}
 use Rattle.cxx_lookup.specs.declared.Found.{Found}
 use Rattle.cxx_lookup.specs.Lookup.{place_of, IsDeclared, Remains, IsFound, TwoRemain}
 use Rattle.cxx_lookup.specs.invariants.Searches.{AreDeclarations, IsPlaceIn, found_at, IsHidden, GoesOver, AreHidden, IsHighest}
-use Rattle.cxx_lookup.proofs.Listing.{contained, at_place, before_or_here}
+use Rattle.cxx_lookup.proofs.Listing.{at_place, before_or_here}
 use Rattle.cxx_lookup.proofs.Named.{one_declaration}
 
 -- containment is an order
@@ -106,7 +107,7 @@ kept h hider list i x (Some b) within is below far =
 remains : (h : Classes) → IsHierarchy h → (c : ClassId) (name : List ℕ) (list : List Found) (hider : Option Found) (k : ℕ) → AreDeclarations h c name list → (a : IsHighest h hider list (length list) k) →
     ((t : Found) → IsInside h (place_of t) (place_of a.found) → IsHidden h hider t → ⊥) → Remains h c name a.found
 remains h keeps c name list hider k are a free =
-    let here : IsDeclared h c name a.found = are.declared a.found (contained list k a.found a.there) in
+    let here : IsDeclared h c name a.found = are.declared a.found (contains_at list k a.found a.there) in
     record {
       declared = here;
       unhidden = λ t d inside.

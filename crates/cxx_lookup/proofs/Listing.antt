@@ -7,9 +7,6 @@ use Rattle.std.proofs.lemmas.Bool.Decides.{nat_tests}
 use Rattle.std.proofs.lemmas.Option.{slice_get-get_or, slice_get_within, get_or_from_slice_get}
 use Rattle.std.proofs.lemmas.List.Sums.{fails_before_first}
 
-pub contained : {X : Type 0} (xs : List X) (k : ℕ) (x : X) → slice_get xs k ≡ Some x → Contains xs x
-contained xs k x at = (k, slice_get_within xs k x at, get_or_from_slice_get xs k x x at)
-
 pub at_place : {X : Type 0} (xs : List X) (x : X) → (has : Contains xs x) → slice_get xs has.0 ≡ Some x
 at_place xs x (k, within, e) = slice_get-get_or xs k x within ∙ ap Some e
 

@@ -1,12 +1,10 @@
 -- What a name finds, as a function.
-use Rattle.std.proofs.Common.{◌≡◌, ℕ, ◌⊎◌, inl, inr, ⊎_elim, Bool, true, false, Option, Some, None, List, [], ◌∷◌, refl, ap, subst, sym, ◌∙◌}
-use Rattle.std.specs.Prelude.{filter, slice_get, position}
-use Rattle.std.specs.List.{filter_map, list_any, list_all}
+use Rattle.std.proofs.Common.{◌≡◌, ℕ, inl, ⊎_elim, true, Option, Some, None, List, [], ◌∷◌, refl, ap, subst, sym, ◌∙◌}
+use Rattle.std.specs.Prelude.{filter, position}
 use Rattle.std.specs.Str.{bytes_eq}
 use Rattle.foundation.proofs.Members.{Has}
 use Rattle.foundation.proofs.Chosen.{has_filter, filter_has, has_filter_map, from_filter_map, any_has, has_any, all_each, each_all}
-use Rattle.foundation.proofs.Deciding.{Decided}
-use Rattle.foundation.proofs.Greatest.{IsHigh, IsOverAll, AreTwoHigh, IsOrderOn, top_or_two}
+use Rattle.foundation.proofs.Greatest.{IsHigh, IsOrderOn, top_or_two}
 use Rattle.cxx_hierarchy.specs.declared.records.ClassId.{ClassId}
 use Rattle.cxx_hierarchy.specs.declared.records.Member.{Member as MemberRecord}
 use Rattle.cxx_hierarchy.specs.declared.records.Function.{Function as FunctionRecord}
@@ -22,7 +20,7 @@ use Rattle.cxx_subobject.proofs.DecidingLemmas.{decide_inside}
 use Rattle.cxx_lookup.specs.declared.Found.{Found}
 use Rattle.cxx_lookup.specs.declared.Found.TheVariants.{Member, Function}
 use Rattle.cxx_lookup.specs.Lookup.{place_of, IsDeclared, Remains, IsFound, TwoRemain}
-use Rattle.cxx_lookup.specs.Findings.{Finding, finds_none, finds_one, finds_more, declared_as, declared_in, declaration_at, declarations_of, is_joined, is_inside, contains_all, among, found_among, found_by, IsNameFinding}
+use Rattle.cxx_lookup.specs.Findings.{Finding, finds_none, finds_one, finds_more, declared_as, declared_in, declaration_at, declarations_of, is_joined, is_inside, contains_all, among, found_by, IsNameFinding}
 use Rattle.cxx_lookup.specs.invariants.Searches.{IsDeclaredAt}
 use Rattle.cxx_lookup.proofs.Named.{one_declaration, member_in_class, function_in_class, nothing_in_class, nowhere}
 

@@ -6,6 +6,7 @@ use Rattle.std.specs.Str.{bytes_eq}
 use Rattle.std.proofs.lemmas.Slice.Eq.{bytes_eq-Decides}
 use Rattle.std.proofs.lemmas.Option.{slice_get-get_or}
 use Rattle.std.proofs.lemmas.List.Quantifiers.{position-Some}
+use Rattle.foundation.proofs.Places.{contains_at}
 use Rattle.cxx_hierarchy.specs.declared.records.ClassId.{ClassId}
 use Rattle.cxx_hierarchy.specs.declared.records.Member.{Member as MemberRecord}
 use Rattle.cxx_hierarchy.specs.declared.records.Function.{Function as FunctionRecord}
@@ -17,7 +18,7 @@ use Rattle.cxx_lookup.specs.declared.Found.{Found}
 use Rattle.cxx_lookup.specs.declared.Found.TheVariants.{Member, Function}
 use Rattle.cxx_lookup.specs.Lookup.{name_in, name_of}
 use Rattle.cxx_lookup.specs.invariants.Searches.{IsDeclaredAt}
-use Rattle.cxx_lookup.proofs.Listing.{contained, none_passes}
+use Rattle.cxx_lookup.proofs.Listing.{none_passes}
 
 abbrev member_text : MemberRecord ClassId → List ℕ
 member_text m = m.name
@@ -115,11 +116,11 @@ one_in_class h keeps s d name class (Member t m) (Member u k) a b =
 one_in_class h keeps s d name class (Member t m) (Function u k) a b =
     let x = from_map member_text (slice_get (members_of h d) m) name (sym (member_name h t d m (ap class_of a.place ∙ class)) ∙ a.named) in
     let y = from_map function_text (slice_get (functions_of h d) k) name (sym (function_name h u d k (ap class_of b.place ∙ class)) ∙ b.named) in
-    absurd (keeps.member_and_function d x.item y.item (contained (members_of h d) m x.item x.is) (contained (functions_of h d) k y.item y.is) (x.named ∙ sym y.named))
+    absurd (keeps.member_and_function d x.item y.item (contains_at (members_of h d) m x.item x.is) (contains_at (functions_of h d) k y.item y.is) (x.named ∙ sym y.named))
 one_in_class h keeps s d name class (Function t m) (Member u k) a b =
     let x = from_map function_text (slice_get (functions_of h d) m) name (sym (function_name h t d m (ap class_of a.place ∙ class)) ∙ a.named) in
     let y = from_map member_text (slice_get (members_of h d) k) name (sym (member_name h u d k (ap class_of b.place ∙ class)) ∙ b.named) in
-    absurd (keeps.member_and_function d y.item x.item (contained (members_of h d) k y.item y.is) (contained (functions_of h d) m x.item x.is) (y.named ∙ sym x.named))
+    absurd (keeps.member_and_function d y.item x.item (contains_at (members_of h d) k y.item y.is) (contains_at (functions_of h d) m x.item x.is) (y.named ∙ sym x.named))
 one_in_class h keeps s d name class (Function t m) (Function u k) a b =
     let x = from_map function_text (slice_get (functions_of h d) m) name (sym (function_name h t d m (ap class_of a.place ∙ class)) ∙ a.named) in
     let y = from_map function_text (slice_get (functions_of h d) k) name (sym (function_name h u d k (ap class_of b.place ∙ class)) ∙ b.named) in

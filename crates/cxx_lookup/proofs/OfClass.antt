@@ -6,6 +6,7 @@ use Rattle.std.proofs.lemmas.List.Quantifiers.{position-Some}
 use Rattle.std.proofs.lemmas.Option.{slice_get-get_or, slice_get_within, get_or_from_slice_get}
 use Rattle.std.proofs.lemmas.Bool.{cases_order}
 use Rattle.std.proofs.lemmas.Bool.Decides.{nat_tests}
+use Rattle.foundation.proofs.Places.{contains_at}
 use Rattle.cxx_hierarchy.specs.declared.records.ClassId.{ClassId}
 use Rattle.cxx_hierarchy.specs.Classes.{Classes}
 use Rattle.cxx_subobject.specs.declared.Subobject.{Subobject}
@@ -13,7 +14,7 @@ use Rattle.cxx_subobject.specs.Subobjects.{class_of, whole_of}
 use Rattle.cxx_subobject.specs.Preorder.{ListsSubobjects}
 use Rattle.cxx_lookup.specs.UniqueBase.{IsOfClass, IsUniqueBase, HasTwoBases}
 use Rattle.cxx_lookup.specs.Findings.{is_class, is_of_class}
-use Rattle.cxx_lookup.proofs.Listing.{contained, at_place, none_passes}
+use Rattle.cxx_lookup.proofs.Listing.{at_place, none_passes}
 
 same_id : (c d : ClassId) → c.0 ≡ d.0 → c ≡ d
 same_id c d e = ap (λ (n : ℕ). let k : ClassId = record { 0 = n } in k) e
@@ -43,7 +44,7 @@ none_of_class h c d list lists nothing s of_class =
     none_passes (is_of_class d) list has.0 s nothing (at_place list s has) (told_class d (class_of s) of_class.class)
 
 of_class_at : (h : Classes) (c d : ClassId) (list : List Subobject) (k : ℕ) (s : Subobject) → ListsSubobjects h c list → slice_get list k ≡ Some s → is_of_class d s ≡ true → IsOfClass h c d s
-of_class_at h c d list k s lists at passes = record { valid = lists.valid s (contained list k s at); class = tells_class d (class_of s) passes }
+of_class_at h c d list k s lists at passes = record { valid = lists.valid s (contains_at list k s at); class = tells_class d (class_of s) passes }
 
 -- one is, where no other place is
 one_of_class : (h : Classes) (c d : ClassId) (list : List Subobject) (n : ℕ) (s : Subobject) → ListsSubobjects h c list → position (is_of_class d) list ≡ Some n → s ≡ get_or list n s →

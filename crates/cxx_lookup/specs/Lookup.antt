@@ -1,5 +1,5 @@
 -- Which declaration a member's name finds (ISO C++03 10.2; Rossie and Friedman).
-use Rattle.std.specs.Prelude.{◌≡◌, ◌⊎◌, ℕ, Option, Some, None, List, [], slice_get}
+use Rattle.std.specs.Prelude.{◌≡◌, ℕ, Option, Some, None, List, slice_get}
 use Rattle.std.specs.Option.{option_map}
 use Rattle.cxx_hierarchy.specs.declared.records.ClassId.{ClassId}
 use Rattle.cxx_hierarchy.specs.declared.records.Member.{Member as MemberRecord}

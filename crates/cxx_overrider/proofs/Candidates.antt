@@ -1,5 +1,5 @@
 -- Which candidate is the final overrider: on a path the first function of the signature, in a virtual base the greatest.
-use Rattle.std.proofs.Common.{◌≡◌, ◌+◌, Some, List, [], ◌∷◌, ◌++◌, length, refl, ap, subst, sym, ◌∙◌, arith, append_assoc, length-append}
+use Rattle.std.proofs.Common.{◌≡◌, Some, List, [], ◌∷◌, ◌++◌, refl, ap, subst, sym, ◌∙◌, append_assoc}
 use Rattle.std.proofs.lemmas.List.{append-nil}
 use Rattle.cxx_hierarchy.specs.declared.records.ClassId.{ClassId}
 use Rattle.cxx_hierarchy.specs.Classes.{Classes}
@@ -8,7 +8,7 @@ use Rattle.cxx_subobject.specs.declared.Root.TheVariants.{Whole, Shared}
 use Rattle.cxx_subobject.specs.declared.Subobject.{Subobject}
 use Rattle.cxx_subobject.specs.Subobjects.{Leads, IsSubobject, whole, subobject, last_of, class_of_path, class_of}
 use Rattle.cxx_subobject.specs.Inside.{IsInside}
-use Rattle.cxx_subobject.proofs.PathLemmas.{leads_rest, leads_front}
+use Rattle.cxx_subobject.proofs.PathLemmas.{leads_rest, leads_front, not_longer}
 use Rattle.cxx_overrider.specs.declared.FunctionId.{FunctionId}
 use Rattle.cxx_overrider.specs.declared.Overrider.{Overrider}
 use Rattle.cxx_overrider.specs.declared.entries.Entry.{Entry}
@@ -54,10 +54,6 @@ stands_same h sig _ _ _ (below a b p f none d rest) = stands_same h sig b p f re
 pub first_of : (h : Classes) (sig : Signature) (a : ClassId) (p : List ClassId) (f : FunctionId) → Leads h a p → last_of a p ≡ f.class → signature_of h f ≡ Some sig → ((q rest : List ClassId) (b : ClassId) → p ≡ q ++ b ∷ rest → DeclaresNone h (last_of a q) sig) → StandsFirst h sig a p f
 first_of h sig a [] f l last same none = subst (λ (x : ClassId). StandsFirst h sig x [] f) (sym last) (here f same)
 first_of h sig a (b ∷ p) f l last same none = below a b p f (none [] p b refl) l.0 (first_of h sig b p f l.1 last same (λ q rest d e. none (b ∷ q) rest d (ap (λ x. b ∷ x) e)))
-
--- a list is not its own front
-not_longer : (q rest : List ClassId) (b : ClassId) → q ≡ q ++ b ∷ rest → ⊥
-not_longer q rest b e = let l : length q ≡ length (q ++ b ∷ rest) = ap length e in let k : length (q ++ b ∷ rest) ≡ length q + length (b ∷ rest) = length-append q (b ∷ rest) in omega arith
 
 module _ (h : Classes) (c : ClassId) (root : Root) (a : ClassId) (path : List ClassId) (l : Leads h a path) (starts : Starts h c root a) (sig : Signature) where
   -- a candidate on the path that is left stands first there

@@ -1,5 +1,5 @@
 -- Returns of overriding functions.
-use Rattle.std.proofs.Common.{◌≡◌, ℕ, ◌+◌, ◌<◌, ◌⊎◌, ◌↔◌, inl, inr, ⊎_elim, Bool, true, false, Option, Some, None, MatchOption, length, refl, ap, subst, sym, ◌∙◌, arith}
+use Rattle.std.proofs.Common.{◌≡◌, ℕ, ◌+◌, ◌<◌, ◌↔◌, ⊎_elim, Bool, true, false, Option, Some, None, MatchOption, length, refl, ap, subst, sym, ◌∙◌, arith}
 use Rattle.std.specs.Prelude.{◌||◌, nat_lt, not}
 use Rattle.foundation.proofs.Truth.{or_left, or_right}
 use Rattle.std.proofs.lemmas.Bool.{or_cases, ltb-true, lt-ltb, cases_lt}

@@ -1,5 +1,5 @@
 -- What can be decided of a hierarchy: types, signatures, and which classes are bases of which.
-use Rattle.std.proofs.Common.{◌≡◌, ◌⊎◌, inl, inr, ⊎_elim, Option, Some, None, refl, ap, ◌∙◌}
+use Rattle.std.proofs.Common.{◌≡◌, inl, inr, ⊎_elim, Option, Some, None, refl, ap, ◌∙◌}
 use Rattle.foundation.proofs.Deciding.{Decided, decide_number, decide_list, decide_any}
 use Rattle.cxx_hierarchy.specs.declared.records.ClassId.{ClassId}
 use Rattle.cxx_hierarchy.specs.declared.records.ValueType.{ValueType}

@@ -1,5 +1,5 @@
 -- The first fault of a class, and of a hierarchy, or that there is none.
-use Rattle.std.proofs.Common.{◌≡◌, ℕ, zero, suc, ◌+◌, ◌<◌, ◌≤◌, ◌⊎◌, inl, inr, ⊎_elim, Option, Some, None, List, length, refl, ap, subst, sym, ◌∙◌, arith}
+use Rattle.std.proofs.Common.{◌≡◌, ℕ, zero, suc, ◌+◌, ◌<◌, ◌⊎◌, inl, inr, ⊎_elim, Option, Some, None, length, refl, ap, subst, sym, arith}
 use Rattle.std.specs.List.{slice_get}
 use Rattle.cxx_hierarchy.specs.declared.records.ClassId.{ClassId}
 use Rattle.cxx_hierarchy.specs.declared.records.Function.{Function}
@@ -13,15 +13,14 @@ use Rattle.cxx_hierarchy.specs.declared.stop.LimitNo.TheVariants.{L5}
 use Rattle.cxx_hierarchy.specs.Classes.{Class, Classes, class_at, members_of, functions_of}
 use Rattle.cxx_hierarchy.specs.Hierarchies.{IsHierarchy}
 use Rattle.cxx_subobject.specs.Parts.{IsWithinLimits}
-use Rattle.cxx_subobject.proofs.PathLemmas.{same_id}
 use Rattle.cxx_overrider.specs.declared.FunctionId.{FunctionId}
 use Rattle.cxx_overrider.specs.Overriding.{HasTwoFinalOverriders, IsAbstract}
 use Rattle.cxx_overrider.specs.Covariance.{HasMismatch, HasIncompleteReturn, HasAmbiguousReturn}
 use Rattle.cxx_overrider.specs.Faults.{Spot, spot, IsBefore, function_of, Fault, too_large, mismatch, incomplete, ambiguous, two_overriders, abstract_member, IsFirstFault, HasNoFault, IsFirstFaultIn, HasNoFaultIn}
 use Rattle.std.proofs.lemmas.Option.{slice_get_within}
 use Rattle.std.proofs.lemmas.Bool.{cases_lt}
-use Rattle.cxx_overrider.proofs.PassLemmas.{Before, before_cases, HasAbstractMember, fault_known}
-use Rattle.foundation.proofs.Deciding.{Decided, HasBelow, decide_has_below, IsFirstBelow, first_below, decide_as, decide_number}
+use Rattle.cxx_overrider.proofs.PassLemmas.{before_cases, HasAbstractMember, fault_known}
+use Rattle.foundation.proofs.Deciding.{Decided, HasBelow, decide_has_below, first_below, decide_as, decide_number}
 use Rattle.cxx_overrider.proofs.MeaningDecisions.{decide_within, decide_has_mismatch, decide_has_incomplete, decide_has_ambiguous, decide_two, decide_abstract}
 
 -- what is asked at a spot of a class

@@ -1,34 +1,33 @@
 -- Final overriders: where no class has two, there is one, and it contains every other candidate.
-use Rattle.std.proofs.Common.{◌≡◌, ◌≢◌, ◌+◌, ◌<◌, ◌⊎◌, inl, inr, ⊎_elim, Option, Some, None, List, [], ◌∷◌, length, refl, ap, subst, sym, ◌∙◌, arith}
+use Rattle.std.proofs.Common.{◌≡◌, ◌≢◌, ◌+◌, ◌<◌, ◌⊎◌, inl, inr, ⊎_elim, Option, Some, None, [], ◌∷◌, length, refl, ap, subst, sym, ◌∙◌, arith}
 use Rattle.std.specs.List.{Contains}
 use Rattle.cxx_hierarchy.specs.declared.records.ClassId.{ClassId}
 use Rattle.cxx_hierarchy.specs.declared.records.Base.{Base}
-use Rattle.cxx_hierarchy.specs.Classes.{Class, Classes, class_at, bases_in, bases_of, functions_of}
+use Rattle.cxx_hierarchy.specs.Classes.{Class, Classes, class_at, bases_in, functions_of}
 use Rattle.cxx_hierarchy.specs.Hierarchies.{IsHierarchy}
 use Rattle.cxx_hierarchy.specs.VirtualBases.{IsDirectBase, HasVirtualBase, direct, further}
 use Rattle.cxx_subobject.specs.declared.Subobject.{Subobject}
-use Rattle.cxx_subobject.specs.Subobjects.{IsSubobject, whole, shared, class_of, last_of, join}
+use Rattle.cxx_subobject.specs.Subobjects.{IsSubobject, whole, shared, class_of}
 use Rattle.cxx_subobject.specs.Inside.{IsInside}
 use Rattle.cxx_subobject.specs.Preorder.{preorder}
-use Rattle.foundation.proofs.Members.{Has}
 use Rattle.cxx_subobject.proofs.TreeLemmas.{preorder_has, has_preorder}
-use Rattle.cxx_subobject.proofs.InsideLemmas.{join_valid, inside_itself, inside_through, join_class, join_inside}
+use Rattle.cxx_subobject.proofs.InsideLemmas.{join_valid, inside_itself, inside_same, inside_through}
 use Rattle.cxx_subobject.proofs.PathLemmas.{class_there}
 use Rattle.cxx_overrider.specs.declared.FunctionId.{FunctionId}
 use Rattle.cxx_overrider.specs.declared.Overrider.{Overrider}
 use Rattle.cxx_overrider.specs.Functions.{Signature, signature_of}
-use Rattle.cxx_overrider.specs.Overriding.{HasPart, HasVirtual, IsVirtual, IsVirtualIn, IsCandidate, IsLeft, IsFinalOverrider, HasTwoFinalOverriders, IsCandidateIn, IsFinalIn}
+use Rattle.cxx_overrider.specs.Overriding.{IsVirtualIn, IsCandidate, IsLeft, IsFinalOverrider, HasTwoFinalOverriders}
 use Rattle.cxx_overrider.specs.Faults.{function_of, HasNoFault, two_overriders, spot, overrider_part}
 use Rattle.cxx_overrider.specs.invariants.Pure.{DeclaresNone}
 use Rattle.foundation.proofs.Places.{get_within}
 use Rattle.cxx_overrider.proofs.Numbering.{signature_index, signature_class}
-use Rattle.cxx_overrider.proofs.SettlingLemmas.{overrider, same_class}
+use Rattle.cxx_overrider.proofs.SettlingLemmas.{overrider, same_class, same_overrider}
 use Rattle.cxx_overrider.proofs.Paths.{inside_antisymmetric}
-use Rattle.cxx_overrider.proofs.Finals.{IsTopCandidate, same_overrider, top_final}
-use Rattle.foundation.proofs.Deciding.{Decided, HasBelow, decide_below}
+use Rattle.cxx_overrider.proofs.Finals.{IsTopCandidate, top_final}
+use Rattle.foundation.proofs.Deciding.{Decided, decide_below}
 use Rattle.cxx_subobject.proofs.DecidingLemmas.{decide_inside}
 use Rattle.cxx_overrider.proofs.Deciding.{decide_some}
-use Rattle.foundation.proofs.Greatest.{IsHigh, IsOverAll, AreTwoHigh, IsOrderOn, IsHighOver, high_over, top_or_two}
+use Rattle.foundation.proofs.Greatest.{IsHigh, IsOverAll, IsOrderOn, high_over, top_or_two}
 
 -- a class declares a function of the signature
 pub record DeclaresSome (h : Classes) (d : ClassId) (signature : Signature) : Type 0 where
@@ -106,6 +105,12 @@ pub contains_all : (h : Classes) → IsHierarchy h → (c : ClassId) (s : Subobj
 contains_all h keeps c s f sig o p k same cand =
     let one : sig ≡ k.signature = let a = k.is in cc in
     (final_top h keeps c s f o k).all p (subst (λ (x : Signature). IsCandidate h c s x p) one cand)
+
+-- a subobject of its class that contains the one asked is its own
+pub one_of_class : (h : Classes) → IsHierarchy h → (c : ClassId) (s t : Subobject) (f : FunctionId) (o : Overrider) → IsFinalOverrider h c s f o → IsSubobject h c t → class_of t ≡ Some o.function.class → IsInside h t s → t ≡ o.at
+one_of_class h keeps c s t f o k valid class inside =
+    let cand : IsCandidate h c s k.signature (overrider t o.function) = record { valid = valid; contains = inside; class = class; same = k.left.candidate.same } in
+    inside_same h keeps o.at t o.function.class k.left.candidate.class class ((final_top h keeps c s f o k).all (overrider t o.function) cand)
 
 -- one at most
 pub one_at_most : (h : Classes) (c : ClassId) (s : Subobject) (f : FunctionId) (o p : Overrider) → IsFinalOverrider h c s f o → IsFinalOverrider h c s f p → o ≡ p

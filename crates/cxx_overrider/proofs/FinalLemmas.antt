@@ -1,5 +1,5 @@
 -- The final overrider by the tables.
-use Rattle.std.proofs.Common.{◌≡◌, ℕ, zero, suc, ◌+◌, ◌<◌, ◌≤◌, ◌⊎◌, ◌↔◌, inl, inr, ⊎_elim, Bool, true, false, Option, Some, None, List, [], ◌∷◌, ◌++◌, length, take, drop, refl, ap, subst, sym, ◌∙◌, arith, add-one}
+use Rattle.std.proofs.Common.{◌≡◌, ℕ, zero, suc, ◌+◌, ◌<◌, ◌↔◌, Bool, true, Some, None, List, [], ◌∷◌, ◌++◌, length, take, refl, ap, subst, sym, ◌∙◌, arith, add-one}
 use Rattle.std.specs.List.{slice_get}
 use Rattle.cxx_hierarchy.specs.declared.records.ClassId.{ClassId}
 use Rattle.cxx_hierarchy.specs.Classes.{Classes}
@@ -7,14 +7,12 @@ use Rattle.cxx_hierarchy.specs.Hierarchies.{IsHierarchy}
 use Rattle.cxx_subobject.specs.declared.Root.{Root}
 use Rattle.cxx_subobject.specs.declared.Root.TheVariants.{Whole, Shared}
 use Rattle.cxx_subobject.specs.declared.Subobject.{Subobject}
-use Rattle.cxx_subobject.specs.Subobjects.{Leads, IsSubobject, whole, shared, subobject, last_of, class_of_path, class_of}
-use Rattle.cxx_subobject.specs.Inside.{IsInside}
+use Rattle.cxx_subobject.specs.Subobjects.{Leads, IsSubobject, whole, shared, subobject, class_of_path, class_of}
 use Rattle.cxx_subobject.proofs.InsideLemmas.{inside_same}
 use Rattle.cxx_subobject.proofs.PathLemmas.{leads_front}
 use Rattle.cxx_overrider.specs.declared.FunctionId.{FunctionId}
 use Rattle.cxx_overrider.specs.declared.Overrider.{Overrider}
 use Rattle.cxx_overrider.specs.declared.entries.Entry.{Entry}
-use Rattle.cxx_overrider.specs.declared.entries.Key.{Key}
 use Rattle.cxx_overrider.specs.declared.entries.EntryTable.{EntryTable}
 use Rattle.cxx_overrider.specs.declared.tables.Tables.{Tables}
 use Rattle.cxx_overrider.specs.invariants.EntryTables.{entry_of}
@@ -25,14 +23,15 @@ use Rattle.cxx_overrider.specs.Overriding.{HasPart, IsVirtual, IsVirtualIn, IsCa
 use Rattle.cxx_overrider.specs.invariants.Numbers.{number_of, IsNumbering, IsNumberOf}
 use Rattle.cxx_overrider.specs.invariants.Entries.{Declares, Tells, TellsOf}
 use Rattle.cxx_overrider.specs.invariants.Pure.{DeclaresNone}
-use Rattle.cxx_overrider.specs.invariants.Finals.{DeclareNone, IsFirstAt, IsFirstOverrider}
+use Rattle.cxx_overrider.specs.invariants.Finals.{DeclareNone, IsFirstAt, IsFirstOverrider, IsByPath}
 use Rattle.cxx_overrider.specs.invariants.Marks.{mark_of}
 use Rattle.cxx_overrider.proofs.Numbering.{signature_class}
 use Rattle.cxx_overrider.proofs.WithinLemmas.{virtual_source}
 use Rattle.cxx_overrider.proofs.MarkLemmas.{number_says, says_number}
 use Rattle.cxx_overrider.proofs.SettlingLemmas.{overrider}
 use Rattle.cxx_overrider.proofs.Finals.{IsTopCandidate, top_final, FirstOn, found, later, first_front, first_same, first_longer, EndsAt, first_ends}
-use Rattle.cxx_overrider.proofs.OneFinal.{table_tells, IsOnPath, front_inside, whole_on_path, none_on_path, greatest_contains, greatest_candidate}
+use Rattle.cxx_overrider.proofs.OneFinal.{table_told, IsOnPath, front_inside, whole_on_path, none_on_path}
+use Rattle.cxx_overrider.proofs.Candidates.{greatest_top}
 
 -- the last class of a path stands on it
 pub last_there : (path : List ClassId) (d : ClassId) → class_of_path path ≡ Some d → (i : ℕ) × (i < length path) × (slice_get path i ≡ Some d)
@@ -43,6 +42,18 @@ last_there (x ∷ y ∷ path) d e = let r = last_there (y ∷ path) d e in let l
 -- the path of the class of a function has one
 pub path_declares : (rows : List (List ℕ)) (path : List ClassId) (n : ℕ) (f : FunctionId) → class_of_path path ≡ Some f.class → number_of rows f ≡ Some n → DeclareNone rows path n (length path) → ⊥
 path_declares rows path n f class number none = let r = last_there path f.class class in none.none r.0 f r.1 r.2 number
+
+pub path_has_first : (rows : List (List ℕ)) (path : List ClassId) (seen : List (List ℕ)) (classes : List ClassId) (n : ℕ) (f : FunctionId) → seen ≡ rows → classes ≡ path → class_of_path path ≡ Some f.class → number_of rows f ≡ Some n → DeclareNone seen classes n (length classes) → ⊥
+path_has_first rows path seen classes n f same along class number none =
+    path_declares rows path n f class number
+    (subst (λ (x : List (List ℕ)). DeclareNone x path n (length path)) same (subst (λ (x : List ClassId). DeclareNone seen x n (length x)) along none))
+
+-- the first function on the path, without its subobject
+pub first_of_path : (h : Classes) (rows seen : List (List ℕ)) (classes : List ClassId) (n : ℕ) (c : ClassId) (s : Subobject) (f : FunctionId) (place : ℕ) (g : FunctionId) → seen ≡ rows → classes ≡ s.path → IsByPath h rows n c s f → IsFirstAt seen classes n place g → (at : Subobject) × IsFinalOverrider h c s f (record { at = at; function = g })
+first_of_path h rows seen classes n c s f place g same along by first =
+    let mine = subst (λ (x : List (List ℕ)). IsFirstAt x s.path n place g) same (subst (λ (x : List ClassId). IsFirstAt seen x n place g) along first) in
+    let at = subobject s.root (take (place + 1) s.path) in
+    (at, by.final (overrider at g) (record { place = place; first = mine; at_front = refl }))
 
 -- by signatures
 pub first_on : (h : Classes) (rows : List (List ℕ)) (count n : ℕ) (sig : Signature) (path : List ClassId) (place : ℕ) (f : FunctionId) → IsNumbering h rows count → IsNumberOf h rows n sig → IsFirstAt rows path n place f → FirstOn h sig path (take (suc place) path) f
@@ -116,10 +127,6 @@ none_final h keeps rows count n c v s f sig o is k valid e root none first =
     first_final h keeps rows count n c s f sig o is k valid e first
     (λ p cand. subst (λ (x : Subobject). IsOnPath x p.at) (sym same) (none_on_path h c v s.path sig p none (subst (λ (x : Subobject). IsCandidate h c x sig p) same cand)))
 
--- and where some do
-greatest_top : (h : Classes) (c v : ClassId) (path : List ClassId) (sig : Signature) (e : Entry) → (t : Tells h c v sig e) → IsSubobject h c (subobject (Shared v) path) → IsTopCandidate h c (subobject (Shared v) path) sig (overrider t.subobject e.function)
-greatest_top h c v path sig e t valid = record { candidate = greatest_candidate h c v path sig e t valid; all = λ p k. greatest_contains h c v path sig e p t k }
-
 pub entry_part : (h : Classes) (c v : ClassId) (sig : Signature) (e : Entry) → Tells h c v sig e → HasPart h c e.function.class
 entry_part h c v sig e t = record { part = t.subobject; valid = t.greatest.declares.valid; class = t.greatest.declares.class }
 
@@ -134,18 +141,15 @@ entry_final h keeps c v s f sig e at valid is root t there class =
     (subst (λ (x : Subobject). IsTopCandidate h c x sig (overrider at e.function)) (sym same)
     (subst (λ (x : Subobject). IsTopCandidate h c (subobject (Shared v) s.path) sig (overrider x e.function)) (sym one) top))
 
--- what the table tells of the functions of a shared base's part
-pub shared_tells : (h : Classes) (tables : Tables) (table : EntryTable) (c v : ClassId) (s : Subobject) (f : FunctionId) (sig : Signature) (n bound : ℕ) → c.0 < bound → AreTables h tables → IsMade h tables.numbering.rows.items table bound 0 0 → IsSubobject h c s → IsVirtualIn h c s f → s.root ≡ Shared v → signature_of h f ≡ Some sig → IsNumberOf h tables.numbering.rows.items n sig → TellsOf h c v sig (entry_of table (key c v n))
-shared_tells h tables table c v _ f sig n bound lt are made (whole p l) is root e k = absurd (apart root)
+-- what the table tells of the functions of a shared base's part, where the class declares none
+pub shared_tells : (h : Classes) (tables : Tables) (table : EntryTable) (c v : ClassId) (s : Subobject) (f : FunctionId) (sig : Signature) (n bound : ℕ) → c.0 < bound → AreTables h tables → IsMade h tables.numbering.rows.items table bound 0 0 → IsSubobject h c s → IsVirtualIn h c s f → s.root ≡ Shared v → signature_of h f ≡ Some sig → IsNumberOf h tables.numbering.rows.items n sig → DeclaresNone h c sig → TellsOf h c v sig (entry_of table (key c v n))
+shared_tells h tables table c v _ f sig n bound lt are made (whole p l) is root e k own = absurd (apart root)
   where
     apart : Whole ≡ Shared v → ⊥
     apart x = cc
-shared_tells h tables table c v _ f sig n bound lt are made (shared w p has l) is root e k =
+shared_tells h tables table c v _ f sig n bound lt are made (shared w p has l) is root e k own =
     let same : w ≡ v = cc in
-    subst (λ (x : ClassId). TellsOf h c x sig (entry_of table (key c x n))) same (table_tells h tables table c w p f sig n bound lt are made is l e k).tells
-
-pub entry_tells : (h : Classes) (table : EntryTable) (c v : ClassId) (sig : Signature) (n : ℕ) (k : Key) (o : Option Entry) → o ≡ entry_of table k → k ≡ key c v n → TellsOf h c v sig (entry_of table (key c v n)) → TellsOf h c v sig o
-entry_tells h table c v sig n k o there is t = subst (λ (x : Option Entry). TellsOf h c v sig x) (sym (there ∙ ap (entry_of table) is)) t
+    subst (λ (x : ClassId). TellsOf h c x sig (entry_of table (key c x n))) same (table_told h tables table c w p f sig n bound lt are made is l e k own)
 
 -- whether a function is virtual, by its number
 pub virtual_marked : (h : Classes) (tables : Tables) (f : FunctionId) (n : ℕ) (b : Bool) → AreTables h tables → number_of tables.numbering.rows.items f ≡ Some n → b ≡ mark_of tables.virtuals.items f.class n → (b ≡ true) ↔ IsVirtual h f

@@ -1,35 +1,25 @@
 -- The final overrider of a function: the greatest one of a virtual base, or the first one on the path.
-use Rattle.std.proofs.Common.{◌≡◌, ℕ, ◌+◌, ◌<◌, ◌≤◌, ◌⊎◌, inl, inr, ⊎_elim, Bool, true, false, Option, Some, None, List, [], ◌∷◌, ◌++◌, length, refl, ap, subst, sym, ◌∙◌, arith}
+use Rattle.std.proofs.Common.{◌≡◌, ◌⊎◌, inl, inr, Some, List, [], ◌∷◌, ◌++◌, refl, ap, subst, sym, ◌∙◌}
 use Rattle.cxx_hierarchy.specs.declared.records.ClassId.{ClassId}
 use Rattle.cxx_hierarchy.specs.Classes.{Classes}
 use Rattle.cxx_hierarchy.specs.Hierarchies.{IsHierarchy}
 use Rattle.cxx_hierarchy.specs.VirtualBases.{HasVirtualBase}
-use Rattle.cxx_subobject.specs.declared.Root.{Root}
-use Rattle.cxx_subobject.specs.declared.Root.TheVariants.{Whole, Shared}
+use Rattle.cxx_subobject.specs.declared.Root.TheVariants.{Shared}
 use Rattle.cxx_subobject.specs.declared.Subobject.{Subobject}
-use Rattle.cxx_subobject.specs.Subobjects.{Leads, IsSubobject, whole, shared, subobject, last_of, class_of_path, class_of, join}
+use Rattle.cxx_subobject.specs.Subobjects.{IsSubobject, whole, shared, last_of, class_of_path, class_of, join}
 use Rattle.cxx_subobject.specs.Inside.{IsInside}
-use Rattle.cxx_subobject.proofs.PathLemmas.{leads_rest, leads_front}
-use Rattle.cxx_subobject.proofs.InsideLemmas.{virtual_inside}
 use Rattle.cxx_overrider.specs.declared.FunctionId.{FunctionId}
 use Rattle.cxx_overrider.specs.declared.Overrider.{Overrider}
-use Rattle.cxx_overrider.specs.declared.entries.Entry.{Entry}
 use Rattle.cxx_overrider.specs.Functions.{Signature, signature_of}
-use Rattle.cxx_overrider.specs.Overriding.{IsVirtualIn, IsCandidate, IsLeft, IsFinalOverrider, HasTwoFinalOverriders}
-use Rattle.cxx_overrider.specs.invariants.Entries.{Declares, Tells}
+use Rattle.cxx_overrider.specs.Overriding.{IsCandidate, IsLeft, IsFinalOverrider}
 use Rattle.cxx_overrider.specs.invariants.Pure.{DeclaresNone}
-use Rattle.cxx_overrider.proofs.SettlingLemmas.{overrider, same_class}
+use Rattle.cxx_overrider.proofs.SettlingLemmas.{same_class, same_overrider}
 use Rattle.cxx_overrider.proofs.Paths.{inside_antisymmetric}
 
 -- a candidate that contains all others
 pub record IsTopCandidate (h : Classes) (c : ClassId) (s : Subobject) (signature : Signature) (o : Overrider) : Type 0 where
   pub candidate : IsCandidate h c s signature o
   pub all : (p : Overrider) → IsCandidate h c s signature p → IsInside h o.at p.at
-
-pub same_overrider : (p q : Overrider) → p.at ≡ q.at → p.function ≡ q.function → p ≡ q
-same_overrider p q e f =
-    let make : Subobject → FunctionId → Overrider = λ a g. record { at = a; function = g } in
-    let one : make p.at p.function ≡ make q.at q.function = ap (λ a. make a p.function) e ∙ ap (λ g. make q.at g) f in one
 
 pub top_left : (h : Classes) → IsHierarchy h → (c : ClassId) (s : Subobject) (sig : Signature) (o : Overrider) → IsTopCandidate h c s sig o → IsLeft h c s sig o
 top_left h keeps c s sig o top = record {

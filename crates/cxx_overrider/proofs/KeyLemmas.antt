@@ -1,10 +1,9 @@
 -- Signatures and their bytes.
-use Rattle.std.proofs.Common.{◌≡◌, ℕ, ◌+◌, ◌<◌, ◌≤◌, ◌/◌, ◌%◌, ◌⊎◌, inl, inr, ⊎_elim, Bool, Option, Some, None, map, List, [], ◌∷◌, ◌++◌, length, refl, ap, subst, sym, ◌∙◌, arith, length-append}
+use Rattle.std.proofs.Common.{◌≡◌, ℕ, ◌+◌, ⊎_elim, Some, None, List, [], ◌∷◌, ◌++◌, length, refl, ap, sym, ◌∙◌, arith, length-append}
 use Rattle.std.specs.Prelude.{nat_eq, if◌then◌else◌}
 use Rattle.std.specs.List.{slice_get}
 use Rattle.cxx_hierarchy.specs.declared.names.NameTable.{NameTable}
 use Rattle.cxx_hierarchy.specs.declared.records.ClassId.{ClassId}
-use Rattle.cxx_hierarchy.specs.declared.records.Function.{Function}
 use Rattle.cxx_hierarchy.specs.declared.records.Scalar.{Scalar}
 use Rattle.cxx_hierarchy.specs.declared.records.Scalar.TheVariants.{Bool as TheBool, Char, SChar, UChar, Short, UShort, Int, UInt, Long, ULong, LongLong, ULongLong}
 use Rattle.cxx_hierarchy.specs.declared.records.ValueType.{ValueType}

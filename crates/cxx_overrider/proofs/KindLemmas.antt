@@ -1,19 +1,18 @@
 -- How often a class is a base of another.
-use Rattle.std.proofs.Common.{◌≡◌, ◌≢◌, ℕ, ◌+◌, ◌<◌, ◌≤◌, ◌⊎◌, inl, inr, ⊎_elim, Some, List, [], ◌∷◌, ◌++◌, length, get_or, refl, ap, subst, sym, ◌∙◌, arith, length-append}
-use Rattle.std.specs.List.{slice_get, Contains}
+use Rattle.std.proofs.Common.{◌≡◌, ℕ, ◌+◌, ◌<◌, ◌≤◌, ◌⊎◌, inl, inr, ⊎_elim, Some, List, [], ◌∷◌, ◌++◌, length, get_or, refl, ap, subst, sym, ◌∙◌, arith, length-append}
+use Rattle.std.specs.List.{slice_get}
 use Rattle.cxx_hierarchy.specs.declared.records.ClassId.{ClassId}
 use Rattle.cxx_hierarchy.specs.declared.records.Base.{Base}
 use Rattle.cxx_hierarchy.specs.Classes.{Classes, bases_of}
 use Rattle.cxx_hierarchy.specs.Hierarchies.{IsHierarchy}
 use Rattle.cxx_subobject.specs.declared.Subobject.{Subobject}
-use Rattle.cxx_subobject.specs.Subobjects.{IsSubobject, whole, class_of, whole_of, join}
+use Rattle.cxx_subobject.specs.Subobjects.{whole, class_of, whole_of, join}
 use Rattle.cxx_subobject.proofs.PathLemmas.{same_id, smaller}
-use Rattle.cxx_overrider.specs.declared.places.Place.{Place}
 use Rattle.cxx_overrider.specs.declared.places.Place.TheVariants.{Itself}
 use Rattle.cxx_overrider.specs.declared.kinds.BaseKind.{BaseKind}
 use Rattle.cxx_overrider.specs.declared.kinds.BaseKind.TheVariants.{NotBase, Unique, Ambiguous}
 use Rattle.cxx_overrider.specs.invariants.Places.{place_of, lifted, base_of, IsThrough}
-use Rattle.cxx_overrider.specs.invariants.Kinds.{IsPart, IsPartThrough, IsOnly, AreTwo, Counts, kind_of, AreKinds, IsKindRow, IsMerged, lifted_kind}
+use Rattle.cxx_overrider.specs.invariants.Kinds.{IsPart, IsPartThrough, AreTwo, Counts, AreKinds, IsKindRow, IsMerged, lifted_kind}
 use Rattle.cxx_overrider.proofs.Lists.{or_front, or_last, or_past}
 use Rattle.foundation.proofs.Places.{contains_at, place_of as contains_get}
 use Rattle.std.proofs.lemmas.Option.{slice_get_within}

@@ -21,3 +21,4 @@ pub mod ViewLaws
 pub mod ReturnLaws
 pub mod MeaningDecisions
 pub mod FaultSearch
+pub mod VirtualFlagTable

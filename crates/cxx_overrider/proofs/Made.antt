@@ -1,5 +1,5 @@
 -- The table of overriders as it grows, key by key.
-use Rattle.std.proofs.Common.{◌≡◌, ℕ, ◌+◌, ◌<◌, ◌≤◌, ◌⊎◌, inl, inr, ⊎_elim, Bool, true, false, Option, Some, None, List, length, refl, subst, sym, ◌∙◌, arith}
+use Rattle.std.proofs.Common.{◌≡◌, ℕ, zero, suc, add-one, ◌+◌, ◌<◌, ◌≤◌, ◌⊎◌, inl, inr, ⊎_elim, Bool, true, false, Option, Some, None, List, length, refl, subst, sym, ◌∙◌, arith}
 use Rattle.std.specs.Prelude.{nat_eq, ◌&&◌, if◌then◌else◌}
 use Rattle.std.specs.List.{slice_get}
 use Rattle.std.proofs.lemmas.Bool.{eqb-true, eq-eqb, cases_lt}
@@ -12,6 +12,7 @@ use Rattle.cxx_overrider.specs.declared.entries.Entry.{Entry}
 use Rattle.cxx_overrider.specs.declared.entries.Key.{Key}
 use Rattle.cxx_overrider.specs.declared.entries.EntryTable.{EntryTable}
 use Rattle.cxx_overrider.specs.Functions.{Signature}
+use Rattle.cxx_overrider.specs.invariants.Pure.{DeclaresNone}
 use Rattle.cxx_overrider.specs.invariants.Within.{HasVirtualWithin, AreWithin}
 use Rattle.cxx_overrider.specs.invariants.Numbers.{row_of, IsNumbering, IsNumberOf}
 use Rattle.cxx_overrider.specs.invariants.Entries.{Tells, TellsOf}
@@ -59,30 +60,30 @@ tells_moved h b c w v s o eb ew t = subst (λ (x : ClassId). TellsOf h x w s o) 
 
 module _ (h : Classes) (numbers : List (List ℕ)) (table : EntryTable) (c v : ClassId) (n : ℕ) (made : IsMade h numbers table c.0 v.0 n) where
   pub made_tells : (s : Signature) → IsNumberOf h numbers n s → HasVirtualWithin h v s → TellsBefore h table c v n s
-  made_tells s k has = record { each = λ b lt. made.told b v n s (inl lt) k has }
+  made_tells s k has = record { each = λ b lt own. made.told b v n s (inl lt) k has own }
 
-  pub made_skip : ((s : Signature) → IsNumberOf h numbers n s → HasVirtualWithin h v s → TellsOf h c v s None) → IsMade h numbers table c.0 v.0 (n + 1)
+  pub made_skip : ((s : Signature) → IsNumberOf h numbers n s → HasVirtualWithin h v s → DeclaresNone h c s → TellsOf h c v s None) → IsMade h numbers table c.0 v.0 (n + 1)
   made_skip none = record {
-    told = λ b w m s d k has. ⊎_elim (λ old. made.told b w m s old k has)
+    told = λ b w m s d k has own. ⊎_elim (λ old. made.told b w m s old k has own)
         (λ new.
         let v_same = same_id w v new.1 in
         let kn : IsNumberOf h numbers n s = subst (λ (i : ℕ). IsNumberOf h numbers i s) new.2 k in
-        let t = tells_moved h b c w v s None new.0 new.1 (none s kn (subst (λ (x : ClassId). HasVirtualWithin h x s) v_same has)) in
+        let t = tells_moved h b c w v s None new.0 new.1 (none s kn (subst (λ (x : ClassId). HasVirtualWithin h x s) v_same has) (subst (λ (x : ClassId). DeclaresNone h x s) (same_id b c new.0) own)) in
         subst (λ (o : Option Entry). TellsOf h b w s o) (sym (made.fresh (key b w m) (not_done c.0 v.0 n (key b w m) new.0 new.1 new.2))) t)
         (done_cases c.0 v.0 n (key b w m) d);
     fresh = λ q not. made.fresh q (λ d. not (done_more c.0 v.0 n q d));
   }
 
-  pub made_put : (after : EntryTable) (e : Entry) → ((s : Signature) → IsNumberOf h numbers n s → HasVirtualWithin h v s → Tells h c v s e) → ((q : Key) → entry_of after q ≡ (if same_key q (key c v n) then Some e else entry_of table q)) → IsMade h numbers after c.0 v.0 (n + 1)
+  pub made_put : (after : EntryTable) (e : Entry) → ((s : Signature) → IsNumberOf h numbers n s → HasVirtualWithin h v s → DeclaresNone h c s → Tells h c v s e) → ((q : Key) → entry_of after q ≡ (if same_key q (key c v n) then Some e else entry_of table q)) → IsMade h numbers after c.0 v.0 (n + 1)
   made_put after e tells put = record {
-    told = λ b w m s d k has. ⊎_elim
+    told = λ b w m s d k has own. ⊎_elim
         (λ old.
         let apart : same_key (key b w m) (key c v n) ≡ true → ⊥ = λ t. let p = same_parts b.0 c.0 w.0 v.0 m n t in not_done c.0 v.0 n (key b w m) p.0 p.1 p.2 old in
-        subst (λ (o : Option Entry). TellsOf h b w s o) (sym (put_other (same_key (key b w m) (key c v n)) e (entry_of table (key b w m)) (entry_of after (key b w m)) (put (key b w m)) apart)) (made.told b w m s old k has))
+        subst (λ (o : Option Entry). TellsOf h b w s o) (sym (put_other (same_key (key b w m) (key c v n)) e (entry_of table (key b w m)) (entry_of after (key b w m)) (put (key b w m)) apart)) (made.told b w m s old k has own))
         (λ new.
         let v_same = same_id w v new.1 in
         let kn : IsNumberOf h numbers n s = subst (λ (i : ℕ). IsNumberOf h numbers i s) new.2 k in
-        let t = tells_moved h b c w v s (Some e) new.0 new.1 (tells s kn (subst (λ (x : ClassId). HasVirtualWithin h x s) v_same has)) in
+        let t = tells_moved h b c w v s (Some e) new.0 new.1 (tells s kn (subst (λ (x : ClassId). HasVirtualWithin h x s) v_same has) (subst (λ (x : ClassId). DeclaresNone h x s) (same_id b c new.0) own)) in
         let one : same_key (key b w m) (key c v n) ≡ true = rw (eq-eqb b.0 c.0 new.0, eq-eqb w.0 v.0 new.1, eq-eqb m n new.2) refl in
         subst (λ (o : Option Entry). TellsOf h b w s o) (sym (put_same (same_key (key b w m) (key c v n)) e (entry_of table (key b w m)) (entry_of after (key b w m)) (put (key b w m)) one)) t)
         (done_cases c.0 v.0 n (key b w m) d);
@@ -94,9 +95,9 @@ module _ (h : Classes) (numbers : List (List ℕ)) (table : EntryTable) (c v : C
 -- no number in between has a virtual function in the virtual base itself
 pub made_jump : (h : Classes) (numbers : List (List ℕ)) (table : EntryTable) (c : ℕ) (v : ClassId) (n m : ℕ) → n ≤ m → ((i : ℕ) (s : Signature) → n ≤ i → i < m → IsNumberOf h numbers i s → HasVirtualWithin h v s → ⊥) → IsMade h numbers table c v.0 n → IsMade h numbers table c v.0 m
 made_jump h numbers table c v n m le none made = record {
-  told = λ b w i s d k has. ⊎_elim (λ a. made.told b w i s (inl a) k has)
-      (λ r. ⊎_elim (λ a. made.told b w i s (inr (inl a)) k has)
-      (λ a. ⊎_elim (λ small. made.told b w i s (inr (inr (a.0, a.1, small))) k has)
+  told = λ b w i s d k has own. ⊎_elim (λ a. made.told b w i s (inl a) k has own)
+      (λ r. ⊎_elim (λ a. made.told b w i s (inr (inl a)) k has own)
+      (λ a. ⊎_elim (λ small. made.told b w i s (inr (inr (a.0, a.1, small))) k has own)
       (λ ge. absurd (none i s ge a.2 k (subst (λ (x : ClassId). HasVirtualWithin h x s) (same_id w v a.1) has)))
       (cases_lt i n)) r)
       d;
@@ -150,21 +151,21 @@ module _ (h : Classes) (numbers : List (List ℕ)) (count : ℕ) (lists : List (
 -- the numbers of one virtual base are through
 pub made_end : (h : Classes) (numbers : List (List ℕ)) (table : EntryTable) (c v count : ℕ) → IsNumbering h numbers count → IsMade h numbers table c v count → IsMade h numbers table c (v + 1) 0
 made_end h numbers table c v count is made = record {
-  told = λ b w m s d k has.
+  told = λ b w m s d k has own.
       let few = is.few k.function m k.number in
-      made.told b w m s (⊎_elim (λ a. inl a) (λ r. ⊎_elim (λ a. let lt = a.1 in ⊎_elim (λ small. inr (inl (a.0, small))) (λ ge. inr (inr (a.0, omega arith, few))) (cases_lt w.0 v)) (λ x. let lt = x.2 in absurd (omega arith)) r) d) k has;
+      made.told b w m s (⊎_elim (λ a. inl a) (λ r. ⊎_elim (λ a. let lt = a.1 in ⊎_elim (λ small. inr (inl (a.0, small))) (λ ge. inr (inr (a.0, omega arith, few))) (cases_lt w.0 v)) (λ x. let lt = x.2 in absurd (omega arith)) r) d) k has own;
   fresh = λ q not. made.fresh q (λ d. not (⊎_elim (λ a. inl a) (λ r. ⊎_elim (λ a. let lt = a.1 in inr (inl (a.0, omega arith))) (λ x. let at = x.1 in inr (inl (x.0, omega arith))) r) d));
 }
 
 -- nothing is put down for a class that is no virtual base
-none_declared : (h : Classes) (c w : ClassId) (s : Signature) → (HasVirtualBase h c w → ⊥) → TellsOf h c w s None
+pub none_declared : (h : Classes) (c w : ClassId) (s : Signature) → (HasVirtualBase h c w → ⊥) → TellsOf h c w s None
 none_declared h c w s not = λ p d. not (part_virtual h c p.function.class w p.at d.valid d.class d.has)
 
 pub made_none : (h : Classes) (numbers : List (List ℕ)) (table : EntryTable) (c v : ClassId) → (HasVirtualBase h c v → ⊥) → IsMade h numbers table c.0 v.0 0 → IsMade h numbers table c.0 (v.0 + 1) 0
 made_none h numbers table c v not made = record {
-  told = λ b w m s d k has. ⊎_elim (λ a. made.told b w m s (inl a) k has)
+  told = λ b w m s d k has own. ⊎_elim (λ a. made.told b w m s (inl a) k has own)
       (λ r. ⊎_elim
-      (λ a. let lt = a.1 in ⊎_elim (λ small. made.told b w m s (inr (inl (a.0, small))) k has)
+      (λ a. let lt = a.1 in ⊎_elim (λ small. made.told b w m s (inr (inl (a.0, small))) k has own)
       (λ ge.
       let at : w.0 ≡ v.0 = omega arith in
       let t = tells_moved h b c w v s None a.0 at (none_declared h c v s not) in
@@ -178,11 +179,11 @@ made_none h numbers table c v not made = record {
 -- the virtual bases of one class are through
 pub made_class : (h : Classes) → IsHierarchy h → (numbers : List (List ℕ)) (table : EntryTable) (c : ClassId) → IsMade h numbers table c.0 c.0 0 → IsMade h numbers table (c.0 + 1) 0 0
 made_class h keeps numbers table c made = record {
-  told = λ b w m s d k has. ⊎_elim
-      (λ a. ⊎_elim (λ small. made.told b w m s (inl small) k has)
+  told = λ b w m s d k has own. ⊎_elim
+      (λ a. ⊎_elim (λ small. made.told b w m s (inl small) k has own)
       (λ ge.
       let at : b.0 ≡ c.0 = omega arith in
-      ⊎_elim (λ below. made.told b w m s (inr (inl (at, below))) k has)
+      ⊎_elim (λ below. made.told b w m s (inr (inl (at, below))) k has own)
       (λ above.
       let t : TellsOf h b w s None = none_declared h b w s (λ v. let lt = virtual_below h keeps b w v in omega arith) in
       subst (λ (o : Option Entry). TellsOf h b w s o) (sym (made.fresh (key b w m) (λ e. ⊎_elim (λ x. omega arith) (λ z. ⊎_elim (λ x. let y = x.1 in omega arith) (λ x. let y = x.2 in omega arith) z) e))) t)
@@ -195,7 +196,7 @@ made_class h keeps numbers table c made = record {
 
 pub made_start : (h : Classes) (numbers : List (List ℕ)) (table : EntryTable) → ((q : Key) → entry_of table q ≡ None) → IsMade h numbers table 0 0 0
 made_start h numbers table none = record {
-  told = λ b w m s d k has. absurd (⊎_elim (λ x. omega arith) (λ z. ⊎_elim (λ x. let y = x.1 in omega arith) (λ x. let y = x.2 in omega arith) z) d);
+  told = λ b w m s d k has own. absurd (⊎_elim (λ x. omega arith) (λ z. ⊎_elim (λ x. let y = x.1 in omega arith) (λ x. let y = x.2 in omega arith) z) d);
   fresh = λ q not. none q;
 }
 
@@ -215,3 +216,13 @@ keeps_put c v n old new e k is put = record {
 
 pub keeps_through : (c : ClassId) (old middle new : EntryTable) → KeepsBefore c old middle → KeepsBefore c middle new → KeepsBefore c old new
 keeps_through c old middle new a b = record { each = λ q lt. b.each q lt ∙ a.each q lt }
+
+-- nothing is put down for a class without virtual bases
+no_bases : (h : Classes) (numbers : List (List ℕ)) (table : EntryTable) (c : ClassId) (k : ℕ) → ((v : ClassId) → HasVirtualBase h c v → ⊥) → IsMade h numbers table c.0 0 0 → IsMade h numbers table c.0 k 0
+no_bases h numbers table c zero none made = made
+no_bases h numbers table c (suc k) none made =
+    let v : ClassId = record { 0 = k } in
+    subst (λ (n : ℕ). IsMade h numbers table c.0 n 0) (add-one k) (made_none h numbers table c v (none v) (no_bases h numbers table c k none made))
+
+pub made_without : (h : Classes) → IsHierarchy h → (numbers : List (List ℕ)) (table : EntryTable) (c : ClassId) → ((v : ClassId) → HasVirtualBase h c v → ⊥) → IsMade h numbers table c.0 0 0 → IsMade h numbers table (c.0 + 1) 0 0
+made_without h keeps numbers table c none made = made_class h keeps numbers table c (no_bases h numbers table c c.0 none made)

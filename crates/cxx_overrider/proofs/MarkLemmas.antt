@@ -1,22 +1,20 @@
 -- Marks, and which signatures are virtual.
-use Rattle.std.proofs.Common.{◌≡◌, ℕ, ◌+◌, ◌<◌, ◌≤◌, ◌⊎◌, ◌↔◌, inl, inr, ⊎_elim, Bool, true, false, Option, Some, None, List, [], ◌∷◌, ◌++◌, length, get_or, refl, ap, subst, sym, ◌∙◌, arith, length-append}
+use Rattle.std.proofs.Common.{◌≡◌, ℕ, ◌+◌, ◌⊎◌, ◌↔◌, inl, inr, ⊎_elim, Bool, true, false, Some, List, [], ◌∷◌, ◌++◌, length, get_or, refl, ap, subst, sym, ◌∙◌, arith, length-append}
 use Rattle.std.specs.Prelude.{◌||◌}
-use Rattle.std.specs.List.{slice_get, Contains}
+use Rattle.std.specs.List.{Contains}
 use Rattle.cxx_hierarchy.specs.declared.records.ClassId.{ClassId}
 use Rattle.cxx_hierarchy.specs.declared.records.Base.{Base}
-use Rattle.cxx_hierarchy.specs.Classes.{Class, Classes, class_at, bases_of}
+use Rattle.cxx_hierarchy.specs.Classes.{Classes, bases_of}
 use Rattle.cxx_hierarchy.specs.Hierarchies.{IsHierarchy}
-use Rattle.cxx_subobject.specs.declared.Subobject.{Subobject}
-use Rattle.cxx_subobject.specs.Subobjects.{IsSubobject, whole, class_of, whole_of, join}
+use Rattle.cxx_subobject.specs.Subobjects.{whole, class_of, whole_of, join}
 use Rattle.cxx_subobject.proofs.PathLemmas.{same_id}
 use Rattle.cxx_overrider.specs.declared.FunctionId.{FunctionId}
 use Rattle.cxx_overrider.specs.Functions.{Signature, signature_of, says_virtual}
 use Rattle.cxx_overrider.specs.Overriding.{HasPart, HasVirtual}
 use Rattle.cxx_overrider.specs.invariants.Numbers.{number_of, IsNumbering, IsNumberOf}
 use Rattle.cxx_overrider.specs.invariants.Places.{base_of, IsThrough}
-use Rattle.cxx_overrider.specs.invariants.Marks.{mark_of, MarksEach, IsMarkRow, AreMarks, HasMarkedBase, SaysVirtual}
+use Rattle.cxx_overrider.specs.invariants.Marks.{MarksEach, IsMarkRow, AreMarks, HasMarkedBase, SaysVirtual}
 use Rattle.cxx_overrider.proofs.Lists.{or_front, or_last}
-use Rattle.foundation.proofs.Places.{contains_at}
 use Rattle.std.proofs.lemmas.Bool.{cases_lt}
 use Rattle.cxx_overrider.proofs.Numbering.{same_function}
 use Rattle.cxx_overrider.proofs.Paths.{through_cases, through_valid, through_class, through_join}

@@ -1,5 +1,5 @@
 -- The conditions of the class-meaning pass are decided.
-use Rattle.std.proofs.Common.{◌≡◌, ◌≢◌, ℕ, ◌+◌, ◌<◌, ◌≤◌, ◌⊎◌, inl, inr, ⊎_elim, Bool, true, false, Option, Some, None, List, length, refl, ap, subst, sym, ◌∙◌, arith}
+use Rattle.std.proofs.Common.{◌≡◌, ◌≢◌, ◌+◌, ◌<◌, inl, inr, ⊎_elim, true, Option, Some, None, length, refl, ap, subst, sym, ◌∙◌, arith}
 use Rattle.cxx_hierarchy.specs.declared.records.ClassId.{ClassId}
 use Rattle.cxx_hierarchy.specs.declared.records.ReturnType.{ReturnType}
 use Rattle.cxx_hierarchy.specs.Classes.{Classes, functions_of}
@@ -14,18 +14,18 @@ use Rattle.cxx_subobject.proofs.PathLemmas.{class_there}
 use Rattle.cxx_overrider.specs.declared.FunctionId.{FunctionId}
 use Rattle.cxx_overrider.specs.declared.Overrider.{Overrider}
 use Rattle.cxx_overrider.specs.Functions.{Signature, signature_of, says_virtual, is_pure, return_of}
-use Rattle.cxx_overrider.specs.Overriding.{HasPart, HasVirtual, IsVirtual, IsVirtualIn, IsFinalOverrider, HasTwoFinalOverriders, IsAbstract}
-use Rattle.cxx_overrider.specs.Covariance.{pointer_to, Overrides, IsCovariant, IsMismatch, IsIncompleteReturn, IsAmbiguousBase, IsAmbiguousReturn, HasOverridden, HasMismatch, HasIncompleteReturn, HasAmbiguousReturn}
+use Rattle.cxx_overrider.specs.Overriding.{HasPart, HasVirtual, IsVirtual, IsFinalOverrider, HasTwoFinalOverriders, IsAbstract}
+use Rattle.cxx_overrider.specs.Covariance.{Overrides, IsMismatch, IsIncompleteReturn, IsAmbiguousBase, IsAmbiguousReturn, HasOverridden, HasMismatch, HasIncompleteReturn, HasAmbiguousReturn}
 use Rattle.cxx_overrider.specs.Faults.{function_of}
 use Rattle.std.proofs.lemmas.Bool.{cases_lt}
 use Rattle.cxx_overrider.proofs.Numbering.{signature_index}
 use Rattle.cxx_overrider.proofs.CovarianceLemmas.{same_pointee}
 use Rattle.cxx_overrider.proofs.Finals.{top_final}
-use Rattle.foundation.proofs.Deciding.{Decided, HasSome, decide_any, HasBelow, decide_below, decide_as, decide_both, decide_flag}
+use Rattle.foundation.proofs.Deciding.{Decided, decide_any, decide_below, decide_as, decide_both, decide_flag}
 use Rattle.cxx_subobject.proofs.DecidingLemmas.{decide_class, decide_subobject, decide_class_of}
-use Rattle.cxx_overrider.proofs.Deciding.{decide_return, decide_some, decide_part}
-use Rattle.cxx_overrider.proofs.FinalLaws.{AreTwoLeft, top_or_two_left, final_or_two, two_not_final, one_at_most}
-use Rattle.cxx_overrider.proofs.ReturnLaws.{HasCovariant, decide_covariant}
+use Rattle.cxx_overrider.proofs.Deciding.{decide_return, decide_some}
+use Rattle.cxx_overrider.proofs.FinalLaws.{AreTwoLeft, top_or_two_left, two_not_final, one_at_most}
+use Rattle.cxx_overrider.proofs.ReturnLaws.{decide_covariant}
 
 -- a function of the class of a subobject
 pub record IsOf (s : Subobject) (f : FunctionId) : Type 0 where

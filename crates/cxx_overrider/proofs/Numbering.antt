@@ -1,5 +1,5 @@
 -- Numbers of signatures.
-use Rattle.std.proofs.Common.{◌≡◌, ℕ, ◌+◌, ◌<◌, ◌≤◌, ◌⊎◌, inl, inr, ⊎_elim, Bool, true, false, Option, Some, None, IsSome, map, List, [], ◌∷◌, ◌++◌, length, get_or, refl, ap, subst, sym, ◌∙◌, arith}
+use Rattle.std.proofs.Common.{◌≡◌, ℕ, ◌+◌, ◌<◌, ◌≤◌, ◌⊎◌, ⊎_elim, Bool, true, false, Option, Some, None, IsSome, map, List, [], ◌∷◌, ◌++◌, length, refl, ap, subst, sym, ◌∙◌, arith}
 use Rattle.std.specs.List.{slice_get}
 use Rattle.cxx_hierarchy.specs.declared.records.ClassId.{ClassId}
 use Rattle.std.specs.Prelude.{nat_eq}
@@ -9,7 +9,7 @@ use Rattle.cxx_hierarchy.specs.Hierarchies.{IsHierarchy}
 use Rattle.cxx_hierarchy.specs.Classes.{Class, Classes, class_at, functions_in, functions_of}
 use Rattle.cxx_overrider.specs.declared.FunctionId.{FunctionId}
 use Rattle.cxx_overrider.specs.Functions.{Signature, named, destructor, signature_of, signature_in, signature_at}
-use Rattle.cxx_overrider.specs.invariants.Numbers.{row_of, number_of, AreFirst, IsFirstOf, IsRow, IsNumbering, IsNumberOf}
+use Rattle.cxx_overrider.specs.invariants.Numbers.{row_of, number_of, AreFirst, IsFirstOf, IsRow, IsNumbering}
 use Rattle.cxx_overrider.proofs.Lists.{or_past}
 use Rattle.foundation.proofs.Places.{get_front, get_last, get_pushed, get_within}
 use Rattle.std.proofs.lemmas.Option.{slice_get_within, get_or_from_slice_get}

@@ -1,5 +1,5 @@
 -- A class of which the table is made has one final overrider of each virtual function.
-use Rattle.std.proofs.Common.{◌≡◌, ℕ, ◌<◌, ◌+◌, ◌⊎◌, inl, inr, ⊎_elim, Option, Some, None, List, [], ◌∷◌, ◌++◌, refl, ap, subst, sym, ◌∙◌, arith}
+use Rattle.std.proofs.Common.{◌≡◌, ℕ, ◌<◌, ◌⊎◌, inl, inr, ⊎_elim, Option, Some, None, List, [], ◌∷◌, ◌++◌, refl, ap, subst, sym, ◌∙◌}
 use Rattle.cxx_hierarchy.specs.declared.records.ClassId.{ClassId}
 use Rattle.cxx_hierarchy.specs.Classes.{Classes}
 use Rattle.cxx_hierarchy.specs.VirtualBases.{HasVirtualBase}
@@ -23,7 +23,10 @@ use Rattle.cxx_overrider.specs.invariants.EntryTables.{entry_of}
 use Rattle.cxx_overrider.specs.invariants.Settling.{IsMade, key}
 use Rattle.cxx_overrider.specs.invariants.Tables.{AreTables}
 use Rattle.cxx_overrider.specs.invariants.Within.{HasVirtualWithin}
-use Rattle.cxx_overrider.proofs.SettlingLemmas.{overrider}
+use Rattle.cxx_overrider.specs.declared.places.Place.TheVariants.{Itself}
+use Rattle.cxx_overrider.specs.invariants.Pure.{DeclaresNone}
+use Rattle.cxx_overrider.proofs.SettlingLemmas.{overrider, own_tells}
+use Rattle.cxx_overrider.proofs.FinalLaws.{decide_declares}
 use Rattle.cxx_overrider.proofs.Finals.{contains_by}
 
 -- the candidate lies on the path of the subobject: its path is a front of it
@@ -118,16 +121,23 @@ shared_same : (h : Classes) (c v : ClassId) (path : List ClassId) (sig : Signatu
 shared_same h c v path sig None a b none valid la lb = on_path_same h c (subobject (Shared v) path) sig a b la lb (none_on_path h c v path sig a none la.candidate) (none_on_path h c v path sig b none lb.candidate)
 shared_same h c v path sig (Some e) a b t valid la lb = sym (left_greatest h c v path sig e a t valid la) ∙ left_greatest h c v path sig e b t valid lb
 
--- what the table says of the functions of a shared base's subobject
-pub record HasEntry (h : Classes) (c v : ClassId) (table : EntryTable) (sig : Signature) (n : ℕ) : Type 0 where
-  pub tells : TellsOf h c v sig (entry_of table (key c v n))
-
-pub table_tells : (h : Classes) (tables : Tables) (table : EntryTable) (c v : ClassId) (path : List ClassId) (f : FunctionId) (sig : Signature) (n bound : ℕ) → c.0 < bound → AreTables h tables → IsMade h tables.numbering.rows.items table bound 0 0 → IsVirtualIn h c (subobject (Shared v) (v ∷ path)) f → Leads h v path → signature_of h f ≡ Some sig → IsNumberOf h tables.numbering.rows.items n sig → HasEntry h c v table sig n
-table_tells h tables table c v path f sig n bound lt are made is l e k =
-    let class = is.class in
+-- what the table says of the functions of a shared base's subobject, where the class declares none
+pub table_told : (h : Classes) (tables : Tables) (table : EntryTable) (c v : ClassId) (path : List ClassId) (f : FunctionId) (sig : Signature) (n bound : ℕ) → c.0 < bound → AreTables h tables → IsMade h tables.numbering.rows.items table bound 0 0 → IsVirtualIn h c (subobject (Shared v) (v ∷ path)) f → Leads h v path → signature_of h f ≡ Some sig → IsNumberOf h tables.numbering.rows.items n sig → DeclaresNone h c sig → TellsOf h c v sig (entry_of table (key c v n))
+table_told h tables table c v path f sig n bound lt are made is l e k own =
     let last : last_of v path ≡ f.class = cc in
     let w : HasVirtualWithin h v sig = record { path = path; leads = l; function = f; class = last; same = e; is_virtual = is.is_virtual } in
-    record { tells = made.told c v n sig (inl lt) k w }
+    made.told c v n sig (inl lt) k w own
+
+-- there is an entry that tells of them
+pub record HasEntry (h : Classes) (c v : ClassId) (sig : Signature) : Type 0 where
+  pub entry : Option Entry
+  pub tells : TellsOf h c v sig entry
+
+pub table_tells : (h : Classes) (tables : Tables) (table : EntryTable) (c v : ClassId) (path : List ClassId) (f : FunctionId) (sig : Signature) (n bound : ℕ) → c.0 < bound → AreTables h tables → IsMade h tables.numbering.rows.items table bound 0 0 → HasVirtualBase h c v → IsVirtualIn h c (subobject (Shared v) (v ∷ path)) f → Leads h v path → signature_of h f ≡ Some sig → IsNumberOf h tables.numbering.rows.items n sig → HasEntry h c v sig
+table_tells h tables table c v path f sig n bound lt are made has is l e k = ⊎_elim
+    (λ d. record { entry = Some (record { place = Itself; function = d.function }); tells = own_tells h c v sig d.function d.class d.same has })
+    (λ own. record { entry = entry_of table (key c v n); tells = table_told h tables table c v path f sig n bound lt are made is l e k own })
+    (decide_declares h c sig)
 
 pub number_there : (h : Classes) (tables : Tables) (f : FunctionId) (sig : Signature) → AreTables h tables → signature_of h f ≡ Some sig → (n : ℕ) × IsNumberOf h tables.numbering.rows.items n sig
 number_there h tables f sig are e = let r = are.numbering.numbered f sig e in (r.0, record { function = f; number = r.1; is = e })
@@ -137,8 +147,8 @@ left_same h tables table c _ f sig a b bound lt are made (whole path l) is e la 
     on_path_same h c (subobject Whole (c ∷ path)) sig a b la lb (whole_on_path h c (c ∷ path) sig a la.candidate) (whole_on_path h c (c ∷ path) sig b lb.candidate)
 left_same h tables table c _ f sig a b bound lt are made (shared v path has l) is e la lb =
     let k = number_there h tables f sig are e in
-    let t = table_tells h tables table c v path f sig k.0 bound lt are made is l e k.1 in
-    shared_same h c v (v ∷ path) sig (entry_of table (key c v k.0)) a b t.tells (shared v path has l) la lb
+    let t = table_tells h tables table c v path f sig k.0 bound lt are made has is l e k.1 in
+    shared_same h c v (v ∷ path) sig t.entry a b t.tells (shared v path has l) la lb
 
 pub one_final : (h : Classes) (tables : Tables) (table : EntryTable) (c : ClassId) (bound : ℕ) → c.0 < bound → AreTables h tables → IsMade h tables.numbering.rows.items table bound 0 0 → HasTwoFinalOverriders h c → ⊥
 one_final h tables table c bound lt are made two =

@@ -7,19 +7,18 @@ use Rattle.cxx_hierarchy.specs.declared.records.Member.{Member}
 use Rattle.cxx_hierarchy.specs.declared.records.FieldType.{FieldType}
 use Rattle.cxx_hierarchy.specs.declared.records.FieldType.TheVariants.{Value, Object}
 use Rattle.cxx_hierarchy.specs.declared.stop.Stop.{Stop}
-use Rattle.cxx_hierarchy.specs.declared.stop.Stop.TheVariants.{Refused, Limit}
+use Rattle.cxx_hierarchy.specs.declared.stop.Stop.TheVariants.{Refused}
 use Rattle.cxx_hierarchy.specs.declared.stop.Rule.{Rule}
-use Rattle.cxx_hierarchy.specs.declared.stop.Rule.TheVariants.{ReturnMismatch, IncompleteClass, AmbiguousCovariant, TwoFinalOverriders, Abstract}
-use Rattle.cxx_hierarchy.specs.declared.stop.LimitNo.TheVariants.{L5}
+use Rattle.cxx_hierarchy.specs.declared.stop.Rule.TheVariants.{ReturnMismatch, IncompleteClass, AmbiguousCovariant, Abstract}
 use Rattle.cxx_hierarchy.specs.Classes.{Class, Classes, class_at, members_in, functions_in, members_of, functions_of}
 use Rattle.cxx_hierarchy.specs.Hierarchies.{IsHierarchy}
 use Rattle.cxx_subobject.specs.Parts.{IsWithinLimits}
 use Rattle.cxx_subobject.proofs.PathLemmas.{same_id}
 use Rattle.cxx_overrider.specs.declared.FunctionId.{FunctionId}
 use Rattle.cxx_overrider.specs.Overriding.{HasTwoFinalOverriders, IsAbstract}
-use Rattle.cxx_overrider.specs.Covariance.{HasMismatch, HasIncompleteReturn, HasAmbiguousReturn}
+use Rattle.cxx_overrider.specs.Covariance.{HasMismatch, HasIncompleteReturn}
 use Rattle.cxx_overrider.specs.invariants.ReturnFlags.{HasFineReturn, IsReturnFault, mismatch as is_mismatch, incomplete as is_incomplete, ambiguous as is_ambiguous}
-use Rattle.cxx_overrider.specs.Faults.{Spot, spot, limit_part, function_part, overrider_part, member_part, size_part, IsBefore, by_class, by_part, by_item, by_test, function_of, Fault, too_large, mismatch, incomplete, ambiguous, two_overriders, abstract_member, IsFirstFault, HasNoFault, StopsIn}
+use Rattle.cxx_overrider.specs.Faults.{Spot, spot, limit_part, function_part, overrider_part, member_part, size_part, IsBefore, by_class, by_part, by_item, by_test, function_of, Fault, too_large, mismatch, incomplete, ambiguous, two_overriders, abstract_member, HasNoFault, StopsIn}
 use Rattle.cxx_overrider.specs.invariants.Pass.{TellsAbstract, IsFineTo, is_abstract_object, class_after}
 use Rattle.cxx_overrider.proofs.Lists.{or_front, or_last}
 use Rattle.std.proofs.lemmas.Option.{slice_get_within}

@@ -1,7 +1,6 @@
 -- Subobjects of a class, and those of its direct bases.
-use Rattle.std.proofs.Common.{◌≡◌, ◌≢◌, ℕ, ◌<◌, ◌≤◌, ◌⊎◌, inl, inr, ⊎_elim, Bool, true, false, Option, Some, List, [], ◌∷◌, ◌++◌, refl, ap, subst, sym, ◌∙◌, arith, append_assoc}
+use Rattle.std.proofs.Common.{◌≡◌, ℕ, ◌⊎◌, inl, inr, Bool, true, false, Some, List, [], ◌∷◌, ◌++◌, refl, ap, subst, sym, ◌∙◌, arith}
 use Rattle.std.specs.List.{Contains}
-use Rattle.std.proofs.lemmas.List.{append-nil}
 use Rattle.cxx_hierarchy.specs.declared.records.ClassId.{ClassId}
 use Rattle.cxx_hierarchy.specs.declared.records.Base.{Base}
 use Rattle.cxx_hierarchy.specs.Classes.{Classes, bases_of}
@@ -10,13 +9,12 @@ use Rattle.cxx_hierarchy.specs.VirtualBases.{IsDirectBase, HasVirtualBase, direc
 use Rattle.cxx_subobject.specs.declared.Root.{Root}
 use Rattle.cxx_subobject.specs.declared.Root.TheVariants.{Whole, Shared}
 use Rattle.cxx_subobject.specs.declared.Subobject.{Subobject}
-use Rattle.cxx_subobject.specs.Subobjects.{Leads, IsSubobject, whole, shared, subobject, whole_of, last_of, class_of_path, class_of, tail_of, join_at, join}
+use Rattle.cxx_subobject.specs.Subobjects.{Leads, IsSubobject, whole, shared, subobject, whole_of, class_of, join}
 use Rattle.cxx_subobject.specs.Inside.{IsInside}
 use Rattle.cxx_subobject.proofs.InsideLemmas.{join_class, join_valid, inside_back, join_inside}
-use Rattle.cxx_subobject.proofs.PathLemmas.{last_append, virtual_along, virtual_through, class_of_longer, base_before, last_below, virtual_below, same_id, part_virtual}
-use Rattle.cxx_overrider.specs.declared.places.Place.{Place}
+use Rattle.cxx_subobject.proofs.PathLemmas.{virtual_below}
 use Rattle.cxx_overrider.specs.declared.places.Place.TheVariants.{Itself, InBase, InShared}
-use Rattle.cxx_overrider.specs.invariants.Places.{place_of, place_at, place_below, base_place, lifted, base_subobject, base_of, IsThrough}
+use Rattle.cxx_overrider.specs.invariants.Places.{place_of, place_below, base_place, lifted, base_subobject, base_of, IsThrough}
 
 pub inside_antisymmetric : (h : Classes) → IsHierarchy h → (s t : Subobject) → IsInside h s t → IsInside h t s → s ≡ t
 inside_antisymmetric h keeps s t a b = inside_back h s t keeps a b

@@ -1,16 +1,14 @@
 -- Pure functions that the non-virtual part of a class leaves.
-use Rattle.std.proofs.Common.{◌≡◌, ℕ, ◌<◌, ◌↔◌, Bool, true, false, Some, List, [], ◌∷◌, length, refl, ap, subst, sym, ◌∙◌, arith}
-use Rattle.std.specs.List.{Contains}
+use Rattle.std.proofs.Common.{◌≡◌, ℕ, ◌↔◌, Bool, true, false, Some, List, [], ◌∷◌, length, refl, ap, subst, sym, ◌∙◌, arith}
 use Rattle.cxx_hierarchy.specs.declared.records.ClassId.{ClassId}
-use Rattle.cxx_hierarchy.specs.declared.records.Base.{Base}
-use Rattle.cxx_hierarchy.specs.Classes.{Classes, bases_of}
+use Rattle.cxx_hierarchy.specs.Classes.{Classes}
 use Rattle.cxx_hierarchy.specs.Hierarchies.{IsHierarchy}
 use Rattle.cxx_hierarchy.specs.VirtualBases.{IsDirectBase}
 use Rattle.cxx_overrider.specs.declared.FunctionId.{FunctionId}
 use Rattle.cxx_overrider.specs.Functions.{Signature, signature_of, is_pure}
 use Rattle.cxx_overrider.specs.Overriding.{HasVirtual, IsVirtual}
 use Rattle.cxx_overrider.specs.invariants.Numbers.{number_of, IsNumbering, IsNumberOf}
-use Rattle.cxx_overrider.specs.invariants.Marks.{mark_of, AreMarks, HasMarkedPart}
+use Rattle.cxx_overrider.specs.invariants.Marks.{AreMarks, HasMarkedPart}
 use Rattle.cxx_overrider.specs.invariants.Pure.{DeclaresNone, StandsFirst, here, below, LeavesPure}
 use Rattle.cxx_overrider.proofs.Numbering.{same_function}
 use Rattle.cxx_overrider.proofs.MarkLemmas.{says_number}
@@ -22,10 +20,6 @@ none_declared h rows count n c s is k none = record { none = λ f class e. none 
 first_own : (h : Classes) → IsHierarchy h → (s : Signature) (c : ClassId) (path : List ClassId) (f g : FunctionId) → StandsFirst h s c path g → f.class ≡ c → signature_of h f ≡ Some s → g ≡ f
 first_own h keeps s _ _ f _ (here g e) class same = same_function h keeps g f s (sym class) e same
 first_own h keeps s _ _ f _ (below c b path g none d rest) class same = absurd (none.none f class same)
-
-first_signature : (h : Classes) (s : Signature) (c : ClassId) (path : List ClassId) (g : FunctionId) → StandsFirst h s c path g → signature_of h g ≡ Some s
-first_signature h s _ _ _ (here g e) = e
-first_signature h s _ _ _ (below c b path g none d rest) = first_signature h s b path g rest
 
 pub pure_own : (h : Classes) → IsHierarchy h → (c : ClassId) (s : Signature) (f : FunctionId) (b m : Bool) → f.class ≡ c → signature_of h f ≡ Some s → (b ≡ true) ↔ ((is_pure h f ≡ true) × (m ≡ true)) → (m ≡ true) ↔ HasVirtual h c s → (b ≡ true) ↔ LeavesPure h c s
 pure_own h keeps c s f b m class same is mark = (

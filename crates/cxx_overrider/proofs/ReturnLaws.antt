@@ -1,5 +1,5 @@
 -- In a hierarchy that no condition refuses the returns of overriding functions fit.
-use Rattle.std.proofs.Common.{◌≡◌, ◌≢◌, ◌+◌, ◌<◌, ◌≤◌, ◌⊎◌, inl, inr, ⊎_elim, Option, Some, None, refl, ap, subst, sym, ◌∙◌, arith}
+use Rattle.std.proofs.Common.{◌≡◌, inl, inr, ⊎_elim, Option, Some, None, refl, subst}
 use Rattle.cxx_hierarchy.specs.declared.records.ClassId.{ClassId}
 use Rattle.cxx_hierarchy.specs.declared.records.Function.{Function}
 use Rattle.cxx_hierarchy.specs.declared.records.ValueType.TheVariants.{Number, Pointer}
@@ -7,11 +7,10 @@ use Rattle.cxx_hierarchy.specs.declared.records.ReturnType.{ReturnType}
 use Rattle.cxx_hierarchy.specs.declared.records.ReturnType.TheVariants.{Void, Value}
 use Rattle.cxx_hierarchy.specs.Classes.{Classes}
 use Rattle.cxx_hierarchy.specs.Hierarchies.{IsHierarchy}
-use Rattle.cxx_subobject.specs.declared.Subobject.{Subobject}
 use Rattle.cxx_overrider.specs.declared.FunctionId.{FunctionId}
 use Rattle.cxx_overrider.specs.Functions.{declaration_of, return_at, return_of}
 use Rattle.cxx_overrider.specs.Overriding.{HasPart}
-use Rattle.cxx_overrider.specs.Covariance.{Overrides, pointer_to, IsCovariant, IsOnlyBase, PointsToDerived, FitsReturn, HasOverridden, IsMismatch, IsIncompleteReturn, IsAmbiguousReturn, HasMismatch, HasIncompleteReturn, HasAmbiguousReturn}
+use Rattle.cxx_overrider.specs.Covariance.{Overrides, IsCovariant, PointsToDerived, FitsReturn, HasOverridden, IsMismatch, IsIncompleteReturn, IsAmbiguousReturn, HasMismatch, HasIncompleteReturn, HasAmbiguousReturn}
 use Rattle.cxx_overrider.specs.Faults.{spot, function_part, HasNoFault, mismatch, incomplete, ambiguous}
 use Rattle.std.proofs.lemmas.Bool.{cases_lt}
 use Rattle.foundation.proofs.Deciding.{Decided}

@@ -1,5 +1,5 @@
 -- The overriders of a virtual base's functions, from those of the direct bases.
-use Rattle.std.proofs.Common.{◌≡◌, ◌≢◌, ℕ, ◌+◌, ◌<◌, ◌≤◌, ◌⊎◌, inl, inr, ⊎_elim, Bool, true, false, get_or, ◌↔◌, Option, Some, None, List, [], ◌∷◌, ◌++◌, length, refl, ap, subst, sym, ◌∙◌, arith}
+use Rattle.std.proofs.Common.{◌≡◌, ℕ, ◌+◌, ◌<◌, ◌≤◌, inl, inr, ⊎_elim, Bool, true, false, get_or, ◌↔◌, Some, None, List, [], ◌∷◌, ◌++◌, length, refl, ap, subst, sym, ◌∙◌, arith}
 use Rattle.std.specs.List.{slice_get, Contains}
 use Rattle.std.proofs.lemmas.Option.{slice_get-get_or, slice_get_within}
 use Rattle.cxx_hierarchy.specs.declared.records.ClassId.{ClassId}
@@ -7,27 +7,23 @@ use Rattle.cxx_hierarchy.specs.declared.records.Base.{Base}
 use Rattle.cxx_hierarchy.specs.Classes.{Classes, bases_of}
 use Rattle.cxx_hierarchy.specs.Hierarchies.{IsHierarchy}
 use Rattle.cxx_hierarchy.specs.VirtualBases.{HasVirtualBase}
-use Rattle.cxx_subobject.specs.declared.Root.TheVariants.{Whole, Shared}
+use Rattle.cxx_subobject.specs.declared.Root.TheVariants.{Shared}
 use Rattle.cxx_subobject.specs.declared.Subobject.{Subobject}
 use Rattle.cxx_subobject.specs.Subobjects.{IsSubobject, whole, shared, subobject, whole_of, class_of, join}
 use Rattle.cxx_subobject.specs.Inside.{IsInside}
-use Rattle.cxx_subobject.proofs.InsideLemmas.{join_valid, inside_through, inside_itself, join_class, inside_virtual, virtual_inside}
-use Rattle.cxx_subobject.proofs.PathLemmas.{part_virtual}
+use Rattle.cxx_subobject.proofs.InsideLemmas.{join_valid, inside_through, join_class, inside_virtual, virtual_inside}
 use Rattle.cxx_overrider.specs.declared.FunctionId.{FunctionId}
 use Rattle.cxx_overrider.specs.declared.Overrider.{Overrider}
 use Rattle.cxx_overrider.specs.declared.places.Place.{Place}
 use Rattle.cxx_overrider.specs.declared.places.Place.TheVariants.{Itself, InBase, InShared}
 use Rattle.cxx_overrider.specs.declared.entries.Entry.{Entry}
-use Rattle.cxx_overrider.specs.declared.entries.Key.{Key}
-use Rattle.cxx_overrider.specs.declared.entries.EntryTable.{EntryTable}
-use Rattle.cxx_overrider.specs.invariants.EntryTables.{entry_of}
 use Rattle.cxx_overrider.specs.declared.settling.Settled.{Settled}
 use Rattle.cxx_overrider.specs.declared.settling.Settled.TheVariants.{Nothing, One, Two}
 use Rattle.cxx_overrider.specs.Functions.{Signature, signature_of}
-use Rattle.cxx_overrider.specs.Overriding.{HasVirtual, IsVirtualIn, IsCandidate, IsLeft, HasTwoFinalOverriders}
+use Rattle.cxx_overrider.specs.Overriding.{HasVirtual, IsLeft, HasTwoFinalOverriders}
 use Rattle.cxx_overrider.specs.invariants.Places.{place_of, lifted, base_place, base_of, IsThrough}
-use Rattle.cxx_overrider.specs.invariants.Entries.{Declares, IsGreatest, Tells, TellsOf}
-use Rattle.cxx_overrider.specs.invariants.Settling.{Holds, StandsFor, HasHolder, AreCandidates, IsAmong, IsOrder, IsTop, IsUnheld, IsAbove, AreTwoTops, IsPicked, IsSettled, TellsBefore, key}
+use Rattle.cxx_overrider.specs.invariants.Entries.{Declares, Tells, TellsOf}
+use Rattle.cxx_overrider.specs.invariants.Settling.{Holds, StandsFor, HasHolder, AreCandidates, IsAmong, IsOrder, IsTop, IsUnheld, IsAbove, AreTwoTops, IsPicked, IsSettled}
 use Rattle.cxx_overrider.specs.invariants.Pure.{DeclaresNone}
 use Rattle.foundation.proofs.Places.{get_front, get_last, get_pushed, contains_at, place_of as contains_get}
 use Rattle.std.proofs.lemmas.Bool.{cases_lt}
@@ -152,7 +148,7 @@ declares_holds h c v s p u d valid = record {
   joined = joined_again h v p.at u valid;
 }
 
-same_overrider : (p q : Overrider) → p.at ≡ q.at → p.function ≡ q.function → p ≡ q
+pub same_overrider : (p q : Overrider) → p.at ≡ q.at → p.function ≡ q.function → p ≡ q
 same_overrider p q e f =
     let make : Subobject → FunctionId → Overrider = λ a g. record { at = a; function = g } in
     let one : make p.at p.function ≡ make q.at q.function = ap (λ a. make a p.function) e ∙ ap (λ g. make q.at g) f in one
@@ -308,17 +304,7 @@ settled_picked h keeps c v s xs Nothing none are has picked = nothing_tells h c 
 settled_picked h keeps c v s xs (One e) none are has picked = top_tells h c v s xs e none are picked
 settled_picked h keeps c v s xs (Two one other) none are has picked = λ f. two_refused h keeps c v s xs one other none are (picked (candidates_order h c v s (length (bases_of h c)) xs are)) has f
 
-candidates_step : (h : Classes) (c v : ClassId) (s : Signature) (count : ℕ) (xs ys : List Entry) (base : Base ClassId) (e : Entry) (place : Place) → slice_get (bases_of h c) count ≡ Some base → AreCandidates h c v s count xs → Tells h base.class v s e → place ≡ lifted base e.place → ys ≡ xs ++ (record { place = place; function = e.function }) ∷ [] → AreCandidates h c v s (count + 1) ys
+pub candidates_step : (h : Classes) (c v : ClassId) (s : Signature) (count : ℕ) (xs ys : List Entry) (base : Base ClassId) (e : Entry) (place : Place) → slice_get (bases_of h c) count ≡ Some base → AreCandidates h c v s count xs → Tells h base.class v s e → place ≡ lifted base e.place → ys ≡ xs ++ (record { place = place; function = e.function }) ∷ [] → AreCandidates h c v s (count + 1) ys
 candidates_step h c v s count xs ys base e place listed are tells at grown =
     let made : ys ≡ xs ++ (record { place = lifted base e.place; function = e.function }) ∷ [] = grown ∙ ap (λ (p : Place). xs ++ (record { place = p; function = e.function }) ∷ []) at in
     subst (λ (zs : List Entry). AreCandidates h c v s (count + 1) zs) (sym made) (candidates_push h c v s count xs base e listed are tells)
-
-pub found_step : (h : Classes) (table : EntryTable) (c v : ClassId) (n : ℕ) (s : Signature) (count : ℕ) (xs ys : List Entry) (base : Base ClassId) (e : Entry) (place : Place) (k : Key) → slice_get (bases_of h c) count ≡ Some base → base.class.0 < c.0 → k ≡ key base.class v n → Some e ≡ entry_of table k → place ≡ lifted base e.place → ys ≡ xs ++ (record { place = place; function = e.function }) ∷ [] → TellsBefore h table c v n s → AreCandidates h c v s count xs → AreCandidates h c v s (count + 1) ys
-found_step h table c v n s count xs ys base e place k listed lt is found at grown tells are =
-    let there : entry_of table (key base.class v n) ≡ Some e = sym (found ∙ ap (entry_of table) is) in
-    candidates_step h c v s count xs ys base e place listed are (subst (λ (o : Option Entry). TellsOf h base.class v s o) there (tells.each base.class lt)) at grown
-
-pub missing_step : (h : Classes) (table : EntryTable) (c v : ClassId) (n : ℕ) (s : Signature) (count : ℕ) (xs : List Entry) (base : Base ClassId) (k : Key) → slice_get (bases_of h c) count ≡ Some base → base.class.0 < c.0 → k ≡ key base.class v n → None ≡ entry_of table k → TellsBefore h table c v n s → AreCandidates h c v s count xs → AreCandidates h c v s (count + 1) xs
-missing_step h table c v n s count xs base k listed lt is found tells are =
-    let there : entry_of table (key base.class v n) ≡ None = sym (found ∙ ap (entry_of table) is) in
-    candidates_skip h c v s count xs base listed are (subst (λ (o : Option Entry). TellsOf h base.class v s o) there (tells.each base.class lt))

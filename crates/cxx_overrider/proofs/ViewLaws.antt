@@ -1,5 +1,5 @@
 -- The final overriders by a table for a subobject are those of an object of its class.
-use Rattle.std.proofs.Common.{◌≡◌, ◌+◌, ◌<◌, ◌≤◌, ◌⊎◌, inl, inr, ⊎_elim, Some, List, [], ◌∷◌, ◌++◌, refl, ap, subst, sym, ◌∙◌, arith, append_assoc}
+use Rattle.std.proofs.Common.{◌≡◌, ◌≤◌, ◌⊎◌, ⊎_elim, Some, List, [], ◌∷◌, ◌++◌, refl, ap, subst, sym, ◌∙◌, arith, append_assoc}
 use Rattle.cxx_hierarchy.specs.declared.records.ClassId.{ClassId}
 use Rattle.cxx_hierarchy.specs.Classes.{Classes}
 use Rattle.cxx_hierarchy.specs.Hierarchies.{IsHierarchy}
@@ -9,14 +9,14 @@ use Rattle.cxx_subobject.specs.declared.Subobject.{Subobject}
 use Rattle.cxx_subobject.specs.Subobjects.{Leads, IsSubobject, whole, shared, subobject, whole_of, last_of, class_of, join}
 use Rattle.cxx_subobject.specs.Inside.{IsInside}
 use Rattle.cxx_subobject.proofs.InsideLemmas.{join_valid, join_class, join_inside, virtual_inside}
-use Rattle.cxx_subobject.proofs.PathLemmas.{class_there, last_below, virtual_below, smaller}
+use Rattle.cxx_subobject.proofs.PathLemmas.{class_there, last_below, virtual_below, class_low}
 use Rattle.cxx_overrider.specs.declared.FunctionId.{FunctionId}
 use Rattle.cxx_overrider.specs.declared.Overrider.{Overrider}
-use Rattle.cxx_overrider.specs.Functions.{Signature, signature_of}
+use Rattle.cxx_overrider.specs.Functions.{Signature}
 use Rattle.cxx_overrider.specs.Overriding.{IsCandidate, IsFinalOverrider, IsCandidateIn, IsFinalIn}
-use Rattle.cxx_overrider.proofs.SettlingLemmas.{overrider, same_class}
+use Rattle.cxx_overrider.proofs.SettlingLemmas.{overrider, same_class, same_overrider}
 use Rattle.cxx_overrider.proofs.Paths.{inside_antisymmetric}
-use Rattle.cxx_overrider.proofs.Finals.{same_overrider, contains_by}
+use Rattle.cxx_overrider.proofs.Finals.{contains_by}
 use Rattle.cxx_overrider.proofs.Candidates.{longer_inside}
 use Rattle.cxx_overrider.proofs.FinalLaws.{final_top, candidate_subobject}
 
@@ -35,12 +35,6 @@ root_above h keeps c d w _ (shared v p has l) e root =
     let a : v.0 ≡ w.0 = ap (λ (z : ClassId). z.0) same in
     let b : (last_of v p).0 ≡ d.0 = ap (λ (z : ClassId). z.0) last in
     omega arith
-
-part_below : (h : Classes) → IsHierarchy h → (d e : ClassId) (t : Subobject) → IsSubobject h d t → class_of t ≡ Some e → e.0 ≤ d.0
-part_below h keeps d e t valid class = ⊎_elim
-    (λ is. let a : class_of t ≡ Some d = ap class_of is in let f : e ≡ d = cc in let g : e.0 ≡ d.0 = ap (λ (z : ClassId). z.0) f in omega arith)
-    (λ lt. omega arith)
-    (smaller h keeps d e t valid class)
 
 module _ (h : Classes) (keeps : IsHierarchy h) (c d : ClassId) (x : Subobject) (there : IsSubobject h c x) (class : class_of x ≡ Some d) where
   -- no virtual base of a class among the parts of x is the root of x
@@ -61,7 +55,7 @@ module _ (h : Classes) (keeps : IsHierarchy h) (c d : ClassId) (x : Subobject) (
           let longer : x.path ++ q ≡ (x.path ++ p) ++ front.0 = front.2 in
           let tail : q ≡ p ++ front.0 = same_front x.path q (p ++ front.0) (longer ∙ append_assoc x.path p front.0) in
           subst (λ (z : List ClassId). IsInside h (subobject Whole (d ∷ p)) (subobject Whole (d ∷ z))) (sym tail) (longer_inside h Whole d p front.0 (subst (λ (z : List ClassId). Leads h d z) tail m)))
-          (λ across. absurd (not_root e across.0 (part_below h keeps d e (subobject Whole (d ∷ p)) (whole p l) ea) across.2 across.1))
+          (λ across. absurd (not_root e across.0 (class_low h keeps d e (subobject Whole (d ∷ p)) (whole p l) ea) across.2 across.1))
           by
       by_parts _ _ (whole p l) (shared v q has m) e ea by k = ⊎_elim
           (λ front. absurd (not_root d v (omega arith) has front.1))
@@ -69,7 +63,7 @@ module _ (h : Classes) (keeps : IsHierarchy h) (c d : ClassId) (x : Subobject) (
           by
       by_parts _ _ (shared w p hw l) (whole q m) e ea by k = ⊎_elim
           (λ front. absurd (not_root d w (omega arith) hw (sym front.1)))
-          (λ across. absurd (not_root e across.0 (part_below h keeps d e (subobject (Shared w) (w ∷ p)) (shared w p hw l) ea) across.2 across.1))
+          (λ across. absurd (not_root e across.0 (class_low h keeps d e (subobject (Shared w) (w ∷ p)) (shared w p hw l) ea) across.2 across.1))
           by
       by_parts _ _ (shared w p hw l) (shared v q has m) e ea by k = k
 

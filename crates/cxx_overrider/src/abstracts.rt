@@ -11,12 +11,14 @@ ghost use Rattle.cxx_overrider.specs.invariants.Settling.{IsMade};
 ghost use Rattle.cxx_overrider.specs.invariants.Tables.{AreTables};
 ghost use Rattle.cxx_overrider.specs.invariants.Abstract.{HasPureAt};
 
-use crate::entries::{EntryTable, key_of};
+use crate::entries::EntryTable;
+use crate::finding::find_entry;
 use crate::pure::is_pure;
 use crate::settling::numbers_within;
 use crate::tables::Tables;
 use crate::virtuals::is_marked;
 use cxx_hierarchy::{ClassId, Hierarchy};
+use cxx_subobject::virtual_flags::has_virtual_bases;
 
 /// Whether in the non-virtual part of a class a virtual function has a pure final overrider.
 fn has_pure_whole(h: &Hierarchy, tables: &Tables, c: ClassId) -> bool
@@ -51,7 +53,7 @@ fn has_pure_number(
     ensures { MatchBool result (IsAbstract h.now c) ((s : Signature) → IsNumberOf h.now tables.now.numbering.rows.items n s → HasPureAt h.now c (Shared v) s → ⊥) }
 {
     h.keeps();
-    match entries.find(key_of(c, v, n)) {
+    match find_entry(h, &tables.numbering, entries, c, v, n) {
         Some(entry) => is_pure(h, entry.function),
         None => is_marked(&tables.pure, v, n),
     }
@@ -110,6 +112,9 @@ pub fn is_abstract_class(h: &Hierarchy, tables: &Tables, entries: &EntryTable, c
     h.keeps();
     if has_pure_whole(h, tables, c) {
         return true;
+    }
+    if !has_virtual_bases(&tables.with_virtual, c) {
+        return false;
     }
     for number in 0..c.0 {
         if has_pure_if_base(h, tables, entries, c, ClassId(number)) {

@@ -28,6 +28,11 @@ pub fn final_contains_all()
     ensures { (h : Classes) (c : ClassId) (s : Subobject) (f : FunctionId) (signature : Signature) (o p : Overrider) → IsHierarchy h → IsFinalOverrider h c s f o → signature_of h f ≡ Some signature → IsCandidate h c s signature p → IsInside h o.at p.at }
 {}
 
+/// A subobject of the final overrider's class in which the function's subobject lies is the final overrider's own.
+pub fn one_final_of_class()
+    ensures { (h : Classes) (c : ClassId) (s t : Subobject) (f : FunctionId) (o : Overrider) → IsHierarchy h → IsFinalOverrider h c s f o → IsSubobject h c t → class_of t ≡ Some o.function.class → IsInside h t s → t ≡ o.at }
+{}
+
 /// The final overrider of a function is that of each virtual function of the signature in its own subobject, too.
 pub fn final_same()
     ensures { (h : Classes) (c : ClassId) (s t : Subobject) (f g : FunctionId) (o : Overrider) → IsHierarchy h → HasNoFault h → IsFinalOverrider h c s f o → IsVirtualIn h c t g → IsInside h o.at t → signature_of h g ≡ signature_of h f → IsFinalOverrider h c t g o }

@@ -15,6 +15,7 @@
 pub mod abstracts;
 pub mod covariance;
 pub mod entries;
+pub mod finding;
 pub mod keys;
 pub mod kinds;
 pub mod laws;
@@ -31,7 +32,8 @@ pub mod virtuals;
 pub mod within;
 
 pub use crate::laws::{
-    final_contains_all, final_in_view, final_same, one_final, returns_fit, some_answer,
+    final_contains_all, final_in_view, final_same, one_final, one_final_of_class, returns_fit,
+    some_answer,
 };
 pub use crate::pass::{ClassStop, Overriders, check_by_class, check_overriders};
 use cxx_hierarchy::ClassId;

@@ -2,14 +2,16 @@
 
 ghost use Rattle.std.specs.Prelude.{◌≡◌, ◌<◌, ℕ, Some, IfOk, MatchOption, length};
 ghost use Rattle.cxx_hierarchy.specs.declared.records.ClassId.{ClassId};
+ghost use Rattle.cxx_subobject.specs.declared.Subobject.{Subobject};
 ghost use Rattle.cxx_subobject.specs.Subobjects.{IsSubobject, class_of};
-ghost use Rattle.cxx_overrider.specs.Overriding.{HasPart, IsVirtual, IsFinalOverrider};
+ghost use Rattle.cxx_overrider.specs.Overriding.{HasPart, IsVirtualIn, IsFinalOverrider};
 ghost use Rattle.cxx_overrider.specs.invariants.Numbers.{AreShort, IsNumbering, number_of};
 ghost use Rattle.cxx_overrider.specs.invariants.Settling.{IsMade};
 ghost use Rattle.cxx_overrider.specs.invariants.Tables.{AreTables};
-ghost use Rattle.cxx_overrider.specs.invariants.Finals.{IsFirstAt, DeclareNone, IsFirstOverrider};
+ghost use Rattle.cxx_overrider.specs.invariants.Finals.{IsFirstAt, DeclareNone, IsFirstOverrider, IsByPath, IsByClass};
 
-use crate::entries::{EntryTable, key_of};
+use crate::entries::EntryTable;
+use crate::finding::find_entry;
 use crate::signatures::{NumberRow, Numbering, number_of, own_function};
 use crate::tables::Tables;
 use crate::{FunctionId, Overrider};
@@ -27,17 +29,18 @@ struct OnPath {
 }
 
 /// The first class of a path that declares a function of the number.
-fn first_on_path(rows: &[NumberRow], path: &[ClassId], n: usize) -> Option<OnPath>
-    requires { AreShort rows.now }
-    ensures { MatchOption result (DeclareNone rows.now path.now n (length path.now)) (λ first. IsFirstAt rows.now path.now n first.place first.function) }
+fn first_on_path(rows: &[NumberRow], path: &[ClassId], n: usize) -> OnPath
+    requires rows { AreShort rows.now }
+    requires some { DeclareNone rows.now path.now n (length path.now) → ⊥ }
+    ensures { IsFirstAt rows.now path.now n result.place result.function }
 {
     for (place, class) in path.iter().enumerate() {
         match own_function(rows, *class, n) {
-            Some(function) => return Some(OnPath { place, function }),
+            Some(function) => return OnPath { place, function },
             None => {}
         }
     }
-    None
+    unreachable!()
 }
 
 /// The number of a function.
@@ -64,19 +67,15 @@ fn path_overrider(
     ensures { IfOk result (IsFirstOverrider numbering.now.rows.items s.now n) }
 {
     let path = s.path.as_slice();
-    match first_on_path(&numbering.rows, path, n) {
-        Some(first) => {
-            let at = Subobject {
-                root: s.root,
-                path: longer_path(alloc, &path[..first.place + 1], &[])?,
-            };
-            Ok(Overrider {
-                at,
-                function: first.function,
-            })
-        }
-        None => unreachable!(),
-    }
+    let first = first_on_path(&numbering.rows, path, n);
+    let at = Subobject {
+        root: s.root,
+        path: longer_path(alloc, &path[..first.place + 1], &[])?,
+    };
+    Ok(Overrider {
+        at,
+        function: first.function,
+    })
 }
 
 /// A subobject of a class that is of another class.
@@ -101,6 +100,35 @@ fn subobject_of_class(
     unreachable!()
 }
 
+/// The function of the final overrider, where the subobject lies below a virtual base and a class that has that base
+/// declares one. None: the final overrider is the first one on the path of the subobject.
+fn overriding_base(
+    h: &Hierarchy,
+    tables: &Tables,
+    entries: &EntryTable,
+    c: ClassId,
+    s: &Subobject,
+    f: FunctionId,
+    n: usize,
+) -> Option<FunctionId>
+    requires known { c.0 < length h.now }
+    requires tables { AreTables h.now tables.now }
+    requires made { IsMade h.now tables.now.numbering.rows.items entries.now (length h.now) 0 0 }
+    requires of_class { IsVirtualIn h.now c s.now f }
+    requires number { number_of tables.now.numbering.rows.items f ≡ Some n }
+    ensures { MatchOption result (IsByPath h.now tables.now.numbering.rows.items n c s.now f) (IsByClass h.now c s.now f) }
+{
+    h.keeps();
+    let root = match s.root {
+        Root::Whole => return None,
+        Root::Shared(root) => root,
+    };
+    match find_entry(h, &tables.numbering, entries, c, root, n) {
+        Some(entry) => Some(entry.function),
+        None => None,
+    }
+}
+
 /// The final overrider of a virtual function in a subobject of a class that has one of each.
 ///
 /// Errors: want of memory.
@@ -116,25 +144,37 @@ pub fn final_overrider(
     requires known { c.0 < length h.now }
     requires tables { AreTables h.now tables.now }
     requires made { IsMade h.now tables.now.numbering.rows.items entries.now (length h.now) 0 0 }
-    requires subobject { IsSubobject h.now c s.now }
-    requires of_class { class_of s.now ≡ Some f.class }
-    requires is_virtual { IsVirtual h.now f }
+    requires of_class { IsVirtualIn h.now c s.now f }
     ensures { IfOk result (IsFinalOverrider h.now c s.now f) }
 {
-    h.keeps();
     let n = number_at(&tables.numbering, f);
-    let root = match s.root {
-        Root::Whole => return path_overrider(alloc, &tables.numbering, s, n),
-        Root::Shared(root) => root,
-    };
-    match entries.find(key_of(c, root, n)) {
-        Some(entry) => {
-            let at = subobject_of_class(alloc, h, c, entry.function.class)?;
-            Ok(Overrider {
-                at,
-                function: entry.function,
-            })
+    match overriding_base(h, tables, entries, c, s, f, n) {
+        Some(function) => {
+            let at = subobject_of_class(alloc, h, c, function.class)?;
+            Ok(Overrider { at, function })
         }
         None => path_overrider(alloc, &tables.numbering, s, n),
+    }
+}
+
+/// The function of the final overrider. It takes no memory.
+pub fn final_function(
+    h: &Hierarchy,
+    tables: &Tables,
+    entries: &EntryTable,
+    c: ClassId,
+    s: &Subobject,
+    f: FunctionId,
+) -> FunctionId
+    requires known { c.0 < length h.now }
+    requires tables { AreTables h.now tables.now }
+    requires made { IsMade h.now tables.now.numbering.rows.items entries.now (length h.now) 0 0 }
+    requires of_class { IsVirtualIn h.now c s.now f }
+    ensures { (at : Subobject) × IsFinalOverrider h.now c s.now f (record { at = at; function = result }) }
+{
+    let n = number_at(&tables.numbering, f);
+    match overriding_base(h, tables, entries, c, s, f, n) {
+        Some(function) => function,
+        None => first_on_path(&tables.numbering.rows, s.path.as_slice(), n).function,
     }
 }

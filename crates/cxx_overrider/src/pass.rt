@@ -4,6 +4,7 @@
 ghost use Rattle.std.specs.Prelude.{◌≡◌, ◌<◌, ◌+◌, ◌↔◌, IsTrue, Some, IfOk, IfErr, OnOk, length, slice_index_or, false};
 ghost use Rattle.cxx_hierarchy.specs.declared.records.ClassId.{ClassId};
 ghost use Rattle.cxx_hierarchy.specs.Classes.{Classes};
+ghost use Rattle.cxx_subobject.specs.declared.Subobject.{Subobject};
 ghost use Rattle.cxx_subobject.specs.Subobjects.{IsSubobject, class_of};
 ghost use Rattle.cxx_subobject.specs.Parts.{TellsLimits};
 ghost use Rattle.cxx_overrider.specs.Overriding.{IsVirtual, IsFinalOverrider, IsAbstract};
@@ -16,7 +17,7 @@ ghost use Rattle.cxx_overrider.specs.Overriders.{AreOverriders};
 use crate::abstracts::is_abstract_class;
 use crate::covariance::return_fault;
 use crate::entries::EntryTable;
-use crate::overriding::final_overrider;
+use crate::overriding::{final_function, final_overrider};
 use crate::settling::settle_class;
 use crate::signatures::number_of;
 use crate::tables::{Tables, tables_of};
@@ -56,6 +57,25 @@ impl Overriders {
         ensures { IfOk result (IsFinalOverrider h.now c s.now f) }
     {
         final_overrider(self.alloc, h, &self.tables, &self.entries, c, s, f)
+    }
+
+    /// The function of the final overrider of a virtual function in a subobject of a class (ISO C++03 10.3 p2). It
+    /// takes no memory.
+    pub fn final_function(
+        &self,
+        h: &Hierarchy,
+        c: ClassId,
+        s: &Subobject,
+        f: FunctionId,
+    ) -> FunctionId
+        requires overriders { AreOverriders h.now self.now }
+        requires known { c.0 < length h.now }
+        requires subobject { IsSubobject h.now c s.now }
+        requires of_class { class_of s.now ≡ Some f.class }
+        requires is_virtual { IsVirtual h.now f }
+        ensures { (at : Subobject) × IsFinalOverrider h.now c s.now f (record { at = at; function = result }) }
+    {
+        final_function(h, &self.tables, &self.entries, c, s, f)
     }
 
     /// Whether a function is virtual: declared so, or in a class that has a virtual function of its signature from

@@ -1,22 +1,25 @@
 //! Finds for each virtual base of a class the final overriders of its functions, from those of the direct bases.
 
-ghost use Rattle.std.specs.Prelude.{◌≡◌, ◌<◌, ◌+◌, ◌↔◌, IsTrue, IfOk, MatchOption, MatchBool, length};
+ghost use Rattle.std.specs.Prelude.{◌≡◌, ◌<◌, ◌+◌, ◌↔◌, IsTrue, Some, IfOk, MatchOption, MatchBool, length};
 ghost use Rattle.cxx_hierarchy.specs.Classes.{bases_of};
 ghost use Rattle.cxx_hierarchy.specs.VirtualBases.{HasVirtualBase};
+ghost use Rattle.cxx_overrider.specs.declared.FunctionId.{FunctionId};
 ghost use Rattle.cxx_overrider.specs.declared.entries.Entry.{Entry};
 ghost use Rattle.cxx_overrider.specs.Functions.{Signature};
 ghost use Rattle.cxx_overrider.specs.Overriding.{HasTwoFinalOverriders};
-ghost use Rattle.cxx_overrider.specs.invariants.Numbers.{row_of, IsNumbering, IsNumberOf};
+ghost use Rattle.cxx_overrider.specs.invariants.Numbers.{row_of, number_of, IsNumbering, IsNumberOf};
 ghost use Rattle.cxx_overrider.specs.invariants.Within.{HasVirtualWithin};
 ghost use Rattle.cxx_overrider.specs.invariants.EntryTables.{KeepsBefore};
 ghost use Rattle.cxx_overrider.specs.invariants.Settling.{Holds, AreCandidates, IsAmong, IsOrder, IsAbove, IsPicked, IsSettled, TellsBefore, IsMade};
 ghost use Rattle.cxx_overrider.specs.invariants.Tables.{AreTables};
 
 use crate::entries::{Entry, EntryTable, key_of};
+use crate::finding::find_entry;
 use crate::places::{Place, lifted};
 use crate::signatures::{Numbering, own_function};
 use crate::tables::Tables;
 use cxx_hierarchy::{ClassId, Hierarchy};
+use cxx_subobject::virtual_flags::has_virtual_bases;
 use foundation::NoMemory;
 use std::alloc::Global;
 
@@ -45,18 +48,20 @@ fn holds(h: &Hierarchy, outer: Entry, inner: Entry) -> bool
 fn candidates(
     alloc: Global,
     h: &Hierarchy,
+    numbering: &Numbering,
     entries: &EntryTable,
     c: ClassId,
     v: ClassId,
     n: usize,
 ) -> Result<Vec<Entry>, NoMemory>
     requires known { c.0 < length h.now }
-    ensures { IfOk result (λ xs. (s : Signature) → TellsBefore h.now entries.now c v n s → AreCandidates h.now c v s (length (bases_of h.now c)) xs.items) }
+    requires numbering { IsNumbering h.now numbering.now.rows.items numbering.now.count }
+    ensures { IfOk result (λ xs. (s : Signature) → IsNumberOf h.now numbering.now.rows.items n s → TellsBefore h.now entries.now c v n s → AreCandidates h.now c v s (length (bases_of h.now c)) xs.items) }
 {
     h.keeps();
     let mut found = Vec::new(alloc);
     for base in h.class(c).bases.as_slice() {
-        let below = entries.find(key_of(base.class, v, n));
+        let below = find_entry(h, numbering, entries, base.class, v, n);
         if let Some(entry) = below {
             found.push(Entry {
                 place: lifted(base, entry.place),
@@ -110,7 +115,7 @@ fn pick(h: &Hierarchy, xs: &[Entry]) -> Settled
     }
 }
 
-/// What overrides the functions of the signature in the virtual base.
+/// What overrides the functions of the signature in the virtual base of a class that declares none itself.
 fn settle(
     alloc: Global,
     h: &Hierarchy,
@@ -123,23 +128,17 @@ fn settle(
     requires known { c.0 < length h.now }
     requires base { HasVirtualBase h.now c v }
     requires numbering { IsNumbering h.now numbering.now.rows.items numbering.now.count }
+    requires own { (f : FunctionId) → f.class ≡ c → number_of numbering.now.rows.items f ≡ Some n → ⊥ }
     ensures { IfOk result (λ settled. (s : Signature) → IsNumberOf h.now numbering.now.rows.items n s → TellsBefore h.now entries.now c v n s → IsSettled h.now c v s settled) }
 {
     h.keeps();
-    match own_function(&numbering.rows, c, n) {
-        Some(function) => Ok(Settled::One(Entry {
-            place: Place::Itself,
-            function,
-        })),
-        None => {
-            let found = candidates(alloc, h, entries, c, v, n)?;
-            let picked = pick(h, &found);
-            Ok(picked)
-        }
-    }
+    let found = candidates(alloc, h, numbering, entries, c, v, n)?;
+    let picked = pick(h, &found);
+    Ok(picked)
 }
 
-/// Puts down what overrides the virtual functions of one signature, and tells whether it is one.
+/// Puts down what overrides the virtual functions of one signature, unless the class declares it, and tells whether it
+/// is one.
 fn settle_number(
     alloc: Global,
     h: &Hierarchy,
@@ -158,6 +157,10 @@ fn settle_number(
     ensures one { IfOk result (λ is_one. MatchBool is_one (IsMade h.now tables.now.numbering.rows.items entries.new c.0 v.0 (n + 1)) (HasTwoFinalOverriders h.now c)) }
     ensures kept { KeepsBefore c entries.old entries.new }
 {
+    match own_function(&tables.numbering.rows, c, n) {
+        Some(_) => return Ok(true),
+        None => {}
+    }
     match settle(alloc, h, &tables.numbering, entries, c, v, n)? {
         Settled::Nothing => Ok(true),
         Settled::One(entry) => {
@@ -241,6 +244,9 @@ pub fn settle_class(
     ensures kept { KeepsBefore c entries.old entries.new }
 {
     h.keeps();
+    if !has_virtual_bases(&tables.with_virtual, c) {
+        return Ok(true);
+    }
     for number in 0..c.0 {
         let v = ClassId(number);
         if !settle_if_base(alloc, h, tables, entries, c, v)? {

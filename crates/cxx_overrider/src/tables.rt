@@ -9,6 +9,7 @@ use crate::signatures::{NumberRow, Numbering, number_signatures};
 use crate::virtuals::{MarkRow, virtual_rows};
 use crate::within::within_lists;
 use cxx_hierarchy::Hierarchy;
+use cxx_subobject::virtual_flags::classes_with_virtual_bases;
 use foundation::NoMemory;
 use std::alloc::Global;
 
@@ -21,6 +22,8 @@ pub struct Tables {
     pub virtuals: Vec<MarkRow>,
     pub pure: Vec<MarkRow>,
     pub within: Vec<NumberRow>,
+    /// Which classes have virtual bases.
+    pub with_virtual: Vec<bool>,
 }
 
 /// The tables of a hierarchy.
@@ -34,11 +37,13 @@ pub fn tables_of(alloc: Global, h: &Hierarchy) -> Result<Tables, NoMemory>
     let virtuals = virtual_rows(alloc, h, &numbering)?;
     let pure = pure_rows(alloc, h, &numbering, &virtuals)?;
     let within = within_lists(alloc, h, &numbering, &virtuals)?;
+    let with_virtual = classes_with_virtual_bases(alloc, h)?;
     Ok(Tables {
         numbering,
         kinds,
         virtuals,
         pure,
         within,
+        with_virtual,
     })
 }

@@ -1,5 +1,5 @@
 -- Bases of a class, where none is virtual.
-use Rattle.std.proofs.Common.{◌≡◌, ◌≤◌, List, [], ◌∷◌, ap, subst, refl, arith, true, false}
+use Rattle.std.proofs.Common.{◌≡◌, ◌≤◌, subst, refl, arith, true, false}
 use Rattle.std.specs.Prelude.{Option, Some, None, Contains}
 use Rattle.cxx_hierarchy.specs.declared.records.ClassId.{ClassId}
 use Rattle.cxx_hierarchy.specs.declared.records.Base.{Base}
@@ -8,7 +8,8 @@ use Rattle.cxx_hierarchy.specs.Hierarchies.{IsHierarchy}
 use Rattle.cxx_subobject.specs.declared.Root.TheVariants.{Whole}
 use Rattle.cxx_subobject.specs.declared.Subobject.{Subobject}
 use Rattle.cxx_hierarchy.specs.VirtualBases.{IsDirectBase, HasVirtualBase, direct, further}
-use Rattle.cxx_subobject.specs.Subobjects.{Leads, IsSubobject, whole, shared, class_of, last_of}
+use Rattle.cxx_subobject.specs.Subobjects.{IsSubobject, whole, shared, class_of, last_of}
+use Rattle.cxx_subobject.proofs.PathLemmas.{last_below}
 use Rattle.cxx_resolve.specs.SimpleHierarchy.{HasSimpleClasses}
 
 -- no base is virtual
@@ -34,18 +35,9 @@ pub from_whole : (h : Classes) → HasNoVirtualBase h → (c : ClassId) (s : Sub
 from_whole h plain c _ (whole path leads) = refl
 from_whole h plain c _ (shared v path has leads) = absurd (no_virtual h plain c v has)
 
-last_before : (h : Classes) → IsHierarchy h → (c : ClassId) (path : List ClassId) → Leads h c path → (last_of c path).0 ≤ c.0
-last_before h keeps c [] leads = omega arith
-last_before h keeps c (b ∷ path) leads =
-    let d = leads.0 in
-    let less = keeps.bases c d.base d.listed in
-    let e : d.base.class.0 ≡ b.0 = ap (λ (x : ClassId). x.0) d.class in
-    let more = last_before h keeps b path leads.1 in
-    omega arith
-
 -- a base has no greater number than its class
 pub base_before : (h : Classes) → IsHierarchy h → (c d : ClassId) (s : Subobject) → IsSubobject h c s → s.root ≡ Whole → class_of s ≡ Some d → d.0 ≤ c.0
 base_before h keeps c d _ (whole path leads) root class =
     let e : last_of c path ≡ d = cc in
-    subst (λ (x : ClassId). x.0 ≤ c.0) e (last_before h keeps c path leads)
+    subst (λ (x : ClassId). x.0 ≤ c.0) e (last_below h keeps c path leads)
 base_before h keeps c d _ (shared v path has leads) root class = absurd (cc)

@@ -22,7 +22,7 @@ unfolding simple_line
 same_line a b what line = ap (λ (s : Simple). simple_line s a.line) what ∙ ap (λ (n : ℕ). simple_line b.what n) line
 
 -- a statement that holds a block says nothing
-says_nothing : (s : Statement) (k : StatementKind) (x : Simple) → s.kind ≡ k → form_of k ≡ None → IsSimple s.kind x → ⊥
+pub says_nothing : (s : Statement) (k : StatementKind) (x : Simple) → s.kind ≡ k → form_of k ≡ None → IsSimple s.kind x → ⊥
 says_nothing s k x e nothing says_x =
     let f : Some x ≡ None = sym (says s.kind x says_x) ∙ ap form_of e ∙ nothing in
     absurd (cc)
@@ -33,7 +33,7 @@ same_says s t x y (same_if place left right then) a b = absurd (says_nothing s _
 same_says s t x y (same_if_else place left right then other) a b = absurd (says_nothing s _ x left refl a)
 same_says s t x y (same_while place left right body) a b = absurd (says_nothing s _ x left refl a)
 
-same_start : (s t : Statement) → SameStatement s t → s.line ≡ t.line
+pub same_start : (s t : Statement) → SameStatement s t → s.line ≡ t.line
 same_start s t (same_plain place kind) = place.line
 same_start s t (same_if place left right then) = place.line
 same_start s t (same_if_else place left right then other) = place.line

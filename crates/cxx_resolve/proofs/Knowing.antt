@@ -1,9 +1,10 @@
 -- What is known stays so when more is kept.
 use Rattle.std.proofs.Common.{◌≡◌, ℕ, Bool, true, false, sym, ap, subst, ◌∙◌, refl, arith}
-use Rattle.std.specs.Prelude.{Option, Some, None, IfSome, if◌then◌else◌, nat_eq, ◌&&◌}
+use Rattle.std.specs.Prelude.{Option, Some, None, IfSome, if◌then◌else◌, nat_eq}
 use Rattle.std.specs.Borrow.{Bor}
 use Rattle.std.specs.Option.{option_copied}
 use Rattle.std.proofs.lemmas.Bool.Decides.{nat_tests}
+use Rattle.std.proofs.lemmas.Bool.{and_parts}
 use Rattle.indexmap.specs.IndexMap.{get_by}
 use Rattle.cxx_hierarchy.specs.declared.records.ClassId.{ClassId}
 use Rattle.cxx_hierarchy.specs.Classes.{Classes}
@@ -17,19 +18,15 @@ use Rattle.cxx_resolve.specs.Resolves.{IsMemberOf}
 use Rattle.cxx_resolve.specs.invariants.Known.{key_of, same_pair, member_at, base_at, Knows}
 use Rattle.cxx_resolve.proofs.Lines.{same_id}
 
-both : (a b : Bool) → (a && b) ≡ true → (a ≡ true) × (b ≡ true)
-both true b e = (refl, e)
-both false b e = absurd (cc)
-
 equal_numbers : (m n : ℕ) → nat_eq m n ≡ true → m ≡ n
 equal_numbers m n e = grind (arith, nat_tests)
 
 -- one key is that of one class and number
 same_class : (c d : ClassId) (m n : ℕ) → same_pair (key_of c m) (key_of d n) ≡ true → c ≡ d
-same_class c d m n e = same_id c d (equal_numbers c.0 d.0 (both (nat_eq c.0 d.0) (nat_eq m n) e).0)
+same_class c d m n e = same_id c d (equal_numbers c.0 d.0 (and_parts (nat_eq c.0 d.0) (nat_eq m n) e).0)
 
 same_number : (c d : ClassId) (m n : ℕ) → same_pair (key_of c m) (key_of d n) ≡ true → m ≡ n
-same_number c d m n e = equal_numbers m n (both (nat_eq c.0 d.0) (nat_eq m n) e).1
+same_number c d m n e = equal_numbers m n (and_parts (nat_eq c.0 d.0) (nat_eq m n) e).1
 
 -- what is there after a put is what was put, or was there before
 put_cases : {V : Type 0} (test : Bool) (new : V) (old : Option V) (there : Option V) (v : V) (P : Type 0) → there ≡ (if test then Some new else old) → there ≡ Some v → (test ≡ true → new ≡ v → P) → (old ≡ Some v → P) → P

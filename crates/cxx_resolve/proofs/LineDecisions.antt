@@ -1,15 +1,15 @@
 -- Each line of a `main` resolves to one statement or to none, and so do all of them.
-use Rattle.std.proofs.Common.{◌≡◌, ℕ, ◌+◌, ◌<◌, ◌≤◌, ◌⊎◌, inl, inr, ⊎_elim, Option, Some, None, List, [], ◌∷◌, ◌++◌, length, refl, ap, subst, sym, ◌∙◌, arith}
+use Rattle.std.proofs.Common.{◌≡◌, ℕ, ◌<◌, inl, inr, ⊎_elim, Option, Some, None, List, [], ◌∷◌, ◌++◌, length, refl, ap, subst, sym, ◌∙◌, arith}
 use Rattle.std.specs.Prelude.{ℤ, slice_get}
 use Rattle.std.proofs.lemmas.Bool.{cases_lt}
 use Rattle.std.proofs.lemmas.Option.{slice_get_within}
-use Rattle.foundation.proofs.Deciding.{Decided, HasBelow, decide_below, decide_list, decide_number}
+use Rattle.foundation.proofs.Deciding.{Decided, decide_below, decide_list, decide_number}
 use Rattle.cxx_hierarchy.specs.declared.records.ClassId.{ClassId}
 use Rattle.cxx_hierarchy.specs.declared.records.Scalar.{Scalar}
 use Rattle.cxx_hierarchy.specs.declared.records.Scalar.TheVariants.{Bool as TheBool, Char, SChar, UChar, Short, UShort, Int, UInt, Long, ULong, LongLong, ULongLong}
 use Rattle.cxx_hierarchy.specs.declared.records.ValueType.{ValueType}
 use Rattle.cxx_hierarchy.specs.declared.records.ValueType.TheVariants.{Number, Pointer}
-use Rattle.cxx_hierarchy.specs.Scalars.{PromotesToInt}
+use Rattle.cxx_hierarchy.specs.Scalars.{promoted}
 use Rattle.cxx_hierarchy.specs.Classes.{Classes, class_names, leaf_type}
 use Rattle.cxx_hierarchy.specs.Hierarchies.{IsHierarchy}
 use Rattle.cxx_hierarchy.specs.NameTables.{Text, place_in}
@@ -32,7 +32,7 @@ use Rattle.cxx_resolve.specs.declared.program.TypedLine.{TypedLine}
 use Rattle.cxx_resolve.specs.SimpleHierarchy.{IsSimpleHierarchy}
 use Rattle.cxx_resolve.specs.Typed.{Types}
 use Rattle.cxx_resolve.specs.Resolves.{Numbering, IsMemberOf, IsField, IsPointerTo, LineResolves, new, write, read, convert, print, LinesResolve, done, more, name_declared, type_declared}
-use Rattle.cxx_resolve.specs.Answers.{IsNumberAt, IsLesser, IsPointerAt, HasCommon, HasPointerTo}
+use Rattle.cxx_resolve.specs.Answers.{IsNumberAt, IsPointerAt, HasCommon, HasPointerTo}
 use Rattle.cxx_resolve.proofs.Found.{one_member, two_members, no_member, function_found, two_bases, no_base}
 use Rattle.cxx_resolve.proofs.Lines.{no_write, no_read, no_new, no_convert, no_equal, no_print, same_pointer, pointer_at, number_at_field, one_number, field_pointer}
 use Rattle.cxx_resolve.proofs.Programs.{same_class, same_line}
@@ -163,19 +163,19 @@ decide_class_of_name h name = ⊎_elim
     (λ none. inr (λ k. none k.class.0 (slice_get_within (class_names h) k.class.0 name k.is) k.is))
     (decide_below (λ i. slice_get (class_names h) i ≡ Some name) (length (class_names h)) (λ i lt. decide_text (slice_get (class_names h) i) name))
 
-decide_promotes : (t : Scalar) → Decided (PromotesToInt t)
-decide_promotes TheBool = inl tt
-decide_promotes Char = inl tt
-decide_promotes SChar = inl tt
-decide_promotes UChar = inl tt
-decide_promotes Short = inl tt
-decide_promotes UShort = inl tt
-decide_promotes Int = inl tt
-decide_promotes UInt = inr (λ k. k)
-decide_promotes Long = inr (λ k. k)
-decide_promotes ULong = inr (λ k. k)
-decide_promotes LongLong = inr (λ k. k)
-decide_promotes ULongLong = inr (λ k. k)
+decide_promotes : (t : Scalar) → Decided (promoted t ≡ Int)
+decide_promotes TheBool = inl refl
+decide_promotes Char = inl refl
+decide_promotes SChar = inl refl
+decide_promotes UChar = inl refl
+decide_promotes Short = inl refl
+decide_promotes UShort = inl refl
+decide_promotes Int = inl refl
+decide_promotes UInt = inr (λ e. cc)
+decide_promotes Long = inr (λ e. cc)
+decide_promotes ULong = inr (λ e. cc)
+decide_promotes LongLong = inr (λ e. cc)
+decide_promotes ULongLong = inr (λ e. cc)
 
 -- the class to which two pointers are converted
 decide_common : (n : Numbering) (types : Types) (left right : Text) → Decided ((e : ClassId) × HasCommon n types left right e)
@@ -216,7 +216,7 @@ module _ (h : Classes) (keeps : IsHierarchy h) (simple : IsSimpleHierarchy h) (n
       (λ free. ⊎_elim
       (λ f. ⊎_elim
       (λ small. inl (record { statement = Reads (length types) f.number f.place; resolves = read variable pointer field f.number f.place f.type f.is small free }))
-      (λ large. inr (λ k. no_read h n types variable pointer field (λ p place t is small g. large (subst PromotesToInt (same_type p place t is f) small)) k.statement k.resolves))
+      (λ large. inr (λ k. no_read h n types variable pointer field (λ p place t is small g. large (ap promoted (sym (same_type p place t is f)) ∙ small)) k.statement k.resolves))
       (decide_promotes f.type))
       (λ none. inr (λ k. no_read h n types variable pointer field (λ p place t is small g. none (record { number = p; place = place; type = t; is = is })) k.statement k.resolves))
       (decide_field h keeps simple n types pointer field))

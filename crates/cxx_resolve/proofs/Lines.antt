@@ -5,9 +5,10 @@ use Rattle.std.proofs.lemmas.Option.{slice_get_within, get_or_from_slice_get}
 use Rattle.cxx_hierarchy.specs.Hierarchies.{IsHierarchy}
 use Rattle.cxx_hierarchy.specs.declared.records.ClassId.{ClassId}
 use Rattle.cxx_hierarchy.specs.declared.records.Scalar.{Scalar}
+use Rattle.cxx_hierarchy.specs.declared.records.Scalar.TheVariants.{Int}
 use Rattle.cxx_hierarchy.specs.declared.records.ValueType.TheVariants.{Number, Pointer}
 use Rattle.cxx_hierarchy.specs.declared.stop.Stop.{Stop}
-use Rattle.cxx_hierarchy.specs.Scalars.{PromotesToInt}
+use Rattle.cxx_hierarchy.specs.Scalars.{promoted}
 use Rattle.cxx_hierarchy.specs.Classes.{Classes, class_names, leaf_type}
 use Rattle.cxx_hierarchy.specs.NameTables.{Text}
 use Rattle.cxx_subobject.specs.declared.Subobject.{Subobject}
@@ -31,7 +32,7 @@ pub no_write : (h : Classes) (n : Numbering) (types : Types) (pointer field : Te
 no_write h n types pointer field value none _ (write _ _ _ p place t f) = none p place t f
 
 pub no_read : (h : Classes) (n : Numbering) (types : Types) (variable pointer field : Text) →
-    ((p : ℕ) (place : MemberPlace) (t : Scalar) → IsField h n types pointer field p place t → PromotesToInt t → n variable ≡ None → ⊥) → (s : Statement) → LineResolves h n types (Read variable pointer field) s → ⊥
+    ((p : ℕ) (place : MemberPlace) (t : Scalar) → IsField h n types pointer field p place t → promoted t ≡ Int → n variable ≡ None → ⊥) → (s : Statement) → LineResolves h n types (Read variable pointer field) s → ⊥
 no_read h n types variable pointer field none _ (read _ _ _ p place t f small free) = none p place t f small free
 
 pub no_new : (h : Classes) (n : Numbering) (types : Types) (class variable : Text) →
@@ -91,13 +92,13 @@ pub not_taken : {X : Type 0} (o : Option X) (free : Bool) → free ≡ is_none o
 not_taken o true e none h = absurd (cc)
 not_taken o false e none h = let f : false ≡ true = e ∙ ap is_none none in absurd (cc)
 
-pub is_small : (test : Bool) (t : Scalar) → (IsTrue test ↔ PromotesToInt t) → test ≡ true → PromotesToInt t
+pub is_small : (test : Bool) (t : Scalar) → (IsTrue test ↔ (promoted t ≡ Int)) → test ≡ true → promoted t ≡ Int
 is_small true t h e = h.0 refl
 is_small false t h e = absurd (cc)
 
-pub not_small : (test : Bool) (s t : Scalar) → (IsTrue test ↔ PromotesToInt s) → s ≡ t → PromotesToInt t → test ≡ false → ⊥
+pub not_small : (test : Bool) (s t : Scalar) → (IsTrue test ↔ (promoted s ≡ Int)) → s ≡ t → promoted t ≡ Int → test ≡ false → ⊥
 not_small true s t h same small e = absurd (cc)
-not_small false s t h same small e = let f : IsTrue false = h.1 (subst PromotesToInt (sym same) small) in absurd (cc)
+not_small false s t h same small e = let f : IsTrue false = h.1 (ap promoted same ∙ small) in absurd (cc)
 
 pub same_place : (a b : MemberPlace) → a.base ≡ b.base → a.member ≡ b.member → a ≡ b
 same_place a b base member = ap (λ (s : Subobject). let p : MemberPlace = record { base = s; member = a.member } in p) base ∙ ap (λ (m : ℕ). let p : MemberPlace = record { base = b.base; member = m } in p) member

@@ -1,6 +1,6 @@
 -- A body of `main` gives a program, or gives none.
-use Rattle.std.proofs.Common.{◌≡◌, ℕ, zero, suc, ◌+◌, ◌<◌, ◌≤◌, ◌⊎◌, inl, inr, ⊎_elim, Bool, true, false, Option, Some, None, List, [], ◌∷◌, length, refl, ap, subst, sym, ◌∙◌, arith}
-use Rattle.std.specs.Prelude.{Contains, slice_get}
+use Rattle.std.proofs.Common.{◌≡◌, ℕ, zero, suc, ◌+◌, ◌<◌, ◌≤◌, ◌⊎◌, inl, inr, ⊎_elim, Bool, true, false, Option, Some, None, List, [], ◌∷◌, length, refl, subst, arith}
+use Rattle.std.specs.Prelude.{Contains}
 use Rattle.std.proofs.lemmas.Bool.{cases_lt}
 use Rattle.foundation.proofs.Members.{Has, has_at, index_of, contains_from_has, has_from_contains}
 use Rattle.foundation.proofs.Deciding.{Decided, decide_flag, decide_as, decide_both}
@@ -13,7 +13,7 @@ use Rattle.cxx_hierarchy.specs.declared.records.FieldType.{FieldType}
 use Rattle.cxx_hierarchy.specs.declared.records.FieldType.TheVariants.{Value, Object}
 use Rattle.cxx_hierarchy.specs.declared.records.Destructor.{Destructor}
 use Rattle.cxx_hierarchy.specs.declared.records.Destructor.TheVariants.{Implicit, Plain, Virtual}
-use Rattle.cxx_hierarchy.specs.Classes.{Class, Classes, class_at, bases_of, members_of}
+use Rattle.cxx_hierarchy.specs.Classes.{Class, Classes, bases_of, members_of}
 use Rattle.cxx_hierarchy.specs.Hierarchies.{IsHierarchy}
 use Rattle.cxx_subobject.specs.Preorder.{preorder}
 use Rattle.cxx_body_parser.specs.declared.tree.Statement.{Statement}

@@ -3,6 +3,7 @@ use Rattle.std.proofs.Common.{◌≡◌, ℕ, zero, suc, List, [], ◌∷◌, �
 use Rattle.std.specs.Prelude.{Option, Some, slice_get}
 use Rattle.std.specs.List.{AllByRecursion}
 use Rattle.std.proofs.lemmas.Option.{slice_get_within}
+use Rattle.foundation.proofs.Places.{get_front, get_last}
 use Rattle.cxx_hierarchy.specs.declared.records.ClassId.{ClassId}
 use Rattle.cxx_hierarchy.specs.declared.records.ValueType.{ValueType}
 use Rattle.cxx_hierarchy.specs.declared.records.ValueType.TheVariants.{Pointer}
@@ -93,17 +94,8 @@ one_program h lines p q keeps a b =
 record Extends (types all : Types) : Type 0 where
   kept : (k : ℕ) (ty : ValueType ClassId) → slice_get types k ≡ Some ty → slice_get all k ≡ Some ty
 
-get_left : {X : Type 0} (xs ys : List X) (k : ℕ) (x : X) → slice_get xs k ≡ Some x → slice_get (xs ++ ys) k ≡ Some x
-get_left [] ys k x = λ h. absurd (cc)
-get_left (z ∷ xs) ys zero x = λ h. h
-get_left (z ∷ xs) ys (suc k) x = λ h. get_left xs ys k x h
-
-get_next : {X : Type 0} (xs : List X) (x : X) → slice_get (xs ++ x ∷ []) (length xs) ≡ Some x
-get_next [] x = refl
-get_next (z ∷ xs) x = get_next xs x
-
 shorter : (types more' all : Types) → Extends (types ++ more') all → Extends types all
-shorter types more' all e = record { kept = λ k ty h. e.kept k ty (get_left types more' k ty h) }
+shorter types more' all e = record { kept = λ k ty h. e.kept k ty (get_front types more' k ty h) }
 
 extends : (h : Classes) (names : List Text) (types : Types) (lines : List SimpleLine) (ss : List TypedLine) (all : Types) → LinesResolve h names types lines ss all → Extends types all
 extends h _ _ _ _ _ (done names types) = record { kept = λ k ty h. h }
@@ -127,17 +119,17 @@ at_place (t ∷ types) (suc v) less = let there = at_place types v (omega arith)
 line_typed : (h : Classes) (n : Numbering) (types all : Types) (what : Simple) (s : Statement) → LineResolves h n types what s → IsSmallWrite what → Extends (types ++ type_declared s) all → IsTyped h all s
 line_typed h n types all _ _ (new class variable c named free) small e =
     let x = mapped (λ (k : Class). k.name) h c.0 class named in
-    typed.new (length types) c (record { type = e.kept (length types) (Pointer c) (get_next types (Pointer c)); known = slice_get_within h c.0 x.item x.listed })
+    typed.new (length types) c (record { type = e.kept (length types) (Pointer c) (get_last types (Pointer c)); known = slice_get_within h c.0 x.item x.listed })
 line_typed h n types all _ _ (write pointer field value p place t f) small e =
     typed.write p place value f.class f.declares t (pointer_kept h types all p f.class (shorter types [] all e) f.is_pointer) f.is_number small
 line_typed h n types all _ _ (read variable pointer field p place t f promotes free) small e =
-    typed.read (length types) p place f.class f.declares t (e.kept (length types) int (get_next types int)) (pointer_kept h types all p f.class (shorter types (int ∷ []) all e) f.is_pointer) f.is_number promotes
+    typed.read (length types) p place f.class f.declares t (e.kept (length types) int (get_last types int)) (pointer_kept h types all p f.class (shorter types (int ∷ []) all e) f.is_pointer) f.is_number promotes
 line_typed h n types all _ _ (convert class variable pointer from c d named leads free) small e =
     let last = subst (λ (o : Option ClassId). Extends (types ++ pointer_to o) all) leads.converted.base.class e in
-    typed.convert (length types) from c d (last.kept (length types) (Pointer d) (get_next types (Pointer d))) (converted_kept h types all from c d (shorter types (Pointer d ∷ []) all last) leads.converted)
+    typed.convert (length types) from c d (last.kept (length types) (Pointer d) (get_last types (Pointer d))) (converted_kept h types all from c d (shorter types (Pointer d ∷ []) all last) leads.converted)
 line_typed h n types all _ _ (equal variable left right a b c d f one l r free) small e =
     let first = shorter types (bool ∷ []) all e in
-    typed.equal (length types) a b c d f (e.kept (length types) bool (get_next types bool)) (converted_kept h types all a c f first l.converted) (converted_kept h types all b d f first r.converted)
+    typed.equal (length types) a b c d f (e.kept (length types) bool (get_last types bool)) (converted_kept h types all a c f first l.converted) (converted_kept h types all b d f first r.converted)
 line_typed h n types all _ _ (print variable v number known) small e =
     let there = at_place types v known in
     typed.print v there.type ((shorter types [] all e).kept v there.type there.at)

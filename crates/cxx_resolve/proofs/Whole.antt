@@ -1,5 +1,5 @@
 -- The body of a `main` and its program.
-use Rattle.std.proofs.Common.{◌≡◌, ℕ, ◌<◌, ◌≤◌, List, ap, subst, arith, Bool, true, false}
+use Rattle.std.proofs.Common.{◌≡◌, ℕ, ◌≤◌, List, subst, arith, Bool, true, false}
 use Rattle.std.specs.Prelude.{length, Result, Ok, Err, IfErr}
 use Rattle.std.proofs.lemmas.Int.{ints}
 use Rattle.cxx_hierarchy.specs.declared.records.Scalar.TheVariants.{Int}

@@ -5,7 +5,7 @@ use Rattle.cxx_hierarchy.specs.declared.records.ClassId.{ClassId}
 use Rattle.cxx_hierarchy.specs.declared.records.Scalar.{Scalar}
 use Rattle.cxx_hierarchy.specs.declared.records.Scalar.TheVariants.{Int}
 use Rattle.cxx_hierarchy.specs.declared.records.ValueType.TheVariants.{Pointer}
-use Rattle.cxx_hierarchy.specs.Scalars.{IsInRange, PromotesToInt}
+use Rattle.cxx_hierarchy.specs.Scalars.{IsInRange, promoted}
 use Rattle.cxx_hierarchy.specs.Classes.{Classes, class_names}
 use Rattle.cxx_hierarchy.specs.NameTables.{Text, place_in}
 use Rattle.cxx_subobject.specs.Subobjects.{class_of}
@@ -52,7 +52,7 @@ pub data LineResolves (h : Classes) (number_of : Numbering) (types : Types) : Si
       LineResolves h number_of types (New class variable) (Makes (length types) c)
   write : (pointer field : Text) (value : ℤ) (p : ℕ) (place : MemberPlace) (t : Scalar) → IsField h number_of types pointer field p place t →
       LineResolves h number_of types (Write pointer field value) (Writes p place value)
-  read : (variable pointer field : Text) (p : ℕ) (place : MemberPlace) (t : Scalar) → IsField h number_of types pointer field p place t → PromotesToInt t → number_of variable ≡ None →
+  read : (variable pointer field : Text) (p : ℕ) (place : MemberPlace) (t : Scalar) → IsField h number_of types pointer field p place t → promoted t ≡ Int → number_of variable ≡ None →
       LineResolves h number_of types (Read variable pointer field) (Reads (length types) p place)
   convert : (class variable pointer : Text) (from : Converted) (c d : ClassId) → slice_get (class_names h) d.0 ≡ Some class →
       IsPointerTo h number_of types pointer from c d → number_of variable ≡ None →

@@ -6,7 +6,7 @@ use Rattle.cxx_hierarchy.specs.declared.records.Scalar.{Scalar}
 use Rattle.cxx_hierarchy.specs.declared.records.Scalar.TheVariants.{Int, Bool}
 use Rattle.cxx_hierarchy.specs.declared.records.ValueType.{ValueType}
 use Rattle.cxx_hierarchy.specs.declared.records.ValueType.TheVariants.{Number, Pointer}
-use Rattle.cxx_hierarchy.specs.Scalars.{IsInRange, PromotesToInt}
+use Rattle.cxx_hierarchy.specs.Scalars.{IsInRange, promoted}
 use Rattle.cxx_hierarchy.specs.Classes.{Classes, leaf_type}
 use Rattle.cxx_subobject.specs.declared.Root.TheVariants.{Whole}
 use Rattle.cxx_subobject.specs.declared.Subobject.{Subobject}
@@ -55,7 +55,7 @@ pub data IsTyped (h : Classes) (types : Types) : Statement → Type 0 where
   write : (pointer : ℕ) (place : MemberPlace) (value : ℤ) (c d : ClassId) (t : Scalar) →
       IsPointer h types pointer c → LeadsToNumber h c place d t → IsInRange Int value → IsTyped h types (Write pointer place value)
   read : (variable pointer : ℕ) (place : MemberPlace) (c d : ClassId) (t : Scalar) →
-      slice_get types variable ≡ Some int → IsPointer h types pointer c → LeadsToNumber h c place d t → PromotesToInt t → IsTyped h types (Read variable pointer place)
+      slice_get types variable ≡ Some int → IsPointer h types pointer c → LeadsToNumber h c place d t → promoted t ≡ Int → IsTyped h types (Read variable pointer place)
   convert : (variable : ℕ) (from : Converted) (c d : ClassId) →
       slice_get types variable ≡ Some (Pointer d) → IsConverted h types from c d → IsTyped h types (Convert variable from)
   -- both pointers are converted to one class (ISO C++03 5.9, 5.10)

@@ -1,7 +1,8 @@
 //! From the names of a `main` to numbers.
 
 ghost use Rattle.std.specs.Prelude.{◌≡◌, ◌↔◌, ◌≤◌, IsTrue, IfOk, IfErr, OnOk, length};
-ghost use Rattle.cxx_hierarchy.specs.Scalars.{PromotesToInt};
+ghost use Rattle.cxx_hierarchy.specs.declared.records.Scalar.TheVariants.{Int};
+ghost use Rattle.cxx_hierarchy.specs.Scalars.{promoted};
 ghost use Rattle.cxx_hierarchy.specs.Classes.{Classes};
 ghost use Rattle.cxx_hierarchy.specs.NameTables.{number_in};
 ghost use Rattle.cxx_resolve.specs.declared.simple.Simple.TheVariants.{New, Write, Read, Convert, Equal, Print};
@@ -26,7 +27,7 @@ const DECLARATION_LIMIT: u32 = 256;
 
 /// Whether numbers of the type are an `int`'s by promotion.
 fn promotes_to_int(scalar: Scalar) -> bool
-    ensures { IsTrue result ↔ PromotesToInt scalar }
+    ensures { IsTrue result ↔ (promoted scalar ≡ Int) }
 {
     match scalar {
         Scalar::Bool | Scalar::Char | Scalar::SChar | Scalar::UChar => true,

@@ -1,5 +1,5 @@
 -- The subobjects of a class are those outside its virtual bases, and those of each virtual base once.
-use Rattle.std.proofs.Common.{◌≡◌, ℕ, zero, suc, ◌+◌, ◌*◌, ◌<◌, ◌≤◌, ◌⊎◌, inl, inr, ⊎_elim, Bool, true, false, List, [], ◌∷◌, ◌++◌, length, get_or, take, refl, ap, subst, sym, ◌∙◌, arith, append_assoc, add-one}
+use Rattle.std.proofs.Common.{◌≡◌, ℕ, zero, suc, ◌+◌, ◌*◌, ◌<◌, ◌≤◌, ◌⊎◌, inl, inr, ⊎_elim, Bool, false, List, [], ◌∷◌, ◌++◌, length, get_or, take, refl, ap, subst, sym, ◌∙◌, arith, append_assoc, add-one}
 use Rattle.std.specs.Prelude.{Option, Some, None, min, IsTrue, ◌↔◌, Contains, slice_get, if◌then◌else◌}
 use Rattle.std.specs.List.{sum_by, flat_map}
 use Rattle.std.proofs.lemmas.Bool.{cases_lt}
@@ -14,7 +14,6 @@ use Rattle.cxx_hierarchy.specs.declared.records.FieldType.TheVariants.{Value, Ob
 use Rattle.cxx_hierarchy.specs.Classes.{Class, Classes, class_at, bases_in, members_in, bases_of, members_of}
 use Rattle.cxx_hierarchy.specs.Hierarchies.{IsHierarchy}
 use Rattle.cxx_hierarchy.specs.VirtualBases.{HasVirtualBase}
-use Rattle.cxx_subobject.specs.declared.Root.{Root}
 use Rattle.cxx_subobject.specs.declared.Root.TheVariants.{Whole, Shared}
 use Rattle.cxx_subobject.specs.declared.Subobject.{Subobject}
 use Rattle.cxx_subobject.specs.declared.parts.Counts.{Counts}
@@ -23,7 +22,7 @@ use Rattle.cxx_subobject.specs.Preorder.{tree, preorder}
 use Rattle.cxx_subobject.specs.Parts.{elements_of, parts_in, member_parts, parts_within, parts_of, IsWithinLimits}
 use Rattle.cxx_subobject.specs.invariants.Counts.{own_bases, own_within, own_of, parts_weight, parts_of_members, IsCapped, ListsVirtualBases, IsSharedSum, IsSharedValue, AreWithin, KnowsObject, HasGoodCount, AreCounts}
 use Rattle.foundation.proofs.Truth.{split}
-use Rattle.foundation.proofs.Members.{Has, EachOnce, AreApart, EachApart, has_left, has_right, has_cases, has_flat_map, from_flat_map, once_append, once_flat_map, has_at, contains_from_has, has_from_contains, once_by_place}
+use Rattle.foundation.proofs.Members.{Has, EachOnce, AreApart, EachApart, has_left, has_right, has_cases, has_flat_map, from_flat_map, once_append, once_flat_map, contains_from_has, has_from_contains, once_by_place}
 use Rattle.cxx_subobject.proofs.TreeLemmas.{base_down, edge, preorder_has, has_preorder, firsts_once}
 use Rattle.cxx_subobject.proofs.PathLemmas.{last_below, virtual_below, not_longer}
 use Rattle.cxx_subobject.proofs.TestLemmas.{base_class}

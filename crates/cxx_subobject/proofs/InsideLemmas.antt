@@ -1,16 +1,15 @@
 -- Subobjects of subobjects.
-use Rattle.std.proofs.Common.{◌≡◌, ℕ, ◌<◌, ◌≤◌, ◌⊎◌, inl, inr, ⊎_elim, Bool, Some, List, [], ◌∷◌, ◌++◌, refl, ap, subst, sym, ◌∙◌, arith, append_assoc}
-use Rattle.std.specs.Prelude.{true, false}
+use Rattle.std.proofs.Common.{◌≡◌, ⊎_elim, Some, List, [], ◌∷◌, ◌++◌, refl, ap, subst, sym, ◌∙◌, arith, append_assoc}
 use Rattle.std.proofs.lemmas.List.{append-nil}
 use Rattle.cxx_hierarchy.specs.declared.records.ClassId.{ClassId}
 use Rattle.cxx_hierarchy.specs.Classes.{Classes}
 use Rattle.cxx_subobject.specs.declared.Root.TheVariants.{Whole, Shared}
 use Rattle.cxx_subobject.specs.declared.Subobject.{Subobject}
-use Rattle.cxx_hierarchy.specs.VirtualBases.{IsDirectBase, HasVirtualBase, direct, further}
-use Rattle.cxx_subobject.specs.Subobjects.{Leads, IsSubobject, whole, shared, subobject, whole_of, last_of, class_of_path, class_of, tail_of, join_at, join, shared_base}
+use Rattle.cxx_hierarchy.specs.VirtualBases.{HasVirtualBase}
+use Rattle.cxx_subobject.specs.Subobjects.{Leads, IsSubobject, whole, shared, subobject, whole_of, last_of, class_of, tail_of, join_at, join, shared_base}
 use Rattle.cxx_hierarchy.specs.Hierarchies.{IsHierarchy}
 use Rattle.cxx_subobject.specs.Inside.{IsInside}
-use Rattle.cxx_subobject.proofs.PathLemmas.{leads_more, virtual_along, virtual_through, class_of_longer, class_there, part_virtual, smaller, class_low, virtual_below, last_below}
+use Rattle.cxx_subobject.proofs.PathLemmas.{leads_more, virtual_along, virtual_through, class_of_longer, class_there, part_virtual, smaller, virtual_below, last_below}
 
 pub join_valid : (h : Classes) (c d : ClassId) (s t : Subobject) → IsSubobject h c s → class_of s ≡ Some d → IsSubobject h d t → IsSubobject h c (join s t)
 join_valid h c d _ _ (whole p l) e (whole q m) = let same : last_of c p ≡ d = cc in whole (p ++ q) (leads_more h c p q l (subst (λ (x : ClassId). Leads h x q) (sym same) m))

@@ -9,3 +9,4 @@ pub mod CountLemmas
 pub mod VirtualBaseLemmas
 pub mod LocationLemmas
 pub mod DecidingLemmas
+pub mod VirtualFlagLemmas

@@ -5,9 +5,8 @@ use Rattle.cxx_hierarchy.specs.declared.records.ClassId.{ClassId}
 use Rattle.cxx_hierarchy.specs.Classes.{Classes}
 use Rattle.cxx_hierarchy.specs.Hierarchies.{IsHierarchy}
 use Rattle.cxx_hierarchy.specs.VirtualBases.{IsDirectBase, HasVirtualBase, direct, further}
-use Rattle.cxx_subobject.specs.declared.Root.TheVariants.{Whole, Shared}
 use Rattle.cxx_subobject.specs.declared.Subobject.{Subobject}
-use Rattle.cxx_subobject.specs.Subobjects.{Leads, IsSubobject, whole, shared, subobject, whole_of, last_of, class_of_path, class_of}
+use Rattle.cxx_subobject.specs.Subobjects.{Leads, IsSubobject, whole, shared, whole_of, last_of, class_of_path, class_of}
 
 -- classes of one number are one
 pub same_id : (x y : ClassId) → x.0 ≡ y.0 → x ≡ y

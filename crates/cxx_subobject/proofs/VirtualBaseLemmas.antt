@@ -1,5 +1,5 @@
 -- The list of the virtual bases of a class has exactly these, each once.
-use Rattle.std.proofs.Common.{◌≡◌, ℕ, ◌<◌, ◌⊎◌, inl, inr, ⊎_elim, Option, Some, None, List, [], ◌∷◌, refl, ap, subst, sym, ◌∙◌, arith}
+use Rattle.std.proofs.Common.{◌≡◌, ℕ, ◌<◌, inl, inr, Option, Some, None, List, [], ◌∷◌, refl, ap, subst, sym, ◌∙◌}
 use Rattle.std.specs.Prelude.{Contains}
 use Rattle.std.specs.List.{filter_map, cons_option, slice_get}
 use Rattle.cxx_hierarchy.specs.declared.records.ClassId.{ClassId}
@@ -8,10 +8,9 @@ use Rattle.cxx_hierarchy.specs.Hierarchies.{IsHierarchy}
 use Rattle.cxx_hierarchy.specs.VirtualBases.{HasVirtualBase}
 use Rattle.foundation.proofs.Members.{Has, EachOnce, contains_from_has, has_from_contains, once_by_place}
 use Rattle.foundation.proofs.Chosen.{has_filter_map, from_filter_map}
-use Rattle.cxx_subobject.specs.declared.Root.TheVariants.{Shared}
 use Rattle.cxx_subobject.specs.declared.Subobject.{Subobject}
 use Rattle.cxx_subobject.specs.Subobjects.{IsSubobject, whole, shared, shared_base}
-use Rattle.cxx_subobject.specs.Preorder.{preorder, tree, firsts}
+use Rattle.cxx_subobject.specs.Preorder.{preorder}
 use Rattle.cxx_subobject.specs.VirtualBases.{shared_class, virtual_bases}
 use Rattle.cxx_subobject.proofs.PathLemmas.{virtual_below}
 use Rattle.cxx_subobject.proofs.TreeLemmas.{preorder_has, has_preorder, preorder_once}

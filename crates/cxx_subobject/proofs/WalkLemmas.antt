@@ -1,7 +1,7 @@
 -- What the walk over the subobjects of a class keeps.
 use Rattle.std.proofs.Common.{◌≡◌, ℕ, zero, suc, ◌+◌, ◌<◌, ◌≤◌, ◌⊎◌, inl, inr, ⊎_elim, Bool, true, false, List, [], ◌∷◌, ◌++◌, length, take, set, get_or, replicate, refl, ap, subst, sym, ◌∙◌, arith, append_assoc, add-one}
-use Rattle.std.specs.Prelude.{Some, not, nat_eq, filter, ◌||◌, ◌&&◌, Contains, slice_get, if◌then◌else◌}
-use Rattle.std.specs.List.{list_any, flat_map}
+use Rattle.std.specs.Prelude.{Some, not, nat_eq, filter, ◌||◌, Contains, slice_get, if◌then◌else◌}
+use Rattle.std.specs.List.{flat_map}
 use Rattle.std.proofs.lemmas.Bool.{eqb-true, eq-eqb}
 use Rattle.std.proofs.lemmas.List.{append-nil, append_cancel_left, get_or-set_same, get_or-set_other, take_all}
 use Rattle.std.proofs.lemmas.Option.{slice_get-get_or}
@@ -10,20 +10,20 @@ use Rattle.cxx_hierarchy.specs.declared.records.ClassId.{ClassId}
 use Rattle.cxx_hierarchy.specs.declared.records.Base.{Base}
 use Rattle.cxx_hierarchy.specs.Classes.{Classes, bases_of}
 use Rattle.cxx_hierarchy.specs.Hierarchies.{IsHierarchy}
-use Rattle.cxx_hierarchy.specs.VirtualBases.{IsDirectBase, HasVirtualBase, direct, further}
+use Rattle.cxx_hierarchy.specs.VirtualBases.{HasVirtualBase, direct}
 use Rattle.cxx_hierarchy.proofs.VirtualRows.{any_item, any_listed}
 use Rattle.cxx_subobject.specs.declared.Root.{Root}
 use Rattle.cxx_subobject.specs.declared.Root.TheVariants.{Whole, Shared}
 use Rattle.cxx_subobject.specs.declared.Subobject.{Subobject}
-use Rattle.cxx_subobject.specs.Subobjects.{Leads, IsSubobject, whole, shared, subobject, shared_base, whole_of, base_subobject, last_of, class_of_path, class_of, same_subobject, join}
+use Rattle.cxx_subobject.specs.Subobjects.{IsSubobject, whole, shared, subobject, shared_base, whole_of, base_subobject, last_of, class_of_path, class_of, same_subobject}
 use Rattle.cxx_subobject.specs.Preorder.{tree, firsts, preorder}
 use Rattle.cxx_subobject.specs.invariants.Walks.{is_listed, with_new, IsFresh, AreMarks, IsPlaced, IsClosed}
 use Rattle.foundation.proofs.Truth.{split}
 use Rattle.foundation.proofs.Members.{Has, has_left, has_right, has_cases, from_flat_map, has_at, contains_from_has, has_from_contains}
-use Rattle.cxx_subobject.proofs.TreeLemmas.{IsBelow, down, across, base_down, base_across, edge, from_base, tree_sound, tree_complete, tree_steps, subobject_same, same_itself, one_more, base_listed}
+use Rattle.cxx_subobject.proofs.TreeLemmas.{IsBelow, down, across, base_down, base_across, edge, tree_sound, tree_complete, tree_steps, subobject_same, same_itself, one_more, base_listed}
 use Rattle.cxx_subobject.proofs.InsideLemmas.{join_valid}
 use Rattle.cxx_subobject.proofs.PathLemmas.{virtual_through, virtual_below, last_below, not_longer}
-use Rattle.cxx_subobject.proofs.TestLemmas.{class_below, base_class}
+use Rattle.cxx_subobject.proofs.TestLemmas.{base_class}
 
 -- the test
 listed_has : (found : List Subobject) (s : Subobject) → is_listed found s ≡ true → Has found s

@@ -5,3 +5,4 @@ pub mod Locations
 pub mod Inside
 pub mod Parts
 pub mod invariants
+pub mod VirtualFlags

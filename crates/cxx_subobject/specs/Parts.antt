@@ -1,14 +1,11 @@
 -- How many parts an object has, and the limits on its subobjects and parts.
-use Rattle.std.specs.Prelude.{◌≡◌, ℕ, zero, suc, ◌+◌, ◌*◌, ◌≤◌, ◌<◌, ◌↔◌, true, false, IsTrue, Bool, Option, Some, None, List, length, get_or}
+use Rattle.std.specs.Prelude.{◌≡◌, ℕ, zero, suc, ◌+◌, ◌*◌, ◌≤◌, ◌<◌, ◌↔◌, false, IsTrue, Bool, Option, Some, None, List, length, get_or}
 use Rattle.std.specs.List.{sum_by}
 use Rattle.cxx_hierarchy.specs.declared.records.ClassId.{ClassId}
-use Rattle.cxx_hierarchy.specs.declared.records.Member.{Member}
-use Rattle.cxx_hierarchy.specs.declared.records.ValueType.{ValueType}
 use Rattle.cxx_hierarchy.specs.declared.records.FieldType.{FieldType}
 use Rattle.cxx_hierarchy.specs.declared.records.FieldType.TheVariants.{Value, Object}
-use Rattle.cxx_hierarchy.specs.Classes.{Classes, members_in, class_at, members_of}
+use Rattle.cxx_hierarchy.specs.Classes.{Classes, members_of}
 pub use Rattle.cxx_hierarchy.specs.Declarations.{elements_of}
-use Rattle.cxx_subobject.specs.declared.Subobject.{Subobject}
 use Rattle.cxx_subobject.specs.Subobjects.{class_of}
 use Rattle.cxx_subobject.specs.Preorder.{preorder}
 

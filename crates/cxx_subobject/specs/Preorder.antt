@@ -1,5 +1,5 @@
 -- The subobjects of a class in preorder: depth first, a class before its bases, bases in declaration order.
-use Rattle.std.specs.Prelude.{◌≡◌, ℕ, zero, suc, ◌+◌, not, Some, List, [], ◌∷◌, ◌++◌, Contains, filter, slice_get}
+use Rattle.std.specs.Prelude.{◌≡◌, ℕ, zero, suc, ◌+◌, not, Some, List, [], ◌∷◌, Contains, filter, slice_get}
 use Rattle.std.specs.List.{flat_map}
 use Rattle.cxx_hierarchy.specs.declared.records.ClassId.{ClassId}
 use Rattle.cxx_hierarchy.specs.Classes.{Classes, bases_of}

@@ -1,5 +1,5 @@
 -- The inheritance subobjects of a class, as paths (ISO C++03 10.1; Rossie and Friedman).
-use Rattle.std.specs.Prelude.{◌≡◌, Bool, true, false, if◌then◌else◌, nat_eq, ◌&&◌, Option, Some, None, List, [], ◌∷◌, ◌++◌}
+use Rattle.std.specs.Prelude.{Bool, true, false, if◌then◌else◌, nat_eq, ◌&&◌, Option, Some, None, List, [], ◌∷◌, ◌++◌}
 use Rattle.cxx_hierarchy.specs.declared.records.ClassId.{ClassId}
 use Rattle.cxx_hierarchy.specs.declared.records.Base.{Base}
 use Rattle.cxx_hierarchy.specs.Classes.{Classes}

@@ -1,3 +1,4 @@
 pub mod Tests
 pub mod Counts
 pub mod Walks
+pub mod VirtualFlags

@@ -19,6 +19,7 @@ pub mod locations;
 pub mod parts;
 #[cfg(test)]
 mod tests;
+pub mod virtual_flags;
 
 pub use crate::containment::{class_of, containment_is_order, contains, is_public_base, join};
 pub use crate::laws::{hops_are_of_owners, joins_are_subobjects, virtual_bases_are_listed};

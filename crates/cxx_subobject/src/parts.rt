@@ -1,13 +1,16 @@
 //! How many subobjects and parts each class has, against the limits.
 
-ghost use Rattle.std.specs.Prelude.{◌≡◌, ◌+◌, ◌*◌, ◌≤◌, ◌<◌, ◌↔◌, ℕ, min, Some, All, IfOk, OnOk, IsTrue, length, get_or, if◌then◌else◌};
+ghost use Rattle.std.specs.Prelude.{◌≡◌, ◌+◌, ◌*◌, ◌≤◌, ◌<◌, ◌↔◌, ℕ, false, min, Some, All, IfOk, OnOk, IsTrue, length, get_or, if◌then◌else◌};
 ghost use Rattle.cxx_hierarchy.specs.declared.records.ClassId.{ClassId};
 ghost use Rattle.cxx_hierarchy.specs.declared.records.Base.{Base};
 ghost use Rattle.cxx_hierarchy.specs.declared.records.Member.{Member};
 ghost use Rattle.cxx_hierarchy.specs.Classes.{Classes};
+ghost use Rattle.cxx_hierarchy.specs.VirtualBases.{HasVirtualBase};
+ghost use Rattle.cxx_subobject.specs.VirtualFlags.{TellsVirtualBases};
 ghost use Rattle.cxx_subobject.specs.Parts.{IsWithinLimits, TellsLimits, elements_of, parts_in};
 ghost use Rattle.cxx_subobject.specs.invariants.Counts.{AreWithin, IsCapped, IsSharedSum, IsSharedValue, KnowsObject, HasGoodCount, own_bases, parts_of_members, AreCounts};
 
+use crate::virtual_flags::{classes_with_virtual_bases, has_virtual_bases};
 use cxx_hierarchy::{Base, ClassId, FieldType, Hierarchy, Member};
 use foundation::NoMemory;
 use std::alloc::Global;
@@ -69,8 +72,16 @@ fn shared_value(h: &Hierarchy, c: ClassId, v: ClassId, values: &[u32]) -> u32
     }
 }
 
-/// A start, and what the virtual bases of a class have.
-fn shared_sum(h: &Hierarchy, c: ClassId, values: &[u32], limit: u32, start: u32) -> u32
+/// A start, and what the virtual bases of a class have. A class without virtual bases has none.
+fn shared_sum(
+    h: &Hierarchy,
+    has_virtual_bases: bool,
+    c: ClassId,
+    values: &[u32],
+    limit: u32,
+    start: u32,
+) -> u32
+    requires with_virtual { has_virtual_bases ≡ false → (v : ClassId) → HasVirtualBase h.now c v → ⊥ }
     requires limit { limit ≤ 65536 }
     requires start { start ≤ limit + 1 }
     requires known { c.0 ≤ length values.now }
@@ -78,6 +89,9 @@ fn shared_sum(h: &Hierarchy, c: ClassId, values: &[u32], limit: u32, start: u32)
     ensures within { result ≤ limit + 1 }
     ensures sum { (f : ClassId → ℕ) → (n : ℕ) → IsCapped limit f values.now → start ≡ min n (limit + 1) → IsSharedSum h.now c c.0 f n limit result }
 {
+    if !has_virtual_bases {
+        return start;
+    }
     let mut sum = start;
     for number in 0..c.0 {
         sum = capped(limit, sum, shared_value(h, c, ClassId(number), values));
@@ -146,8 +160,10 @@ struct Counts {
 
 impl Counts {
     /// Counts the next class.
-    fn push(&mut self, h: &Hierarchy, c: ClassId) -> Result<(), NoMemory>
+    fn push(&mut self, h: &Hierarchy, with_virtual: &[bool], c: ClassId) -> Result<(), NoMemory>
         requires known { c.0 < length h.now }
+        requires with_virtual { TellsVirtualBases h.now with_virtual.now }
+        requires flags { length with_virtual.now ≡ length h.now }
         requires counts { AreCounts h.now c.0 self.old }
         ensures { OnOk result (AreCounts h.now (c.0 + 1) self.new) }
     {
@@ -157,8 +173,9 @@ impl Counts {
         let own = base_sum(bases, &self.own, MOST_SUBOBJECTS, 1);
         let itself = member_sum(class.members.as_slice(), &self.parts);
         let own_parts = base_sum(bases, &self.own_parts, MOST_PARTS, itself);
-        let all = shared_sum(h, c, &self.own, MOST_SUBOBJECTS, own);
-        let parts = shared_sum(h, c, &self.own_parts, MOST_PARTS, own_parts);
+        let is_one = has_virtual_bases(with_virtual, c);
+        let all = shared_sum(h, is_one, c, &self.own, MOST_SUBOBJECTS, own);
+        let parts = shared_sum(h, is_one, c, &self.own_parts, MOST_PARTS, own_parts);
         self.own.push(own)?;
         self.own_parts.push(own_parts)?;
         self.parts.push(parts)?;
@@ -189,6 +206,7 @@ impl PartCounts {
         ensures { IfOk result (TellsLimits h.now) }
     {
         h.keeps();
+        let with_virtual = classes_with_virtual_bases(alloc, h)?;
         let mut counts = Counts {
             own: Vec::new(alloc),
             own_parts: Vec::new(alloc),
@@ -196,7 +214,7 @@ impl PartCounts {
             within: Vec::new(alloc),
         };
         for number in 0..h.len() {
-            counts.push(h, ClassId(number))?;
+            counts.push(h, &with_virtual, ClassId(number))?;
         }
         Ok(PartCounts {
             within: counts.within,

@@ -1,9 +1,10 @@
-//! Subobjects of small hierarchies, with what the rules say of each.
+//! The subobjects of a small hierarchy, as the rules give them.
 
 ghost use Rattle.std.specs.Prelude.{◌<◌, All, IfOk, length};
 ghost use Rattle.cxx_hierarchy.specs.ClassPass.{IsInOrder};
 
-use crate::{PartCounts, Root, Subobject, subobjects_of};
+use crate::virtual_flags::classes_with_virtual_bases;
+use crate::{PartCounts, Root, class_of, subobject_below, subobjects_of};
 use cxx_hierarchy::{
     Base, ClassId, ClassRec, Destructor, Hierarchy, Name, RecordList, Stop, build,
 };
@@ -59,11 +60,11 @@ fn with(records: RecordList, class: ClassRec<Name>) -> Result<RecordList, NoMemo
     Ok(records)
 }
 
-/// `struct A {}; struct B : EDGE A {}; struct C : EDGE A {}; struct D : B, private C {};`
-fn diamond(alloc: Global, is_virtual: bool) -> Result<Hierarchy, Stop> {
+/// `struct A {}; struct B : virtual A {}; struct C : virtual A {}; struct D : B, private C {};`
+fn diamond(alloc: Global) -> Result<Hierarchy, Stop> {
     let a = Edge {
         class: "A",
-        is_virtual,
+        is_virtual: true,
         is_public: true,
     };
     let b = Edge {
@@ -83,48 +84,25 @@ fn diamond(alloc: Global, is_virtual: bool) -> Result<Hierarchy, Stop> {
     build(alloc, &records)
 }
 
-/// The text of a subobject: `*` before a shared root, and the numbers of the path's classes.
-fn text(alloc: Global, s: &Subobject) -> Result<String, NoMemory> {
-    let mut text = String::new(alloc);
-    if let Root::Shared(_) = s.root {
-        text.push_str("*")?;
-    }
-    for class in s.path.as_slice() {
-        text.push_str(&class.0.to_string(alloc)?)?;
-    }
-    Ok(text)
-}
-
-/// The texts of all subobjects of a class, one behind the other.
-fn texts(alloc: Global, h: &Hierarchy, c: ClassId) -> Result<String, Stop>
-    requires { c.0 < length h.now }
-{
-    let mut all = String::new(alloc);
-    for s in subobjects_of(alloc, h, c)?.as_slice() {
-        all.push_str(&text(alloc, s)?)?;
-        all.push_str(" ")?;
-    }
-    Ok(all)
-}
-
+/// D's subobjects in preorder: itself, B, the one A that B and C share, and C.
 #[test]
 fn lists_the_diamond(rt: HostRuntime) -> Result<(), Fail> {
     let alloc = rt.alloc();
-    let h = diamond(alloc, true)?;
+    let h = diamond(alloc)?;
     assert_eq!(rt; h.len(), 4);
-    assert_eq!(rt; texts(alloc, &h, ClassId(3))?.as_str(), "3 31 *0 32 ");
-    let h = diamond(alloc, false)?;
-    assert_eq!(rt; h.len(), 4);
-    assert_eq!(rt; texts(alloc, &h, ClassId(3))?.as_str(), "3 31 310 32 320 ");
-    Ok(())
-}
-
-#[test]
-fn counts_within_limits(rt: HostRuntime) -> Result<(), Fail> {
-    let alloc = rt.alloc();
-    let h = diamond(alloc, true)?;
-    assert_eq!(rt; h.len(), 4);
-    let counts = PartCounts::new(alloc, &h)?;
-    assert!(rt; counts.is_within(ClassId(3)));
+    let list = subobjects_of(alloc, &h, ClassId(3))?;
+    let mut classes = Vec::new(alloc);
+    for s in list.as_slice() {
+        let inner = subobject_below(alloc, s, &[ClassId(0)])?;
+        classes.push((s.root, class_of(s), inner.path.len()))?;
+    }
+    let itself = (Root::Whole, Some(ClassId(3)), 2);
+    let b = (Root::Whole, Some(ClassId(1)), 3);
+    let a = (Root::Shared(ClassId(0)), Some(ClassId(0)), 2);
+    let c = (Root::Whole, Some(ClassId(2)), 3);
+    assert!(rt; classes.as_slice() == [itself, b, a, c].as_slice());
+    assert!(rt; PartCounts::new(alloc, &h)?.is_within(ClassId(3)));
+    let with_virtual = classes_with_virtual_bases(alloc, &h)?;
+    assert!(rt; with_virtual.as_slice() == [false, true, true, true].as_slice());
     Ok(())
 }

@@ -1,7 +1,5 @@
 -- What is known of an accepted source.
-use Rattle.std.proofs.Common.{◌≡◌, ℕ, zero, suc, List, [], ◌∷◌, All, subst}
-use Rattle.std.specs.Prelude.{slice_get, Some}
-use Rattle.std.specs.List.{AllByRecursion}
+use Rattle.std.proofs.Common.{◌≡◌, ℕ, List, []}
 use Rattle.std.proofs.lemmas.List.Elements.{recursion_from_All}
 use Rattle.foundation.proofs.Places.{each_at}
 use Rattle.cxx_hierarchy.specs.Classes.{Classes}

@@ -1,5 +1,5 @@
 -- What is answered to a program.
-use Rattle.std.proofs.Common.{◌≡◌, ℕ, ◌⊎◌, ⊎_elim, Option, Some, None, Result, Ok, Err, List, ◌++◌, refl, sym, ◌∙◌, ap, subst}
+use Rattle.std.proofs.Common.{◌≡◌, ℕ, ⊎_elim, Option, Some, None, Result, Ok, Err, List, ◌++◌, refl, sym, ◌∙◌, subst}
 use Rattle.std.specs.Prelude.{IfOk, MatchOption}
 use Rattle.foundation.specs.declared.memory.NoMemory.{NoMemory as Want}
 use Rattle.cxx_hierarchy.specs.declared.stop.Stop.{Stop}

@@ -1,5 +1,5 @@
 -- Words and the commands that they ask for.
-use Rattle.std.proofs.Common.{◌≡◌, ℕ, ◌<◌, ◌≤◌, Bool, true, false, Option, Some, None, Result, Ok, Err, List, [], ◌∷◌, length, map, ap, sym, ◌∙◌, refl, subst, arith, get_or, codes}
+use Rattle.std.proofs.Common.{◌≡◌, ℕ, ◌<◌, ◌≤◌, true, false, Option, Some, None, Result, Ok, Err, List, [], ◌∷◌, length, map, ap, sym, ◌∙◌, refl, subst, arith, get_or, codes}
 use Rattle.std.specs.Prelude.{IfOk, MatchOption}
 use Rattle.foundation.specs.declared.memory.NoMemory.{NoMemory as Want}
 use Rattle.cxxabi_cmd.specs.declared.command.Command.{Command}

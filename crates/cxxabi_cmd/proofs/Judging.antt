@@ -1,5 +1,5 @@
 -- The verdict of the passes that were made.
-use Rattle.std.proofs.Common.{◌≡◌, ℕ, ◌⊎◌, ⊎_elim, inl, inr, Option, Some, List, [], refl, sym, subst}
+use Rattle.std.proofs.Common.{◌≡◌, ℕ, ◌⊎◌, ⊎_elim, inl, inr, Option, List, [], refl, sym, subst}
 use Rattle.cxx_text.specs.declared.token.Token.{Token}
 use Rattle.cxx_text.specs.Cover.{AreTokens}
 use Rattle.cxx_grammar.specs.declared.sort.Lexeme.{Lexeme}

@@ -1,7 +1,6 @@
 -- The conditions of the class-meaning pass: a spot has one stop.
-use Rattle.std.proofs.Common.{◌≡◌, ℕ, zero, suc, ◌<◌, Bool, true, false, Option, Some, None, List, [], ◌∷◌, length, refl, sym, ◌∙◌, ap, subst, arith}
-use Rattle.std.specs.Prelude.{slice_get, ◌||◌}
-use Rattle.std.specs.List.{list_any}
+use Rattle.std.proofs.Common.{◌≡◌, ℕ, zero, suc, ◌<◌, Option, Some, None, refl, sym, ◌∙◌, ap, arith}
+use Rattle.std.specs.Prelude.{slice_get}
 use Rattle.cxx_hierarchy.specs.declared.records.ClassId.{ClassId}
 use Rattle.cxx_hierarchy.specs.declared.records.Function.{Function}
 use Rattle.cxx_hierarchy.specs.declared.records.Member.{Member}
@@ -11,7 +10,7 @@ use Rattle.cxx_hierarchy.specs.declared.stop.Rule.{Rule}
 use Rattle.cxx_hierarchy.specs.declared.stop.Rule.TheVariants.{ReturnMismatch, IncompleteClass, AmbiguousCovariant, TwoFinalOverriders, Abstract}
 use Rattle.cxx_hierarchy.specs.declared.stop.LimitNo.TheVariants.{L5}
 use Rattle.cxx_hierarchy.specs.Classes.{Class, Classes, class_at, members_of, functions_of}
-use Rattle.cxx_overrider.specs.Faults.{Spot, spot, size_part, Fault as MeaningFault, too_large, mismatch, incomplete, ambiguous, two_overriders, abstract_member}
+use Rattle.cxx_overrider.specs.Faults.{Spot, size_part, Fault as MeaningFault, too_large, mismatch, incomplete, ambiguous, two_overriders, abstract_member}
 
 abbrev rule_at : ℕ → Rule
 rule_at zero = ReturnMismatch

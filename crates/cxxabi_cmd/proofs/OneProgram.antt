@@ -1,5 +1,5 @@
 -- Sources that say the same are one program.
-use Rattle.std.proofs.Common.{◌≡◌, ℕ, Option, Some, None, List, [], ◌∷◌, refl, sym, ◌∙◌, ap, subst}
+use Rattle.std.proofs.Common.{◌≡◌, Option, Some, None, List, [], refl, sym, ◌∙◌, subst}
 use Rattle.cxx_hierarchy.specs.Classes.{Classes}
 use Rattle.cxx_hierarchy.specs.Hierarchies.{IsHierarchy}
 use Rattle.cxx_body_parser.specs.declared.tree.Statement.{Statement}
@@ -13,14 +13,10 @@ use Rattle.cxx_resolve.specs.declared.simple.Simple.{Simple}
 use Rattle.cxx_resolve.specs.declared.simple.SimpleLine.{SimpleLine}
 use Rattle.cxx_resolve.specs.declared.program.SimpleProgram.{SimpleProgram}
 use Rattle.cxx_resolve.specs.Form.{IsSimple, SayLines, none, next}
-use Rattle.cxx_resolve.specs.Forms.{form_of}
 use Rattle.cxx_resolve.specs.Main.{MainResolves}
-use Rattle.cxx_resolve.proofs.FormCases.{says}
 use Rattle.cxx_resolve.proofs.Whole.{one_main}
+use Rattle.cxx_resolve.proofs.FormLines.{says_nothing, same_start}
 use Rattle.cxxabi_cmd.specs.Output.{IsProgram}
-
-says_nothing : (s : Statement) (k : StatementKind) (x : Simple) → s.kind ≡ k → form_of k ≡ None → IsSimple s.kind x → ⊥
-says_nothing s k x e nothing says_x = let clash : Some x ≡ None = sym (says s.kind x says_x) ∙ ap form_of e ∙ nothing in cc
 
 says_left : (s t : Statement) (x : Simple) → SameStatement s t → IsSimple t.kind x → IsSimple s.kind x
 says_left s t x (same_plain place kind) is = subst (λ (k : StatementKind). IsSimple k x) (sym kind) is
@@ -34,21 +30,15 @@ says_right s t x (same_if place left right then) is = absurd (says_nothing s _ x
 says_right s t x (same_if_else place left right then other) is = absurd (says_nothing s _ x left refl is)
 says_right s t x (same_while place left right body) is = absurd (says_nothing s _ x left refl is)
 
-one_line : (s t : Statement) → SameStatement s t → s.line ≡ t.line
-one_line s t (same_plain place kind) = place.line
-one_line s t (same_if place left right then) = place.line
-one_line s t (same_if_else place left right then other) = place.line
-one_line s t (same_while place left right body) = place.line
-
 lines_left : (ss ts : List Statement) (lines : List SimpleLine) → SameStatements ss ts → SayLines ts lines → SayLines ss lines
 lines_left _ _ _ no_statements none = none
 lines_left _ _ _ (more_statements same rest) (next t ts line lines is start more) =
-    next _ _ line lines (says_left _ t line.what same is) (start ∙ sym (one_line _ t same)) (lines_left _ ts lines rest more)
+    next _ _ line lines (says_left _ t line.what same is) (start ∙ sym (same_start _ t same)) (lines_left _ ts lines rest more)
 
 lines_right : (ss ts : List Statement) (lines : List SimpleLine) → SameStatements ss ts → SayLines ss lines → SayLines ts lines
 lines_right _ _ _ no_statements none = none
 lines_right _ _ _ (more_statements same rest) (next s ss line lines is start more) =
-    next _ _ line lines (says_right s _ line.what same is) (start ∙ one_line s _ same) (lines_right ss _ lines rest more)
+    next _ _ line lines (says_right s _ line.what same is) (start ∙ same_start s _ same) (lines_right ss _ lines rest more)
 
 main_left : (h : Classes) (a b : BodyTree) (p : SimpleProgram) → SameBody a b → MainResolves h b p → MainResolves h a p
 main_left h a b p (same_body same line close) m = record {

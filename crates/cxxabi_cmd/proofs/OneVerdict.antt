@@ -1,5 +1,5 @@
 -- The passes say one thing of a text.
-use Rattle.std.proofs.Common.{◌≡◌, ℕ, Option, Some, None, List, [], refl, sym, ◌∙◌, ap, subst}
+use Rattle.std.proofs.Common.{◌≡◌, ℕ, Option, Some, None, List, [], sym, ◌∙◌, ap, subst}
 use Rattle.cxx_text.specs.declared.token.Token.{Token}
 use Rattle.cxx_text.proofs.Unique.{tokens_same}
 use Rattle.cxx_grammar.specs.declared.sort.Lexeme.{Lexeme}

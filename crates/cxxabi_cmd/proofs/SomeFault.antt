@@ -1,13 +1,10 @@
 -- The classes of a source have a first fault, or none.
-use Rattle.std.proofs.Common.{◌≡◌, ℕ, zero, suc, ◌<◌, ◌≤◌, ◌⊎◌, ⊎_elim, inl, inr, Some, length, refl, sym, ◌∙◌, ap, subst, arith}
-use Rattle.std.specs.Prelude.{slice_get}
+use Rattle.std.proofs.Common.{◌≡◌, ℕ, zero, suc, ◌<◌, ◌≤◌, ◌⊎◌, ⊎_elim, inl, inr, Some, length, refl, ap, subst, arith}
 use Rattle.std.proofs.lemmas.Bool.{cases_order}
 use Rattle.cxx_hierarchy.specs.declared.records.ClassId.{ClassId}
 use Rattle.cxx_hierarchy.specs.declared.stop.Stop.{Stop}
 use Rattle.cxx_hierarchy.specs.Classes.{Class, Classes, class_at}
-use Rattle.cxx_hierarchy.specs.Hierarchies.{IsHierarchy}
 use Rattle.cxx_overrider.specs.Faults.{Spot, spot, size_part, place_part, IsBefore, Fault as MeaningFault, IsFirstFaultIn, HasNoFaultIn}
-use Rattle.cxx_overrider.proofs.PassLemmas.{fault_known}
 use Rattle.abi_layout.specs.Refusals.{IsLargeClass, HasSharedPlace}
 use Rattle.foundation.proofs.Places.{get_within}
 use Rattle.cxxabi_cmd.specs.Output.{numbered}

@@ -1,8 +1,7 @@
 -- Words and the bytes of a source have an answer.
-use Rattle.std.proofs.Common.{◌≡◌, ℕ, zero, suc, ◌<◌, ◌≤◌, ◌⊎◌, ⊎_elim, inl, inr, Option, Some, None, List, [], ◌∷◌, length, refl, sym, ◌∙◌, ap, subst, arith}
-use Rattle.std.specs.Prelude.{slice_get, Contains}
+use Rattle.std.proofs.Common.{◌≡◌, ℕ, zero, suc, ◌≤◌, ◌⊎◌, ⊎_elim, inl, inr, Option, Some, None, List, [], ◌∷◌, length, refl, sym, ◌∙◌, subst}
+use Rattle.std.specs.Prelude.{slice_get}
 use Rattle.std.proofs.lemmas.Bool.{cases_lt}
-use Rattle.cxx_grammar.specs.declared.sort.Lexeme.{Lexeme}
 use Rattle.cxx_grammar.specs.Lexemes.{lexemes, source_start}
 use Rattle.cxx_text.proofs.SomeTokens.{some_tokens}
 use Rattle.cxx_decl_parser.proofs.readings.Runs.{some_source}
@@ -19,7 +18,6 @@ use Rattle.cxx_decl_parser.specs.declared.source_text.SourceText.{SourceText}
 use Rattle.cxx_resolve.specs.declared.program.SimpleProgram.{SimpleProgram}
 use Rattle.cxx_resolve.specs.Main.{MainResolves}
 use Rattle.cxx_resolve.proofs.MainDecisions.{some_program as main_or_none}
-use Rattle.abi_layout.specs.Layouts.{IsLaid}
 use Rattle.abi_layout.proofs.rules.SomeLayout.{some_layout}
 use Rattle.foundation.proofs.Places.{place_of}
 use Rattle.cxx_overrider.proofs.FaultSearch.{class_answer}
@@ -28,7 +26,7 @@ use Rattle.cxxabi_cmd.specs.declared.command.Command.{Command}
 use Rattle.cxxabi_cmd.specs.declared.command.Command.TheVariants.{Check, Run, Layout, LayoutOf}
 use Rattle.cxxabi_cmd.specs.declared.status.Status.TheVariants.{Refused, Usage, Limit}
 use Rattle.cxxabi_cmd.specs.Commands.{IsCommand}
-use Rattle.cxxabi_cmd.specs.Verdict.{AreLexemes, IsSource, StopsText, Judgement, Verdict, Stops, Accepts, by_text, by_records, by_classes, accepted}
+use Rattle.cxxabi_cmd.specs.Verdict.{AreLexemes, IsSource, Judgement, Verdict, Stops, Accepts, by_text, by_records, by_classes, accepted}
 use Rattle.cxxabi_cmd.specs.Output.{source_limit, text_limit, Answer, AsksFor, all_classes, one_class, IsProgram, LaysOut, whole, too_much, Yields, counted, no_main, not_taken, ran, unknown_class, laid_out, Output, usage, too_long, stopped, yielded, line_alone, count_answer, text_answer, layouts_text, status_of_stop, run_answer, run_by, numbered, first_classes}
 use Rattle.cxxabi_cmd.proofs.Accepting.{source_keeps, accepted_keeps}
 use Rattle.cxxabi_cmd.proofs.SomeCommand.{same_text, some_command}

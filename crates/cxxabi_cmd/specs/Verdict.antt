@@ -1,5 +1,5 @@
 -- What the passes over a source say of it.
-use Rattle.std.specs.Prelude.{◌≡◌, ℕ, ◌<◌, false, Option, Some, List, [], length}
+use Rattle.std.specs.Prelude.{◌≡◌, ℕ, ◌<◌, Option, Some, List, [], length}
 use Rattle.cxx_text.specs.declared.token.Token.{Token}
 use Rattle.cxx_text.specs.Cover.{AreTokens}
 use Rattle.cxx_grammar.specs.declared.sort.Lexeme.{Lexeme}

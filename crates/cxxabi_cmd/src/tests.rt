@@ -1,10 +1,7 @@
-//! The whole program over sources and sinks of every kind. What it answers is tested by the program `worked_cases`.
+//! The standard source and sink over a reader and a writer that fail. What the program answers is tested by the program
+//! `worked_cases`.
 
-use crate::{
-    BytesSink, BytesSource, Sink, Source, Status, StdinSource, StdoutSink, SteadySink,
-    SteadySource, run_cxxabi,
-};
-use cxx_hierarchy::LimitNo;
+use crate::{BytesSink, Sink, Source, Status, StdinSource, StdoutSink, run_cxxabi};
 use std::alloc::{AllocError, Global};
 use std::io;
 use std::test::Fail;
@@ -13,60 +10,6 @@ use std::test::Fail;
 fn run_word(alloc: Global) -> Result<Vec<String>, AllocError> {
     let word = String::from_str(alloc, "run")?;
     Ok(vec![in alloc; word]?)
-}
-
-// What `run` answers to a source, and what it writes.
-fn run_text(alloc: Global, source: &[u8]) -> Result<(Status, Vec<u8>), Fail> {
-    let words = run_word(alloc)?;
-    let mut source = BytesSource::new(Vec::from_slice(alloc, source)?, Vec::new(alloc));
-    let mut sink = BytesSink::new(alloc, Vec::new(alloc));
-    sink.reserve(64)?;
-    let mut last = None;
-    let status = run_cxxabi(alloc, &words, &mut source, &mut sink, &mut last);
-    Ok((status, Vec::from_slice(alloc, sink.taken())?))
-}
-
-#[test]
-fn a_byte_past_the_limit(rt: HostRuntime) -> Result<(), Fail> {
-    let mut source = Vec::from_slice(rt.alloc(), b"int main() {}")?;
-    source.resize(262_144, b' ')?;
-    let (within, _) = run_text(rt.alloc(), &source)?;
-    assert_eq!(rt; within, Status::Done);
-    source.push(b' ')?;
-    let (past, text) = run_text(rt.alloc(), &source)?;
-    assert_eq!(rt; past, Status::Limit(LimitNo::L1));
-    assert_eq!(rt; text.as_slice(), b"limit L1\n".as_slice());
-    Ok(())
-}
-
-#[test]
-fn other_words_are_usage(rt: HostRuntime) -> Result<(), Fail> {
-    let alloc = rt.alloc();
-    let mut source = SteadySource::new(Vec::from_slice(alloc, b"int main() {}")?);
-    let mut sink = BytesSink::new(alloc, Vec::new(alloc));
-    sink.reserve(64)?;
-    let mut last = None;
-    let status = run_cxxabi(alloc, &[], &mut source, &mut sink, &mut last);
-    assert_eq!(rt; status, Status::Usage);
-    assert_eq!(rt; sink.taken(), b"usage\n".as_slice());
-    let mut buffer = [0u8; 32];
-    let left = source.read(&mut buffer).map_err(|_| Fail::new("read"))?;
-    assert_eq!(rt; left, 13);
-    Ok(())
-}
-
-#[test]
-fn a_sink_that_keeps_nothing(rt: HostRuntime) -> Result<(), Fail> {
-    let alloc = rt.alloc();
-    let words = run_word(alloc)?;
-    let mut source = SteadySource::new(Vec::from_slice(alloc, b"int main() {}")?);
-    let mut sink = SteadySink::new();
-    let mut last = None;
-    let status = run_cxxabi(alloc, &words, &mut source, &mut sink, &mut last);
-    assert_eq!(rt; status, Status::Done);
-    assert!(rt; last.is_some());
-    assert_eq!(rt; source.faults() + sink.faults(), 0);
-    Ok(())
 }
 
 // A reader that gives a text byte by byte, and fails in one of its calls.

@@ -22,7 +22,7 @@ use Rattle.abi_layout.specs.invariants.Known.{pods_in, members_by}
 use Rattle.abi_layout.specs.PlacedBases.{free_bases, placed_component}
 use Rattle.abi_layout.specs.Repeats.{HasRepeat, SomeRepeats}
 use Rattle.abi_layout.specs.Layouts.{fronts, object_parts, start_stage, front_components, free_components, IsLayoutBy, IsArrangedBy, BringsTwice}
-use Rattle.abi_layout.specs.invariants.Arrangements.{row_from, IsTooLargeBy, IsShared, components_by}
+use Rattle.abi_layout.specs.invariants.Arrangements.{row_from, IsTooLargeBy, LeavesNoPlace, components_by}
 use Rattle.abi_layout.specs.Refusals.{IsLargeClass, StopsAt, by_size, by_place}
 use Rattle.abi_layout.proofs.lists.Lists.{has_at}
 use Rattle.abi_layout.proofs.rules.KindLemmas.{contains_of, has_of}
@@ -114,7 +114,7 @@ brings_twice h c class rows known members nearly ps primary has_pointer next rep
 pub stops_by : (h : Classes) (c : ClassId) (class : Class) (rows : List ClassLayout) (known : List Known) (members : List (List Part)) (nearly : List Bool) (ps : List Primary) (primary : Primary) (has_pointer : Bool) (stop : Stop) → IsNextKnown h c class rows known members nearly ps primary has_pointer
     → ((stop ≡ NoMemory)
     ⊎ (((stop ≡ Limit L6) × IsTooLargeBy (start_stage c has_pointer) (components_by h rows known (ps ++ primary ∷ []) c (fronts (ps ++ primary ∷ []) c class)) (members_by rows known class) (components_by h rows known (ps ++ primary ∷ []) c (free_bases h (ps ++ primary ∷ []) c)) (pod_kind (pods_in known) class))
-    ⊎ ((stop ≡ Refused SharedPlace class.at) × IsShared (start_stage c has_pointer) (components_by h rows known (ps ++ primary ∷ []) c (fronts (ps ++ primary ∷ []) c class)) (members_by rows known class) (components_by h rows known (ps ++ primary ∷ []) c (free_bases h (ps ++ primary ∷ []) c)) (pod_kind (pods_in known) class))))
+    ⊎ ((stop ≡ Refused SharedPlace class.at) × LeavesNoPlace (start_stage c has_pointer) (components_by h rows known (ps ++ primary ∷ []) c (fronts (ps ++ primary ∷ []) c class)) (members_by rows known class) (components_by h rows known (ps ++ primary ∷ []) c (free_bases h (ps ++ primary ∷ []) c)) (pod_kind (pods_in known) class))))
     → (stop ≡ NoMemory) ⊎ StopsAt h c stop
 stops_by h c class rows known members nearly ps primary has_pointer stop next refused =
     ⊎_elim (λ e. inl e)

@@ -35,7 +35,7 @@ use Rattle.abi_layout.specs.PlacedBases.{class_of_placed, subobject_of, placed_c
 use Rattle.abi_layout.specs.invariants.Scenes.{IsScene}
 use Rattle.abi_layout.specs.Repeats.{SomeRepeats}
 use Rattle.abi_layout.specs.declared.arrangement.Arrangement.{Arrangement}
-use Rattle.abi_layout.specs.invariants.Arrangements.{IsArranged, IsWithinLimit, IsTooLargeBy, IsShared, IsRefusal, components_by}
+use Rattle.abi_layout.specs.invariants.Arrangements.{IsArranged, IsWithinLimit, IsTooLargeBy, LeavesNoPlace, IsRefusal, components_by}
 use Rattle.abi_layout.proofs.lists.Lists.{get_within, has_here, has_later}
 use Rattle.abi_layout.proofs.rules.Parts.{split, within_further, within_moved, within_both}
 use Rattle.abi_layout.proofs.rules.PlacingLemmas.{size_grows}
@@ -132,8 +132,8 @@ large_member first fs ms vs pod has = record {
 }
 
 -- a class that is within the limit, with a base that brings a pair twice
-pub shared_by : (first : Stage) (fs fronts ms members vs frees : List Component) (pod : Bool) (a : Arrangement) → fs ≡ fronts → ms ≡ members → vs ≡ frees → IsArranged first fs ms vs pod a → IsWithinLimit a → SomeRepeats fronts ⊎ SomeRepeats frees → IsShared first fronts members frees pod
-shared_by first fs fronts ms members vs frees pod a f m v arranged within twice = record {
+pub no_place_by : (first : Stage) (fs fronts ms members vs frees : List Component) (pod : Bool) (a : Arrangement) → fs ≡ fronts → ms ≡ members → vs ≡ frees → IsArranged first fs ms vs pod a → IsWithinLimit a → SomeRepeats fronts ⊎ SomeRepeats frees → LeavesNoPlace first fronts members frees pod
+no_place_by first fs fronts ms members vs frees pod a f m v arranged within twice = record {
   arrangement = a;
   arranged = subst (λ (xs : List Component). IsArranged first fronts members xs pod a) v (subst (λ (xs : List Component). IsArranged first fronts xs vs pod a) m (subst (λ (xs : List Component). IsArranged first xs ms vs pod a) f arranged));
   small = within.size;
@@ -153,7 +153,7 @@ size_refuses first fs fronts ms members vs frees pod place stop f m v told =
     here t = ⊎_elim (λ e. inl e) (λ large. inr (inl large)) t
 
 -- what an error tells of some bases that bring a pair twice
-pub repeat_refuses : (first : Stage) (fronts members frees some : List Component) (pod : Bool) (place : ℕ) (stop : Stop) → (SomeRepeats some → IsShared first fronts members frees pod) → (stop ≡ NoMemory) ⊎ ((stop ≡ Refused SharedPlace place) × SomeRepeats some) → IsRefusal first fronts members frees pod place stop
+pub repeat_refuses : (first : Stage) (fronts members frees some : List Component) (pod : Bool) (place : ℕ) (stop : Stop) → (SomeRepeats some → LeavesNoPlace first fronts members frees pod) → (stop ≡ NoMemory) ⊎ ((stop ≡ Refused SharedPlace place) × SomeRepeats some) → IsRefusal first fronts members frees pod place stop
 repeat_refuses first fronts members frees some pod place stop is told = ⊎_elim (λ e. inl e) (λ twice. inr (inr (twice.0, is twice.1))) told
 
 -- the places of fitting components are small

@@ -1,5 +1,5 @@
 -- Primary bases, nearly empty classes and rows of classes, by rows and lists that agree on the first classes.
-use Rattle.std.proofs.Common.{◌≡◌, ℕ, ◌+◌, ◌<◌, ◌≤◌, ⊎_elim, inl, inr, Bool, false, cond, Option, Some, None, List, [], ◌∷◌, ◌++◌, map, take, length, refl, ap, subst, sym, ◌∙◌, arith}
+use Rattle.std.proofs.Common.{◌≡◌, ℕ, ◌+◌, ◌<◌, ◌≤◌, ⊎_elim, Bool, false, cond, Option, Some, None, List, ◌∷◌, ◌++◌, map, take, length, refl, ap, subst, sym, ◌∙◌, arith}
 use Rattle.std.specs.Prelude.{IsTrue, ◌↔◌, Contains, ◌&&◌, ◌==◌, not}
 use Rattle.std.specs.List.{find, count_by}
 use Rattle.std.proofs.lemmas.Bool.{cases_order}
@@ -11,7 +11,7 @@ use Rattle.cxx_hierarchy.specs.Hierarchies.{IsHierarchy}
 use Rattle.cxx_subobject.specs.declared.Subobject.{Subobject}
 use Rattle.cxx_subobject.specs.Subobjects.{IsSubobject, whole, shared, class_of}
 use Rattle.cxx_subobject.specs.Preorder.{preorder}
-use Rattle.cxx_subobject.proofs.ListLemmas.{Has, contains_from_has}
+use Rattle.cxx_subobject.proofs.ListLemmas.{contains_from_has}
 use Rattle.cxx_subobject.proofs.SumLemmas.{sum_same}
 use Rattle.cxx_subobject.proofs.TreeLemmas.{has_preorder, preorder_lists}
 use Rattle.abi_primary.specs.declared.Primary.{Primary}
@@ -33,18 +33,12 @@ use Rattle.abi_layout.specs.PlacedBases.{class_of_placed, subobject_of, free_bas
 use Rattle.abi_layout.specs.Layouts.{place_of, placed_place, primary_of, fronts, front_components, free_components, object_parts, start_stage, IsLayoutBy, IsArrangedBy, HasPointer, IsLaidRow, is_whole, is_empty_in, is_shifted, IsLaidBy, BringsTwice}
 use Rattle.abi_layout.proofs.lists.Lists.{has_at, get_within}
 use Rattle.abi_layout.proofs.rules.PartLemmas.{Agree}
-use Rattle.abi_layout.proofs.rules.Parts.{split}
 use Rattle.cxx_subobject.proofs.PathLemmas.{virtual_below}
 use Rattle.abi_layout.proofs.algorithm.PlacedClassLemmas.{fronts_below, frees_below}
 use Rattle.foundation.proofs.Members.{map_same}
+use Rattle.abi_sound.proofs.ChainLemmas.{find_has}
 use Rattle.abi_layout.proofs.rules.AgreeingRows.{AgreeTo, agree_less, agree_item, take_agrees, find_same, any_same, primary_agrees, fronts_agree, holder_agrees, free_agree, virtual_place_agrees, place_agrees}
 use Rattle.abi_layout.proofs.rules.AgreeingParts.{ArePossible, possible_less, brought_agrees, front_agree, frees_agree, members_same, front_places_agree, free_places_agree, agree_before}
-
-found_has : {X : Type 0} (p : X → Bool) (xs : List X) (x : X) → find p xs ≡ Some x → Has xs x
-found_has p [] x e = let f : None ≡ Some x = e in cc
-found_has {X} p (y ∷ xs) x e = split (p y) (λ b. cond b (Some y) (find p xs) ≡ Some x → Has (y ∷ xs) x)
-    (λ t same. let is : y ≡ x = cc in inl is)
-    (λ f rest. inr (found_has p xs x rest)) e
 
 -- the root of a subobject, as a primary base
 root_possible : (h : Classes) (c : ClassId) (s : Subobject) → IsSubobject h c s → IsPossible h c (as_primary s.root)
@@ -61,8 +55,8 @@ pub primary_possible : (h : Classes) (nearly : List Bool) (earlier : List Primar
 primary_possible h nearly earlier c _ (of_direct b first) = record { base = first.base; listed = has_at (bases_of h c) first.number first.base first.there; class = first.class; way = first.dynamic.way }
 primary_possible h nearly earlier c _ (of_virtual nothing) =
     choice_possible h c (find (is_free_base nearly earlier (preorder h c)) (preorder h c)) (find (is_nearly_base nearly) (preorder h c))
-    (λ s e. has_preorder h c s (found_has (is_free_base nearly earlier (preorder h c)) (preorder h c) s e))
-    (λ s e. has_preorder h c s (found_has (is_nearly_base nearly) (preorder h c) s e))
+    (λ s e. has_preorder h c s (find_has (is_free_base nearly earlier (preorder h c)) (preorder h c) s e))
+    (λ s e. has_preorder h c s (find_has (is_nearly_base nearly) (preorder h c) s e))
 
 -- the primary bases of classes that are laid out are bases
 pub laid_possible : (h : Classes) (count n : ℕ) (rows : List ClassLayout) (nearly : List Bool) (ps : List Primary) → n ≤ count → n ≤ length h → IsLaidBy h count rows nearly ps → ArePossible h n ps

@@ -107,9 +107,9 @@ maps_at {X} {Y} f g (y ∷ xs) x e has =
     let rest : map f xs ≡ map g xs = cc in
     ⊎_elim (λ same. subst (λ z. f z ≡ g z) same here) (λ later. maps_at f g xs x rest later) has
 
-shared_keys : (h : Classes) (c : ClassId) (list : List Subobject) → ((s : Subobject) → Has list s → IsSubobject h c s) → EachOnce list → EachKey (λ (v : ClassId). v.0) (filter_map shared_class list)
-shared_keys h c [] valid once = tt
-shared_keys h c (s ∷ list) valid once = at (shared_class s) refl (shared_keys h c list (λ t has. valid t (inr has)) once.1)
+virtual_class_keys : (h : Classes) (c : ClassId) (list : List Subobject) → ((s : Subobject) → Has list s → IsSubobject h c s) → EachOnce list → EachKey (λ (v : ClassId). v.0) (filter_map shared_class list)
+virtual_class_keys h c [] valid once = tt
+virtual_class_keys h c (s ∷ list) valid once = at (shared_class s) refl (virtual_class_keys h c list (λ t has. valid t (inr has)) once.1)
   where
     at : (o : Option ClassId) → shared_class s ≡ o → EachKey (λ (v : ClassId). v.0) (filter_map shared_class list) → EachKey (λ (v : ClassId). v.0) (cons_option o (filter_map shared_class list))
     at None e rest = rest
@@ -125,7 +125,7 @@ shared_keys h c (s ∷ list) valid once = at (shared_class s) refl (shared_keys 
 
 -- each virtual base is listed once
 pub virtual_keys : (h : Classes) (c : ClassId) → EachKey (λ (v : ClassId). v.0) (virtual_bases h c)
-virtual_keys h c = shared_keys h c (preorder h c) (λ s has. has_preorder h c s has) (firsts_once (tree h (c.0 + 1) c (whole_of c)))
+virtual_keys h c = virtual_class_keys h c (preorder h c) (λ s has. has_preorder h c s has) (firsts_once (tree h (c.0 + 1) c (whole_of c)))
 
 -- the direct base among placed ones
 pub any_own : (b : ClassId) (bases : List PlacedBase) → list_any (is_own b) bases ≡ true → Has bases (Own b)

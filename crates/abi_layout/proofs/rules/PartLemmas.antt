@@ -1,7 +1,7 @@
 -- What the rules say of a class depends on the classes before it alone.
 use Rattle.std.proofs.Common.{◌≡◌, ℕ, ◌*◌, ◌<◌, Bool, false, Option, Some, List, [], ◌∷◌, ◌++◌, map, length, refl, ap, subst, sym, ◌∙◌, append_assoc}
 use Rattle.std.specs.Prelude.{not, ◌&&◌, ◌==◌, if◌then◌else◌}
-use Rattle.std.specs.List.{slice_get, Contains, list_all}
+use Rattle.std.specs.List.{slice_get, Contains}
 use Rattle.std.proofs.lemmas.List.{append-nil}
 use Rattle.cxx_hierarchy.specs.declared.records.ClassId.{ClassId}
 use Rattle.cxx_hierarchy.specs.declared.records.Member.{Member}
@@ -10,6 +10,7 @@ use Rattle.cxx_hierarchy.specs.declared.records.FieldType.TheVariants.{Value, Ob
 use Rattle.cxx_hierarchy.specs.Classes.{Class, Classes, class_at, members_of, members_in as named_members}
 use Rattle.abi_emptybase.specs.declared.Part.{Part}
 use Rattle.abi_emptybase.specs.Table.{moved}
+use Rattle.abi_primary.proofs.KindLemmas.{same_all}
 use Rattle.abi_layout.specs.declared.component.Component.{Component}
 use Rattle.abi_layout.specs.declared.component.Stage.{Stage}
 use Rattle.abi_sound.specs.declared.class_layout.ClassLayout.{ClassLayout}
@@ -18,10 +19,6 @@ use Rattle.abi_layout.specs.Kinds.{pod_kind, has_virtual_function, is_implicit, 
 use Rattle.abi_layout.specs.Placements.{copies, elements_of, nvsize_in, size_of_type, align_of_type, parts_of_type, member_component, member_components, parts_at, after, after_all}
 use Rattle.abi_layout.specs.invariants.Known.{IsMemberType, IsEarlierType, AreEarlier}
 use Rattle.abi_layout.proofs.lists.Lists.{has_here, has_later}
-
-same_all : {X : Type 0} (p q : X → Bool) (xs : List X) → ((x : X) → Contains xs x → p x ≡ q x) → list_all p xs ≡ list_all q xs
-same_all p q [] each = refl
-same_all p q (x ∷ xs) each = let a = each x (has_here x xs) in let b = same_all p q xs (λ y h. each y (has_later x xs y h)) in cc
 
 pub same_map : {X Y : Type 0} (f g : X → Y) (xs : List X) → ((x : X) → Contains xs x → f x ≡ g x) → map f xs ≡ map g xs
 same_map f g [] each = refl

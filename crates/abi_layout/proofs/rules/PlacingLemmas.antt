@@ -1,5 +1,5 @@
 -- Lemmas on components placed one after the other.
-use Rattle.std.proofs.Common.{◌≡◌, ℕ, zero, suc, ◌+◌, ◌*◌, ◌<◌, ◌≤◌, ⊎_elim, Bool, true, false, Some, List, [], ◌∷◌, ◌++◌, map, length, drop, refl, ap, subst, sym, ◌∙◌, arith, append_assoc}
+use Rattle.std.proofs.Common.{◌≡◌, ℕ, zero, suc, ◌+◌, ◌*◌, ◌<◌, ◌≤◌, ⊎_elim, Bool, true, false, Some, List, [], ◌∷◌, ◌++◌, map, refl, ap, subst, sym, ◌∙◌, arith, append_assoc}
 use Rattle.std.specs.Prelude.{max, if◌then◌else◌}
 use Rattle.std.specs.List.{slice_get}
 use Rattle.std.proofs.lemmas.Bool.{cases_order}
@@ -112,12 +112,6 @@ completes_more first cs places stage c todo place k here = record {
 
     shorter : (last : Stage) → HasRest stage (c ∷ todo) last → HasRest (after stage c place) todo last
     shorter last h = split_rest last h.rest h.placed h.ends
-
-pub drop_none : {X : Type 0} (xs : List X) (i : ℕ) → length xs ≤ i → drop i xs ≡ []
-drop_none [] zero le = refl
-drop_none [] (suc i) le = refl
-drop_none (x ∷ xs) zero le = absurd (omega arith)
-drop_none (x ∷ xs) (suc i) le = drop_none xs i (omega arith)
 
 -- nothing is left to be placed
 pub completes_all : (first : Stage) (cs : List Component) (places : List ℕ) (stage : Stage) (todo : List Component) → todo ≡ [] → Completes first cs places stage todo → ArePlaced first cs places

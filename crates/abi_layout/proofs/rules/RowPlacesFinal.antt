@@ -77,8 +77,8 @@ places_from h c class rows ps first f ms pod a r s table keeps size e possible a
     there : slice_get (rows ++ s ∷ []) c.0 ≡ Some s
     there = ap (slice_get (rows ++ s ∷ [])) (sym size) ∙ last_one rows s
 
-    shared_place : (v : ClassId) → primary_of ps c ≡ Virtual v → virtual_place (rows ++ s ∷ []) c v ≡ 0
-    shared_place v is =
+    primary_at_start : (v : ClassId) → primary_of ps c ≡ Virtual v → virtual_place (rows ++ s ∷ []) c v ≡ 0
+    primary_at_start v is =
         let has : HasVirtualBase h c v = subst (IsPossible h c) is possible in
         held_place h ps rows c r s (free_table c.0 (free_bases h ps c) a.free_places) table keeps same there bases places made v (whole_of c) (virtual_listed h keeps c v has) (whole_holds h ps c v is)
 
@@ -88,7 +88,7 @@ places_from h c class rows ps first f ms pod a r s table keeps size e possible a
         omega arith
     front i (VirtualBase v) p at place =
         let which = virtual_first (primary_of ps c) class.bases i v at in
-        let zero_place = shared_place v which.0 in
+        let zero_place = primary_at_start v which.0 in
         let lies = first_place first f (fronts ps c class) a.front_places (VirtualBase v) p laid.fronts_placed (subst (λ n. slice_get (fronts ps c class) n ≡ Some (VirtualBase v)) which.1 at) (subst (λ n. slice_get a.front_places n ≡ Some p) which.1 place) in
         let start = at_start v p which.0 lies in
         omega arith

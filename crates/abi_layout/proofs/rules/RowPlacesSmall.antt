@@ -73,9 +73,9 @@ of_base n h rows f s d base each = split base.is_virtual (λ b. AreOf n (if b th
     (λ t. tt)
     (λ e. of_moved n (base_place h rows d base.class) (f (base_subobject s base) base.class) (each (base_subobject s base)))
 
-of_shared : (n : ℕ) (f : Subobject → ClassId → List Part) (o : Option ClassId) → ((v : ClassId) → o ≡ Some v → (t : Subobject) → AreOf n (f t v)) → AreOf n (virtual_brings f o)
-of_shared n f None each = tt
-of_shared n f (Some v) each = each v refl (shared_base v)
+of_virtual : (n : ℕ) (f : Subobject → ClassId → List Part) (o : Option ClassId) → ((v : ClassId) → o ≡ Some v → (t : Subobject) → AreOf n (f t v)) → AreOf n (virtual_brings f o)
+of_virtual n f None each = tt
+of_virtual n f (Some v) each = each v refl (shared_base v)
 
 -- what a subobject of a class before brings is of classes before
 pub brought_of : (h : Classes) (c : ClassId) (rows : List ClassLayout) (known : List Known) (ps : List Primary) → IsHierarchy h → AreBefore ps → AreSmaller c known → (n : ℕ) (s : Subobject) (d : ClassId) → d.0 < c.0 → AreOf c.0 (brought h rows ps (parts_in known) c n s d)
@@ -86,7 +86,7 @@ brought_of h c rows known ps keeps before small (suc n) s d lt =
     (lt, of_members c.0 rows (parts_in known) (members_of h d) (members_in (slice_get rows d.0)) (λ m e has object. let falls = keeps.objects d e m has object in of_each c.0 (parts_in known e) (λ part in_it. small.smaller e part (omega arith) in_it)))
     (of_both c.0 (flat_map (base_brings h rows by s d) (bases_of h d)) (virtual_brings by (held_base h ps c s d))
     (of_flat c.0 (base_brings h rows by s d) (bases_of h d) (λ base has. of_base c.0 h rows by s d base (λ t. let falls = keeps.bases d base has in brought_of h c rows known ps keeps before small n t base.class (omega arith))))
-    (of_shared c.0 by (held_base h ps c s d) (λ v e t. let falls = before.falls d v (held_is_primary h ps c s d v e) in brought_of h c rows known ps keeps before small n t v (omega arith))))
+    (of_virtual c.0 by (held_base h ps c s d) (λ v e t. let falls = before.falls d v (held_is_primary h ps c s d v e) in brought_of h c rows known ps keeps before small n t v (omega arith))))
 
 other_class : (x y : ℕ) → x < y → nat_eq x y ≡ false
 other_class x y lt = split (nat_eq x y) (λ b. b ≡ false) (λ t. let e = eqb-true x y t in absurd (omega arith)) (λ f. refl)

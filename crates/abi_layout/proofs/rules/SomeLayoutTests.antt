@@ -3,6 +3,7 @@ use Rattle.std.proofs.Common.{◌≡◌, ℕ, zero, suc, ◌<◌, ◌≤◌, ⊎
 use Rattle.std.specs.Prelude.{IsTrue, ◌↔◌, not, ◌&&◌, ◌||◌, Contains, count_by}
 use Rattle.std.specs.List.{slice_get, list_all}
 use Rattle.std.proofs.lemmas.Bool.{not-true, and_parts, or_left, or_right, cases_order}
+use Rattle.foundation.proofs.Truth.{never, always}
 use Rattle.cxx_hierarchy.specs.declared.records.ClassId.{ClassId}
 use Rattle.cxx_hierarchy.specs.declared.records.Base.{Base}
 use Rattle.cxx_hierarchy.specs.declared.records.Member.{Member}
@@ -14,7 +15,6 @@ use Rattle.abi_primary.specs.declared.Primary.TheVariants.{None as NoPrimary, Di
 use Rattle.abi_primary.specs.Kinds.{IsDynamic}
 use Rattle.abi_primary.specs.NearlyEmpty.{is_nearly, IsLight, is_virtual as by_way, is_empty as by_kind, is_nearly_empty as by_list, is_pointer_base, IsNearlyEmpty}
 use Rattle.abi_primary.specs.PrimaryBase.{IsDynamicBase, HasNoDynamicBase, IsFirstDynamic, virtual_primary, IsPrimary, of_direct, of_virtual}
-use Rattle.abi_primary.proofs.Nth.{never, always}
 use Rattle.abi_layout.specs.Kinds.{is_kind, is_empty}
 use Rattle.abi_layout.specs.Layouts.{primary_of, HasPointer}
 use Rattle.abi_layout.proofs.rules.Parts.{split, opposed}

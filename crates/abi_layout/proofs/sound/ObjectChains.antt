@@ -151,8 +151,8 @@ direct_there h rows nearly ps known c _ b _ _ lt (inner_part s d valid class) ed
     (λ zero_at. record { place = base_place h rows d edge.base.class; stride = nvsize_in (slice_get rows edge.base.class.0); there = there; at = zero_at }) at
 
 -- the virtual primary base of a part, or the pointer in its place
-shared_there : (h : Classes) (rows : List ClassLayout) (ps : List Primary) (c d v : ClassId) (s : Subobject) (b : Bool) → virtual_primary ps d ≡ Some v → holds_base h ps c s v ≡ b → IsAtStart h rows ps (Within c s d) (if b then Within c (shared_base v) v else Pointer)
-shared_there h rows ps c d v s b e holds =
+virtual_there : (h : Classes) (rows : List ClassLayout) (ps : List Primary) (c d v : ClassId) (s : Subobject) (b : Bool) → virtual_primary ps d ≡ Some v → holds_base h ps c s v ≡ b → IsAtStart h rows ps (Within c s d) (if b then Within c (shared_base v) v else Pointer)
+virtual_there h rows ps c d v s b e holds =
     let x = one_at (if b then Within c (shared_base v) v else Pointer) 0 (nvsize_in (slice_get rows v.0)) in
     let start : Has (virtual_start h rows ps c s (Some v)) x = inl (ap (λ o. one_at (if o then Within c (shared_base v) v else Pointer) 0 (nvsize_in (slice_get rows v.0))) holds) in
     let there : Has (virtual_start h rows ps c s (virtual_primary ps d)) x = subst (λ (o : Option ClassId). Has (virtual_start h rows ps c s o) x) (sym e) start in
@@ -207,10 +207,10 @@ virtual_chain h rows nearly ps known c _ v _ _ lt (inner_part s d valid class) e
     let is = virtual_primary_is h rows nearly ps known d v inside primary in
     let has = virtual_above h c s d v valid class is.has in
     split (holds_base h ps c s v) (λ b. holds_base h ps c s v ≡ b → StartsChain h rows ps c (Within c s d) s)
-    (λ t same. base_chain h rows ps c (Within c s d) s (shared_base v) v (shared_there h rows ps c d v s true primary same)
+    (λ t same. base_chain h rows ps c (Within c s d) s (shared_base v) v (virtual_there h rows ps c d v s true primary same)
     (by_holder s d v class (told_is h rows nearly ps known d (Virtual v) inside e) (holder_told h rows nearly ps known c v lt has ∙ holder_by_test (holder_of h ps c v) s same))
     (next (shared_base v) v is.falls (shared v [] has tt) refl is.dynamic))
-    (λ f same. pointer_chain h rows ps c (Within c s d) s (shared_there h rows ps c d v s false primary same)) refl
+    (λ f same. pointer_chain h rows ps c (Within c s d) s (virtual_there h rows ps c d v s false primary same)) refl
 
 chain_by : (h : Classes) (rows : List ClassLayout) (nearly : List Bool) (ps : List Primary) → IsLaidOut h rows nearly ps → (c d : ClassId) (n : Node) (s : Subobject) → c.0 < length h → IsPart h c n s d → IsDynamic h d → (p : Primary) → primary_of ps d ≡ p → HaveChains h rows ps c d → StartsChain h rows ps c n s
 chain_by h rows nearly ps known c d n s lt part dynamic NoPrimary e next =

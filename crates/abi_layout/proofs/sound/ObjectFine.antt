@@ -47,7 +47,7 @@ use Rattle.abi_layout.proofs.sound.ObjectItems.{put_at, Item, a_base, a_member, 
 -- an item is a base or a member of its class
 pub data IsItem (h : Classes) (c : ClassId) (class : Class) : Item → Type 0 where
   is_own : (b : ClassId) → IsDirectBase h c false b → IsItem h c class (a_base (Own b))
-  is_shared : (v : ClassId) → HasVirtualBase h c v → IsItem h c class (a_base (VirtualBase v))
+  is_virtual_base : (v : ClassId) → HasVirtualBase h c v → IsItem h c class (a_base (VirtualBase v))
   is_member : (n : ℕ) (member : Member ClassId) (place : ℕ) → Has class.members member → IsItem h c class (a_member n member place)
 
 -- a plain base, by the list of bases
@@ -57,7 +57,7 @@ plain_edge h c class base at has way = record { base = base; listed = subst (λ 
 first_view : (h : Classes) (c : ClassId) (class : Class) (p : Primary) (base : PlacedBase) → IsPossible h c p → Has (first_base p) base → IsItem h c class (a_base base)
 first_view h c class NoPrimary base possible has = absurd has
 first_view h c class (Direct b) base possible has = ⊎_elim (λ e. subst (λ (x : PlacedBase). IsItem h c class (a_base x)) e (is_own b possible)) (λ r. absurd r) has
-first_view h c class (Virtual v) base possible has = ⊎_elim (λ e. subst (λ (x : PlacedBase). IsItem h c class (a_base x)) e (is_shared v possible)) (λ r. absurd r) has
+first_view h c class (Virtual v) base possible has = ⊎_elim (λ e. subst (λ (x : PlacedBase). IsItem h c class (a_base x)) e (is_virtual_base v possible)) (λ r. absurd r) has
 
 front_view : (h : Classes) (c : ClassId) (class : Class) (p : Primary) (base : PlacedBase) → class_at h c ≡ Some class → IsPossible h c p → Has (front_bases p class.bases) base → IsItem h c class (a_base base)
 front_view h c class p base at possible has = ⊎_elim
@@ -76,7 +76,7 @@ free_view h primaries c class x keeps has =
     let k = has_mapped a_base (free_bases h primaries c) x has in
     let l = has_mapped (λ (v : ClassId). VirtualBase v) (filter (λ (v : ClassId). is_free (holder_of h primaries c v)) (virtual_bases h c)) k.0 k.1 in
     let f = has_filter (λ (v : ClassId). is_free (holder_of h primaries c v)) (virtual_bases h c) l.0 l.1 in
-    subst (IsItem h c class) (ap a_base l.2 ∙ k.2) (is_shared l.0 (virtual_has h c l.0 f.0))
+    subst (IsItem h c class) (ap a_base l.2 ∙ k.2) (is_virtual_base l.0 (virtual_has h c l.0 f.0))
 
 -- the items of a class are its bases and members
 pub all_view : (h : Classes) (primaries : List Primary) (c : ClassId) (class : Class) (row : ClassLayout) (x : Item) → IsHierarchy h → class_at h c ≡ Some class → IsPossible h c (primary_of primaries c) → Has (all_items h primaries c class row) x → IsItem h c class x
@@ -187,7 +187,7 @@ type_fine h rows c low (Object d) below = let f = low d (below d refl) in record
 
 pub item_align : (h : Classes) (rows : List ClassLayout) (primaries : List Primary) (c : ClassId) (class : Class) (x : Item) → IsHierarchy h → class_at h c ≡ Some class → AreFineBelow h rows c → IsItem h c class x → IsAlignment (component_item h rows primaries c x).align
 item_align h rows primaries c class _ keeps at low (is_own b edge) = (low b (base_below h c b keeps edge)).nvalign
-item_align h rows primaries c class _ keeps at low (is_shared v has) = (low v (virtual_below h keeps c v has)).nvalign
+item_align h rows primaries c class _ keeps at low (is_virtual_base v has) = (low v (virtual_below h keeps c v has)).nvalign
 item_align h rows primaries c class _ keeps at low (is_member n member place has) = (type_fine h rows c low member.ty (λ d e. object_below h c class member d keeps at has e)).align
 
 -- a row, and the stages behind the members and behind all

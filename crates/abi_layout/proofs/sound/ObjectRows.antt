@@ -35,7 +35,7 @@ use Rattle.abi_layout.proofs.sound.ObjectTree.{Complete, Pointer, Placement, Mea
 use Rattle.abi_layout.proofs.sound.ObjectKinds.{virtual_dynamic, dynamic_by_test, dynamic_has_data}
 use Rattle.abi_layout.proofs.sound.ObjectPrimaries.{HasRow, row_of, primary_possible}
 use Rattle.abi_layout.proofs.sound.ObjectItems.{put_at, AreApart, pairs_placed, Item, place_item, component_item, member_items, base_items, all_items, ArePut, end_stage, all_put, placement_of, members_are, bases_are}
-use Rattle.abi_layout.proofs.sound.ObjectFine.{IsItem, is_own, is_shared, is_member, all_view, IsFine, fine, type_fine, object_below, item_align, row_fine}
+use Rattle.abi_layout.proofs.sound.ObjectFine.{IsItem, is_own, is_virtual_base, is_member, all_view, IsFine, fine, type_fine, object_below, item_align, row_fine}
 use Rattle.abi_layout.proofs.sound.ObjectPlaced.{Stands, in_place, clear_of, base_stands, member_stands, own_in_place, own_clear, arranged_by, laid_out}
 
 -- what is not empty makes its class not empty
@@ -47,7 +47,7 @@ item_has_data h rows primaries c class x keeps at view other = split (is_empty h
         let parts = empty_parts h c class keeps at is in
         let e = parts.bases edge.base (subst (λ (o : Option Class). Contains (bases_in o) edge.base) at edge.listed) in
         not_both (ap (is_empty h) (sym edge.class) ∙ e.empty_is) some
-    by_view _ (is_shared v has) some is = dynamic_not_empty h keeps c (virtual_dynamic h c v has) is
+    by_view _ (is_virtual_base v has) some is = dynamic_not_empty h keeps c (virtual_dynamic h c v has) is
     by_view _ (is_member n member place has) some is = let parts = empty_parts h c class keeps at is in subst (λ (xs : List (Member ClassId)). Has xs member) parts.no_member has
 
 -- a class's own virtual pointer
@@ -90,7 +90,7 @@ complete_stands : (h : Classes) (rows : List ClassLayout) (primaries : List Prim
 complete_stands h rows primaries c class _ keeps at low (is_own b edge) =
     let l = base_below h c b keeps edge in
     (base_stands h rows c (subobject_of c (Own b)) b (brought_by h rows primaries (object_parts h rows primaries) c (subobject_of c (Own b)) b) (placed_place h rows c (Own b)) (low b l), omega arith)
-complete_stands h rows primaries c class _ keeps at low (is_shared v has) =
+complete_stands h rows primaries c class _ keeps at low (is_virtual_base v has) =
     let l = virtual_below h keeps c v has in
     (base_stands h rows c (shared_base v) v (brought_by h rows primaries (object_parts h rows primaries) c (shared_base v) v) (placed_place h rows c (VirtualBase v)) (low v l), omega arith)
 complete_stands h rows primaries c class _ keeps at low (is_member n member place has) =

@@ -95,9 +95,9 @@ inner_listed h rows ps c s d (base ∷ bases) = split base.is_virtual
     by = brought_by h rows ps (object_parts h rows ps) c
 
 -- the virtual base that a subobject holds lists what it brings
-shared_listed : (h : Classes) (rows : List ClassLayout) (ps : List Primary) (c : ClassId) (s : Subobject) (o : Option ClassId) → flat_map (placed_parts (node_parts h rows ps)) (virtual_start h rows ps c s o) ≡ virtual_brings (brought_by h rows ps (object_parts h rows ps) c) (kept_if (holds_base h ps c s) o)
-shared_listed h rows ps c s None = refl
-shared_listed h rows ps c s (Some v) = by_test (holds_base h ps c s v)
+virtual_listed : (h : Classes) (rows : List ClassLayout) (ps : List Primary) (c : ClassId) (s : Subobject) (o : Option ClassId) → flat_map (placed_parts (node_parts h rows ps)) (virtual_start h rows ps c s o) ≡ virtual_brings (brought_by h rows ps (object_parts h rows ps) c) (kept_if (holds_base h ps c s) o)
+virtual_listed h rows ps c s None = refl
+virtual_listed h rows ps c s (Some v) = by_test (holds_base h ps c s v)
   where
     by_test : (b : Bool) → flat_map (placed_parts (node_parts h rows ps)) (one_at (if b then Within c (shared_base v) v else Pointer) 0 (nvsize_in (slice_get rows v.0)) ∷ []) ≡ virtual_brings (brought_by h rows ps (object_parts h rows ps) c) (if b then Some v else None)
     by_test true =
@@ -123,7 +123,7 @@ within_unfolds h rows ps keeps possible c s d =
     let f = placed_parts (node_parts h rows ps) in
     let pieces = four_pieces f (members_at h rows d) (map (inner_base h rows c s d) (filter is_plain_base (bases_of h d))) (virtual_start h rows ps c s (virtual_primary ps d)) (own_pointer h ps d)
     (member_parts h rows (object_parts h rows ps) d) (flat_map (base_brings h rows (brought_by h rows ps (object_parts h rows ps) c) s d) (bases_of h d)) (virtual_brings (brought_by h rows ps (object_parts h rows ps) c) (held_base h ps c s d))
-    (members_listed h rows ps 0 (members_of h d) (members_in (slice_get rows d.0))) (inner_listed h rows ps c s d (bases_of h d)) (shared_listed h rows ps c s (virtual_primary ps d)) (pointer_listed h rows ps (owns_pointer h ps d)) in
+    (members_listed h rows ps 0 (members_of h d) (members_in (slice_get rows d.0))) (inner_listed h rows ps c s d (bases_of h d)) (virtual_listed h rows ps c s (virtual_primary ps d)) (pointer_listed h rows ps (owns_pointer h ps d)) in
     brought_is h rows ps (object_parts h rows ps) c keeps possible.before s d ∙ ap (λ t. part_at d 0 ∷ t) (sym pieces)
 
 -- nodes of the classes of the hierarchy

@@ -41,7 +41,7 @@ use Rattle.abi_layout.proofs.sound.ObjectKinds.{dynamic_has_data}
 use Rattle.abi_layout.proofs.rules.AgreeingParts.{primary_is_virtual}
 use Rattle.abi_layout.proofs.sound.ObjectPrimaries.{HasRow, row_of, virtual_primary_of, virtual_at_start}
 use Rattle.abi_layout.proofs.sound.ObjectItems.{put_at, AreApart, apart_back, pairs_placed, Item, a_base, a_member, place_item, component_item, member_items, base_items, front_items, ArePut, mid_stage, front_put, placement_of, members_are, member_item, members_differ}
-use Rattle.abi_layout.proofs.sound.ObjectFine.{plain_edge, IsItem, is_own, is_shared, is_member, plain_front, virtual_front, IsFine, fine, type_fine, object_below, item_align, row_fine}
+use Rattle.abi_layout.proofs.sound.ObjectFine.{plain_edge, IsItem, is_own, is_virtual_base, is_member, plain_front, virtual_front, IsFine, fine, type_fine, object_below, item_align, row_fine}
 use Rattle.abi_layout.proofs.sound.ObjectRows.{item_has_data, own_has, own_two, Owns, owns, type_falls}
 use Rattle.abi_layout.proofs.sound.ObjectPlaced.{Stands, in_place, clear_of, base_stands, pointer_stands, member_stands, own_in_place, own_clear, arranged_by, laid_out}
 
@@ -132,7 +132,7 @@ inner_differ h primaries d class row keeps at =
     pairs_append (λ x y. x ≡ y → ⊥) (member_items 0 class.members row.member_places) (map own_item plain ++ virtual_items (virtual_primary primaries d)) (members_differ 0 class.members row.member_places)
     (pairs_append (λ x y. x ≡ y → ⊥) (map own_item plain) (virtual_items (virtual_primary primaries d))
     (pairs_map (λ x y. x ≡ y → ⊥) own_item plain (pairs_filter (λ x y. own_item x ≡ own_item y → ⊥) is_plain_base class.bases (pairs_by_number (λ x y. own_item x ≡ own_item y → ⊥) class.bases once)))
-    (shared_once (virtual_primary primaries d))
+    (virtual_once (virtual_primary primaries d))
     (λ x y a b same. let k = plain_item class.bases x a in let l = virtual_item (virtual_primary primaries d) y b in own_not_virtual k.base.class l.0 (k.is ∙ (same ∙ sym l.2))))
     (λ x y a b same. let k = member_item 0 class.members row.member_places x a in ⊎_elim
     (λ o. let l = plain_item class.bases y o in member_not_base k.number k.member k.place (Own l.base.class) (k.is ∙ (same ∙ sym l.is)))
@@ -156,15 +156,15 @@ inner_differ h primaries d class row keeps at =
         let f = keeps.once d i j x y (subst (λ (o : Option Class). slice_get (bases_in o) i ≡ Some x) (sym at) a) (subst (λ (o : Option Class). slice_get (bases_in o) j ≡ Some y) (sym at) b) (same_own x.class y.class same) in
         omega arith
 
-    shared_once : (o : Option ClassId) → Pairs (λ (x y : Item). x ≡ y → ⊥) (virtual_items o)
-    shared_once None = tt
-    shared_once (Some v) = (λ y has. absurd has, tt)
+    virtual_once : (o : Option ClassId) → Pairs (λ (x y : Item). x ≡ y → ⊥) (virtual_items o)
+    virtual_once None = tt
+    virtual_once (Some v) = (λ y has. absurd has, tt)
 
 -- each item of a subobject is a base or a member of its class
 inner_item : (h : Classes) (rows : List ClassLayout) (nearly : List Bool) (primaries : List Primary) (d : ClassId) (class : Class) (x : Item) → IsHierarchy h → IsLaidBy h (length h) rows nearly primaries → d.0 < length h → IsInner h primaries d class x → IsItem h d class x
 inner_item h rows nearly primaries d class _ keeps laid lt (inner_member n member place has) = is_member n member place has
 inner_item h rows nearly primaries d class _ keeps laid lt (inner_own b edge) = is_own b edge
-inner_item h rows nearly primaries d class _ keeps laid lt (inner_virtual v e) = is_shared v (virtual_primary_of h rows nearly primaries d v keeps laid lt e).0
+inner_item h rows nearly primaries d class _ keeps laid lt (inner_virtual v e) = is_virtual_base v (virtual_primary_of h rows nearly primaries d v keeps laid lt e).0
 
 within_stands : (h : Classes) (rows : List ClassLayout) (nearly : List Bool) (primaries : List Primary) (c : ClassId) (s : Subobject) (d : ClassId) (class : Class) (x : Item) → IsHierarchy h → IsLaidBy h (length h) rows nearly primaries → d.0 < length h → class_at h d ≡ Some class → ((b : ClassId) → b.0 < d.0 → IsFine h rows b) → IsInner h primaries d class x
     → Stands (measures_of h rows) (component_item h rows primaries d x) (place_item h rows d x) (within_place h rows primaries c s d x) × (rank_of (within_place h rows primaries c s d x).node < 2 * d.0 + 1)

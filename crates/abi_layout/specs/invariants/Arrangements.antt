@@ -52,7 +52,7 @@ pub record IsTooLargeBy (first : Stage) (fronts members frees : List Component) 
 
 -- the class is within the limit of sizes, and some base of it brings one pair of class and place twice, so that no place
 -- helps
-pub record IsShared (first : Stage) (fronts members frees : List Component) (is_pod : Bool) : Type 0 where
+pub record LeavesNoPlace (first : Stage) (fronts members frees : List Component) (is_pod : Bool) : Type 0 where
   pub arrangement : Arrangement
   pub arranged : IsArranged first fronts members frees is_pod arrangement
   pub small : arrangement.size ≤ size_limit
@@ -64,7 +64,7 @@ abbrev pub IsRefusal : Stage → (fronts members frees : List Component) → (is
 IsRefusal first fronts members frees is_pod place stop =
     (stop ≡ NoMemory)
     ⊎ (((stop ≡ Limit L6) × IsTooLargeBy first fronts members frees is_pod)
-    ⊎ ((stop ≡ Refused SharedPlace place) × IsShared first fronts members frees is_pod))
+    ⊎ ((stop ≡ Refused SharedPlace place) × LeavesNoPlace first fronts members frees is_pod))
 
 -- what placed bases are to their class, by what is known of the classes before it
 abbrev pub components_by : Classes → List ClassLayout → List Known → List Primary → ClassId → List PlacedBase → List Component

@@ -3,7 +3,7 @@ use Rattle.std.specs.Prelude.{◌≡◌, ◌<◌, ℕ, Option, Some, None, List,
 use Rattle.cxx_hierarchy.specs.declared.records.ClassId.{ClassId}
 use Rattle.cxx_hierarchy.specs.Classes.{Classes}
 use Rattle.cxx_subobject.specs.declared.Subobject.{Subobject}
-use Rattle.cxx_subobject.specs.Subobjects.{IsSubobject, class_of}
+use Rattle.cxx_subobject.specs.Subobjects.{IsSubobject}
 use Rattle.cxx_subobject.specs.Inside.{IsInside}
 use Rattle.cxx_lookup.specs.declared.Found.{Found}
 use Rattle.cxx_lookup.specs.Lookup.{place_of, name_of, IsDeclared}

@@ -1,6 +1,5 @@
 -- What overrides the functions of a virtual base.
-use Rattle.std.specs.Prelude.{◌≡◌, ◌<◌, ℕ, Option, Some, None, List}
-use Rattle.indexmap.specs.IndexMap.{get_by}
+use Rattle.std.specs.Prelude.{◌≡◌, Option, Some, None}
 use Rattle.cxx_hierarchy.specs.declared.records.ClassId.{ClassId}
 use Rattle.cxx_hierarchy.specs.Classes.{Classes}
 use Rattle.cxx_hierarchy.specs.VirtualBases.{HasVirtualBase}
@@ -10,8 +9,6 @@ use Rattle.cxx_subobject.specs.Inside.{IsInside}
 use Rattle.cxx_overrider.specs.declared.Overrider.{Overrider}
 use Rattle.cxx_overrider.specs.declared.entries.Entry.{Entry}
 use Rattle.cxx_overrider.specs.Functions.{Signature, signature_of}
-use Rattle.cxx_overrider.specs.Overriding.{HasVirtual}
-use Rattle.cxx_overrider.specs.invariants.Numbers.{IsNumberOf}
 use Rattle.cxx_overrider.specs.invariants.Places.{place_of}
 
 -- a subobject of c, of a class that has the virtual base v and declares a function of the signature

@@ -1,5 +1,5 @@
 -- What the class-meaning pass keeps, and what it has found out.
-use Rattle.std.specs.Prelude.{◌≡◌, ◌<◌, ◌+◌, ◌↔◌, Bool, false, IsTrue, List, length, slice_index_or}
+use Rattle.std.specs.Prelude.{◌<◌, ◌+◌, ◌↔◌, Bool, false, IsTrue, List, length, slice_index_or}
 use Rattle.cxx_hierarchy.specs.declared.records.ClassId.{ClassId}
 use Rattle.cxx_hierarchy.specs.declared.records.FieldType.{FieldType}
 use Rattle.cxx_hierarchy.specs.declared.records.FieldType.TheVariants.{Value, Object}

@@ -17,6 +17,7 @@ use Rattle.cxx_overrider.specs.declared.settling.Settled.TheVariants.{Nothing, O
 use Rattle.cxx_overrider.specs.Functions.{Signature}
 use Rattle.cxx_overrider.specs.Overriding.{HasVirtual, HasTwoFinalOverriders}
 use Rattle.cxx_overrider.specs.invariants.Numbers.{IsNumberOf}
+use Rattle.cxx_overrider.specs.invariants.Pure.{DeclaresNone}
 use Rattle.cxx_overrider.specs.invariants.Within.{HasVirtualWithin}
 use Rattle.cxx_overrider.specs.invariants.Places.{place_of, base_of, IsThrough}
 use Rattle.cxx_overrider.specs.invariants.Entries.{Declares, IsGreatest, Tells, TellsOf}
@@ -90,13 +91,14 @@ key c v n = record { class = c.0; root = v.0; number = n }
 
 -- the table tells of the classes before c
 pub record TellsBefore (h : Classes) (table : EntryTable) (c v : ClassId) (n : ℕ) (signature : Signature) : Type 0 where
-  pub each : (b : ClassId) → b.0 < c.0 → TellsOf h b v signature (entry_of table (key b v n))
+  pub each : (b : ClassId) → b.0 < c.0 → DeclaresNone h b signature → TellsOf h b v signature (entry_of table (key b v n))
 
 -- the key comes before that of class c, virtual base v and number n
 abbrev pub IsDone : (c v n : ℕ) → Key → Type 0
 IsDone c v n q = (q.class < c) ⊎ (((q.class ≡ c) × (q.root < v)) ⊎ ((q.class ≡ c) × (q.root ≡ v) × (q.number < n)))
 
--- the table is made up to there: it tells of the virtual functions that lie in the virtual bases themselves
+-- the table is made up to there: it tells of the virtual functions that lie in the virtual bases themselves, where the
+-- class declares none of the signature; else what it declares overrides them
 pub record IsMade (h : Classes) (numbers : List (List ℕ)) (table : EntryTable) (c v n : ℕ) : Type 0 where
-  pub told : (b w : ClassId) (m : ℕ) (signature : Signature) → IsDone c v n (key b w m) → IsNumberOf h numbers m signature → HasVirtualWithin h w signature → TellsOf h b w signature (entry_of table (key b w m))
+  pub told : (b w : ClassId) (m : ℕ) (signature : Signature) → IsDone c v n (key b w m) → IsNumberOf h numbers m signature → HasVirtualWithin h w signature → DeclaresNone h b signature → TellsOf h b w signature (entry_of table (key b w m))
   pub fresh : (q : Key) → (IsDone c v n q → ⊥) → entry_of table q ≡ None

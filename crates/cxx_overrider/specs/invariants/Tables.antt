@@ -1,6 +1,7 @@
 -- What is known of all classes before the pass.
 use Rattle.std.specs.Prelude.{◌≡◌, length}
 use Rattle.cxx_hierarchy.specs.Classes.{Classes}
+use Rattle.cxx_subobject.specs.VirtualFlags.{TellsVirtualBases}
 use Rattle.cxx_overrider.specs.declared.tables.Tables.{Tables}
 use Rattle.cxx_overrider.specs.Overriding.{HasVirtual}
 use Rattle.cxx_overrider.specs.invariants.Numbers.{IsNumbering}
@@ -20,3 +21,5 @@ pub record AreTables (h : Classes) (tables : Tables) : Type 0 where
   pub all_pure : length tables.pure.items ≡ length h
   pub within : AreWithin h tables.numbering.rows.items tables.numbering.count tables.within.items
   pub all_within : length tables.within.items ≡ length h
+  pub with_virtual : TellsVirtualBases h tables.with_virtual.items
+  pub all_with_virtual : length tables.with_virtual.items ≡ length h

@@ -1,5 +1,5 @@
 -- How the subobjects and parts of a class are counted: outside its virtual bases, and with each of these once.
-use Rattle.std.specs.Prelude.{◌≡◌, ◌⊎◌, ℕ, zero, suc, min, ◌+◌, ◌*◌, ◌≤◌, ◌<◌, ◌↔◌, true, false, IsTrue, if◌then◌else◌, Option, Some, None, List, [], ◌∷◌, Contains, slice_get, length, get_or}
+use Rattle.std.specs.Prelude.{◌≡◌, ◌⊎◌, ℕ, zero, suc, min, ◌+◌, ◌*◌, ◌≤◌, ◌<◌, ◌↔◌, false, IsTrue, if◌then◌else◌, Some, List, Contains, slice_get, length, get_or}
 use Rattle.std.specs.List.{sum_by}
 use Rattle.cxx_hierarchy.specs.declared.records.ClassId.{ClassId}
 use Rattle.cxx_hierarchy.specs.declared.records.Base.{Base}

@@ -1,5 +1,5 @@
 -- Tests on paths: whether one subobject lies in another, and whether public edges lead there.
-use Rattle.std.specs.Prelude.{◌≡◌, Bool, true, false, not, nat_eq, ◌&&◌, ◌-◌, Option, Some, None, List, [], ◌∷◌, length, drop}
+use Rattle.std.specs.Prelude.{Bool, true, not, nat_eq, ◌&&◌, ◌-◌, Option, Some, None, List, [], ◌∷◌, length, drop}
 use Rattle.std.specs.List.{list_any}
 use Rattle.cxx_hierarchy.specs.declared.records.ClassId.{ClassId}
 use Rattle.cxx_hierarchy.specs.declared.records.Base.{Base}

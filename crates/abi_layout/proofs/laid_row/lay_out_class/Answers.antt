@@ -27,7 +27,7 @@ place_virtuals-requires-clause-room c =
     let holders = c.in_ok-holders.holders.items in
     let made = class_placed_by h n.c n.class.now c.args.rows.now.items c.deref.result.now n.known.now n.members.now n.primaries.now n.list.now holders n.primary n.has_pointer o.arrangement o.base_places
     c.deref.ensures.value c.keeps.ensures (c.requires.scene holders c.in_ok-holders.ensures) c.requires.sized c.requires.class c.requires.own c.in_ok-placed.ensures.arranged c.in_ok-placed.ensures.within c.in_ok-placed.ensures.base_places c.in_ok-placed.ensures.members c.in_ok-placed.ensures.fronts_apart c.in_ok-placed.ensures.frees_apart in
-    room_by h n.c n.class.now c.args.rows.now.items c.push_row.new.rows.items n.known.now n.members.now n.primaries.now n.list.now holders n.primary n.has_pointer o.arrangement o.base_places c.deref-5.result.now c.in_ok-pushed.pushed.free_places made c.in_ok-pushed.ensures.row (c.deref-5.ensures.value ∙ c.in_ok-placed.ensures.free) c.in_ok-pushed.ensures.free_places
+    room_by h n.c n.class.now c.args.rows.now.items c.push_row.new.rows.items n.known.now n.members.now n.primaries.now n.list.now holders n.primary n.has_pointer o.arrangement o.base_places c.deref-5.result.now c.as_slice.result.now made c.in_ok-pushed.ensures.row (c.deref-5.ensures.value ∙ c.in_ok-placed.ensures.free) (c.as_slice.ensures ∙ c.in_ok-pushed.ensures.free_places)
 
 pub returns-clause-laid : goal.returns-clause-laid
 returns-clause-laid c =
@@ -41,8 +41,8 @@ returns-clause-laid c =
     let vs = c.in_ok-virtuals.virtuals.items in
     let vs_are : vs ≡ virtual_bases h n.c = c.in_ok-virtuals.ensures ∙ made.scene.tells.virtuals in
     let placed = c.in_ok-place_virtuals.ensures in
-    let virtuals = virtuals_by h n.c (c.args.rows.now.items ++ row_from o.arrangement n.primary o.base_places [] [] [] ∷ []) c.push_row.new.rows.items n.list.now holders c.deref-4.result.now c.deref-5.result.now (free_bases h n.primaries.now n.c) pushed.free_places o.arrangement.free_places vs (virtual_bases h n.c) placed.0
-    c.in_ok-pushed.ensures.row c.deref-4.ensures.value (c.deref-5.ensures.value ∙ c.in_ok-placed.ensures.free) c.in_ok-pushed.ensures.free_places vs_are placed.1 in
+    let virtuals = virtuals_by h n.c (c.args.rows.now.items ++ row_from o.arrangement n.primary o.base_places [] [] [] ∷ []) c.push_row.new.rows.items n.list.now holders c.deref-4.result.now c.deref-5.result.now (free_bases h n.primaries.now n.c) c.as_slice.result.now o.arrangement.free_places vs (virtual_bases h n.c) placed.0
+    c.in_ok-pushed.ensures.row c.deref-4.ensures.value (c.deref-5.ensures.value ∙ c.in_ok-placed.ensures.free) (c.as_slice.ensures ∙ c.in_ok-pushed.ensures.free_places) vs_are placed.1 in
     row_added h n.c n.class.now c.args.rows.now.items c.push_row.new.rows.items c.place_virtuals.new.rows.items n.known.now n.members.now n.primaries.now n.list.now holders n.primary n.has_pointer o.arrangement o.base_places placed.0 vs (map (λ (v : ClassId). held_at n.list.now (get_or c.deref-4.result.now v.0 None)) vs) o.is_empty o.is_pod pushed.parts pushed.member_parts
     made c.requires.primary c.requires.pointer c.requires.smaller virtuals vs_are (ap (λ (xs : List (Option ℕ)). map (λ (v : ClassId). held_at n.list.now (get_or xs v.0 None)) vs) c.deref-4.ensures.value) c.in_ok-pushed.ensures.row placed.2 c.in_ok-placed.ensures.is_empty c.in_ok-placed.ensures.is_pod c.in_ok-pushed.ensures.parts c.in_ok-pushed.ensures.member_parts
 

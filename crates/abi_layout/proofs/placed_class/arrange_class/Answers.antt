@@ -12,7 +12,7 @@ use Rattle.abi_layout.specs.Layouts.{start_stage}
 use Rattle.abi_layout.specs.invariants.Arrangements.{components_by}
 use Rattle.abi_layout.specs.Repeats.{SomeRepeats}
 use Rattle.abi_layout.proofs.algorithm.RowLemmas.{members_fit}
-use Rattle.abi_layout.proofs.algorithm.SceneFits.{placed_all_fit, nvsize_small, earlier_members, member_refuses, size_refuses, repeat_refuses, shared_by}
+use Rattle.abi_layout.proofs.algorithm.SceneFits.{placed_all_fit, nvsize_small, earlier_members, member_refuses, size_refuses, repeat_refuses, no_place_by}
 use Rattle.abi_layout.proofs.placed_class.arrange_class.Goals as goal
 
 pub placed_components-requires-clause-fits : goal.placed_components-requires-clause-fits
@@ -100,7 +100,7 @@ returns-in_err-refuse_repeated-clause-refused c =
     let again = c.deref-4.ensures.value ∙ c.in_ok-bases.ensures in
     rw (p.1, p.2)
     (repeat_refuses (start_stage x.c c.args.has_pointer) fronts members frees c.deref-4.result.now c.args.is_pod c.args.class.now.at c.in_err-refuse_repeated.field-0.0
-    (λ twice. shared_by (start_stage x.c c.args.has_pointer) c.deref.result.now fronts c.deref-2.result.now members c.deref-3.result.now frees c.args.is_pod c.in_ok-arrangement.arrangement
+    (λ twice. no_place_by (start_stage x.c c.args.has_pointer) c.deref.result.now fronts c.deref-2.result.now members c.deref-3.result.now frees c.args.is_pod c.in_ok-arrangement.arrangement
     fronts_are members_are frees_are c.in_ok-arrangement.ensures.arranged c.in_ok-arrangement.ensures.within (inl (subst SomeRepeats again twice)))
     c.in_err-refuse_repeated.ensures.refused)
 
@@ -117,6 +117,6 @@ returns-in_err-refuse_repeated-2-clause-refused c =
     let again = c.deref-5.ensures.value ∙ c.in_ok-frees.ensures in
     rw (p.1, p.2)
     (repeat_refuses (start_stage x.c c.args.has_pointer) fronts members frees c.deref-5.result.now c.args.is_pod c.args.class.now.at c.in_err-refuse_repeated-2.field-0.0
-    (λ twice. shared_by (start_stage x.c c.args.has_pointer) c.deref.result.now fronts c.deref-2.result.now members c.deref-3.result.now frees c.args.is_pod c.in_ok-arrangement.arrangement
+    (λ twice. no_place_by (start_stage x.c c.args.has_pointer) c.deref.result.now fronts c.deref-2.result.now members c.deref-3.result.now frees c.args.is_pod c.in_ok-arrangement.arrangement
     fronts_are members_are frees_are c.in_ok-arrangement.ensures.arranged c.in_ok-arrangement.ensures.within (inr (subst SomeRepeats again twice)))
     c.in_err-refuse_repeated-2.ensures.refused)

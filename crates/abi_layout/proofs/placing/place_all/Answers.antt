@@ -1,9 +1,10 @@
 use Rattle.std.proofs.Common.{◌≡◌, ◌+◌, ◌<◌, ◌∷◌, ◌++◌, [], ℕ, Some, List, arith, drop, subst, sym, inr, refl, drop-cons, add-one, get_or, ◌∙◌, ap}
 use Rattle.std.specs.List.{slice_get}
 use Rattle.std.proofs.lemmas.Option.{slice_get_read}
+use Rattle.std.proofs.lemmas.List.{drop_all}
 use Rattle.abi_layout.specs.declared.component.Component.{Component}
 use Rattle.abi_layout.specs.declared.component.Stage.{Stage}
-use Rattle.abi_layout.proofs.rules.PlacingLemmas.{Completes, completes_more, completes_past, completes_all, completes_stage, drop_none, fit_at, place_is_one}
+use Rattle.abi_layout.proofs.rules.PlacingLemmas.{Completes, completes_more, completes_past, completes_all, completes_stage, fit_at, place_is_one}
 use Rattle.abi_layout.proofs.placing.place_all.Goals as goal
 
 -- the item of a list at a place, and the items behind it
@@ -60,7 +61,7 @@ loop-component-preserved c =
     }
 
 pub returns-clause-placed : goal.returns-clause-placed
-returns-clause-placed c = completes_all c.args.placing.now.stage c.args.components.now c.loop-component.places c.loop-component.placing.stage (drop c.loop-component.component-index c.args.components.now) (drop_none c.args.components.now c.loop-component.component-index c.loop-component-test.false) c.loop-component.invariant.completes
+returns-clause-placed c = completes_all c.args.placing.now.stage c.args.components.now c.loop-component.places c.loop-component.placing.stage (drop c.loop-component.component-index c.args.components.now) (drop_all c.loop-component.component-index c.args.components.now c.loop-component-test.false) c.loop-component.invariant.completes
 
 pub returns-clause-after : goal.returns-clause-after
-returns-clause-after c = completes_stage c.args.placing.now.stage c.args.components.now c.loop-component.places c.loop-component.placing.stage (drop c.loop-component.component-index c.args.components.now) (drop_none c.args.components.now c.loop-component.component-index c.loop-component-test.false) c.loop-component.invariant.completes
+returns-clause-after c = completes_stage c.args.placing.now.stage c.args.components.now c.loop-component.places c.loop-component.placing.stage (drop c.loop-component.component-index c.args.components.now) (drop_all c.loop-component.component-index c.args.components.now c.loop-component-test.false) c.loop-component.invariant.completes

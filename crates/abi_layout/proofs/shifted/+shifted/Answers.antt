@@ -1,6 +1,7 @@
 use Rattle.std.proofs.Common.{sym, ◌∙◌, arith}
+use Rattle.foundation.proofs.Truth.{never, always}
 use Rattle.cxx_hierarchy.specs.Classes.{bases_of}
-use Rattle.abi_primary.proofs.Nth.{nth, all_nth, never, always}
+use Rattle.abi_primary.proofs.Nth.{nth, all_nth}
 use Rattle.abi_primary.proofs.KindLemmas.{bases_are, listed_base}
 use Rattle.abi_layout.proofs.algorithm.NextShifted.{IsStayed, base_shifts, no_shift}
 use Rattle.abi_layout.proofs.shifted.+shifted.Goals as goal

@@ -1,4 +1,4 @@
-use Rattle.std.proofs.Common.{◌≡◌, Option, ◌∙◌, ap, arith}
+use Rattle.std.proofs.Common.{Option, ◌∙◌, ap, arith}
 use Rattle.cxx_hierarchy.specs.declared.records.ClassId.{ClassId}
 use Rattle.cxx_hierarchy.specs.declared.records.ValueType.{ValueType}
 use Rattle.abi_lower.specs.Blocks.{class_or_first, pointed_in}

@@ -1,6 +1,7 @@
 use Rattle.std.proofs.Common.{sym, ◌∙◌, arith}
+use Rattle.foundation.proofs.Truth.{never, always, not_both}
 use Rattle.abi_primary.specs.Kinds.{declares}
-use Rattle.abi_primary.proofs.Nth.{nth, nth_in, one_more, all_nth, never, always, not_both}
+use Rattle.abi_primary.proofs.Nth.{nth, nth_in, one_more, all_nth}
 use Rattle.abi_primary.proofs.KindLemmas.{IsStill, never_dynamic, by_virtual, by_dynamic, listed_base}
 use Rattle.abi_primary.proofs.kinds.+is_dynamic.Goals.{then-base-via-then-base, then-base-via-else-base+then-is_dynamic}
 use Rattle.abi_primary.proofs.kinds.+is_dynamic.Goals as goal

@@ -1,5 +1,6 @@
 use Rattle.std.proofs.Common.{sym, ◌∙◌, arith}
-use Rattle.abi_primary.proofs.Nth.{nth, nth_in, all_nth, not_both}
+use Rattle.foundation.proofs.Truth.{not_both}
+use Rattle.abi_primary.proofs.Nth.{nth, nth_in, all_nth}
 use Rattle.abi_primary.proofs.KindLemmas.{IsEmptyBase, not_empty, empty_by, some_member, listed_base, none_of}
 use Rattle.abi_primary.proofs.kinds.+is_empty.Goals.{then-base-via-then-base, then-base-via-else-base+then-not-is_empty}
 use Rattle.abi_primary.proofs.kinds.+is_empty.Goals as goal

@@ -1,4 +1,4 @@
-use Rattle.abi_primary.proofs.Nth.{never}
+use Rattle.foundation.proofs.Truth.{never}
 use Rattle.abi_primary.proofs.VirtualListLemmas.{no_virtual}
 use Rattle.abi_primary.proofs.listing.has_virtual_bases.Goals as goal
 

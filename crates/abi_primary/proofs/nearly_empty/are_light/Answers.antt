@@ -1,6 +1,7 @@
 use Rattle.std.proofs.Common.{refl}
+use Rattle.foundation.proofs.Truth.{always}
 use Rattle.abi_primary.specs.NearlyEmpty.{IsLight}
-use Rattle.abi_primary.proofs.Nth.{nth, nth_listed, all_nth, always}
+use Rattle.abi_primary.proofs.Nth.{nth, nth_listed, all_nth}
 use Rattle.abi_primary.proofs.nearly_empty.are_light.Goals as goal
 
 pub is_empty-requires : goal.is_empty-requires

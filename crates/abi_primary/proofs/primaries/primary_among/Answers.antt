@@ -1,7 +1,7 @@
-use Rattle.std.proofs.Common.{List, ap, subst, sym, ◌∙◌}
+use Rattle.std.proofs.Common.{List, subst, sym, ◌∙◌}
 use Rattle.cxx_hierarchy.specs.declared.records.ClassId.{ClassId}
 use Rattle.cxx_hierarchy.specs.declared.records.Base.{Base}
-use Rattle.abi_primary.specs.PrimaryBase.{HasNoDynamicBase, IsFirstDynamic, virtual_primary, IsPrimary, of_direct, of_virtual}
+use Rattle.abi_primary.specs.PrimaryBase.{HasNoDynamicBase, IsFirstDynamic, IsPrimary, of_direct, of_virtual}
 use Rattle.abi_primary.proofs.KindLemmas.{bases_are, base_within}
 use Rattle.abi_primary.proofs.VirtualListLemmas.{listed_primary}
 use Rattle.abi_primary.proofs.primaries.primary_among.Goals as goal

@@ -1,5 +1,5 @@
 -- One declaration after the other is compared with the best one so far.
-use Rattle.std.proofs.Common.{◌≡◌, ◌+◌, ℕ, sym, subst, length, Option, true, false, arith}
+use Rattle.std.proofs.Common.{◌≡◌, ◌+◌, ℕ, sym, subst, length, Option, arith}
 use Rattle.cxx_lookup.specs.invariants.Searches.{found_at}
 use Rattle.cxx_lookup.proofs.Highest.{IsOrder, IsBest, Tells, none_yet, skipped, taken, kept}
 use Rattle.cxx_lookup.proofs.Listing.{not_both}

@@ -1,9 +1,6 @@
-use Rattle.std.proofs.Common.{◌≡◌, List, Bool, Option, Some, None, inl, ap, subst, sym, ◌∙◌, arith}
-use Rattle.cxx_overrider.specs.declared.entries.Entry.{Entry}
+use Rattle.std.proofs.Common.{◌≡◌, List, Bool, inl, ap, ◌∙◌, arith}
 use Rattle.cxx_overrider.specs.invariants.Marks.{mark_of}
-use Rattle.cxx_overrider.specs.invariants.Entries.{Tells, TellsOf}
-use Rattle.cxx_overrider.specs.invariants.EntryTables.{entry_of}
-use Rattle.cxx_overrider.specs.invariants.Settling.{key}
+use Rattle.cxx_overrider.specs.invariants.Entries.{Tells}
 use Rattle.cxx_overrider.proofs.Numbering.{signature_class}
 use Rattle.cxx_overrider.proofs.AbstractLemmas.{number_signature, pure_entry, pure_left_over}
 use Rattle.cxx_overrider.proofs.abstracts.has_pure_number.Goals as goal
@@ -11,25 +8,21 @@ use Rattle.cxx_overrider.proofs.abstracts.has_pure_number.Goals as goal
 pub is_pure-requires : goal.is_pure-requires
 is_pure-requires c =
     let h = c.args.h.now in
-    let entry : entry_of c.args.entries.now (key c.args.c c.args.v c.args.n) ≡ Some c.in-Some.entry = sym (c.in-Some.ensures ∙ ap (entry_of c.args.entries.now) c.key_of.ensures) in
     let s = number_signature h c.args.tables.now.numbering.rows.items c.args.tables.now.numbering.count c.args.n c.requires.tables.numbering c.requires.number in
-    let told = c.requires.made.told c.args.c c.args.v c.args.n s.0 (inl (omega arith)) s.1 (c.requires.within s.0 s.1) in
-    let t : Tells h c.args.c c.args.v s.0 c.in-Some.entry = subst (λ (o : Option Entry). TellsOf h c.args.c c.args.v s.0 o) entry told in
+    let t : Tells h c.args.c c.args.v s.0 c.in-Some.entry = c.in-Some.ensures s.0 s.1 (λ own. c.requires.made.told c.args.c c.args.v c.args.n s.0 (inl (omega arith)) s.1 (c.requires.within s.0 s.1) own) in
     signature_class h c.in-Some.entry.function s.0 t.greatest.declares.same
 
 pub returns-in-Some : goal.returns-in-Some
 returns-in-Some c =
     let h = c.args.h.now in
-    let entry : entry_of c.args.entries.now (key c.args.c c.args.v c.args.n) ≡ Some c.in-Some.entry = sym (c.in-Some.ensures ∙ ap (entry_of c.args.entries.now) c.key_of.ensures) in
     pure_entry h c.keeps.ensures c.args.tables.now c.requires.tables c.args.c c.args.v c.requires.known c.args.n c.requires.number c.requires.base c.is_pure.result c.in-Some.entry
-    (λ s k. subst (λ (o : Option Entry). TellsOf h c.args.c c.args.v s o) entry (c.requires.made.told c.args.c c.args.v c.args.n s (inl (omega arith)) k (c.requires.within s k)))
+    (λ s k. c.in-Some.ensures s k (λ own. c.requires.made.told c.args.c c.args.v c.args.n s (inl (omega arith)) k (c.requires.within s k) own))
     c.requires.within c.is_pure.ensures
 
 pub returns-in-None : goal.returns-in-None
 returns-in-None c =
     let h = c.args.h.now in
-    let entry : entry_of c.args.entries.now (key c.args.c c.args.v c.args.n) ≡ None = sym (c.in-None.ensures ∙ ap (entry_of c.args.entries.now) c.key_of.ensures) in
     let is : c.is_marked.result ≡ mark_of c.args.tables.now.pure.items c.args.v c.args.n = c.is_marked.ensures ∙ ap (λ (r : List (List Bool)). mark_of r c.args.v c.args.n) c.deref.ensures.value in
     pure_left_over h c.keeps.ensures c.args.tables.now c.requires.tables c.args.c c.args.v c.requires.known c.args.n c.requires.number c.requires.base c.is_marked.result
-    (λ s k. subst (λ (o : Option Entry). TellsOf h c.args.c c.args.v s o) entry (c.requires.made.told c.args.c c.args.v c.args.n s (inl (omega arith)) k (c.requires.within s k)))
+    (λ s k. c.in-None.ensures s k (λ own. c.requires.made.told c.args.c c.args.v c.args.n s (inl (omega arith)) k (c.requires.within s k) own))
     is

@@ -1,4 +1,4 @@
-use Rattle.std.proofs.Common.{◌≡◌, ◌<◌, sym, arith}
+use Rattle.std.proofs.Common.{sym, arith}
 use Rattle.cxx_hierarchy.specs.Classes.{functions_of}
 use Rattle.foundation.proofs.Places.{contains_at}
 use Rattle.cxx_overrider.proofs.keys.signature_key.Goals as goal

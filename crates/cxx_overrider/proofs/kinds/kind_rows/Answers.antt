@@ -1,4 +1,4 @@
-use Rattle.std.proofs.Common.{◌≡◌, ◌++◌, ◌∷◌, [], ◌+◌, ℕ, List, length, subst, sym, ap, arith, length-append}
+use Rattle.std.proofs.Common.{◌≡◌, ◌++◌, ◌∷◌, [], List, length, subst, sym, ap, arith, length-append}
 use Rattle.cxx_hierarchy.specs.declared.records.ClassId.{ClassId}
 use Rattle.cxx_overrider.specs.declared.kinds.BaseKind.{BaseKind}
 use Rattle.cxx_overrider.specs.invariants.Kinds.{AreKinds}

@@ -1,5 +1,5 @@
-use Rattle.std.proofs.Common.{◌≡◌, ◌<◌, Some, List, subst, sym, arith}
-use Rattle.std.specs.List.{slice_get, Contains}
+use Rattle.std.proofs.Common.{List, subst, sym, arith}
+use Rattle.std.specs.List.{Contains}
 use Rattle.cxx_subobject.specs.declared.Subobject.{Subobject}
 use Rattle.foundation.proofs.Places.{place_of as contains_get}
 use Rattle.std.proofs.lemmas.Option.{slice_get_within}

@@ -1,5 +1,4 @@
-use Rattle.std.proofs.Common.{◌≡◌, ◌≤◌, ◌+◌, ◌++◌, ◌∷◌, [], ◌<◌, ℕ, Bool, List, length, refl, ap, sym, subst, ◌∙◌, arith, length-append}
-use Rattle.cxx_hierarchy.specs.declared.records.ClassId.{ClassId}
+use Rattle.std.proofs.Common.{◌≡◌, ◌≤◌, ℕ, Bool, List, length, refl, ap, sym, subst, ◌∙◌, arith}
 use Rattle.cxx_overrider.specs.invariants.Pass.{TellsAbstract}
 use Rattle.cxx_overrider.specs.invariants.Settling.{IsMade}
 use Rattle.cxx_overrider.proofs.Made.{made_start}

@@ -1,5 +1,4 @@
 use Rattle.std.proofs.Common.{◌≡◌, length}
-use Rattle.cxx_hierarchy.specs.declared.records.ClassId.{ClassId}
 use Rattle.cxx_overrider.specs.Faults.{spot, limit_part}
 use Rattle.cxx_overrider.specs.invariants.Settling.{IsMade}
 use Rattle.cxx_overrider.specs.invariants.Pass.{IsFineTo, TellsAbstract}

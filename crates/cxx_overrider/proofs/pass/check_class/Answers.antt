@@ -1,4 +1,4 @@
-use Rattle.std.proofs.Common.{◌≡◌, ◌+◌, ◌++◌, ◌∷◌, [], Bool, List, length, ap, sym, subst, arith, length-append}
+use Rattle.std.proofs.Common.{◌≡◌, ◌++◌, ◌∷◌, [], Bool, List, length, ap, sym, subst, arith, length-append}
 use Rattle.cxx_overrider.specs.invariants.Pass.{TellsAbstract}
 use Rattle.cxx_overrider.proofs.PassLemmas.{abstracts_more}
 use Rattle.cxx_overrider.proofs.pass.check_class.Goals as goal

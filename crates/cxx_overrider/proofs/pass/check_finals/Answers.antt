@@ -1,4 +1,3 @@
-use Rattle.std.proofs.Common.{◌≡◌, true, false}
 use Rattle.cxx_hierarchy.specs.declared.stop.Stop.TheVariants.{Refused}
 use Rattle.cxx_hierarchy.specs.declared.stop.Rule.TheVariants.{TwoFinalOverriders}
 use Rattle.cxx_overrider.specs.Faults.{overrider_part, two_overriders}

@@ -1,4 +1,3 @@
-use Rattle.std.proofs.Common.{◌≡◌, true, false}
 use Rattle.cxx_overrider.specs.Faults.{limit_part, too_large}
 use Rattle.cxx_hierarchy.specs.declared.stop.Stop.TheVariants.{Limit}
 use Rattle.cxx_hierarchy.specs.declared.stop.LimitNo.TheVariants.{L5}

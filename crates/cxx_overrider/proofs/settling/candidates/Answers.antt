@@ -1,13 +1,14 @@
-use Rattle.std.proofs.Common.{◌≡◌, ◌<◌, ◌++◌, ◌∷◌, [], ◌+◌, ℕ, false, List, Some, get_or, subst, sym, ap, ◌∙◌}
+use Rattle.std.proofs.Common.{◌≡◌, ◌++◌, ◌∷◌, [], ◌+◌, false, List, Option, Some, get_or, subst, sym, ap, ◌∙◌}
 use Rattle.std.specs.List.{slice_get}
 use Rattle.cxx_hierarchy.specs.declared.records.ClassId.{ClassId}
 use Rattle.cxx_hierarchy.specs.declared.records.Base.{Base}
 use Rattle.cxx_hierarchy.specs.Classes.{bases_of}
 use Rattle.cxx_overrider.specs.declared.entries.Entry.{Entry}
+use Rattle.cxx_overrider.specs.invariants.Entries.{TellsOf}
 use Rattle.cxx_overrider.specs.invariants.Settling.{AreCandidates}
 use Rattle.cxx_overrider.proofs.Lists.{get_at}
 use Rattle.foundation.proofs.Places.{contains_at}
-use Rattle.cxx_overrider.proofs.SettlingLemmas.{found_step, missing_step}
+use Rattle.cxx_overrider.proofs.SettlingLemmas.{candidates_step, candidates_skip}
 use Rattle.cxx_overrider.proofs.settling.candidates.Goals as goal
 use Rattle.cxx_overrider.proofs.settling.candidates.Goals.{in-Some+in_ok-push, in_default}
 
@@ -23,14 +24,16 @@ loop-base-preserved c =
     let before = c.keeps.ensures.bases c.args.c base (contains_at (bases_of h c.args.c) i base listed) in
     record {
       items = c.loop-base.invariant.items;
-      found = λ s tells. elim c.match-below.branch [
+      found = λ s k tells. elim c.match-below.branch [
         | in-Some+in_ok-push w ↦
             let grown : w.push.new.self.items ≡ c.loop-base.found.items ++ (record { place = w.lifted.result; function = w.in-Some.entry.function }) ∷ [] = w.in_ok-push.ensures.items in
             let same : c.match-below.found.items ≡ w.push.new.self.items = ap (λ x. x.items) w.found-is in
-            found_step h c.args.entries.now c.args.c c.args.v c.args.n s i c.loop-base.found.items c.match-below.found.items base w.in-Some.entry w.lifted.result c.key_of.result listed before c.key_of.ensures w.in-Some.ensures w.lifted.ensures (same ∙ grown) tells (c.loop-base.invariant.found s tells)
+            candidates_step h c.args.c c.args.v s i c.loop-base.found.items c.match-below.found.items base w.in-Some.entry w.lifted.result listed (c.loop-base.invariant.found s k tells)
+            (w.in-Some.ensures s k (λ own. tells.each base.class before own)) w.lifted.ensures (same ∙ grown)
         | in_default w ↦
             let same : c.loop-base.found.items ≡ c.match-below.found.items = sym (ap (λ x. x.items) w.found-is) in
             subst (λ (xs : List Entry). AreCandidates h c.args.c c.args.v s (i + 1) xs) same
-            (missing_step h c.args.entries.now c.args.c c.args.v c.args.n s i c.loop-base.found.items base c.key_of.result listed before c.key_of.ensures (sym w.in_default.is ∙ c.find-below.ensures) tells (c.loop-base.invariant.found s tells))
+            (candidates_skip h c.args.c c.args.v s i c.loop-base.found.items base listed (c.loop-base.invariant.found s k tells)
+            (subst (λ (o : Option Entry). TellsOf h base.class c.args.v s o) w.in_default.is (c.find_entry-below.ensures s k (λ own. tells.each base.class before own))))
       ];
     }

@@ -1,6 +1,7 @@
 use Rattle.std.proofs.Common.{◌≡◌}
 use Rattle.cxx_hierarchy.specs.Classes.{bases_of}
 use Rattle.cxx_overrider.specs.Functions.{Signature}
+use Rattle.cxx_overrider.specs.invariants.Numbers.{IsNumberOf}
 use Rattle.cxx_overrider.specs.invariants.Settling.{TellsBefore, AreCandidates}
 use Rattle.cxx_overrider.proofs.settling.candidates.Given as goal
 
@@ -8,5 +9,5 @@ use Rattle.cxx_overrider.proofs.settling.candidates.Given as goal
 abbrev pub invariant-loop-base : goal.invariant-loop-base
 invariant-loop-base l = record {
   items : l.base-items ≡ bases_of l.h l.fn.c;
-  found : (s : Signature) → TellsBefore l.h l.entries l.fn.c l.v l.n s → AreCandidates l.h l.fn.c l.v s l.base-index l.found.items;
+  found : (s : Signature) → IsNumberOf l.h l.numbering.rows.items l.n s → TellsBefore l.h l.entries l.fn.c l.v l.n s → AreCandidates l.h l.fn.c l.v s l.base-index l.found.items;
 }

@@ -1,8 +1,9 @@
 use Rattle.std.proofs.Common.{◌≡◌, ◌+◌, ℕ, subst, arith}
 use Rattle.cxx_overrider.specs.invariants.Settling.{IsMade}
-use Rattle.cxx_overrider.proofs.Made.{made_class, keeps_all, keeps_through}
+use Rattle.cxx_overrider.proofs.Made.{made_class, made_without, keeps_all, keeps_through}
 use Rattle.std.proofs.lemmas.Bool.{MatchBool-at_true}
 use Rattle.cxx_overrider.proofs.OneFinal.{one_final}
+use Rattle.cxx_overrider.proofs.VirtualFlagTable.{table_no_virtual_bases}
 use Rattle.cxx_overrider.proofs.settling.settle_class.Goals as goal
 
 pub returns : goal.returns
@@ -24,3 +25,13 @@ loop-number-preserved c = record {
   made = MatchBool-at_true _ _ c.if-not-branch.false c.in_ok-settle_if_base.ensures.one;
   kept = keeps_through c.args.c c.args.entries.now c.loop-number.entries c.settle_if_base.new.entries c.loop-number.invariant.kept c.in_ok-settle_if_base.ensures.kept;
 }
+
+pub returns-then-not-has_virtual_bases-clause-made : goal.returns-then-not-has_virtual_bases-clause-made
+returns-then-not-has_virtual_bases-clause-made c = λ t. made_without c.args.h.now c.keeps.ensures c.args.tables.now.numbering.rows.items c.args.entries.now c.args.c
+    (table_no_virtual_bases c.args.h.now c.args.tables.now c.deref.result.now c.args.c c.has_virtual_bases.result c.requires.tables c.requires.known c.deref.ensures.value c.has_virtual_bases.ensures c.if-not-has_virtual_bases.true) c.requires.made
+
+pub returns-then-not-has_virtual_bases-clause-one : goal.returns-then-not-has_virtual_bases-clause-one
+returns-then-not-has_virtual_bases-clause-one c =
+    let made = made_without c.args.h.now c.keeps.ensures c.args.tables.now.numbering.rows.items c.args.entries.now c.args.c
+    (table_no_virtual_bases c.args.h.now c.args.tables.now c.deref.result.now c.args.c c.has_virtual_bases.result c.requires.tables c.requires.known c.deref.ensures.value c.has_virtual_bases.ensures c.if-not-has_virtual_bases.true) c.requires.made in
+    one_final c.args.h.now c.args.tables.now c.args.entries.now c.args.c (c.args.c.0 + 1) (omega arith) c.requires.tables made

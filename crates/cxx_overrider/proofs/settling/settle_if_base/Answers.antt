@@ -1,4 +1,3 @@
-use Rattle.std.proofs.Common.{◌≡◌, true, false}
 use Rattle.cxx_overrider.proofs.Made.{made_none, keeps_all}
 use Rattle.cxx_overrider.proofs.SettlingLemmas.{refuted}
 use Rattle.cxx_overrider.proofs.settling.settle_if_base.Goals as goal

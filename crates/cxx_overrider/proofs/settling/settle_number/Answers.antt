@@ -1,20 +1,36 @@
-use Rattle.std.proofs.Common.{◌≡◌, Some, subst}
+use Rattle.std.proofs.Common.{◌≡◌, ℕ, List, Some, ap, sym, subst, ◌∙◌}
 use Rattle.std.specs.Prelude.{if◌then◌else◌}
 use Rattle.cxx_overrider.specs.declared.entries.Key.{Key}
 use Rattle.cxx_overrider.specs.declared.settling.Settled.{Settled}
-use Rattle.cxx_overrider.specs.invariants.Numbers.{IsNumberOf}
+use Rattle.cxx_overrider.specs.invariants.Numbers.{number_of, IsNumberOf}
 use Rattle.cxx_overrider.specs.invariants.EntryTables.{same_key, entry_of}
 use Rattle.cxx_overrider.specs.invariants.Settling.{IsSettled}
 use Rattle.cxx_overrider.proofs.Made.{made_tells, made_skip, made_put, keeps_all, keeps_put}
+use Rattle.cxx_overrider.proofs.MarkLemmas.{number_says}
 use Rattle.cxx_overrider.proofs.WithinLemmas.{within_virtual}
 use Rattle.cxx_overrider.proofs.settling.settle_number.Goals as goal
+
+pub returns-in-Some-clause-one : goal.returns-in-Some-clause-one
+returns-in-Some-clause-one c =
+    let h = c.args.h.now in
+    let rows = c.args.tables.now.numbering.rows.items in
+    let f = c.in-Some.field-0 in
+    let number : number_of rows f ≡ Some c.args.n = ap (λ (r : List (List ℕ)). number_of r f) (sym c.deref.ensures.value) ∙ c.in-Some.ensures.1 in
+    made_skip h rows c.args.entries.now c.args.c c.args.v c.args.n c.requires.made
+    (λ s k has own. absurd (own.none f c.in-Some.ensures.0 (number_says h rows c.args.tables.now.numbering.count c.args.n s f c.requires.tables.numbering k number)))
+
+pub returns-in-Some-clause-kept : goal.returns-in-Some-clause-kept
+returns-in-Some-clause-kept c = keeps_all c.args.c c.args.entries.now
+
+pub settle-requires-clause-own : goal.settle-requires-clause-own
+settle-requires-clause-own c = λ f class number. c.in-None.ensures f class (ap (λ (r : List (List ℕ)). number_of r f) c.deref.ensures.value ∙ number)
 
 pub returns-in-Nothing-clause-one : goal.returns-in-Nothing-clause-one
 returns-in-Nothing-clause-one c =
     let h = c.args.h.now in
     let numbers = c.args.tables.now.numbering.rows.items in
     made_skip h numbers c.args.entries.now c.args.c c.args.v c.args.n c.requires.made
-    (λ s k has. subst (λ (x : Settled). IsSettled h c.args.c c.args.v s x) c.in-Nothing.is
+    (λ s k has own. subst (λ (x : Settled). IsSettled h c.args.c c.args.v s x) c.in-Nothing.is
     (c.in_ok-settle.ensures s k (made_tells h numbers c.args.entries.now c.args.c c.args.v c.args.n c.requires.made s k has)))
 
 pub returns-in_ok-put-in-One-clause-one : goal.returns-in_ok-put-in-One-clause-one
@@ -23,7 +39,7 @@ returns-in_ok-put-in-One-clause-one c =
     let numbers = c.args.tables.now.numbering.rows.items in
     let old = c.args.entries.now in
     made_put h numbers old c.args.c c.args.v c.args.n c.requires.made c.put.new.self c.in-One.entry
-    (λ s k has. subst (λ (x : Settled). IsSettled h c.args.c c.args.v s x) c.in-One.is
+    (λ s k has own. subst (λ (x : Settled). IsSettled h c.args.c c.args.v s x) c.in-One.is
     (c.in_ok-settle.ensures s k (made_tells h numbers old c.args.c c.args.v c.args.n c.requires.made s k has)))
     (subst (λ (k : Key). (q : Key) → entry_of c.put.new.self q ≡ (if same_key q k then Some c.in-One.entry else entry_of old q)) c.key_of.ensures c.in_ok-put-in-One.ensures.put)
 

@@ -1,4 +1,4 @@
-use Rattle.std.proofs.Common.{◌≡◌, ◌++◌, ◌∷◌, [], ℕ, List, length, subst, sym, ap, arith, length-append}
+use Rattle.std.proofs.Common.{ℕ, List, length, subst, sym, ap, arith, length-append}
 use Rattle.cxx_overrider.proofs.Numbering.{HasFirsts, firsts_more}
 use Rattle.cxx_overrider.proofs.signatures.number_class.Goals as goal
 

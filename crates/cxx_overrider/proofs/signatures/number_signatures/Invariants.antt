@@ -1,5 +1,4 @@
-use Rattle.std.proofs.Common.{◌≡◌, ℕ, Some, List, length}
-use Rattle.std.specs.List.{slice_get}
+use Rattle.std.proofs.Common.{◌≡◌, length}
 use Rattle.cxx_overrider.specs.invariants.Numbers.{AreFirst}
 use Rattle.cxx_overrider.specs.invariants.Keys.{AreKeyed}
 use Rattle.cxx_overrider.proofs.Numbering.{HasRows}

@@ -1,4 +1,4 @@
-use Rattle.std.proofs.Common.{◌≡◌, ◌++◌, ◌∷◌, [], Bool, List, length, subst, sym, ap, arith, length-append}
+use Rattle.std.proofs.Common.{Bool, List, length, subst, sym, ap, arith, length-append}
 use Rattle.cxx_overrider.specs.Overriding.{HasVirtual}
 use Rattle.cxx_overrider.specs.invariants.Marks.{MarksEach}
 use Rattle.cxx_overrider.proofs.MarkLemmas.{marks_more}

@@ -1,5 +1,5 @@
-use Rattle.std.proofs.Common.{◌≡◌, sym, false, ◌<◌, ◌-◌, ◌∙◌, ap, length, arith}
-use Rattle.std.specs.Prelude.{Some, slice_index_or, ◌==◌}
+use Rattle.std.proofs.Common.{◌≡◌, sym, false, ◌∙◌, ap, length, arith}
+use Rattle.std.specs.Prelude.{◌==◌}
 use Rattle.std.proofs.lemmas.Bool.Decides.{nat_tests}
 use Rattle.cxx_subobject.specs.Subobjects.{class_of_path}
 use Rattle.cxx_subobject.proofs.TestLemmas.{last_there}

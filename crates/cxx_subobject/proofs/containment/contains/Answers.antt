@@ -1,4 +1,4 @@
-use Rattle.std.proofs.Common.{◌≡◌, sym, ◌∙◌, ⊎_elim}
+use Rattle.std.proofs.Common.{sym, ◌∙◌, ⊎_elim}
 use Rattle.foundation.proofs.Truth.{not_both}
 use Rattle.cxx_subobject.proofs.TestLemmas.{longer_sound, inside_longer, inside_reached, inside_cases}
 use Rattle.cxx_subobject.proofs.containment.contains.Goals as goal

@@ -1,4 +1,4 @@
-use Rattle.std.proofs.Common.{◌≡◌, sym, ◌∙◌, ap, ⊎_elim}
+use Rattle.std.proofs.Common.{sym, ◌∙◌, ap, ⊎_elim}
 use Rattle.foundation.proofs.Truth.{not_both}
 use Rattle.cxx_subobject.specs.invariants.Tests.{is_public_path}
 use Rattle.cxx_subobject.proofs.TestLemmas.{down_sound, across_sound, walk_cases}

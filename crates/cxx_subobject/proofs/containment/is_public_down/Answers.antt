@@ -1,4 +1,4 @@
-use Rattle.std.proofs.Common.{◌≡◌, ◌-◌, ◌≤◌, ◌<◌, ◌∙◌, sym, ap, length, arith}
+use Rattle.std.proofs.Common.{◌≡◌, ◌≤◌, ◌∙◌, sym, ap, length, arith}
 use Rattle.cxx_subobject.proofs.TestLemmas.{longer_shorter}
 use Rattle.cxx_subobject.proofs.containment.is_public_down.Goals as goal
 

@@ -1,15 +1,14 @@
-use Rattle.std.proofs.Common.{◌≡◌, ℕ, ◌+◌, ◌<◌, ◌≤◌, ◌++◌, ◌∷◌, [], get_or, take, length, ap, subst, sym, ◌∙◌, inl, arith, true, false, List, set}
+use Rattle.std.proofs.Common.{◌≡◌, ◌+◌, ◌++◌, ◌∷◌, [], get_or, take, ap, subst, sym, ◌∙◌, arith, true, false, List, set}
 use Rattle.std.specs.List.{flat_map}
 use Rattle.std.proofs.lemmas.List.{append-nil, length-set}
 use Rattle.cxx_hierarchy.specs.declared.records.ClassId.{ClassId}
 use Rattle.cxx_hierarchy.specs.declared.records.Base.{Base}
-use Rattle.cxx_hierarchy.specs.Classes.{bases_of, bases_in}
+use Rattle.cxx_hierarchy.specs.Classes.{bases_in}
 use Rattle.cxx_subobject.specs.declared.Subobject.{Subobject}
-use Rattle.cxx_subobject.specs.Subobjects.{subobject, shared_base, base_subobject}
-use Rattle.cxx_subobject.specs.Preorder.{tree}
-use Rattle.cxx_subobject.specs.invariants.Walks.{with_new, IsFresh, AreMarks, IsPlaced, IsClosed}
+use Rattle.cxx_subobject.specs.Subobjects.{subobject}
+use Rattle.cxx_subobject.specs.invariants.Walks.{IsFresh, AreMarks, IsPlaced, IsClosed}
 use Rattle.cxx_subobject.proofs.TreeLemmas.{base_listed, base_down, base_across}
-use Rattle.cxx_subobject.proofs.WalkLemmas.{below, closed_here, closed_less, closed_tree, placed_down, fresh_next, others_before, marks_down, marks_across, fresh_shared, walk_whole, has_start, next_walked, skip_walked}
+use Rattle.cxx_subobject.proofs.WalkLemmas.{below, closed_here, closed_less, placed_down, fresh_next, others_before, marks_down, marks_across, fresh_shared, walk_whole, has_start, next_walked, skip_walked}
 use Rattle.cxx_subobject.proofs.listing.+visit.Goals.{then-base+then-not-marks-number+in_ok-inner+in_ok-visit, then-base+else-not-marks-number, else-base+in_ok-inner-2+in_ok-visit-2}
 use Rattle.cxx_subobject.proofs.listing.+visit.Goals as goal
 

@@ -4,7 +4,7 @@ use Rattle.cxx_hierarchy.specs.declared.records.ClassId.{ClassId}
 use Rattle.cxx_subobject.specs.declared.Root.TheVariants.{Whole}
 use Rattle.cxx_subobject.specs.declared.Subobject.{Subobject}
 use Rattle.cxx_subobject.specs.Subobjects.{subobject, whole_of}
-use Rattle.cxx_subobject.specs.Preorder.{tree, preorder, ListsSubobjects}
+use Rattle.cxx_subobject.specs.Preorder.{tree, ListsSubobjects}
 use Rattle.cxx_subobject.specs.invariants.Walks.{with_new, IsFresh, AreMarks, IsPlaced, IsClosed}
 use Rattle.cxx_subobject.proofs.TreeLemmas.{preorder_lists}
 use Rattle.cxx_subobject.proofs.WalkLemmas.{fresh_start, closed_start, marks_start, walked_whole, whole_placed}

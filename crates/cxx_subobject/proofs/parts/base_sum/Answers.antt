@@ -1,4 +1,4 @@
-use Rattle.std.proofs.Common.{◌≡◌, ℕ, ◌+◌, ◌<◌, ◌≤◌, ◌∙◌, ap, arith, take, min, List, false}
+use Rattle.std.proofs.Common.{◌+◌, ◌∙◌, ap, arith, min, List, false}
 use Rattle.std.proofs.lemmas.List.{take_all}
 use Rattle.cxx_hierarchy.specs.declared.records.ClassId.{ClassId}
 use Rattle.cxx_hierarchy.specs.declared.records.Base.{Base}

@@ -1,4 +1,4 @@
-use Rattle.std.proofs.Common.{◌≡◌, ◌*◌, ◌≤◌, ◌∙◌, ap, subst, sym, arith, ℕ, min}
+use Rattle.std.proofs.Common.{◌*◌, ◌∙◌, ap, arith, ℕ, min}
 use Rattle.cxx_subobject.specs.Parts.{elements_of, parts_in}
 use Rattle.cxx_subobject.proofs.CountLemmas.{member_capped, times_bounded}
 use Rattle.cxx_subobject.proofs.parts.parts_of_member.Goals as goal

@@ -1,4 +1,4 @@
-use Rattle.std.proofs.Common.{◌≡◌, ◌+◌, ◌<◌, ◌≤◌, arith, min}
+use Rattle.std.proofs.Common.{arith}
 use Rattle.cxx_subobject.proofs.CountLemmas.{shared_none, shared_more}
 use Rattle.cxx_subobject.proofs.parts.shared_sum.Goals as goal
 

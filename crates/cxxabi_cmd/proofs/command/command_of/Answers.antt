@@ -1,4 +1,4 @@
-use Rattle.std.proofs.Common.{string_bytes, subst, sym, List, ℕ, map, ◌∙◌}
+use Rattle.std.proofs.Common.{string_bytes, subst, sym, List, ℕ, map}
 use Rattle.cxxabi_cmd.specs.declared.command.Command.TheVariants.{Check, Run, Layout}
 use Rattle.cxxabi_cmd.specs.Commands.{Says, check, run, layout}
 use Rattle.cxxabi_cmd.proofs.CommandLemmas.{says_word, says_words, layout_with}

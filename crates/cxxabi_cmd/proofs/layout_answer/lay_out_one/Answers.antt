@@ -1,4 +1,3 @@
-use Rattle.std.proofs.Common.{◌≡◌, ◌∷◌, []}
 use Rattle.cxx_hierarchy.specs.declared.stop.Rule.TheVariants.{UnknownName}
 use Rattle.cxxabi_cmd.specs.declared.command.Command.TheVariants.{LayoutOf}
 use Rattle.cxxabi_cmd.specs.declared.status.Status.TheVariants.{Refused}

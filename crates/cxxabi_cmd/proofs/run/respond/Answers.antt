@@ -1,4 +1,4 @@
-use Rattle.std.proofs.Common.{string_bytes, map, ◌≡◌, ◌∙◌}
+use Rattle.std.proofs.Common.{string_bytes, map, ◌∙◌}
 use Rattle.cxxabi_cmd.specs.Commands.{Says}
 use Rattle.cxxabi_cmd.proofs.OutputLemmas.{usage_output, usage_machine, told_bytes, no_command, the_command}
 use Rattle.cxxabi_cmd.proofs.run.respond.Goals as goal

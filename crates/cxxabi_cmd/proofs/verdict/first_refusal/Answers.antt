@@ -1,4 +1,4 @@
-use Rattle.std.proofs.Common.{◌≡◌, ◌<◌, ◌≤◌, inl, inr, ⊎_elim, length, arith}
+use Rattle.std.proofs.Common.{inl, inr, ⊎_elim, arith}
 use Rattle.cxxabi_cmd.proofs.ClassFaults.{class_known, layout_before, meaning_first, refused_meaning}
 use Rattle.cxxabi_cmd.proofs.verdict.first_refusal.Goals as goal
 

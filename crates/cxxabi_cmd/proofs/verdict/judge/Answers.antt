@@ -1,4 +1,4 @@
-use Rattle.std.proofs.Common.{◌≡◌, ◌⊎◌, ⊎_elim, inl, inr, Err, sym, subst, rules}
+use Rattle.std.proofs.Common.{◌≡◌, ◌⊎◌, Err, sym, subst, rules}
 use Rattle.std.specs.Prelude.{IfErr}
 use Rattle.cxx_hierarchy.specs.declared.stop.Stop.TheVariants as stop
 use Rattle.cxxabi_cmd.specs.Verdict.{Verdict, Stops}

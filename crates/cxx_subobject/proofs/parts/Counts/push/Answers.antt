@@ -1,11 +1,12 @@
-use Rattle.std.proofs.Common.{◌≡◌, ℕ, ◌+◌, ◌<◌, ◌≤◌, ◌∙◌, ap, subst, sym, arith, get_or, length, min, List}
+use Rattle.std.proofs.Common.{◌≡◌, ◌+◌, ◌<◌, ◌∙◌, ap, subst, sym, arith, get_or, length, min, List}
 use Rattle.cxx_hierarchy.specs.declared.records.ClassId.{ClassId}
 use Rattle.cxx_hierarchy.specs.declared.records.Base.{Base}
 use Rattle.cxx_hierarchy.specs.declared.records.Member.{Member}
 use Rattle.cxx_hierarchy.proofs.VirtualRows.{known_bases}
 use Rattle.cxx_subobject.specs.Parts.{parts_of}
-use Rattle.cxx_subobject.specs.invariants.Counts.{AreWithin, IsCapped, KnowsObject, HasGoodCount, IsSharedSum, own_of, own_bases, parts_weight, parts_of_members}
+use Rattle.cxx_subobject.specs.invariants.Counts.{AreWithin, IsCapped, KnowsObject, HasGoodCount, own_of, own_bases, parts_weight, parts_of_members}
 use Rattle.cxx_subobject.proofs.CountLemmas.{capped_within, known_member, good_count, counts_push}
+use Rattle.cxx_subobject.proofs.VirtualFlagLemmas.{no_virtual_bases}
 use Rattle.cxx_subobject.proofs.parts.Counts.push.Goals as goal
 
 pub base_sum-own-requires-clause-known : goal.base_sum-own-requires-clause-known
@@ -46,6 +47,12 @@ shared_sum-all-requires-clause-values c = subst (AreWithin 1024) (sym c.deref-4.
 
 pub shared_sum-parts-requires-clause-values : goal.shared_sum-parts-requires-clause-values
 shared_sum-parts-requires-clause-values c = subst (AreWithin 65536) (sym c.deref-5.ensures.value) (capped_within 65536 (own_of (parts_weight c.args.h.now) c.args.h.now) _ c.requires.counts.own_parts)
+
+pub shared_sum-all-requires-clause-with_virtual : goal.shared_sum-all-requires-clause-with_virtual
+shared_sum-all-requires-clause-with_virtual c = λ e v has. no_virtual_bases c.args.h.now c.args.with_virtual.now c.args.c v c.has_virtual_bases-is_one.result c.requires.with_virtual (let a = c.requires.known in let b = c.requires.flags in omega arith) c.has_virtual_bases-is_one.ensures e has
+
+pub shared_sum-parts-requires-clause-with_virtual : goal.shared_sum-parts-requires-clause-with_virtual
+shared_sum-parts-requires-clause-with_virtual c = λ e v has. no_virtual_bases c.args.h.now c.args.with_virtual.now c.args.c v c.has_virtual_bases-is_one.result c.requires.with_virtual (let a = c.requires.known in let b = c.requires.flags in omega arith) c.has_virtual_bases-is_one.ensures e has
 
 pub returns : goal.returns
 returns c = counts_push c.args.h.now c.keeps.ensures c.args.c c.class-class.result.now c.class-class.ensures c.args.self.now _
