@@ -1,6 +1,5 @@
 -- One more base in the vcall list of a class.
-use Rattle.std.proofs.Common.{◌≡◌, ℕ, zero, suc, ◌+◌, ◌-◌, ◌<◌, ◌≤◌, Bool, true, false, Option, Some, None, List, [], ◌∷◌, ◌++◌, map, length, drop, get_or, refl, ap, subst, sym, ◌∙◌, arith}
-use Rattle.std.specs.Prelude.{slice_get}
+use Rattle.std.proofs.Common.{◌≡◌, ℕ, suc, ◌+◌, ◌<◌, ◌≤◌, Bool, true, false, List, [], ◌∷◌, ◌++◌, map, length, drop, get_or, refl, ap, subst, sym, ◌∙◌, arith}
 use Rattle.std.specs.List.{filter, flat_map}
 use Rattle.std.proofs.lemmas.List.Concat.{flat_map-cons}
 use Rattle.std.proofs.lemmas.List.Folds.{flat_map-map}
@@ -20,7 +19,7 @@ use Rattle.abi_slots.proofs.Lists.{Item, from_map, from_filter}
 use Rattle.abi_slots.proofs.Bases.{contains_item}
 use Rattle.abi_slots.proofs.Listings.{calls_steps}
 use Rattle.abi_slots.proofs.Loops.{rest_is, rest_none}
-use Rattle.abi_slots.proofs.EntrySteps.{any_default}
+use Rattle.foundation.proofs.Places.{any_default}
 
 push_append : (h : Classes) (old xs ys : List Offset) → push_all h old (xs ++ ys) ≡ push_all h (push_all h old xs) ys
 push_append h old [] ys = refl

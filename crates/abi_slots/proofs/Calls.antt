@@ -1,9 +1,9 @@
 -- The vcall list of a virtual base: it has a word for each function below it, and each word is of such a function.
-use Rattle.std.proofs.Common.{◌≡◌, ℕ, zero, suc, ◌+◌, ◌-◌, ◌<◌, ◌≤◌, ◌⊎◌, inl, inr, ⊎_elim, Bool, true, false, Option, Some, None, List, [], ◌∷◌, ◌++◌, map, length, refl, ap, subst, sym, ◌∙◌, arith, append_assoc}
-use Rattle.std.specs.Prelude.{◌||◌, ◌&&◌, not, nat_eq, if◌then◌else◌, slice_get}
-use Rattle.std.specs.List.{list_any, find, filter, flat_map, Contains}
+use Rattle.std.proofs.Common.{◌≡◌, ℕ, zero, suc, ◌+◌, ◌<◌, inl, ⊎_elim, Bool, true, false, Some, List, [], ◌∷◌, ◌++◌, map, length, refl, ap, subst, sym, arith, append_assoc}
+use Rattle.std.specs.Prelude.{not, slice_get}
+use Rattle.std.specs.List.{list_any, filter}
 use Rattle.std.proofs.lemmas.List.{append-nil}
-use Rattle.std.proofs.lemmas.Bool.{eq-eqb, and_parts, and_from}
+use Rattle.std.proofs.lemmas.Bool.{and_from}
 use Rattle.cxx_hierarchy.specs.declared.records.ClassId.{ClassId}
 use Rattle.cxx_hierarchy.specs.declared.records.Base.{Base}
 use Rattle.cxx_hierarchy.specs.Classes.{Classes, bases_of}
@@ -12,7 +12,6 @@ use Rattle.cxx_hierarchy.specs.VirtualBases.{IsDirectBase, HasVirtualBase, furth
 use Rattle.cxx_subobject.specs.Subobjects.{Leads, last_of}
 use Rattle.cxx_subobject.proofs.PathLemmas.{base_before, virtual_below, virtual_through, leads_more, last_append}
 use Rattle.cxx_overrider.specs.declared.FunctionId.{FunctionId}
-use Rattle.cxx_overrider.specs.Functions.{Signature, signature_of}
 use Rattle.abi_primary.specs.declared.Primary.{Primary}
 use Rattle.abi_primary.specs.declared.Primary.TheVariants.{None as NoPrimary, Direct, Virtual}
 use Rattle.abi_sound.specs.Places.{Places}
@@ -20,12 +19,13 @@ use Rattle.abi_slots.specs.declared.words.Offset.{Offset}
 use Rattle.abi_slots.specs.declared.words.Offset.TheVariants.{ToBase, ToOverrider}
 use Rattle.abi_slots.specs.Virtuals.{same_name, own}
 use Rattle.cxx_subobject.specs.VirtualBases.{virtual_bases}
-use Rattle.abi_slots.specs.Listing.{vcall_number, is_name, same_offset, is_direct, is_first_base, is_other_base, below_bases, call, calls_in, calls, with_calls, push_all, primary_offsets, offsets_in, offsets}
-use Rattle.abi_slots.proofs.Lists.{Item, item_left, item_right, item_cases, item_map, from_map, item_flat, from_flat, item_filter, from_filter, by_test, at_place}
+use Rattle.abi_slots.specs.Listing.{vcall_number, is_name, is_direct, is_first_base, is_other_base, below_bases, call, calls_in, calls, with_calls, push_all, primary_offsets, offsets_in, offsets}
+use Rattle.abi_slots.proofs.Lists.{Item, item_left, item_right, item_cases, item_map, from_map, item_flat, from_flat, item_filter, at_place}
 use Rattle.abi_slots.proofs.Names.{name_through}
 use Rattle.abi_slots.proofs.Bases.{item_contains, item_virtual}
 use Rattle.abi_slots.proofs.Owns.{own_class}
 use Rattle.abi_slots.proofs.Listings.{ArePrimaries, IsCallOf, IsListable, a_base, a_call, lifted, plain_edge, first_plain, other_plain, push_all_item, push_all_has, offsets_is}
+use Rattle.foundation.proofs.Truth.{split}
 
 -- an own function of the class at the end of a path
 pub data IsCallAt (h : Classes) (v : ClassId) : Offset → Type 0 where
@@ -79,7 +79,7 @@ call_below h l keeps (suc n) path c (b ∷ q) g lt leads i =
     let first = below_bases (calls_in h l n) path (filter (is_first_base (l.primary c)) (bases_of h c)) in
     let other = below_bases (calls_in h l n) path (filter (is_other_base (l.primary c)) (bases_of h c)) in
     let plain : not edge.base.is_virtual ≡ true = ap not edge.way in
-    by_test (is_direct (l.primary c) edge.base.class) (λ t. is_direct (l.primary c) edge.base.class ≡ t → Item (calls_in h l (suc n) path c) (ToOverrider (path ++ (b ∷ q)) g))
+    split (is_direct (l.primary c) edge.base.class) (λ t. is_direct (l.primary c) edge.base.class ≡ t → Item (calls_in h l (suc n) path c) (ToOverrider (path ++ (b ∷ q)) g))
     (λ t same.
     item_left (first ++ map (call path) (own h c)) other _ (item_left first (map (call path) (own h c)) _
     (item_flat goes (filter (is_first_base (l.primary c)) (bases_of h c)) edge.base _ (item_filter (is_first_base (l.primary c)) (bases_of h c) edge.base listed (and_from (not edge.base.is_virtual) (is_direct (l.primary c) edge.base.class) plain same)) there)))

@@ -1,5 +1,5 @@
 -- The chains of a view: what is further down a chain lies at the same place, and begins the lists of what is above it.
-use Rattle.std.proofs.Common.{◌≡◌, ℕ, zero, suc, ◌+◌, ◌-◌, ◌<◌, ◌≤◌, ◌⊎◌, inl, inr, ⊎_elim, Bool, true, false, Option, Some, None, List, [], ◌∷◌, ◌++◌, map, length, refl, ap, subst, sym, ◌∙◌, arith, append_assoc}
+use Rattle.std.proofs.Common.{◌≡◌, ℕ, zero, suc, ◌+◌, ◌<◌, ◌≤◌, Bool, true, false, Option, Some, None, List, [], ◌∷◌, ◌++◌, length, refl, ap, subst, sym, ◌∙◌, arith, append_assoc}
 use Rattle.std.specs.Prelude.{if◌then◌else◌}
 use Rattle.cxx_hierarchy.specs.declared.records.ClassId.{ClassId}
 use Rattle.cxx_hierarchy.specs.Classes.{Classes}
@@ -8,9 +8,9 @@ use Rattle.cxx_hierarchy.specs.VirtualBases.{IsDirectBase, HasVirtualBase}
 use Rattle.cxx_subobject.specs.declared.Root.{Root}
 use Rattle.cxx_subobject.specs.declared.Root.TheVariants.{Whole, Shared}
 use Rattle.cxx_subobject.specs.declared.Subobject.{Subobject}
-use Rattle.cxx_subobject.specs.Subobjects.{IsSubobject, Leads, whole, shared, subobject, shared_base, last_of, class_of, class_of_path, tail_of, same_subobject}
+use Rattle.cxx_subobject.specs.Subobjects.{IsSubobject, whole, shared, subobject, shared_base, last_of, class_of, class_of_path}
 use Rattle.cxx_subobject.specs.Inside.{IsInside}
-use Rattle.cxx_subobject.proofs.PathLemmas.{leads_more, virtual_along, virtual_through, class_there, base_before, virtual_below, last_below, last_append}
+use Rattle.cxx_subobject.proofs.PathLemmas.{leads_more, virtual_along, virtual_through, class_there, base_before, virtual_below, last_below, class_low, part_virtual}
 use Rattle.cxx_subobject.proofs.InsideLemmas.{join_valid, join_class, inside_itself, inside_through, inside_shared}
 use Rattle.cxx_subobject.proofs.TestLemmas.{class_below}
 use Rattle.cxx_subobject.proofs.TreeLemmas.{subobject_same, same_itself}
@@ -21,8 +21,9 @@ use Rattle.abi_sound.specs.Chains.{primary_part, primary_of_class, primary_by, i
 use Rattle.abi_slots.specs.Listing.{entries, offsets, primary_entries, primary_offsets}
 use Rattle.abi_slots.specs.Views.{View, IsView, seen, place, is_some, next_by, next_in, next, walk, first_in}
 use Rattle.abi_slots.specs.Groups.{is_shared_base}
-use Rattle.abi_slots.proofs.Lists.{Keeps, keeps_itself, keeps_through, by_test}
+use Rattle.abi_slots.proofs.Lists.{Keeps, keeps_itself, keeps_through}
 use Rattle.abi_slots.proofs.Listings.{ArePrimaries, entries_keep, offsets_keep}
+use Rattle.foundation.proofs.Truth.{split}
 
 -- what the chains of a view stand on
 pub record Setting (h : Classes) (l : Places) (x : View) : Type 0 where
@@ -31,15 +32,6 @@ pub record Setting (h : Classes) (l : Places) (x : View) : Type 0 where
   pub one_place : (s t : Subobject) → IsSubobject h x.complete s → primary_part l x.complete s ≡ Some t → l.place x.complete t ≡ l.place x.complete s
   pub view : IsView h x
 
--- a base of a class is known where the class is
-pub class_at_most : (h : Classes) → IsHierarchy h → (c d : ClassId) (s : Subobject) → IsSubobject h c s → class_of s ≡ Some d → d.0 ≤ c.0
-class_at_most h keeps c d _ (whole path l) e = let f : last_of c path ≡ d = cc in let g = last_below h keeps c path l in subst (λ (a : ClassId). a.0 ≤ c.0) f g
-class_at_most h keeps c d _ (shared v path has l) e =
-    let f : last_of v path ≡ d = cc in
-    let g = last_below h keeps v path l in
-    let b = virtual_below h keeps c v has in
-    subst (λ (a : ClassId). a.0 ≤ c.0) f (omega arith)
-
 pub down_valid : (h : Classes) (c d b : ClassId) (s : Subobject) → IsSubobject h c s → class_of s ≡ Some d → IsDirectBase h d false b → IsSubobject h c (subobject s.root (s.path ++ b ∷ []))
 down_valid h c d b _ (whole path l) e edge =
     let f : last_of c path ≡ d = cc in
@@ -47,11 +39,6 @@ down_valid h c d b _ (whole path l) e edge =
 down_valid h c d b _ (shared v path has l) e edge =
     let f : last_of v path ≡ d = cc in
     shared v (path ++ b ∷ []) has (leads_more h v path (b ∷ []) l (subst (λ a. IsDirectBase h a false b) (sym f) edge, tt))
-
--- a virtual base of the class of a subobject is one of the whole class
-pub virtual_of : (h : Classes) (c d v : ClassId) (s : Subobject) → IsSubobject h c s → class_of s ≡ Some d → HasVirtualBase h d v → HasVirtualBase h c v
-virtual_of h c d v _ (whole path l) e has = let f : last_of c path ≡ d = cc in virtual_along h c v path l (subst (λ a. HasVirtualBase h a v) (sym f) has)
-virtual_of h c d v _ (shared w path base l) e has = let f : last_of w path ≡ d = cc in virtual_through h c w v base (virtual_along h w v path l (subst (λ a. HasVirtualBase h a v) (sym f) has))
 
 -- one more class behind a path, in the view and in the complete object
 seen_down : (h : Classes) (x : View) (d : ClassId) (s : Subobject) (b : ClassId) → IsSubobject h d s → seen x (subobject s.root (s.path ++ b ∷ [])) ≡ subobject (seen x s).root ((seen x s).path ++ b ∷ [])
@@ -93,8 +80,8 @@ same_some a b e = cc
 module _ (h : Classes) (l : Places) (x : View) (set : Setting h l x) where
   pub known : (d : ClassId) (s : Subobject) → IsSubobject h x.class s → class_of s ≡ Some d → d.0 < length h
   known d s valid e =
-      let a = class_at_most h set.keeps x.class d s valid e in
-      let b = class_at_most h set.keeps x.complete x.class x.at_sub set.view.valid set.view.of_class in
+      let a = class_low h set.keeps x.class d s valid e in
+      let b = class_low h set.keeps x.complete x.class x.at_sub set.view.valid set.view.of_class in
       let k = set.view.known in
       omega arith
 
@@ -180,7 +167,7 @@ module _ (h : Classes) (l : Places) (x : View) (set : Setting h l x) where
           of_above = e;
           of_below = refl;
           valid_above = valid;
-          valid_below = shared v [] (virtual_of h x.class d v s valid e base) tt;
+          valid_below = shared v [] (part_virtual h x.class d v s valid e base) tt;
           inside = inside_shared h d v s e base;
           same_place = set.one_place (seen x s) (shared_base v) (seen_valid s valid) part;
           entries = old;
@@ -192,7 +179,7 @@ module _ (h : Classes) (l : Places) (x : View) (set : Setting h l x) where
   next_of : (s u : Subobject) (d : ClassId) → IsSubobject h x.class s → class_of s ≡ Some d → (p : Primary) → l.primary d ≡ p → next_by l x s p ≡ Some u → IsNextUnder s u
   next_of s u d valid e NoPrimary is f = cc
   next_of s u d valid e (Direct b) is f = subst (λ a. IsNextUnder s a) (same_some (subobject s.root (s.path ++ b ∷ [])) u f) (next_direct s d b valid e is)
-  next_of s u d valid e (Virtual v) is f = by_test (is_some (l.holder x.complete v) (seen x s)) (λ b. is_some (l.holder x.complete v) (seen x s) ≡ b → (if b then Some (shared_base v) else None) ≡ Some u → IsNextUnder s u)
+  next_of s u d valid e (Virtual v) is f = split (is_some (l.holder x.complete v) (seen x s)) (λ b. is_some (l.holder x.complete v) (seen x s) ≡ b → (if b then Some (shared_base v) else None) ≡ Some u → IsNextUnder s u)
       (λ t same g. subst (λ a. IsNextUnder s a) (same_some (shared_base v) u g) (next_shared s d v valid e is (is_held (l.holder x.complete v) (seen x s) same)))
       (λ t same g. cc)
       refl f

@@ -1,7 +1,7 @@
 -- Each virtual function of a class is among those that it declares.
-use Rattle.std.proofs.Common.{◌≡◌, ℕ, zero, suc, ◌+◌, ◌<◌, ◌≤◌, ◌⊎◌, inl, inr, ⊎_elim, Bool, true, false, Option, Some, None, List, [], ◌∷◌, ◌++◌, map, length, refl, ap, subst, sym, ◌∙◌, arith}
+use Rattle.std.proofs.Common.{◌≡◌, ℕ, ◌<◌, Bool, true, false, Option, Some, None, List, [], ◌∷◌, length, refl, ap, subst, sym, ◌∙◌, arith}
 use Rattle.std.specs.Prelude.{◌&&◌, ◌↔◌, IsTrue, nat_eq, if◌then◌else◌, slice_get, get_or}
-use Rattle.std.specs.List.{list_any, filter, filter_map, range_with_len}
+use Rattle.std.specs.List.{filter_map, range_with_len}
 use Rattle.std.proofs.lemmas.Bool.{eqb-true, and_from}
 use Rattle.std.proofs.lemmas.Option.{slice_get-get_or}
 use Rattle.std.proofs.lemmas.List.FromFn.{length-range_with_len, get_or-range_with_len}
@@ -25,7 +25,7 @@ use Rattle.abi_slots.specs.Virtuals.{function_at, index_of, implicit_index, indi
 use Rattle.abi_slots.proofs.Lists.{Item, item_first, item_left, item_right, item_map, from_map, from_filter, item_filter, any_item}
 use Rattle.abi_slots.proofs.Names.{is_name_of}
 use Rattle.abi_slots.proofs.Bases.{preorder_item, chosen}
-use Rattle.abi_slots.proofs.Owns.{own_virtual, test_virtual}
+use Rattle.abi_slots.proofs.Owns.{test_virtual}
 
 range_item : (n i : ℕ) → i < n → Item (range_with_len 0 n) i
 range_item n i lt =

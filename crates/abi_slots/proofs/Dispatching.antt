@@ -1,37 +1,34 @@
 -- The law of dispatch.
-use Rattle.std.proofs.Common.{◌≡◌, ℕ, zero, suc, ◌+◌, ◌-◌, ◌*◌, ◌<◌, ◌≤◌, ◌⊎◌, inl, inr, ⊎_elim, Bool, true, false, Option, Some, None, List, [], ◌∷◌, ◌++◌, map, length, reverse, refl, ap, subst, sym, ◌∙◌, arith, ℤ, pos, negsuc}
-use Rattle.std.specs.Prelude.{slice_get, nat_eq, ◌&&◌, if◌then◌else◌, ◌+ℤ◌, ◌-ℤ◌}
-use Rattle.std.specs.List.{list_any, flat_map}
+use Rattle.std.proofs.Common.{◌≡◌, ℕ, zero, suc, ◌+◌, ◌-◌, ◌<◌, ⊎_elim, true, Option, Some, None, List, [], ◌∷◌, length, refl, ap, subst, sym, ◌∙◌, arith, ℤ, pos, negsuc}
+use Rattle.std.specs.Prelude.{slice_get, nat_eq, ◌&&◌, if◌then◌else◌, ◌-ℤ◌}
+use Rattle.std.specs.List.{flat_map}
 use Rattle.std.proofs.lemmas.Int.{ints}
-use Rattle.std.proofs.lemmas.Bool.{eq-eqb, eqb-true, and_parts, and_from}
+use Rattle.std.proofs.lemmas.Bool.{eqb-true, and_parts, and_from}
 use Rattle.cxx_hierarchy.specs.declared.records.ClassId.{ClassId}
 use Rattle.cxx_hierarchy.specs.Classes.{Classes}
-use Rattle.cxx_hierarchy.specs.Hierarchies.{IsHierarchy}
 use Rattle.cxx_hierarchy.specs.VirtualBases.{HasVirtualBase}
-use Rattle.cxx_subobject.specs.declared.Root.{Root}
 use Rattle.cxx_subobject.specs.declared.Root.TheVariants.{Whole, Shared}
 use Rattle.cxx_subobject.specs.declared.Subobject.{Subobject}
 use Rattle.cxx_subobject.specs.Subobjects.{IsSubobject, whole, shared, subobject, shared_base, whole_of, last_of, class_of}
 use Rattle.cxx_subobject.specs.Inside.{IsInside}
 use Rattle.cxx_subobject.specs.Inside.{is_longer}
 use Rattle.cxx_subobject.specs.invariants.Tests.{ReachesRoot}
-use Rattle.cxx_subobject.proofs.PathLemmas.{virtual_below}
+use Rattle.cxx_subobject.proofs.PathLemmas.{virtual_below, class_low}
 use Rattle.cxx_subobject.proofs.InsideLemmas.{inside_through, inside_shared}
 use Rattle.cxx_subobject.proofs.TestLemmas.{inside_cases, inside_longer, inside_reached}
 use Rattle.cxx_overrider.specs.declared.FunctionId.{FunctionId}
 use Rattle.cxx_overrider.specs.declared.Overrider.{Overrider}
-use Rattle.cxx_overrider.specs.Functions.{Signature, signature_of, is_pure}
-use Rattle.cxx_overrider.specs.Overriding.{IsVirtual, IsVirtualIn, IsFinalOverrider}
+use Rattle.cxx_overrider.specs.Functions.{signature_of, is_pure}
+use Rattle.cxx_overrider.specs.Overriding.{IsVirtualIn, IsFinalOverrider}
 use Rattle.cxx_overrider.specs.Faults.{HasNoFault}
 use Rattle.cxx_overrider.proofs.FinalLaws.{one_at_most, same_final}
 use Rattle.abi_primary.specs.Kinds.{IsDynamic}
 use Rattle.abi_sound.specs.Places.{Places}
 use Rattle.abi_slots.specs.declared.words.CodeKind.{CodeKind}
-use Rattle.abi_slots.specs.declared.words.ThisAdjust.{ThisAdjust}
 use Rattle.abi_slots.specs.declared.words.EntryWord.{EntryWord}
-use Rattle.abi_slots.specs.declared.words.EntryWord.TheVariants.{Unused, Pure, Code}
+use Rattle.abi_slots.specs.declared.words.EntryWord.TheVariants.{Pure, Code}
 use Rattle.abi_slots.specs.declared.words.TableWord.{TableWord}
-use Rattle.abi_slots.specs.declared.words.TableWord.TheVariants.{Vcall, Vbase, Top, Info, Entry}
+use Rattle.abi_slots.specs.declared.words.TableWord.TheVariants.{Vcall, Vbase, Entry}
 use Rattle.abi_slots.specs.declared.words.EntryKey.{EntryKey}
 use Rattle.abi_slots.specs.declared.words.Offset.{Offset}
 use Rattle.abi_slots.specs.declared.words.Offset.TheVariants.{ToBase, ToOverrider}
@@ -39,17 +36,18 @@ use Rattle.abi_slots.specs.declared.words.Table.{Table}
 use Rattle.abi_slots.specs.declared.words.Group.{Group}
 use Rattle.abi_slots.specs.Virtuals.{same_name, own}
 use Rattle.abi_slots.specs.Listing.{key, same_key, kinds_in, keys_of, listing, entries, offsets, entry_number, vbase_number, vcall_number}
-use Rattle.abi_slots.specs.Views.{View, IsView, seen, place, next, walk, heads, Serves}
-use Rattle.abi_slots.specs.Groups.{GoAlong, between, offset_bytes, this_constant, root_base, this_adjust, vcall_bytes, vcall_for, return_for, named_in, IsOffsetWord, to_base, to_overrider, declares_in, declares_at, declarer, code_word, IsEntryWord, nothing, runs, is_shared_base, IsTable, view_of, IsGroup}
+use Rattle.abi_slots.specs.Views.{View, seen, place, next}
+use Rattle.abi_slots.specs.Groups.{between, this_constant, this_adjust, vcall_bytes, vcall_for, return_for, named_in, IsOffsetWord, to_base, to_overrider, declares_in, declares_at, declarer, code_word, IsEntryWord, nothing, runs, is_shared_base, IsTable, view_of, IsGroup}
 use Rattle.abi_slots.specs.Dispatch.{IsServedBy, Leads, HasOffset, LeadsOn, ThisLeads, as_it_is, by_constant, by_base, Runs, runs_pure, runs_code, Dispatches, Converts, HasTop}
-use Rattle.abi_slots.proofs.Lists.{Item, by_test, any_item, item_any, from_map, from_flat}
-use Rattle.abi_slots.proofs.Names.{name_is, key_is, key_itself, name_back, name_through, has_name}
+use Rattle.abi_slots.proofs.Lists.{Item, any_item, item_any, from_map, from_flat}
+use Rattle.abi_slots.proofs.Names.{name_is, key_is, key_itself, name_back}
 use Rattle.abi_slots.proofs.Owns.{own_class, own_virtual}
-use Rattle.abi_slots.proofs.Listings.{entry_there, listing_is_named, vbase_there, IsCallOf}
+use Rattle.abi_slots.proofs.Listings.{entry_there, listing_is_named, vbase_there}
 use Rattle.abi_slots.proofs.Calls.{HasCall, vcall_there}
-use Rattle.abi_slots.proofs.Chains.{Setting, IsUnder, same_some, class_at_most, virtual_of, known, walk_under, IsFirstFound, first_found}
+use Rattle.abi_slots.proofs.Chains.{Setting, IsUnder, same_some, known, walk_under, IsFirstFound, first_found}
 use Rattle.abi_slots.proofs.WordPlaces.{partner, offset_at, top_at, info_at, entry_at}
 use Rattle.abi_slots.proofs.Dynamics.{dynamic_along, virtual_dynamic}
+use Rattle.foundation.proofs.Truth.{split}
 
 -- a function that a class declares at an entry
 declared_at : (h : Classes) (l : Places) (k : EntryKey) (o : Option ClassId) → declares_in h l k o ≡ true → (c : ClassId) × (o ≡ Some c) × (f : FunctionId) × Item (own h c) f × (same_name h f k.function ≡ true) × (listing h l (key f k.kind) ≡ k)
@@ -163,7 +161,7 @@ module _ (h : Classes) (l : Places) (group : Group) (of : IsGroup h l group) (se
   call_word table path f n head _ (to_overrider p g o final) has = record { overrider = o; final = final; has = has }
 
   named_shared : (u : ClassId) (path : List ClassId) → u.0 < of.class.0 → named_in of.class (u ∷ path) ≡ subobject (Shared u) (u ∷ path)
-  named_shared u path lt = by_test (nat_eq u.0 of.class.0) (λ b. nat_eq u.0 of.class.0 ≡ b → subobject (if b then Whole else Shared u) (u ∷ path) ≡ subobject (Shared u) (u ∷ path))
+  named_shared u path lt = split (nat_eq u.0 of.class.0) (λ b. nat_eq u.0 of.class.0 ≡ b → subobject (if b then Whole else Shared u) (u ∷ path) ≡ subobject (Shared u) (u ∷ path))
       (λ t same. absurd (let f = eqb-true u.0 of.class.0 same in omega arith))
       (λ t same. refl) refl
 
@@ -224,7 +222,7 @@ module _ (h : Classes) (l : Places) (group : Group) (of : IsGroup h l group) (se
 
   adjust_leads : (s j : Subobject) (c : ClassId) (f g : FunctionId) (o : Overrider) → place l here s ≡ place l here j → IsSubobject h of.class j → class_of j ≡ Some c → Item (own h c) g → same_name h f g ≡ true → IsFinalOverrider h of.class j f o →
       ThisLeads h l here group s o.at (this_adjust l here.complete (seen here j) (seen here o.at) (vcall_for h l f j o.at))
-  adjust_leads s j c f g o same valid e declares named final = by_test (is_longer o.at j)
+  adjust_leads s j c f g o same valid e declares named final = split (is_longer o.at j)
       (λ b. is_longer o.at j ≡ b → ThisLeads h l here group s o.at (this_adjust l here.complete (seen here j) (seen here o.at) (if b then None else vcall_bytes h l f j.root)))
       (λ t longer. constant_leads h l here group s j o.at (between l here.complete (seen here j) (seen here o.at)) same refl)
       (λ t apart. shared_leads s j c f g o same valid e declares named final (subst (λ a. ReachesRoot h a j.root) final.left.candidate.class
@@ -244,7 +242,7 @@ module _ (h : Classes) (l : Places) (group : Group) (of : IsGroup h l group) (se
   run_of head k j _ e (runs i o is final) = record { declares = i; overrider = o; is = is; final = final; same = refl }
 
   code_runs : (s j : Subobject) (k old : EntryKey) (o : Overrider) → old ≡ listing h l k → old.kind ≡ k.kind → ThisLeads h l here group s o.at (this_adjust l here.complete (seen here j) (seen here o.at) (vcall_for h l old.function j o.at)) → Runs h l here group s k o (code_word h l here old j o)
-  code_runs s j k old o is kind leads = by_test (is_pure h o.function)
+  code_runs s j k old o is kind leads = split (is_pure h o.function)
       (λ b. is_pure h o.function ≡ b → Runs h l here group s k o (if b then Pure o.function else Code o.function old.kind (this_adjust l here.complete (seen here j) (seen here o.at) (vcall_for h l old.function j o.at)) (return_for h l o.function old.function)))
       (λ t pure. runs_pure pure)
       (λ t code.
@@ -305,7 +303,7 @@ module _ (h : Classes) (l : Places) (group : Group) (of : IsGroup h l group) (se
       (any_item (λ f. same_name h f old.function && same_key (listing h l (key f old.kind)) old) (own h c) k.function mine.declares
       (and_from (same_name h k.function old.function) (same_key (listing h l (key k.function old.kind)) old) named.0 (subst (λ a. same_key (listing h l a) old ≡ true) (sym same) (key_itself old)))) in
       let walked = walk_under h l here set at.serves.steps at.head s at.serves.valid at.serves.leads in
-      let bound = class_at_most h set.keeps of.class walked.under.above at.head at.serves.valid walked.under.of_above in
+      let bound = class_low h set.keeps of.class walked.under.above at.head at.serves.valid walked.under.of_above in
       let far = walked.less walked.under.above walked.under.below walked.under.of_above walked.under.of_below in
       let found = first_found (declares_at h l old) (next l here) (of.class.0 + 1) at.serves.steps at.head s at.serves.leads test (omega arith) in
       dispatches_by s c table k old valid e mine at refl named.0 named.1 there found

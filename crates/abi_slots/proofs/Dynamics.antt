@@ -1,21 +1,21 @@
 -- A class that declares a virtual function is dynamic, and so is each class that has it as a base.
-use Rattle.std.proofs.Common.{◌≡◌, ℕ, zero, suc, ◌+◌, ◌<◌, ◌⊎◌, inl, inr, ⊎_elim, Bool, true, false, Option, Some, None, List, [], ◌∷◌, ◌++◌, map, length, refl, ap, subst, sym, ◌∙◌, arith}
-use Rattle.std.specs.Prelude.{◌&&◌, ◌||◌, nat_eq, slice_get}
+use Rattle.std.proofs.Common.{◌≡◌, ℕ, true, false, Option, Some, None, List, [], ◌∷◌, refl, subst, sym}
+use Rattle.std.specs.Prelude.{slice_get}
 use Rattle.std.specs.List.{list_any}
 use Rattle.cxx_hierarchy.specs.declared.records.ClassId.{ClassId}
 use Rattle.cxx_hierarchy.specs.declared.records.Function.{Function}
 use Rattle.cxx_hierarchy.specs.declared.records.Destructor.{Destructor}
 use Rattle.cxx_hierarchy.specs.declared.records.Destructor.TheVariants.{Implicit, Plain, Virtual}
 use Rattle.cxx_hierarchy.specs.Classes.{Class, Classes, class_at}
-use Rattle.cxx_hierarchy.specs.VirtualBases.{IsDirectBase, HasVirtualBase, direct, further}
+use Rattle.cxx_hierarchy.specs.VirtualBases.{HasVirtualBase, direct, further}
 use Rattle.cxx_subobject.specs.declared.Subobject.{Subobject}
 use Rattle.cxx_subobject.specs.Subobjects.{IsSubobject, Leads, whole, shared, last_of, class_of}
 use Rattle.cxx_overrider.specs.declared.FunctionId.{FunctionId}
-use Rattle.cxx_overrider.specs.Functions.{says_virtual_at, says_virtual_in, says_virtual}
+use Rattle.cxx_overrider.specs.Functions.{says_virtual_at, says_virtual_in}
 use Rattle.cxx_hierarchy.specs.Declarations.{is_virtual_destructor, has_virtual_function}
 use Rattle.cxx_overrider.specs.Overriding.{IsVirtual}
 use Rattle.abi_primary.specs.Kinds.{IsDynamic, declares, shares, inherits}
-use Rattle.abi_slots.proofs.Lists.{Item, any_item, or_left, or_right}
+use Rattle.abi_slots.proofs.Lists.{any_item, or_left, or_right}
 
 pub dynamic_along : (h : Classes) (c : ClassId) (path : List ClassId) → Leads h c path → IsDynamic h (last_of c path) → IsDynamic h c
 dynamic_along h c [] l d = d

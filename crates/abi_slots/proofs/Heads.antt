@@ -1,21 +1,19 @@
 -- Each dynamic subobject of a view is served by a table of its group, and by one alone.
-use Rattle.std.proofs.Common.{◌≡◌, ℕ, zero, suc, ◌+◌, ◌-◌, ◌<◌, ◌≤◌, ◌⊎◌, inl, inr, ⊎_elim, Bool, true, false, Option, Some, None, List, [], ◌∷◌, ◌++◌, map, length, refl, ap, subst, sym, ◌∙◌, arith}
-use Rattle.std.specs.Prelude.{slice_get, ◌&&◌, ◌||◌, not, if◌then◌else◌}
-use Rattle.std.specs.List.{list_any, filter, flat_map}
-use Rattle.std.proofs.lemmas.Bool.{and_parts, and_from}
+use Rattle.std.proofs.Common.{◌≡◌, ℕ, zero, suc, ◌+◌, ◌<◌, ◌≤◌, ◌⊎◌, inl, inr, ⊎_elim, true, false, Option, Some, None, [], ◌∷◌, refl, ap, subst, sym, ◌∙◌, arith}
+use Rattle.std.specs.Prelude.{◌||◌, not}
+use Rattle.std.specs.List.{list_any, flat_map}
+use Rattle.std.proofs.lemmas.Bool.{and_from}
 use Rattle.cxx_hierarchy.specs.declared.records.ClassId.{ClassId}
 use Rattle.cxx_hierarchy.specs.Classes.{Class, Classes, class_at}
 use Rattle.cxx_hierarchy.specs.Hierarchies.{IsHierarchy}
-use Rattle.cxx_hierarchy.specs.VirtualBases.{IsDirectBase, HasVirtualBase, direct}
-use Rattle.cxx_subobject.specs.declared.Root.{Root}
+use Rattle.cxx_hierarchy.specs.VirtualBases.{IsDirectBase, direct}
 use Rattle.cxx_subobject.specs.declared.Root.TheVariants.{Whole, Shared}
 use Rattle.cxx_subobject.specs.declared.Subobject.{Subobject}
-use Rattle.cxx_subobject.specs.Subobjects.{IsSubobject, whole, shared, subobject, shared_base, whole_of, last_of, class_of, join, same_root}
+use Rattle.cxx_subobject.specs.Subobjects.{IsSubobject, whole, shared, subobject, shared_base, whole_of, class_of, join, same_root}
 use Rattle.cxx_subobject.specs.Preorder.{preorder}
 use Rattle.cxx_subobject.proofs.InsideLemmas.{join_valid, join_class}
-use Rattle.cxx_subobject.proofs.TreeLemmas.{root_itself, root_same}
+use Rattle.cxx_subobject.proofs.TreeLemmas.{root_itself}
 use Rattle.abi_primary.specs.Kinds.{IsDynamic, declares, shares, inherits}
-use Rattle.cxx_hierarchy.specs.Declarations.{has_virtual_function}
 use Rattle.abi_sound.specs.Places.{Places}
 use Rattle.abi_slots.specs.declared.words.Table.{Table}
 use Rattle.abi_slots.specs.declared.words.Group.{Group}
@@ -24,11 +22,13 @@ use Rattle.abi_slots.specs.Listing.{is_shared_root}
 use Rattle.abi_slots.specs.Views.{View, is_some, next, says_virtual, class_says, is_dynamic, is_dynamic_class, is_first, is_head, of_root, by_part, heads, walk, Serves}
 use Rattle.abi_slots.specs.Groups.{IsTable, view_of, IsGroup}
 use Rattle.abi_slots.specs.Dispatch.{IsServedBy}
-use Rattle.abi_slots.proofs.Lists.{Item, item_left, item_right, item_cases, item_flat, item_filter, from_filter, by_test, any_item, item_any, or_left, or_right}
+use Rattle.abi_slots.proofs.Lists.{Item, item_left, item_right, item_flat, item_filter, any_item, item_any}
 use Rattle.abi_slots.proofs.Bases.{preorder_item, item_preorder, virtual_item}
 use Rattle.abi_slots.proofs.Dynamics.{dynamic_whole, base_dynamic}
-use Rattle.abi_slots.proofs.Chains.{Setting, IsUnder, is_held, same_some, class_at_most, next_under, IsNextUnder}
+use Rattle.abi_slots.proofs.Chains.{Setting, IsUnder, is_held, same_some, next_under}
 use Rattle.abi_slots.proofs.WordPlaces.{partner}
+use Rattle.cxx_subobject.proofs.PathLemmas.{class_low}
+use Rattle.foundation.proofs.Truth.{split}
 
 -- a subobject for which a class is dynamic
 record IsDynamicPart (h : Classes) (c : ClassId) (s : Subobject) : Type 0 where
@@ -115,7 +115,7 @@ module _ (h : Classes) (l : Places) (x : View) (set : Setting h l x) where
     few : class.0 ≤ x.class.0
 
   step_up : (s : Subobject) (d : ClassId) → IsSubobject h x.class s → class_of s ≡ Some d → IsDynamic h d → IsAbove s d ⊎ (is_head h l x s ≡ true)
-  step_up s d valid e dyn = by_test (list_any (λ u. is_some (next l x u) s) (preorder h x.class))
+  step_up s d valid e dyn = split (list_any (λ u. is_some (next l x u) s) (preorder h x.class))
       (λ b. list_any (λ u. is_some (next l x u) s) (preorder h x.class) ≡ b → IsAbove s d ⊎ (is_head h l x s ≡ true))
       (λ b found.
       let r = item_any (λ u. is_some (next l x u) s) (preorder h x.class) found in
@@ -130,7 +130,7 @@ module _ (h : Classes) (l : Places) (x : View) (set : Setting h l x) where
         dynamic = above_dynamic r.0 s d up.under e dyn up.under.above up.under.of_above;
         goes = goes;
         less = subst (λ (a : ClassId). a.0 < up.under.above.0) (same_some up.under.below d (sym up.under.of_below ∙ e)) up.less;
-        few = class_at_most h set.keeps x.class up.under.above r.0 there up.under.of_above;
+        few = class_low h set.keeps x.class up.under.above r.0 there up.under.of_above;
       }))
       (λ b none. inr (and_from (is_dynamic_class h (class_of s)) (is_first h l x s) (subst (λ o. is_dynamic_class h o ≡ true) (sym e) (dynamic_test h set.keeps d dyn)) (ap not none)))
       refl

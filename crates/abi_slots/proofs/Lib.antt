@@ -16,3 +16,14 @@ pub mod Numbered
 pub mod WorkedLists
 pub mod EntrySteps
 pub mod CallSteps
+pub mod SlotTables
+pub mod Bounds
+pub mod OffsetBounds
+pub mod WordSteps
+pub mod PushSteps
+pub mod CallRooms
+pub mod EntryPlaces
+pub mod ClassEntries
+pub mod ClassOffsets
+pub mod RowParts
+pub mod OneHead

@@ -1,16 +1,15 @@
 -- What classes list: one equation a class, and where the entry of a function and the word of an offset stand.
-use Rattle.std.proofs.Common.{◌≡◌, ℕ, zero, suc, ◌+◌, ◌-◌, ◌<◌, ◌≤◌, ◌⊎◌, inl, inr, ⊎_elim, Bool, true, false, Option, Some, None, List, [], ◌∷◌, ◌++◌, map, length, refl, ap, subst, sym, ◌∙◌, arith}
-use Rattle.std.specs.Prelude.{◌||◌, ◌&&◌, not, nat_eq, if◌then◌else◌, slice_get}
-use Rattle.std.specs.List.{list_any, find, filter, flat_map, Contains}
-use Rattle.std.proofs.lemmas.Bool.{eq-eqb, and_parts, and_from}
-use Rattle.std.proofs.lemmas.Option.{slice_get_within, get_or_from_slice_get, slice_get-get_or}
+use Rattle.std.proofs.Common.{◌≡◌, ℕ, zero, suc, ◌+◌, ◌<◌, ◌⊎◌, inl, inr, ⊎_elim, Bool, true, false, Option, Some, None, List, [], ◌∷◌, ◌++◌, map, length, refl, ap, subst, sym, ◌∙◌, arith}
+use Rattle.std.specs.Prelude.{◌&&◌, not, if◌then◌else◌, slice_get}
+use Rattle.std.specs.List.{list_any, find, filter, flat_map}
+use Rattle.std.proofs.lemmas.Bool.{eq-eqb, and_parts}
 use Rattle.cxx_hierarchy.specs.declared.records.ClassId.{ClassId}
 use Rattle.cxx_hierarchy.specs.declared.records.Base.{Base}
 use Rattle.cxx_hierarchy.specs.Classes.{Classes, bases_of}
 use Rattle.cxx_hierarchy.specs.Hierarchies.{IsHierarchy}
 use Rattle.cxx_hierarchy.specs.VirtualBases.{IsDirectBase, HasVirtualBase}
 use Rattle.cxx_subobject.specs.Subobjects.{Leads, last_of}
-use Rattle.cxx_subobject.proofs.PathLemmas.{base_before, virtual_below, virtual_through, leads_more, last_append}
+use Rattle.cxx_subobject.proofs.PathLemmas.{base_before, virtual_below}
 use Rattle.cxx_overrider.specs.declared.FunctionId.{FunctionId}
 use Rattle.cxx_overrider.specs.Functions.{Signature, signature_of}
 use Rattle.abi_primary.specs.declared.Primary.{Primary}
@@ -21,11 +20,12 @@ use Rattle.abi_slots.specs.declared.words.EntryKey.{EntryKey}
 use Rattle.abi_slots.specs.declared.words.Offset.{Offset}
 use Rattle.abi_slots.specs.declared.words.Offset.TheVariants.{ToBase, ToOverrider}
 use Rattle.abi_slots.specs.Virtuals.{same_name, own}
-use Rattle.cxx_subobject.specs.VirtualBases.{shared_class, virtual_bases}
-use Rattle.abi_slots.specs.Listing.{same_kind, needs_return, keys_of, shares, same_key, or_itself, listing, entry_number, vbase_number, vcall_number, is_base, is_name, same_offset, push_new, is_direct, primary_entries, new_entries, with_new, entries_in, entries, is_first_base, is_other_base, below_bases, call, calls_in, calls, with_calls, push_all, primary_offsets, offsets_in, offsets}
-use Rattle.abi_slots.proofs.Lists.{Keeps, keeps_itself, keeps_through, keeps_front, Item, item_first, item_later, item_left, item_right, item_none, item_split, item_cases, item_map, from_map, item_flat, from_flat, item_filter, from_filter, by_test, any_item, item_any, any_right, at_place, found_passes, found_some, found_none, flat_same}
-use Rattle.abi_slots.proofs.Names.{name_is, is_name_of, has_name, kind_is, key_is, key_itself, base_is, named_is}
-use Rattle.abi_slots.proofs.Bases.{contains_item, item_contains, virtual_item, item_virtual}
+use Rattle.cxx_subobject.specs.VirtualBases.{virtual_bases}
+use Rattle.abi_slots.specs.Listing.{same_kind, needs_return, keys_of, shares, same_key, or_itself, listing, entry_number, vbase_number, is_base, same_offset, push_new, is_direct, primary_entries, new_entries, with_new, entries_in, entries, is_first_base, is_other_base, below_bases, call, calls_in, calls, with_calls, push_all, primary_offsets, offsets_in, offsets}
+use Rattle.abi_slots.proofs.Lists.{Keeps, keeps_itself, keeps_through, keeps_front, Item, item_first, item_later, item_left, item_right, item_none, item_split, item_cases, item_map, item_filter, from_filter, any_item, item_any, any_right, at_place, found_passes, found_some, found_none, flat_same}
+use Rattle.abi_slots.proofs.Names.{is_name_of, kind_is, key_is, key_itself, base_is}
+use Rattle.abi_slots.proofs.Bases.{contains_item, virtual_item}
+use Rattle.foundation.proofs.Truth.{split}
 
 -- a primary base is a direct base that is not virtual, or a virtual base
 pub record ArePrimaries (h : Classes) (l : Places) : Type 0 where
@@ -96,7 +96,7 @@ module _ (h : Classes) (l : Places) (keeps : IsHierarchy h) (are : ArePrimaries 
 -- what a push keeps and gives
 
 push_new_keeps : (h : Classes) (old : List Offset) (x : Offset) → Keeps old (push_new h old x)
-push_new_keeps h old x = by_test (list_any (same_offset h x) old) (λ b. Keeps old (if b then old else old ++ x ∷ [])) (λ t. keeps_itself old) (λ t. keeps_front old (x ∷ []))
+push_new_keeps h old x = split (list_any (same_offset h x) old) (λ b. Keeps old (if b then old else old ++ x ∷ [])) (λ t. keeps_itself old) (λ t. keeps_front old (x ∷ []))
 
 pub push_all_keeps : (h : Classes) (old xs : List Offset) → Keeps old (push_all h old xs)
 push_all_keeps h old [] = keeps_itself old
@@ -106,7 +106,7 @@ any_keeps : {A : Type 0} (p : A → Bool) (xs ys : List A) → Keeps xs ys → l
 any_keeps p xs ys k e = let r = item_any p xs e in any_item p ys r.0 (record { index = r.1.index; there = k.stays r.1.index r.0 r.1.there }) r.2
 
 push_new_has : (h : Classes) (p : Offset → Bool) (old : List Offset) (x : Offset) → p x ≡ true → ((z : Offset) → same_offset h x z ≡ true → p z ≡ true) → list_any p (push_new h old x) ≡ true
-push_new_has h p old x e closed = by_test (list_any (same_offset h x) old) (λ b. list_any (same_offset h x) old ≡ b → list_any p (if b then old else old ++ x ∷ []) ≡ true)
+push_new_has h p old x e closed = split (list_any (same_offset h x) old) (λ b. list_any (same_offset h x) old ≡ b → list_any p (if b then old else old ++ x ∷ []) ≡ true)
     (λ t same. let r = item_any (same_offset h x) old same in any_item p old r.0 r.1 (closed r.0 r.2))
     (λ t same. any_right p old (x ∷ []) (any_item p (x ∷ []) x (item_first x []) e)) refl
 
@@ -118,7 +118,7 @@ push_all_has h p old (y ∷ xs) x i e closed = ⊎_elim
     (item_split y xs x i)
 
 push_new_item : (h : Classes) (old : List Offset) (x z : Offset) → Item (push_new h old x) z → Item old z ⊎ (x ≡ z)
-push_new_item h old x z = by_test (list_any (same_offset h x) old) (λ b. Item (if b then old else old ++ x ∷ []) z → Item old z ⊎ (x ≡ z))
+push_new_item h old x z = split (list_any (same_offset h x) old) (λ b. Item (if b then old else old ++ x ∷ []) z → Item old z ⊎ (x ≡ z))
     (λ t i. inl i)
     (λ t i. ⊎_elim (λ a. inl a) (λ b. ⊎_elim (λ e. inr e) (λ n. absurd (item_none z n)) (item_split x [] z b)) (item_cases old (x ∷ []) z i))
 
@@ -163,7 +163,7 @@ other_plain p base e = not_true base.is_virtual (and_parts (not base.is_virtual)
 
 -- the entry of a function stands among the old ones or among the new ones
 listing_in : (h : Classes) (l : Places) (k : EntryKey) (old keys : List EntryKey) → Item keys k → Item (old ++ new_entries h l old keys) (or_itself k (find (shares h l k) old))
-listing_in h l k old keys i = by_test (list_any (shares h l k) old) (λ b. list_any (shares h l k) old ≡ b → Item (old ++ new_entries h l old keys) (or_itself k (find (shares h l k) old)))
+listing_in h l k old keys i = split (list_any (shares h l k) old) (λ b. list_any (shares h l k) old ≡ b → Item (old ++ new_entries h l old keys) (or_itself k (find (shares h l k) old)))
     (λ t same.
     let f = found_some (shares h l k) old same in
     let there = (found_passes (shares h l k) old f.0 f.1).0 in

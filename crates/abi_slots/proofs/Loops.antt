@@ -1,7 +1,7 @@
 -- What is left of a list in a loop.
-use Rattle.std.proofs.Common.{◌≡◌, ℕ, zero, suc, ◌+◌, ◌-◌, ◌<◌, ◌≤◌, Bool, true, false, Option, Some, None, List, [], ◌∷◌, ◌++◌, map, length, drop, get_or, refl, ap, subst, sym, ◌∙◌, arith, append_assoc}
+use Rattle.std.proofs.Common.{◌≡◌, ℕ, zero, suc, ◌+◌, ◌<◌, ◌≤◌, Bool, true, false, Some, None, List, [], ◌∷◌, ◌++◌, length, drop, get_or, refl, ap, subst, sym, ◌∙◌, arith, append_assoc}
 use Rattle.std.specs.Prelude.{if◌then◌else◌, position, slice_get}
-use Rattle.std.specs.List.{filter, filter_map, find, flat_map}
+use Rattle.std.specs.List.{filter, find}
 use Rattle.std.proofs.lemmas.List.{append-nil}
 use Rattle.cxx_hierarchy.specs.declared.records.ClassId.{ClassId}
 use Rattle.cxx_hierarchy.specs.declared.records.Function.{Function}
@@ -41,28 +41,21 @@ pub filter_opens : {A : Type 0} (p : A → Bool) (x : A) (xs : List A) (b : Bool
 filter_opens p x xs true e = rw (← e) refl
 filter_opens p x xs false e = rw (← e) refl
 
--- the first that passes is found at its position
-position_found : {A : Type 0} (p : A → Bool) (xs : List A) (i : ℕ) (x : A) → position p xs ≡ Some i → x ≡ get_or xs i x → find p xs ≡ Some x
-position_found p xs i x e is = Rattle.abi_primary.proofs.PrimaryLemmas.found p xs i x e is
-
-position_none : {A : Type 0} (p : A → Bool) (xs : List A) → position p xs ≡ None → find p xs ≡ None
-position_none p xs e = Rattle.abi_primary.proofs.PrimaryLemmas.not_found p xs e
-
 -- the first base of a class, found by its number and copied
 pub base_found : (h : Classes) (x y : ClassId) (list : List Subobject) (n : ℕ) (s t : Subobject) → list ≡ preorder h x → position (λ (a : Subobject). is_class y (class_of a)) list ≡ Some n → s ≡ get_or list n s → t ≡ subobject s.root (s.path ++ []) → Some t ≡ base_of h x y
 base_found h x y list n s t is at there copied =
     let p = λ (a : Subobject). is_class y (class_of a) in
     let same : t ≡ s = copied ∙ ap (λ q. subobject s.root q) (append-nil s.path) in
-    ap (λ a. Some a) same ∙ sym (position_found p list n s at there) ∙ ap (find p) is
+    ap (λ a. Some a) same ∙ sym (Rattle.abi_primary.proofs.PrimaryLemmas.found p list n s at there) ∙ ap (find p) is
 
 pub base_missing : (h : Classes) (x y : ClassId) (list : List Subobject) → list ≡ preorder h x → position (λ (a : Subobject). is_class y (class_of a)) list ≡ None → None ≡ base_of h x y
-base_missing h x y list is none = let p = λ (a : Subobject). is_class y (class_of a) in sym (position_none p list none) ∙ ap (find p) is
+base_missing h x y list is none = let p = λ (a : Subobject). is_class y (class_of a) in sym (Rattle.abi_primary.proofs.PrimaryLemmas.not_found p list none) ∙ ap (find p) is
 
 pub base_valid : (h : Classes) (x : ClassId) (list : List Subobject) (n : ℕ) (s t : Subobject) (all : List Subobject) (y : ClassId) → list ≡ all → ListsSubobjects h x all → position (λ (a : Subobject). is_class y (class_of a)) list ≡ Some n → s ≡ get_or list n s → t ≡ subobject s.root (s.path ++ []) → IsSubobject h x t
 base_valid h x list n s t all y is lists at there copied =
     let p = λ (a : Subobject). is_class y (class_of a) in
     let same : t ≡ s = copied ∙ ap (λ q. subobject s.root q) (append-nil s.path) in
-    let found = found_passes p list s (position_found p list n s at there) in
+    let found = found_passes p list s (Rattle.abi_primary.proofs.PrimaryLemmas.found p list n s at there) in
     subst (λ a. IsSubobject h x a) (sym same) (lists.valid s (contains_item all s (subst (λ xs. Item xs s) is found.0)))
 
 -- what the search of a list comes to, by what is left

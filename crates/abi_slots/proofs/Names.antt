@@ -1,6 +1,6 @@
 -- Tests of names, keys and offsets say what they test.
-use Rattle.std.proofs.Common.{◌≡◌, ℕ, zero, suc, ◌+◌, ◌<◌, ◌⊎◌, inl, inr, ⊎_elim, Bool, true, false, Option, Some, None, List, [], ◌∷◌, ◌++◌, map, length, refl, ap, subst, sym, ◌∙◌, arith}
-use Rattle.std.specs.Prelude.{◌||◌, ◌&&◌, not, nat_eq, if◌then◌else◌, slice_get}
+use Rattle.std.proofs.Common.{◌≡◌, ℕ, true, Option, Some, None, List, [], ◌∷◌, refl, ap, subst, sym, ◌∙◌}
+use Rattle.std.specs.Prelude.{nat_eq, if◌then◌else◌}
 use Rattle.std.specs.Str.{bytes_eq}
 use Rattle.std.proofs.lemmas.Bool.{eqb-true, eq-eqb, and_parts, and_from}
 use Rattle.cxx_hierarchy.specs.declared.records.ClassId.{ClassId}
@@ -19,7 +19,7 @@ use Rattle.abi_slots.specs.declared.words.EntryKey.{EntryKey}
 use Rattle.abi_slots.specs.declared.words.Offset.{Offset}
 use Rattle.abi_slots.specs.declared.words.Offset.TheVariants.{ToBase, ToOverrider}
 use Rattle.abi_slots.specs.Virtuals.{scalar_number, same_type, same_types, same_signature, same_signatures, same_name}
-use Rattle.abi_slots.specs.Listing.{same_kind, same_function, same_key, is_base, is_name, same_offset}
+use Rattle.abi_slots.specs.Listing.{same_kind, same_function, same_key, is_base, is_name}
 
 pub same_class : (c d : ClassId) → c.0 ≡ d.0 → c ≡ d
 same_class c d e = let make : ℕ → ClassId = λ n. record { 0 = n } in let f : make c.0 ≡ make d.0 = ap make e in f

@@ -1,8 +1,7 @@
 -- The virtual functions that a class declares.
-use Rattle.std.proofs.Common.{◌≡◌, ℕ, zero, suc, ◌+◌, ◌<◌, ◌⊎◌, inl, inr, ⊎_elim, Bool, true, false, Option, Some, None, List, [], ◌∷◌, ◌++◌, map, length, refl, ap, subst, sym, ◌∙◌, arith}
-use Rattle.std.specs.Prelude.{◌&&◌, nat_eq, slice_get}
-use Rattle.std.specs.List.{list_any, filter, filter_map}
-use Rattle.std.proofs.lemmas.Bool.{eq-eqb, eqb-true, and_parts, and_from}
+use Rattle.std.proofs.Common.{◌≡◌, true, Option, Some, None, refl, ap, sym, ◌∙◌}
+use Rattle.std.specs.Prelude.{◌&&◌}
+use Rattle.std.proofs.lemmas.Bool.{and_parts}
 use Rattle.cxx_hierarchy.specs.declared.records.ClassId.{ClassId}
 use Rattle.cxx_hierarchy.specs.Classes.{Class, Classes, class_at}
 use Rattle.cxx_hierarchy.specs.Hierarchies.{IsHierarchy}
@@ -10,8 +9,8 @@ use Rattle.cxx_subobject.specs.declared.Subobject.{Subobject}
 use Rattle.cxx_subobject.specs.Subobjects.{class_of}
 use Rattle.cxx_subobject.specs.Preorder.{preorder}
 use Rattle.cxx_overrider.specs.declared.FunctionId.{FunctionId}
-use Rattle.cxx_overrider.specs.Functions.{Signature, signature_of, says_virtual}
-use Rattle.cxx_overrider.specs.Overriding.{HasPart, HasVirtual, IsVirtual}
+use Rattle.cxx_overrider.specs.Functions.{says_virtual}
+use Rattle.cxx_overrider.specs.Overriding.{IsVirtual}
 use Rattle.abi_slots.specs.Virtuals.{function_at, functions_in, indices_in, declared, same_name, says_named, is_virtual, own}
 use Rattle.abi_slots.proofs.Lists.{Item, item_none, from_map, from_filter, item_any}
 use Rattle.abi_slots.proofs.Names.{has_name}

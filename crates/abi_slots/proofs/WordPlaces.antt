@@ -1,13 +1,14 @@
 -- Where the words of a table stand.
-use Rattle.std.proofs.Common.{◌≡◌, ℕ, zero, suc, ◌+◌, ◌-◌, ◌<◌, ◌≤◌, ◌⊎◌, inl, inr, ⊎_elim, Bool, true, false, Option, Some, None, List, [], ◌∷◌, ◌++◌, map, length, reverse, get_or, refl, ap, subst, sym, ◌∙◌, arith, append_assoc, length-append}
-use Rattle.std.specs.Prelude.{slice_get, ℤ}
+use Rattle.std.proofs.Common.{◌≡◌, ℕ, zero, suc, ◌+◌, ◌-◌, ◌<◌, Some, List, [], ◌∷◌, ◌++◌, map, length, reverse, get_or, refl, ap, subst, ◌∙◌, arith}
+use Rattle.std.specs.Prelude.{slice_get}
 use Rattle.std.proofs.lemmas.Option.{slice_get_within, slice_get-get_or, get_or_from_slice_get}
 use Rattle.std.proofs.lemmas.List.{length-reverse, get_or-reverse}
 use Rattle.abi_slots.specs.declared.words.TableWord.{TableWord}
-use Rattle.abi_slots.specs.declared.words.TableWord.TheVariants.{Top, Info, Entry}
+use Rattle.abi_slots.specs.declared.words.TableWord.TheVariants.{Entry}
 use Rattle.abi_slots.specs.declared.words.EntryWord.{EntryWord}
 use Rattle.abi_slots.specs.Groups.{GoAlong}
-use Rattle.abi_slots.proofs.Lists.{Item, get_left, get_past, item_map}
+use Rattle.abi_slots.proofs.Lists.{get_past}
+use Rattle.foundation.proofs.Places.{get_front}
 
 -- the item that goes along with another
 pub partner : {A : Type 0} {B : Type 0} (R : A → B → Type 0) (xs : List A) (ys : List B) → GoAlong R xs ys → (i : ℕ) (a : A) → slice_get xs i ≡ Some a → (b : B) × (slice_get ys i ≡ Some b) × R a b
@@ -33,7 +34,7 @@ reversed_at xs n i x e is =
 -- a table's words: its offsets, the last first, two words more, and its entries
 module _ (words offsets : List TableWord) (entries : List EntryWord) (top : TableWord) (info : TableWord) (is : words ≡ reverse offsets ++ top ∷ info ∷ map Entry entries) where
   pub offset_at : (n i : ℕ) (w : TableWord) → slice_get offsets n ≡ Some w → i + n + 1 ≡ length offsets → slice_get words i ≡ Some w
-  offset_at n i w e at = rw is (get_left (reverse offsets) (top ∷ info ∷ map Entry entries) i w (reversed_at offsets n i w e at))
+  offset_at n i w e at = rw is (get_front (reverse offsets) (top ∷ info ∷ map Entry entries) i w (reversed_at offsets n i w e at))
 
   after : (i : ℕ) (w : TableWord) → slice_get (top ∷ info ∷ map Entry entries) i ≡ Some w → slice_get words (length offsets + i) ≡ Some w
   after i w e = rw is (subst (λ n. slice_get (reverse offsets ++ top ∷ info ∷ map Entry entries) (n + i) ≡ Some w) (length-reverse offsets) (get_past (reverse offsets) (top ∷ info ∷ map Entry entries) i w e))

@@ -1,16 +1,14 @@
 -- What the classes of an example list, computed from the definitions:
 --     struct V { virtual void f() {} virtual ~V() {} };    struct D : virtual V { virtual void f() {} };
 -- V has 8 bytes, and is the primary base of D, which adds a member of 8 bytes in the first layout; in the second one it lies at 16.
-use Rattle.std.proofs.Common.{◌≡◌, ℕ, Bool, true, false, Option, Some, None, List, [], ◌∷◌, refl, ℤ, pos, negsuc}
+use Rattle.std.proofs.Common.{◌≡◌, ℕ, true, false, Option, Some, None, List, [], ◌∷◌, refl, pos, negsuc}
 use Rattle.cxx_hierarchy.specs.declared.records.ClassId.{ClassId}
-use Rattle.cxx_hierarchy.specs.declared.records.Base.{Base}
 use Rattle.cxx_hierarchy.specs.declared.records.Function.{Function}
 use Rattle.cxx_hierarchy.specs.declared.records.PartAt.{PartAt}
 use Rattle.cxx_hierarchy.specs.declared.records.PartKind.TheVariants.{Function as FunctionPart, Destructor}
 use Rattle.cxx_hierarchy.specs.declared.records.ReturnType.TheVariants.{Void}
-use Rattle.cxx_hierarchy.specs.declared.records.Destructor.{Destructor as DestructorKind}
 use Rattle.cxx_hierarchy.specs.declared.records.Destructor.TheVariants.{Implicit, Virtual}
-use Rattle.cxx_hierarchy.specs.Classes.{Class, Classes}
+use Rattle.cxx_hierarchy.specs.Classes.{Classes}
 use Rattle.cxx_subobject.specs.declared.Subobject.{Subobject}
 use Rattle.cxx_subobject.specs.Subobjects.{shared_base, whole_of}
 use Rattle.cxx_overrider.specs.declared.FunctionId.{FunctionId}
@@ -19,11 +17,10 @@ use Rattle.abi_primary.specs.declared.Primary.TheVariants.{None as NoPrimary, Vi
 use Rattle.abi_sound.specs.declared.class_layout.ClassLayout.{ClassLayout}
 use Rattle.abi_sound.specs.Places.{places_of}
 use Rattle.abi_slots.specs.declared.words.CodeKind.TheVariants.{Plain, Complete, Deleting}
-use Rattle.abi_slots.specs.declared.words.EntryKey.{EntryKey}
 use Rattle.abi_slots.specs.declared.words.EntryWord.TheVariants.{Code}
 use Rattle.abi_slots.specs.declared.words.Offset.TheVariants.{ToBase, ToOverrider}
 use Rattle.abi_slots.specs.Virtuals.{function_at}
-use Rattle.abi_slots.specs.Listing.{key, entries, offsets, entry_number, vbase_number, vcall_number}
+use Rattle.abi_slots.specs.Listing.{key, entries, offsets, entry_number, vbase_number}
 use Rattle.abi_slots.specs.Views.{View, heads}
 use Rattle.abi_slots.specs.Groups.{declarer, code_word}
 

@@ -1,19 +1,18 @@
 -- The tables of a group, word by word (Itanium C++ ABI 2.5.2, 2.5.3).
-use Rattle.std.specs.Prelude.{◌≡◌, ℕ, zero, suc, ◌+◌, ◌*◌, ◌<◌, Bool, true, false, not, nat_eq, ◌&&◌, if◌then◌else◌, Option, Some, None, List, [], ◌∷◌, ◌++◌, map, length, reverse, slice_get, ℤ, pos, negsuc, ◌-ℤ◌}
+use Rattle.std.specs.Prelude.{◌≡◌, ℕ, zero, suc, ◌+◌, ◌*◌, Bool, true, false, nat_eq, ◌&&◌, if◌then◌else◌, Option, Some, None, List, [], ◌∷◌, ◌++◌, map, length, reverse, slice_get, ℤ, pos, negsuc, ◌-ℤ◌}
 use Rattle.std.specs.List.{list_any}
 use Rattle.cxx_hierarchy.specs.declared.records.ClassId.{ClassId}
 use Rattle.cxx_hierarchy.specs.Classes.{Classes}
 use Rattle.cxx_subobject.specs.declared.Root.{Root}
 use Rattle.cxx_subobject.specs.declared.Root.TheVariants.{Whole, Shared}
 use Rattle.cxx_subobject.specs.declared.Subobject.{Subobject}
-use Rattle.cxx_subobject.specs.Subobjects.{IsSubobject, subobject, shared_base, whole_of, class_of, join}
+use Rattle.cxx_subobject.specs.Subobjects.{subobject, shared_base, whole_of, class_of}
 use Rattle.cxx_subobject.specs.Inside.{is_longer}
 use Rattle.cxx_overrider.specs.declared.FunctionId.{FunctionId}
 use Rattle.cxx_overrider.specs.declared.Overrider.{Overrider}
 use Rattle.cxx_overrider.specs.Functions.{is_pure}
 use Rattle.cxx_overrider.specs.Overriding.{IsFinalOverrider}
 use Rattle.abi_sound.specs.Places.{Places}
-use Rattle.abi_slots.specs.declared.words.CodeKind.{CodeKind}
 use Rattle.abi_slots.specs.declared.words.ThisAdjust.{ThisAdjust}
 use Rattle.abi_slots.specs.declared.words.ReturnAdjust.{ReturnAdjust}
 use Rattle.abi_slots.specs.declared.words.EntryWord.{EntryWord}

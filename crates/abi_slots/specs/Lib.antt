@@ -4,3 +4,6 @@ pub mod Views
 pub mod Groups
 pub mod Dispatch
 pub mod Rows
+pub mod Limits
+pub mod Slots
+pub mod invariants

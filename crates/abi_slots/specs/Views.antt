@@ -1,5 +1,5 @@
 -- Views of a complete object, the chains in them, and which of their subobjects have a table (Itanium C++ ABI 2.5.1, 2.5.2).
-use Rattle.std.specs.Prelude.{◌≡◌, ℕ, zero, suc, ◌+◌, ◌<◌, Bool, true, false, not, ◌&&◌, ◌||◌, if◌then◌else◌, Option, Some, None, List, [], ◌∷◌, ◌++◌, filter, length}
+use Rattle.std.specs.Prelude.{◌≡◌, ℕ, zero, suc, ◌<◌, Bool, true, false, not, ◌&&◌, ◌||◌, if◌then◌else◌, Option, Some, None, List, [], ◌∷◌, ◌++◌, filter, length}
 use Rattle.std.specs.List.{list_any, flat_map}
 use Rattle.cxx_hierarchy.specs.declared.records.ClassId.{ClassId}
 use Rattle.cxx_hierarchy.specs.Classes.{Class, Classes, class_at}
@@ -13,7 +13,7 @@ use Rattle.abi_primary.specs.declared.Primary.TheVariants.{None as NoPrimary, Di
 use Rattle.abi_primary.specs.Kinds.{IsDynamic}
 use Rattle.cxx_hierarchy.specs.Declarations.{has_virtual_function}
 use Rattle.abi_sound.specs.Places.{Places}
-use Rattle.cxx_subobject.specs.VirtualBases.{shared_at, virtual_bases}
+use Rattle.cxx_subobject.specs.VirtualBases.{virtual_bases}
 use Rattle.abi_slots.specs.Listing.{is_shared_root}
 
 -- a subobject of a complete object as the view of a group: its class, and where it is. The subobjects of the view are those

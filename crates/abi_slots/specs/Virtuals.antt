@@ -1,5 +1,5 @@
 -- The virtual functions that a class declares, in the order of declaration (Itanium C++ ABI 2.5.2; ISO C++03 10.3, 12.4).
-use Rattle.std.specs.Prelude.{◌≡◌, ℕ, Bool, true, false, nat_eq, ◌&&◌, if◌then◌else◌, Option, Some, None, List, [], ◌∷◌, ◌++◌, map, filter, length}
+use Rattle.std.specs.Prelude.{ℕ, Bool, true, false, nat_eq, ◌&&◌, Option, Some, None, List, [], ◌∷◌, ◌++◌, map, filter, length}
 use Rattle.std.specs.List.{list_any, filter_map}
 use Rattle.std.specs.Str.{bytes_eq}
 use Rattle.cxx_hierarchy.specs.declared.records.ClassId.{ClassId}

@@ -6,20 +6,27 @@
 //!
 //! This crate owns what classes list (`Listing`), the tables of a group word by word over subobjects, chains, final
 //! overriders and places (`Groups`), and the law of dispatch: from the table that serves a subobject, the word of a
-//! function leads to the final overrider in the view, and its adjustments lead to that subobject's place.
-//! The layer above may rely on that law (`dispatch`), which holds of any sound layout, and on the lists of a class's
-//! functions and entries (`functions`, `keys`, `entries`, `offsets`, `vcalls`).
+//! function leads to the final overrider in the view, and its adjustments lead to that subobject's place. It owns the
+//! numbers of words (`Slots`), which are kept by class, function and virtual base, so that none is searched for.
+//! The layer above may rely on that law (`dispatch`), which holds of any sound layout, and on `Slots`: the entries and the
+//! offsets of each class, and the numbers of the words of functions and virtual bases.
 #![tactic(auto)]
 
+pub mod class_rows;
 pub mod entries;
+pub mod entry_tables;
 pub mod functions;
 pub mod keys;
 pub mod laws;
+pub mod offset_tables;
 pub mod offsets;
+pub mod rows;
+pub mod slots;
 pub mod vcalls;
 pub mod words;
 
-pub use crate::laws::dispatch;
+pub use crate::laws::{dispatch, one_head};
+pub use crate::slots::Slots;
 pub use crate::words::{
     CodeKind, Conversion, EntryKey, EntryWord, Group, GroupName, KeyList, Offset, OffsetList,
     ReturnAdjust, Table, TableList, TableWord, ThisAdjust, WordList,

@@ -1,64 +1,35 @@
 //! The offsets that a class lists.
 
-ghost use Rattle.std.specs.Prelude.{◌≡◌, ◌<◌, ◌++◌, ◌∷◌, [], Some, IfOk, OnOk, length, map};
-ghost use Rattle.std.specs.List.{list_any};
-ghost use Rattle.cxx_hierarchy.specs.Classes.{Classes};
+ghost use Rattle.std.specs.Prelude.{◌≡◌, ◌<◌, ◌≤◌, ◌++◌, ◌∷◌, [], Some, IsSome, OnOk, All, length, map};
 ghost use Rattle.cxx_hierarchy.specs.declared.records.ClassId.{ClassId};
+ghost use Rattle.cxx_overrider.specs.Functions.{signature_of};
 ghost use Rattle.cxx_overrider.specs.invariants.Numbers.{IsNumbering};
 ghost use Rattle.abi_slots.specs.declared.words.Offset.TheVariants.{ToBase, ToOverrider};
-ghost use Rattle.abi_slots.specs.Listing.{is_base, is_name, push_new, push_all};
+ghost use Rattle.abi_slots.specs.Limits.{most_offsets};
+ghost use Rattle.abi_slots.specs.Listing.{push_new, push_all};
+ghost use Rattle.abi_slots.specs.invariants.OffsetWords.{base_number, name_number, AreWords};
 
-use crate::functions::is_same_name;
+use crate::offset_tables::{OffsetTable, has_word, push_offset};
 use crate::words::Offset;
 use cxx_hierarchy::{ClassId, Hierarchy};
 use cxx_overrider::FunctionId;
-use cxx_overrider::signatures::Numbering;
+use cxx_overrider::signatures::{Numbering, number_of};
 use cxx_subobject::listing::longer_path;
 use foundation::NoMemory;
 use std::alloc::Global;
 
-/// Whether an offset leads to a virtual base.
-pub fn is_base(v: ClassId, offset: &Offset) -> bool
-    ensures { result ≡ is_base v offset.now }
-{
-    match offset {
-        Offset::ToBase(u) => v.0 == u.0,
-        Offset::ToOverrider(_, _) => false,
-    }
-}
-
-/// Whether an offset leads to the final overrider of a function of this name.
-pub fn is_name(numbering: &Numbering, h: &Hierarchy, f: FunctionId, offset: &Offset) -> bool
-    requires { IsNumbering h.now numbering.now.rows.items numbering.now.count }
-    ensures { result ≡ is_name h.now f offset.now }
-{
-    match offset {
-        Offset::ToBase(_) => false,
-        Offset::ToOverrider(_, g) => is_same_name(numbering, f, *g),
-    }
-}
-
-fn has_base(offsets: &[Offset], v: ClassId) -> bool
-    ensures { result ≡ list_any (is_base v) offsets.now }
-{
-    offsets.iter().any(|offset| is_base(v, offset))
-}
-
-fn has_name(numbering: &Numbering, h: &Hierarchy, offsets: &[Offset], f: FunctionId) -> bool
-    requires { IsNumbering h.now numbering.now.rows.items numbering.now.count }
-    ensures { result ≡ list_any (is_name h.now f) offsets.now }
-{
-    offsets
-        .iter()
-        .any(|offset| is_name(numbering, h, f, offset))
-}
-
 /// Puts the offset to a virtual base behind the others, where it is not there yet.
-fn push_base(offsets: &mut Vec<Offset>, v: ClassId) -> Result<(), NoMemory>
-    ensures { (h : Classes) → OnOk result (offsets.new.items ≡ push_new h offsets.old.items (ToBase v)) }
+fn push_base(table: &mut OffsetTable, h: &Hierarchy, v: ClassId) -> Result<(), NoMemory>
+    requires within { v.0 < length table.old.words.items }
+    requires words { AreWords base_number table.old.offsets.items table.old.words.items }
+    requires few { length (push_new h.now table.old.offsets.items (ToBase v)) ≤ most_offsets }
+    ensures offsets { OnOk result (table.new.offsets.items ≡ push_new h.now table.old.offsets.items (ToBase v)) }
+    ensures size { OnOk result (length table.new.words.items ≡ length table.old.words.items) }
+    ensures words { OnOk result (AreWords base_number table.new.offsets.items table.new.words.items) }
 {
-    if !has_base(offsets, v) {
-        offsets.push(Offset::ToBase(v))?;
+    let _h = h;
+    if !has_word(table, v.0 as usize) {
+        push_offset(table, Offset::ToBase(v), Some(v.0 as usize))?;
     }
     Ok(())
 }
@@ -66,18 +37,31 @@ fn push_base(offsets: &mut Vec<Offset>, v: ClassId) -> Result<(), NoMemory>
 /// Puts the offsets to virtual bases behind others, each where it is not there yet.
 ///
 /// Errors: want of memory.
-pub fn push_bases(
-    offsets: &mut Vec<Offset>,
-    h: &Hierarchy,
-    bases: &[ClassId],
-) -> Result<(), NoMemory>
-    ensures { OnOk result (offsets.new.items ≡ push_all h.now offsets.old.items (map ToBase bases.now)) }
+pub fn push_bases(table: &mut OffsetTable, h: &Hierarchy, bases: &[ClassId]) -> Result<(), NoMemory>
+    requires within { All (λ (v : ClassId). v.0 < length table.old.words.items) bases.now }
+    requires words { AreWords base_number table.old.offsets.items table.old.words.items }
+    requires few { length (push_all h.now table.old.offsets.items (map ToBase bases.now)) ≤ most_offsets }
+    ensures offsets { OnOk result (table.new.offsets.items ≡ push_all h.now table.old.offsets.items (map ToBase bases.now)) }
+    ensures size { OnOk result (length table.new.words.items ≡ length table.old.words.items) }
+    ensures words { OnOk result (AreWords base_number table.new.offsets.items table.new.words.items) }
 {
-    let _h = h;
     for v in bases {
-        push_base(offsets, *v)?;
+        push_base(table, h, *v)?;
     }
     Ok(())
+}
+
+/// The number of the signature of a function that is declared.
+fn signature_number(numbering: &Numbering, h: &Hierarchy, f: FunctionId) -> usize
+    requires numbering { IsNumbering h.now numbering.now.rows.items numbering.now.count }
+    requires declared { IsSome (signature_of h.now f) }
+    ensures { Some result ≡ Rattle.cxx_overrider.specs.invariants.Numbers.number_of numbering.now.rows.items f }
+{
+    let _h = h;
+    match number_of(&numbering.rows, f) {
+        Some(number) => number,
+        None => unreachable!(),
+    }
 }
 
 /// Puts the offset of a function that the class at the end of a path declares behind the others, where none of its name
@@ -88,16 +72,23 @@ pub fn push_call(
     alloc: Global,
     numbering: &Numbering,
     h: &Hierarchy,
-    offsets: &mut Vec<Offset>,
+    table: &mut OffsetTable,
     path: &[ClassId],
     f: FunctionId,
 ) -> Result<(), NoMemory>
-    requires { IsNumbering h.now numbering.now.rows.items numbering.now.count }
-    ensures { OnOk result (offsets.new.items ≡ push_new h.now offsets.old.items (ToOverrider path.now f)) }
+    requires numbering { IsNumbering h.now numbering.now.rows.items numbering.now.count }
+    requires declared { IsSome (signature_of h.now f) }
+    requires size { length table.old.words.items ≡ numbering.now.count }
+    requires words { AreWords (name_number numbering.now.rows.items) table.old.offsets.items table.old.words.items }
+    requires few { length (push_new h.now table.old.offsets.items (ToOverrider path.now f)) ≤ most_offsets }
+    ensures offsets { OnOk result (table.new.offsets.items ≡ push_new h.now table.old.offsets.items (ToOverrider path.now f)) }
+    ensures size { OnOk result (length table.new.words.items ≡ numbering.now.count) }
+    ensures words { OnOk result (AreWords (name_number numbering.now.rows.items) table.new.offsets.items table.new.words.items) }
 {
-    if !has_name(numbering, h, offsets, f) {
+    let number = signature_number(numbering, h, f);
+    if !has_word(table, number) {
         let copy = longer_path(alloc, path, &[])?;
-        offsets.push(Offset::ToOverrider(copy, f))?;
+        push_offset(table, Offset::ToOverrider(copy, f), Some(number))?;
     }
     Ok(())
 }

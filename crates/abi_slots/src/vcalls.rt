@@ -1,16 +1,20 @@
 //! The vcall list of a virtual base.
 
-ghost use Rattle.std.specs.Prelude.{◌≡◌, ◌<◌, ◌+◌, ◌++◌, ◌∷◌, [], ℕ, IfOk, OnOk, length, map, filter, get_or};
+ghost use Rattle.std.specs.Prelude.{◌≡◌, ◌<◌, ◌≤◌, ◌+◌, ◌++◌, ◌∷◌, [], ℕ, IsSome, IfOk, OnOk, All, length, map, filter, get_or};
 ghost use Rattle.std.specs.List.{flat_map};
 ghost use Rattle.cxx_hierarchy.specs.declared.records.ClassId.{ClassId};
 ghost use Rattle.cxx_hierarchy.specs.declared.records.Base.{Base};
+ghost use Rattle.cxx_overrider.specs.declared.FunctionId.{FunctionId};
+ghost use Rattle.cxx_overrider.specs.Functions.{signature_of};
 ghost use Rattle.cxx_overrider.specs.invariants.Numbers.{IsNumbering};
 ghost use Rattle.abi_sound.specs.Places.{places_of};
+ghost use Rattle.abi_slots.specs.Limits.{most_offsets};
+ghost use Rattle.abi_slots.specs.invariants.OffsetWords.{name_number, AreWords};
 ghost use Rattle.abi_slots.specs.Listing.{is_direct, call, push_all, calls_in};
 ghost use Rattle.abi_slots.specs.Rows.{is_chosen, class_of_base, AreOwn};
 
+use crate::offset_tables::OffsetTable;
 use crate::offsets::push_call;
-use crate::words::Offset;
 use abi_primary::Primary;
 use abi_sound::SoundLayout;
 use cxx_hierarchy::{Base, ClassId, Hierarchy};
@@ -66,15 +70,21 @@ fn push_own(
     alloc: Global,
     numbering: &Numbering,
     h: &Hierarchy,
-    offsets: &mut Vec<Offset>,
+    table: &mut OffsetTable,
     path: &[ClassId],
     own: &[FunctionId],
 ) -> Result<(), NoMemory>
-    requires { IsNumbering h.now numbering.now.rows.items numbering.now.count }
-    ensures { OnOk result (offsets.new.items ≡ push_all h.now offsets.old.items (map (call path.now) own.now)) }
+    requires numbering { IsNumbering h.now numbering.now.rows.items numbering.now.count }
+    requires declared { All (λ (f : FunctionId). IsSome (signature_of h.now f)) own.now }
+    requires size { length table.old.words.items ≡ numbering.now.count }
+    requires words { AreWords (name_number numbering.now.rows.items) table.old.offsets.items table.old.words.items }
+    requires few { length (push_all h.now table.old.offsets.items (map (call path.now) own.now)) ≤ most_offsets }
+    ensures offsets { OnOk result (table.new.offsets.items ≡ push_all h.now table.old.offsets.items (map (call path.now) own.now)) }
+    ensures size { OnOk result (length table.new.words.items ≡ numbering.now.count) }
+    ensures words { OnOk result (AreWords (name_number numbering.now.rows.items) table.new.offsets.items table.new.words.items) }
 {
     for f in own {
-        push_call(alloc, numbering, h, offsets, path, *f)?;
+        push_call(alloc, numbering, h, table, path, *f)?;
     }
     Ok(())
 }
@@ -91,13 +101,18 @@ pub fn push_calls<L: SoundLayout>(
     own: &[FunctionList],
     path: &[ClassId],
     c: ClassId,
-    offsets: &mut Vec<Offset>,
+    table: &mut OffsetTable,
 ) -> Result<(), NoMemory>
     requires layout { L.lays_out layout.now h.now }
     requires numbering { IsNumbering h.now numbering.now.rows.items numbering.now.count }
     requires own { AreOwn h.now own.now }
     requires known { c.0 < length h.now }
-    ensures { OnOk result (offsets.new.items ≡ push_all h.now offsets.old.items (calls_in h.now (places_of h.now (L.rows layout.now)) (c.0 + 1) path.now c)) }
+    requires size { length table.old.words.items ≡ numbering.now.count }
+    requires words { AreWords (name_number numbering.now.rows.items) table.old.offsets.items table.old.words.items }
+    requires few { length (push_all h.now table.old.offsets.items (calls_in h.now (places_of h.now (L.rows layout.now)) (c.0 + 1) path.now c)) ≤ most_offsets }
+    ensures offsets { OnOk result (table.new.offsets.items ≡ push_all h.now table.old.offsets.items (calls_in h.now (places_of h.now (L.rows layout.now)) (c.0 + 1) path.now c)) }
+    ensures size { OnOk result (length table.new.words.items ≡ numbering.now.count) }
+    ensures words { OnOk result (AreWords (name_number numbering.now.rows.items) table.new.offsets.items table.new.words.items) }
 {
     h.keeps();
     let row = layout.layout(c);
@@ -105,32 +120,14 @@ pub fn push_calls<L: SoundLayout>(
     let firsts = base_classes(alloc, bases, row.primary, true)?;
     for b in firsts.as_slice() {
         let more = longer_path(alloc, path, &[*b])?;
-        push_calls(
-            alloc,
-            h,
-            layout,
-            numbering,
-            own,
-            more.as_slice(),
-            *b,
-            offsets,
-        )?;
+        push_calls(alloc, h, layout, numbering, own, more.as_slice(), *b, table)?;
     }
     let mine = &own[c.0 as usize];
-    push_own(alloc, numbering, h, offsets, path, mine.as_slice())?;
+    push_own(alloc, numbering, h, table, path, mine.as_slice())?;
     let others = base_classes(alloc, bases, row.primary, false)?;
     for d in others.as_slice() {
         let more = longer_path(alloc, path, &[*d])?;
-        push_calls(
-            alloc,
-            h,
-            layout,
-            numbering,
-            own,
-            more.as_slice(),
-            *d,
-            offsets,
-        )?;
+        push_calls(alloc, h, layout, numbering, own, more.as_slice(), *d, table)?;
     }
     Ok(())
 }

@@ -1,6 +1,4 @@
-use Rattle.std.proofs.Common.{sym, ◌∙◌, ap, subst}
-use Rattle.cxx_subobject.specs.Subobjects.{IsSubobject}
-use Rattle.cxx_subobject.specs.Preorder.{preorder}
+use Rattle.std.proofs.Common.{sym, ◌∙◌}
 use Rattle.abi_slots.proofs.Loops.{base_found, base_missing, base_valid}
 use Rattle.abi_slots.proofs.functions.base_of.Goals as goal
 

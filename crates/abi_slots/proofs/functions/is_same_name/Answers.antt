@@ -1,6 +1,6 @@
-use Rattle.std.proofs.Common.{subst, sym, ◌∙◌, ap}
+use Rattle.std.proofs.Common.{◌∙◌, ap}
 use Rattle.cxx_overrider.specs.invariants.Numbers.{number_of}
-use Rattle.abi_slots.proofs.Numbered.{numbers_same, no_first, no_second}
+use Rattle.abi_slots.proofs.Numbered.{numbers_same}
 use Rattle.abi_slots.proofs.functions.is_same_name.Goals as goal
 
 pub returns-in-Some-number_of : goal.returns-in-Some-number_of

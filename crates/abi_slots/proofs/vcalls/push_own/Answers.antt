@@ -1,5 +1,7 @@
-use Rattle.abi_slots.proofs.EntrySteps.{call_step}
+use Rattle.abi_slots.specs.Limits.{most_offsets}
+use Rattle.abi_slots.specs.Listing.{call}
+use Rattle.abi_slots.proofs.PushSteps.{next_room}
 use Rattle.abi_slots.proofs.vcalls.push_own.Goals as goal
 
-pub loop-f-preserved : goal.loop-f-preserved
-loop-f-preserved c = call_step c.args.h.now c.args.path.now c.args.own.now c.loop-f.f-index _ c.loop-f.offsets.items c.push_call.new.offsets.items _ c.loop-f-test.true c.in_ok-push_call.ensures c.loop-f.invariant
+pub push_call-requires-clause-few : goal.push_call-requires-clause-few
+push_call-requires-clause-few c = next_room c.args.h.now (call c.args.path.now) c.args.own.now c.loop-f.f-index _ c.loop-f.table.offsets.items _ most_offsets c.loop-f-test.true c.loop-f.invariant.pushed c.requires.few

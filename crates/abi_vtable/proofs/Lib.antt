@@ -1,0 +1,10 @@
+pub mod OneGroup
+pub mod Lists
+pub mod Parts
+pub mod HeadNumbers
+pub mod Over
+pub mod Declaring
+pub mod Steps
+pub mod EntryRuns
+pub mod Offsets
+pub mod TableWords

@@ -1,0 +1,13 @@
+use Rattle.std.proofs.Common.{◌≡◌, Some}
+use Rattle.std.specs.Prelude.{slice_get}
+use Rattle.cxx_subobject.specs.declared.Subobject.{Subobject}
+use Rattle.cxx_subobject.specs.Preorder.{preorder}
+use Rattle.abi_sound.specs.Places.{places_of}
+use Rattle.abi_slots.specs.Groups.{IsEntryWord}
+use Rattle.abi_vtable.specs.invariants.Parts.{view_in}
+use Rattle.abi_vtable.specs.invariants.Returns.{AreKnown}
+use Rattle.abi_vtable.specs.invariants.Words.{GoAlongTo}
+use Rattle.abi_vtable.proofs.tables.entry_words.Given as goal
+
+abbrev pub invariant-loop-n : goal.invariant-loop-n
+invariant-loop-n g l = AreKnown l.h (places_of l.h (g.L.SoundLayout.rows l.layout)) l.known.items × ((t : Subobject) → slice_get (preorder l.h l.x.class) l.number ≡ Some t → GoAlongTo (IsEntryWord l.h (places_of l.h (g.L.SoundLayout.rows l.layout)) (view_in l.x) t) l.entries l.n l.words.items)

@@ -1,0 +1,10 @@
+use Rattle.abi_sound.specs.Places.{places_of}
+use Rattle.abi_slots.specs.Groups.{IsTable}
+use Rattle.abi_slots.specs.Views.{heads}
+use Rattle.abi_vtable.specs.invariants.Parts.{view_in}
+use Rattle.abi_vtable.specs.invariants.Returns.{AreKnown}
+use Rattle.abi_vtable.specs.invariants.Words.{GoAlongTo}
+use Rattle.abi_vtable.proofs.tables.tables_of.Given as goal
+
+abbrev pub invariant-loop-number : goal.invariant-loop-number
+invariant-loop-number g l = AreKnown l.h (places_of l.h (g.L.SoundLayout.rows l.layout)) l.known.items × GoAlongTo (IsTable l.h (places_of l.h (g.L.SoundLayout.rows l.layout)) (view_in l.x)) (heads l.h (places_of l.h (g.L.SoundLayout.rows l.layout)) (view_in l.x)) l.number-index l.tables

@@ -1,0 +1,9 @@
+use Rattle.abi_vtable.specs.invariants.Parts.{view_in}
+use Rattle.abi_vtable.proofs.Parts.{class_known}
+use Rattle.abi_vtable.proofs.view.part_of.Goals as goal
+
+pub next_of-requires-clause-known : goal.next_of-requires-clause-known
+next_of-requires-clause-known g c = class_known c.args.h.now c.keeps.ensures (view_in c.args.x.now) c.requires.view c.args.s.now c.class_at-class.result c.requires.valid c.class_at-class.ensures
+
+pub is_dynamic-requires : goal.is_dynamic-requires
+is_dynamic-requires g c = class_known c.args.h.now c.keeps.ensures (view_in c.args.x.now) c.requires.view c.args.s.now c.class_at-class.result c.requires.valid c.class_at-class.ensures

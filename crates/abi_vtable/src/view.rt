@@ -1,0 +1,310 @@
+//! The subobjects of a view: where they lie, and the next of each one's chain.
+
+ghost use Rattle.std.specs.Prelude.{◌≡◌, ◌<◌, ◌≤◌, ◌↔◌, ◌++◌, [], ℕ, IsTrue, IfOk, IfSome, MatchOption, Some, None, length, slice_get, slice_index_or};
+ghost use Rattle.cxx_hierarchy.specs.declared.records.ClassId.{ClassId};
+ghost use Rattle.cxx_hierarchy.specs.Classes.{Classes};
+ghost use Rattle.cxx_subobject.specs.declared.Subobject.{Subobject};
+ghost use Rattle.cxx_subobject.specs.Subobjects.{IsSubobject, same_root, same_path, same_subobject, shared_base, class_of};
+ghost use Rattle.cxx_subobject.specs.Preorder.{preorder};
+ghost use Rattle.cxx_subobject.specs.VirtualBases.{shared_class};
+ghost use Rattle.abi_primary.specs.Kinds.{IsDynamic};
+ghost use Rattle.abi_sound.specs.Places.{places_of};
+ghost use Rattle.abi_slots.specs.Views.{IsView, seen, is_some, next};
+ghost use Rattle.abi_vtable.specs.invariants.Parts.{IsNumberOf, IsPartOf, AreParts, AreStarts, IsViewParts, view_in};
+
+use abi_primary::{Primary, is_dynamic};
+use abi_slots::GroupName;
+use abi_sound::SoundLayout;
+use cxx_hierarchy::{ClassId, Hierarchy};
+use cxx_subobject::listing::longer_path;
+use cxx_subobject::{Root, Subobject, class_of, join, list_subobjects, subobject_below};
+use foundation::{NoMemory, Sequence};
+use std::alloc::Global;
+
+/// A subobject of a view: where it is in the view, its class and whether that is dynamic, where it is in the complete object
+/// and at which place there, in bytes, and the number of the next of its chain.
+#[derive(Debug, Drop)]
+pub struct Part {
+    pub at: Subobject,
+    pub class: ClassId,
+    pub is_dynamic: bool,
+    pub seen: Subobject,
+    pub place: u32,
+    pub next: Option<usize>,
+}
+
+/// A list of parts.
+pub type PartList = Sequence<Part>;
+
+/// Numbers of parts.
+pub type NumberList = Sequence<usize>;
+
+/// A view: the class of the complete object, where the view is in it, its class, its place in bytes, its subobjects in
+/// preorder, and for each class number a part at or behind which all of that class stand.
+#[derive(Debug, Drop)]
+pub struct ViewParts {
+    pub complete: ClassId,
+    pub at: Subobject,
+    pub class: ClassId,
+    pub start: u32,
+    pub parts: PartList,
+    pub starts: NumberList,
+}
+
+/// Whether two roots are one.
+pub(crate) fn is_same_root(one: Root, other: Root) -> bool
+    ensures { result ≡ same_root one other }
+{
+    match one {
+        Root::Whole => match other {
+            Root::Whole => true,
+            Root::Shared(_) => false,
+        },
+        Root::Shared(v) => match other {
+            Root::Whole => false,
+            Root::Shared(w) => v.0 == w.0,
+        },
+    }
+}
+
+/// Whether two paths are one.
+fn is_same_path(one: &[ClassId], other: &[ClassId]) -> bool
+    ensures { result ≡ same_path one.now other.now }
+{
+    match one {
+        [] => other.is_empty(),
+        [c, one @ ..] => match other {
+            [] => false,
+            [d, other @ ..] => c.0 == d.0 && is_same_path(one, other),
+        },
+    }
+}
+
+/// Whether two subobjects are one.
+fn is_same(one: &Subobject, other: &Subobject) -> bool
+    ensures { result ≡ same_subobject one.now other.now }
+{
+    if !is_same_root(one.root, other.root) {
+        return false;
+    }
+    if one.path.len() != other.path.len() {
+        return false;
+    }
+    is_same_path(one.path.as_slice(), other.path.as_slice())
+}
+
+/// The virtual base that a subobject is, itself.
+pub(crate) fn shared_class(s: &Subobject) -> Option<ClassId>
+    ensures { result ≡ shared_class s.now }
+{
+    match s.root {
+        Root::Whole => None,
+        Root::Shared(v) => { if s.path.len() == 1 { Some(v) } else { None } }
+    }
+}
+
+/// The number of a subobject in a list.
+fn number_of(list: &[Subobject], target: &Subobject) -> Option<usize>
+    ensures { MatchOption result ((i : ℕ) → slice_get list.now i ≡ Some target.now → ⊥) (λ i. slice_get list.now i ≡ Some target.now) }
+{
+    for (n, s) in list.iter().enumerate() {
+        if is_same(s, target) {
+            return Some(n);
+        }
+    }
+    None
+}
+
+/// The class of a subobject.
+fn class_at(s: &Subobject) -> ClassId
+    requires { (d : ClassId) × (class_of s.now ≡ Some d) }
+    ensures { class_of s.now ≡ Some result }
+{
+    match class_of(s) {
+        Some(class) => class,
+        None => unreachable!(),
+    }
+}
+
+/// The subobject that a virtual base is.
+fn shared_base(alloc: Global, v: ClassId) -> Result<Subobject, NoMemory>
+    ensures { IfOk result (λ s. s ≡ shared_base v) }
+{
+    Ok(Subobject {
+        root: Root::Shared(v),
+        path: longer_path(alloc, &[v], &[])?,
+    })
+}
+
+/// Whether a subobject of an object holds a virtual base of it.
+fn is_holder<L: SoundLayout>(
+    layout: &L,
+    h: &Hierarchy,
+    c: ClassId,
+    v: ClassId,
+    s: &Subobject,
+) -> bool
+    requires layout { L.lays_out layout.now h.now }
+    requires known { c.0 < length h.now }
+    ensures { result ≡ is_some ((places_of h.now (L.rows layout.now)).holder c v) s.now }
+{
+    match layout.holder(c, v) {
+        Some(holder) => is_same(holder, s),
+        None => false,
+    }
+}
+
+/// The number of the next of the chain of a subobject of the view.
+///
+/// Errors: want of memory.
+fn next_of<L: SoundLayout>(
+    alloc: Global,
+    h: &Hierarchy,
+    layout: &L,
+    x: &ViewParts,
+    list: &[Subobject],
+    s: &Subobject,
+    in_object: &Subobject,
+    class: ClassId,
+) -> Result<Option<usize>, NoMemory>
+    requires layout { L.lays_out layout.now h.now }
+    requires view { IsView h.now (view_in x.now) }
+    requires list { list.now ≡ preorder h.now x.now.class }
+    requires valid { IsSubobject h.now x.now.class s.now }
+    requires class { class_of s.now ≡ Some class }
+    requires known { class.0 < length h.now }
+    requires object { in_object.now ≡ seen (view_in x.now) s.now }
+    ensures { IfOk result (λ n. IsNumberOf list.now n (next (places_of h.now (L.rows layout.now)) (view_in x.now) s.now)) }
+{
+    h.keeps();
+    match layout.layout(class).primary {
+        Primary::None => Ok(None),
+        Primary::Direct(b) => {
+            let below = subobject_below(alloc, s, &[b])?;
+            Ok(number_of(list, &below))
+        }
+        Primary::Virtual(v) => {
+            if !is_holder(layout, h, x.complete, v, in_object) {
+                return Ok(None);
+            }
+            let base = shared_base(alloc, v)?;
+            Ok(number_of(list, &base))
+        }
+    }
+}
+
+/// What is kept of a subobject of the view.
+///
+/// Errors: want of memory.
+fn part_of<L: SoundLayout>(
+    alloc: Global,
+    h: &Hierarchy,
+    layout: &L,
+    x: &ViewParts,
+    list: &[Subobject],
+    s: &Subobject,
+) -> Result<Part, NoMemory>
+    requires layout { L.lays_out layout.now h.now }
+    requires view { IsView h.now (view_in x.now) }
+    requires list { list.now ≡ preorder h.now x.now.class }
+    requires valid { IsSubobject h.now x.now.class s.now }
+    ensures at { IfOk result (λ part. part.at ≡ s.now) }
+    ensures part { IfOk result (IsPartOf h.now (places_of h.now (L.rows layout.now)) (view_in x.now) list.now) }
+{
+    h.keeps();
+    let class = class_at(s);
+    let at = subobject_below(alloc, s, &[])?;
+    let seen = join(alloc, h, x.complete, &x.at, s)?;
+    let next = next_of(alloc, h, layout, x, list, s, &seen, class)?;
+    let place = layout.place(h, x.complete, &seen);
+    Ok(Part {
+        at,
+        class,
+        is_dynamic: is_dynamic(h, class),
+        seen,
+        place,
+        next,
+    })
+}
+
+/// The parts of the view, in preorder.
+///
+/// Errors: want of memory.
+fn parts_of<L: SoundLayout>(
+    alloc: Global,
+    h: &Hierarchy,
+    layout: &L,
+    x: &ViewParts,
+    list: &[Subobject],
+) -> Result<PartList, NoMemory>
+    requires layout { L.lays_out layout.now h.now }
+    requires view { IsView h.now (view_in x.now) }
+    requires list { list.now ≡ preorder h.now x.now.class }
+    ensures { IfOk result (AreParts h.now (places_of h.now (L.rows layout.now)) (view_in x.now)) }
+{
+    h.keeps();
+    let mut parts = Sequence::new(alloc);
+    for s in list {
+        let part = part_of(alloc, h, layout, x, list, s)?;
+        parts.push(part)?;
+    }
+    Ok(parts)
+}
+
+/// Lowers the number under which a class is found to that of a part.
+fn note_start(starts: &mut Vec<usize>, c: ClassId, n: usize)
+    ensures kept { (d k : ℕ) → slice_index_or starts.old.items d 0 ≤ k → slice_index_or starts.new.items d 0 ≤ k }
+    ensures noted { slice_index_or starts.new.items c.0 0 ≤ n }
+{
+    let number = c.0 as usize;
+    if number < starts.len() && n < starts[number] {
+        starts[number] = n;
+    }
+}
+
+/// For each class number the number of the first part of that class.
+///
+/// Errors: want of memory.
+fn starts_of(alloc: Global, class: ClassId, parts: &[Part]) -> Result<NumberList, NoMemory>
+    requires { class.0 < 1024 }
+    ensures { IfOk result (λ starts. AreStarts starts parts.now) }
+{
+    let mut starts = vec![in alloc; parts.len(); class.0 as usize + 1]?;
+    for (n, part) in parts.iter().enumerate() {
+        note_start(&mut starts, part.class, n);
+    }
+    Ok(Sequence::from_vec(starts))
+}
+
+/// The view of a group, with its parts.
+///
+/// Errors: want of memory.
+pub fn view_parts<L: SoundLayout>(
+    alloc: Global,
+    h: &Hierarchy,
+    layout: &L,
+    name: &GroupName,
+) -> Result<ViewParts, NoMemory>
+    requires layout { L.lays_out layout.now h.now }
+    requires complete { name.now.complete.0 < length h.now }
+    requires view { IsSubobject h.now name.now.complete name.now.view }
+    requires dynamic { (d : ClassId) → class_of name.now.view ≡ Some d → IsDynamic h.now d }
+    ensures complete { IfOk result (λ x. x.complete ≡ name.now.complete) }
+    ensures at { IfOk result (λ x. x.at ≡ name.now.view) }
+    ensures parts { IfOk result (IsViewParts h.now (places_of h.now (L.rows layout.now))) }
+{
+    h.keeps();
+    let class = class_at(&name.view);
+    let list = list_subobjects(alloc, h, class)?;
+    let mut x = ViewParts {
+        complete: name.complete,
+        at: subobject_below(alloc, &name.view, &[])?,
+        class,
+        start: layout.place(h, name.complete, &name.view),
+        parts: Sequence::new(alloc),
+        starts: Sequence::new(alloc),
+    };
+    x.parts = parts_of(alloc, h, layout, &x, list.as_slice())?;
+    x.starts = starts_of(alloc, class, x.parts.as_slice())?;
+    Ok(x)
+}
