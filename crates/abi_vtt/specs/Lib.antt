@@ -1,0 +1,2 @@
+pub mod Vtts
+pub mod invariants

@@ -1,0 +1,89 @@
+//! The VTT of a class.
+
+ghost use Rattle.std.specs.Prelude.{◌≡◌, ◌<◌, ◌∷◌, [], IfOk, OnOk, length, filter};
+ghost use Rattle.std.specs.List.{flat_map};
+ghost use Rattle.cxx_hierarchy.specs.declared.records.ClassId.{ClassId};
+ghost use Rattle.cxx_hierarchy.specs.VirtualBases.{HasVirtualBase};
+ghost use Rattle.abi_sound.specs.Places.{places_of};
+ghost use Rattle.abi_vtt.specs.Vtts.{has_virtual, shared_items, IsVtt};
+ghost use Rattle.abi_vtt.specs.invariants.Marks.{AreMarks};
+ghost use Rattle.abi_vtt.specs.invariants.Growing.{Grows};
+
+use crate::marks::{is_marked, virtual_marks};
+use crate::sub_vtt::push_sub_vtt;
+use crate::view_list::shared_class;
+use crate::words::VttList;
+use abi_slots::GroupName;
+use abi_sound::SoundLayout;
+use cxx_hierarchy::{ClassId, Hierarchy};
+use cxx_subobject::listing::longer_path;
+use cxx_subobject::{Root, Subobject, list_subobjects};
+use foundation::{NoMemory, Sequence};
+use std::alloc::Global;
+
+/// Puts the words of the sub-VTT of a virtual base behind others, where it has virtual bases itself.
+fn push_shared_vtt<L: SoundLayout>(
+    alloc: Global,
+    h: &Hierarchy,
+    layout: &L,
+    marks: &[bool],
+    complete: ClassId,
+    v: ClassId,
+    words: &mut VttList,
+) -> Result<(), NoMemory>
+    requires layout { L.lays_out layout.now h.now }
+    requires marks { AreMarks h.now (length h.now) marks.now }
+    requires known { complete.0 < length h.now }
+    requires base { HasVirtualBase h.now complete v }
+    ensures { OnOk result (Grows h.now (places_of h.now (L.rows layout.now)) complete (flat_map (shared_items h.now (places_of h.now (L.rows layout.now))) (filter (has_virtual h.now) (v ∷ []))) words.old words.new) }
+{
+    h.keeps();
+    if !is_marked(marks, v) {
+        return Ok(());
+    }
+    let name = GroupName {
+        complete,
+        view: Subobject {
+            root: Root::Shared(v),
+            path: longer_path(alloc, &[v], &[])?,
+        },
+    };
+    push_sub_vtt(alloc, h, layout, marks, &name, v, words)?;
+    Ok(())
+}
+
+/// The words of the VTT of a class with virtual bases, in their order: the sub-VTT of the whole, and those of the virtual bases
+/// that have virtual bases, in preorder.
+///
+/// Errors: want of memory.
+pub fn vtt<L: SoundLayout>(
+    alloc: Global,
+    h: &Hierarchy,
+    layout: &L,
+    c: ClassId,
+) -> Result<VttList, NoMemory>
+    requires layout { L.lays_out layout.now h.now }
+    requires known { c.0 < length h.now }
+    requires has_base { (v : ClassId) × HasVirtualBase h.now c v }
+    ensures { IfOk result (IsVtt h.now (places_of h.now (L.rows layout.now)) c) }
+{
+    h.keeps();
+    let marks = virtual_marks(alloc, h)?;
+    let subobjects = list_subobjects(alloc, h, c)?;
+    let whole = GroupName {
+        complete: c,
+        view: Subobject {
+            root: Root::Whole,
+            path: longer_path(alloc, &[c], &[])?,
+        },
+    };
+    let mut words = Sequence::new(alloc);
+    push_sub_vtt(alloc, h, layout, &marks, &whole, c, &mut words)?;
+    for s in subobjects.as_slice() {
+        match shared_class(s) {
+            Some(v) => push_shared_vtt(alloc, h, layout, &marks, c, v, &mut words)?,
+            None => {}
+        }
+    }
+    Ok(words)
+}
