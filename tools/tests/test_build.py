@@ -15,6 +15,7 @@ if [ "$1" = all ]; then
     printf '== foundation\\nlogic=proved\\n== tagymelur\\nlogic=proved\\n== summary\\n'
     exit "${RT_STATUS:-0}"
 fi
+[ "${RT_STATUS:-0}" = 0 ] || exit 1
 mkdir -p out && printf '#!/bin/sh\\necho ran "$@"\\ncat\\n' > out/tagymelur && chmod +x out/tagymelur
 """
 
