@@ -8,22 +8,9 @@ ghost use Rattle.abi_layout.specs.Holding.{virtual_in, virtual_primary, virtual_
 
 use abi_primary::Primary;
 use cxx_hierarchy::ClassId;
-use cxx_subobject::{Root, Subobject, class_of};
+use cxx_subobject::{Subobject, class_of, shared_class};
 use foundation::NoMemory;
 use std::alloc::Global;
-
-/// The virtual base that a subobject is, itself.
-fn shared_class(s: &Subobject) -> Option<ClassId>
-    ensures { result ≡ shared_class s.now }
-{
-    match s.root {
-        Root::Whole => None,
-        Root::Shared(v) => match s.path.as_slice() {
-            [_] => Some(v),
-            [] | [_, ..] => None,
-        },
-    }
-}
 
 /// Puts a class, if there is one, behind the others.
 fn push_class(classes: &mut Vec<ClassId>, class: Option<ClassId>) -> Result<(), NoMemory>

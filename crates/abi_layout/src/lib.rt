@@ -33,8 +33,6 @@ pub mod scene;
 mod shifted;
 pub mod sound_layout;
 pub mod soundness;
-#[cfg(test)]
-mod tests;
 mod virtual_places;
 
 pub use crate::class_layout::AbiLayout;

@@ -1,7 +1,6 @@
 //! What is known while a class is laid out.
 
 ghost use Rattle.std.specs.Prelude.{◌≡◌, ◌<◌, None, get_or};
-ghost use Rattle.cxx_subobject.specs.Subobjects.{same_root, same_path, same_subobject};
 ghost use Rattle.abi_layout.specs.Holding.{holds_base, held_base};
 ghost use Rattle.abi_layout.specs.invariants.Scenes.{IsScene};
 
@@ -11,7 +10,7 @@ use crate::known::Known;
 use abi_primary::Primary;
 use abi_sound::ClassLayout;
 use cxx_hierarchy::{ClassId, Hierarchy};
-use cxx_subobject::{Root, Subobject};
+use cxx_subobject::{Subobject, is_same};
 
 /// A class `c` of a hierarchy that is laid out; of the classes before it their rows, what else is known of them, and
 /// what their members bring; of these and of the class itself the primary bases; its subobjects in preorder; and by
@@ -26,43 +25,6 @@ pub struct Scene<'a> {
     pub primaries: &'a [Primary],
     pub list: &'a [Subobject],
     pub holders: &'a [Option<usize>],
-}
-
-fn is_same_root(one: Root, other: Root) -> bool
-    ensures { result ≡ same_root one other }
-{
-    match one {
-        Root::Whole => match other {
-            Root::Whole => true,
-            Root::Shared(_) => false,
-        },
-        Root::Shared(v) => match other {
-            Root::Whole => false,
-            Root::Shared(w) => v.0 == w.0,
-        },
-    }
-}
-
-fn is_same_path(one: &[ClassId], other: &[ClassId]) -> bool
-    ensures { result ≡ same_path one.now other.now }
-{
-    match one {
-        [] => match other {
-            [] => true,
-            [_, ..] => false,
-        },
-        [c, one @ ..] => match other {
-            [] => false,
-            [d, other @ ..] => c.0 == d.0 && is_same_path(one, other),
-        },
-    }
-}
-
-/// Whether two subobjects are one.
-fn is_same(one: &Subobject, other: &Subobject) -> bool
-    ensures { result ≡ same_subobject one.now other.now }
-{
-    is_same_root(one.root, other.root) && is_same_path(one.path.as_slice(), other.path.as_slice())
 }
 
 /// The number, in the list, of the subobject that holds a virtual base.

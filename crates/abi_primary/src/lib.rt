@@ -16,8 +16,6 @@ pub mod kinds;
 pub mod listing;
 pub mod nearly_empty;
 pub mod primaries;
-#[cfg(test)]
-mod tests;
 
 pub use crate::holders::{holder_among, holder_of};
 pub use crate::kinds::{is_dynamic, is_empty};

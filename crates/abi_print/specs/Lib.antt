@@ -1,2 +1,4 @@
 pub mod Texts
 pub mod LayoutTexts
+pub mod TableTexts
+pub mod invariants

@@ -17,14 +17,14 @@ use cxx_subobject::{Root, Subobject, list_subobjects};
 use foundation::NoMemory;
 use std::alloc::Global;
 
-fn append(text: &mut Vec<u8>, piece: &[u8]) -> Result<(), NoMemory>
+pub(crate) fn append(text: &mut Vec<u8>, piece: &[u8]) -> Result<(), NoMemory>
     ensures { OnOk result (text.new.items ≡ text.old.items ++ piece.now) }
 {
     text.extend_from_slice(piece)?;
     Ok(())
 }
 
-fn append_number(alloc: Global, text: &mut Vec<u8>, number: u32) -> Result<(), NoMemory>
+pub(crate) fn append_number(alloc: Global, text: &mut Vec<u8>, number: u32) -> Result<(), NoMemory>
     ensures { OnOk result (text.new.items ≡ text.old.items ++ decimal number) }
 {
     let digits = number.to_string(alloc)?;
@@ -33,7 +33,7 @@ fn append_number(alloc: Global, text: &mut Vec<u8>, number: u32) -> Result<(), N
 }
 
 /// Puts the name of a class at the end of a text.
-fn append_class(text: &mut Vec<u8>, h: &Hierarchy, c: ClassId) -> Result<(), NoMemory>
+pub(crate) fn append_class(text: &mut Vec<u8>, h: &Hierarchy, c: ClassId) -> Result<(), NoMemory>
     ensures { OnOk result (text.new.items ≡ text.old.items ++ name_of h.now c) }
 {
     if c.0 >= h.len() {

@@ -10,9 +10,9 @@ use Rattle.cxx_subobject.specs.Preorder.{preorder}
 use Rattle.abi_sound.specs.Places.{Places}
 use Rattle.abi_slots.specs.Listing.{vbase_number}
 use Rattle.abi_slots.specs.Slots.{word_number}
-use Rattle.abi_rtti.specs.declared.info.InfoBase.{InfoBase}
-use Rattle.abi_rtti.specs.declared.info.TypeInfo.{TypeInfo}
-use Rattle.abi_rtti.specs.declared.info.TypeInfo.TheVariants.{Plain, Single, Many}
+use Rattle.abi_slots.specs.declared.words.InfoBase.{InfoBase}
+use Rattle.abi_slots.specs.declared.words.TypeInfo.{TypeInfo}
+use Rattle.abi_slots.specs.declared.words.TypeInfo.TheVariants.{Plain, Single, Many}
 use Rattle.abi_rtti.specs.Repeats.{has_repeat}
 
 -- the classes of the subobjects of a class

@@ -10,32 +10,12 @@ ghost use Rattle.abi_rtti.specs.TypeInfos.{place_of_base, is_simple, base_flags,
 
 use crate::repeats::has_repeat;
 use crate::walk::{classes_in, virtual_edges};
-use abi_slots::Slots;
+use abi_slots::{InfoBase, InfoBaseList, Slots, TypeInfo};
 use abi_sound::SoundLayout;
 use abi_sound::places::{number_of_base, place_of_number};
 use cxx_hierarchy::{Base, ClassId, Hierarchy};
 use foundation::{NoMemory, Sequence};
 use std::alloc::Global;
-
-/// A direct base in the record of a class. `offset_flags` is 1 for a virtual base plus 2 for a public one, plus 256 times
-/// its place in bytes; of a virtual base 256 times where the word that leads to it lies behind the address point, in bytes.
-#[derive(Clone, Copy, Debug, PartialEq, Eq)]
-pub struct InfoBase {
-    pub class: ClassId,
-    pub offset_flags: i64,
-}
-
-/// The direct bases of a class, in declaration order.
-pub type InfoBaseList = Sequence<InfoBase>;
-
-/// What the record of a class says of its bases: none; the only one, public and at the start; or flags and all direct ones. The
-/// flags are 1 where some class has two of its subobjects, plus 2 where two edges lead to one virtual base.
-#[derive(Debug, Drop)]
-pub enum TypeInfo {
-    Plain,
-    Single(ClassId),
-    Many(u32, InfoBaseList),
-}
 
 /// The place of a direct non-virtual base in its class, in bytes.
 fn place_of_base<L: SoundLayout>(h: &Hierarchy, layout: &L, c: ClassId, base: &Base<ClassId>) -> u32

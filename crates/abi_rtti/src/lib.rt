@@ -11,4 +11,4 @@ pub mod info;
 pub mod repeats;
 pub mod walk;
 
-pub use crate::info::{InfoBase, InfoBaseList, TypeInfo, type_info};
+pub use crate::info::type_info;

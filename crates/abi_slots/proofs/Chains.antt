@@ -4,13 +4,13 @@ use Rattle.std.specs.Prelude.{if◌then◌else◌}
 use Rattle.cxx_hierarchy.specs.declared.records.ClassId.{ClassId}
 use Rattle.cxx_hierarchy.specs.Classes.{Classes}
 use Rattle.cxx_hierarchy.specs.Hierarchies.{IsHierarchy}
-use Rattle.cxx_hierarchy.specs.VirtualBases.{IsDirectBase, HasVirtualBase}
+use Rattle.cxx_hierarchy.specs.VirtualBases.{IsDirectBase}
 use Rattle.cxx_subobject.specs.declared.Root.{Root}
 use Rattle.cxx_subobject.specs.declared.Root.TheVariants.{Whole, Shared}
 use Rattle.cxx_subobject.specs.declared.Subobject.{Subobject}
 use Rattle.cxx_subobject.specs.Subobjects.{IsSubobject, whole, shared, subobject, shared_base, last_of, class_of, class_of_path}
 use Rattle.cxx_subobject.specs.Inside.{IsInside}
-use Rattle.cxx_subobject.proofs.PathLemmas.{leads_more, virtual_along, virtual_through, class_there, base_before, virtual_below, last_below, class_low, part_virtual}
+use Rattle.cxx_subobject.proofs.PathLemmas.{leads_more, class_there, base_before, virtual_below, class_low, part_virtual}
 use Rattle.cxx_subobject.proofs.InsideLemmas.{join_valid, join_class, inside_itself, inside_through, inside_shared}
 use Rattle.cxx_subobject.proofs.TestLemmas.{class_below}
 use Rattle.cxx_subobject.proofs.TreeLemmas.{subobject_same, same_itself}
@@ -41,11 +41,11 @@ down_valid h c d b _ (shared v path has l) e edge =
     shared v (path ++ b ∷ []) has (leads_more h v path (b ∷ []) l (subst (λ a. IsDirectBase h a false b) (sym f) edge, tt))
 
 -- one more class behind a path, in the view and in the complete object
-seen_down : (h : Classes) (x : View) (d : ClassId) (s : Subobject) (b : ClassId) → IsSubobject h d s → seen x (subobject s.root (s.path ++ b ∷ [])) ≡ subobject (seen x s).root ((seen x s).path ++ b ∷ [])
+pub seen_down : (h : Classes) (x : View) (d : ClassId) (s : Subobject) (b : ClassId) → IsSubobject h d s → seen x (subobject s.root (s.path ++ b ∷ [])) ≡ subobject (seen x s).root ((seen x s).path ++ b ∷ [])
 seen_down h x d _ b (whole path l) = ap (λ p. subobject x.at_sub.root p) (sym (append_assoc x.at_sub.path path (b ∷ [])))
 seen_down h x d _ b (shared v path has l) = refl
 
-not_shared_path : (r : Root) (path : List ClassId) (d b : ClassId) → class_of_path path ≡ Some d → is_shared_base (subobject r (path ++ b ∷ [])) ≡ false
+pub not_shared_path : (r : Root) (path : List ClassId) (d b : ClassId) → class_of_path path ≡ Some d → is_shared_base (subobject r (path ++ b ∷ [])) ≡ false
 not_shared_path Whole path d b e = refl
 not_shared_path (Shared v) [] d b e = cc
 not_shared_path (Shared v) (c ∷ []) d b e = refl

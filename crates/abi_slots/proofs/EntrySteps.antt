@@ -1,5 +1,5 @@
 -- One more key.
-use Rattle.std.proofs.Common.{◌≡◌, ℕ, zero, suc, ◌+◌, ◌<◌, Option, Some, None, List, [], ◌∷◌, ◌++◌, length, drop, get_or, refl, ap, sym, arith}
+use Rattle.std.proofs.Common.{◌≡◌, ℕ, ◌+◌, ◌<◌, Option, Some, None, List, [], ◌∷◌, ◌++◌, length, drop, get_or, refl, ap, sym}
 use Rattle.std.specs.List.{find}
 use Rattle.cxx_hierarchy.specs.Classes.{Classes}
 use Rattle.abi_sound.specs.Places.{Places}

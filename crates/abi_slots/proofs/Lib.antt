@@ -27,3 +27,8 @@ pub mod ClassEntries
 pub mod ClassOffsets
 pub mod RowParts
 pub mod OneHead
+pub mod ImageReading
+pub mod HeadsOnce
+pub mod ImageWords
+pub mod Seeing
+pub mod Pointers

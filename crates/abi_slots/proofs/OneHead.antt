@@ -20,7 +20,7 @@ use Rattle.abi_slots.proofs.Chains.{Setting, is_held, same_some, walk_under}
 use Rattle.foundation.proofs.Truth.{split}
 
 -- paths that are one with a last class more are one
-front_same : (p q : List ClassId) (a b : ClassId) → p ++ a ∷ [] ≡ q ++ b ∷ [] → p ≡ q
+pub front_same : (p q : List ClassId) (a b : ClassId) → p ++ a ∷ [] ≡ q ++ b ∷ [] → p ≡ q
 front_same [] [] a b e = refl
 front_same [] (y ∷ []) a b e = absurd (cc)
 front_same [] (y ∷ z ∷ q) a b e = absurd (cc)
@@ -32,14 +32,15 @@ front_same (x ∷ p) (y ∷ q) a b e =
     ap (λ c. c ∷ p) first ∙ ap (λ r. y ∷ r) (front_same p q a b rest)
 
 -- a subobject has a path
-some_path : (h : Classes) (c : ClassId) (s : Subobject) → IsSubobject h c s → s.path ≡ [] → ⊥
+pub some_path : (h : Classes) (c : ClassId) (s : Subobject) → IsSubobject h c s → s.path ≡ [] → ⊥
 some_path h c s valid e = let d = class_there h c s valid in let none : None ≡ Some d.0 = sym (ap class_of_path e) ∙ d.1 in absurd (cc)
 
-record IsHeld (o : Option Subobject) (r s : Subobject) (v : ClassId) : Type 0 where
-  held : o ≡ Some r
-  base : shared_base v ≡ s
+-- a virtual base comes next to its holder r
+pub record IsHeld (o : Option Subobject) (r s : Subobject) (v : ClassId) : Type 0 where
+  pub held : o ≡ Some r
+  pub base : shared_base v ≡ s
 
-held_if : (o : Option Subobject) (r s : Subobject) (v : ClassId) → (if is_some o r then Some (shared_base v) else None) ≡ Some s → IsHeld o r s v
+pub held_if : (o : Option Subobject) (r s : Subobject) (v : ClassId) → (if is_some o r then Some (shared_base v) else None) ≡ Some s → IsHeld o r s v
 held_if o r s v = split (is_some o r) (λ b. is_some o r ≡ b → (if b then Some (shared_base v) else None) ≡ Some s → IsHeld o r s v)
     (λ t same e. record { held = is_held o r same; base = same_some (shared_base v) s e })
     (λ t same e. absurd (cc))

@@ -6,4 +6,7 @@ pub mod Dispatch
 pub mod Rows
 pub mod Limits
 pub mod Slots
+pub mod CodeRows
+pub mod Images
+pub mod Seen
 pub mod invariants

@@ -1,2 +1,3 @@
 pub mod OffsetWords
 pub mod SlotRows
+pub mod CodeTables

@@ -7,12 +7,17 @@
 //! This crate owns what classes list (`Listing`), the tables of a group word by word over subobjects, chains, final
 //! overriders and places (`Groups`), and the law of dispatch: from the table that serves a subobject, the word of a
 //! function leads to the final overrider in the view, and its adjustments lead to that subobject's place. It owns the
-//! numbers of words (`Slots`), which are kept by class, function and virtual base, so that none is searched for.
+//! numbers of words (`Slots`), which are kept by class, function and virtual base, so that none is searched for; the numbers
+//! of code (`CodeNumbers`); when an image has tables, VTTs and type information (`Images`: `HasTables`); and what such an
+//! image gives for each subobject of a view (`Seen`, by the law `seen`).
 //! The layer above may rely on that law (`dispatch`), which holds of any sound layout, and on `Slots`: the entries and the
-//! offsets of each class, and the numbers of the words of functions and virtual bases.
+//! offsets of each class, and the numbers of the words of functions and virtual bases. `CodeNumbers` gives the code of a form
+//! of a function, or says that it has none.
 #![tactic(auto)]
 
 pub mod class_rows;
+pub mod code_numbers;
+pub mod code_table;
 pub mod entries;
 pub mod entry_tables;
 pub mod functions;
@@ -25,9 +30,11 @@ pub mod slots;
 pub mod vcalls;
 pub mod words;
 
-pub use crate::laws::{dispatch, one_head};
+pub use crate::code_numbers::{BlockKind, CodeNumbers, CodeRow, CodeRowList};
+pub use crate::laws::{dispatch, one_head, one_pointer, seen};
 pub use crate::slots::Slots;
 pub use crate::words::{
-    CodeKind, Conversion, EntryKey, EntryWord, Group, GroupName, KeyList, Offset, OffsetList,
-    ReturnAdjust, Table, TableList, TableWord, ThisAdjust, WordList,
+    CodeKind, Conversion, EntryKey, EntryWord, Group, GroupList, GroupName, InfoBase, InfoBaseList,
+    KeyList, Offset, OffsetList, ReturnAdjust, Table, TableList, TableWord, ThisAdjust, TypeInfo,
+    VttList, VttWord, WordList,
 };

@@ -100,3 +100,37 @@ pub struct Group {
     pub name: GroupName,
     pub tables: TableList,
 }
+
+/// The groups of a class, or of all classes, in their order.
+pub type GroupList = Sequence<Group>;
+
+/// A word of a VTT: a group of tables, and the number of a table in it, from 0 (Itanium C++ ABI 2.6.2).
+#[derive(Debug, Drop)]
+pub struct VttWord {
+    pub group: GroupName,
+    pub table: usize,
+}
+
+/// The words of a VTT, in their order.
+pub type VttList = Sequence<VttWord>;
+
+/// A direct base in the record of a class (Itanium C++ ABI 2.9.5). `offset_flags` is 1 for a virtual base plus 2 for a public
+/// one, plus 256 times its place in bytes; of a virtual base 256 times where the word that leads to it lies behind the address
+/// point, in bytes.
+#[derive(Clone, Copy, Debug, PartialEq, Eq)]
+pub struct InfoBase {
+    pub class: ClassId,
+    pub offset_flags: i64,
+}
+
+/// The direct bases of a class, in declaration order.
+pub type InfoBaseList = Sequence<InfoBase>;
+
+/// What the record of a class says of its bases: none; the only one, public and at the start; or flags and all direct ones. The
+/// flags are 1 where some class has two of its subobjects, plus 2 where two edges lead to one virtual base.
+#[derive(Debug, Drop)]
+pub enum TypeInfo {
+    Plain,
+    Single(ClassId),
+    Many(u32, InfoBaseList),
+}

@@ -15,6 +15,7 @@ use Rattle.cxx_subobject.specs.Locations.{to_subobject}
 use Rattle.cxx_subobject.specs.Subobjects.{Leads, subobject, shared_base, whole, shared, IsSubobject, class_of, join}
 use Rattle.cxx_subobject.specs.Preorder.{preorder}
 use Rattle.cxx_subobject.specs.Inside.{IsInside}
+use Rattle.cxx_subobject.proofs.DecidingLemmas.{base_of_shared}
 use Rattle.cxx_subobject.proofs.PathLemmas.{leads_front, class_there, class_low}
 use Rattle.cxx_subobject.proofs.InsideLemmas.{inside_itself, inside_through, join_class}
 use Rattle.cxx_subobject.proofs.TreeLemmas.{has_preorder}
@@ -157,10 +158,6 @@ find_has {X} test (y ∷ xs) x e = by_test (test y) e (λ f. find_has test xs x 
     by_test true f next = let same : y ≡ x = cc in inl same
     by_test false f next = inr (next f)
 
-root_has : (h : Classes) (c v : ClassId) (s : Subobject) → IsSubobject h c s → s.root ≡ Shared v → HasVirtualBase h c v
-root_has h c v _ (whole path l) e = cc
-root_has h c v _ (shared w path has l) e = let same : w ≡ v = cc in subst (HasVirtualBase h c) same has
-
 front_valid : (h : Classes) (c a b : ClassId) (root : Root) (path : List ClassId) (s : Subobject) → IsSubobject h c s → s ≡ subobject root (a ∷ (path ++ b ∷ [])) → IsSubobject h c (subobject root (a ∷ path))
 front_valid h c a b root path _ (whole p l) e =
     let r : Whole ≡ root = ap (λ (t : Subobject). t.root) e in
@@ -188,7 +185,7 @@ above_valid h rows sound c s t lt valid e = by_cases s t valid (primary_cases (p
     by_cases : (x y : Subobject) → IsSubobject h c x → IsPrimaryPart (places_of h rows) c y x → IsSubobject h c y
     by_cases _ _ is (by_direct y d b class primary) = by_path (subobject y.root (y.path ++ b ∷ [])) d b y.root y.path is refl class
     by_cases _ _ is (by_holder y d v class primary held) =
-        let has = root_has h c v (shared_base v) is refl in
+        let has = base_of_shared h c v (shared_base v) is refl in
         has_preorder h c y (find_has (λ (z : Subobject). is_primary_of (places_of h rows) v (class_of z)) (preorder h c) y (sym (sound.primaries.holder c v lt has) ∙ held))
 
 -- no subobject that the test picks stands above this one

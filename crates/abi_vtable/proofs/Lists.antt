@@ -1,12 +1,7 @@
 -- Lists of numbers and of what they number.
-use Rattle.std.proofs.Common.{◌≡◌, ℕ, zero, suc, ◌<◌, true, false, Some, List, [], ◌∷◌, ◌++◌, map, length, get_or, refl, ap, sym, ◌∙◌, arith}
-use Rattle.std.specs.Prelude.{slice_get, nat_eq}
-use Rattle.std.proofs.lemmas.Bool.{and_parts}
+use Rattle.std.proofs.Common.{◌≡◌, ℕ, zero, suc, ◌<◌, Some, List, [], ◌∷◌, ◌++◌, map, length, get_or, refl, ap, sym, ◌∙◌, arith}
+use Rattle.std.specs.Prelude.{slice_get}
 use Rattle.std.proofs.lemmas.Option.{slice_get-get_or}
-use Rattle.foundation.proofs.Truth.{is_false}
-use Rattle.cxx_hierarchy.specs.declared.records.ClassId.{ClassId}
-use Rattle.cxx_subobject.specs.declared.Subobject.{Subobject}
-use Rattle.cxx_subobject.specs.Subobjects.{same_root, same_path, same_subobject}
 
 pub there_at : {A : Type 0} (xs : List A) (i : ℕ) (x : A) → i < length xs → x ≡ get_or xs i x → slice_get xs i ≡ Some x
 there_at xs i x lt is = slice_get-get_or xs i x lt ∙ ap (λ a. Some a) (sym is)
@@ -23,15 +18,6 @@ from_map_get f (x ∷ xs) (suc i) y e = from_map_get f xs i y e
 pub map_size : {A B : Type 0} (f : A → B) (xs : List A) → length (map f xs) ≡ length xs
 map_size f [] = refl
 map_size f (x ∷ xs) = let e = map_size f xs in omega arith
-
-paths_long : (p q : List ClassId) → same_path p q ≡ true → length p ≡ length q
-paths_long [] [] e = refl
-paths_long [] (d ∷ q) e = cc
-paths_long (c ∷ p) [] e = cc
-paths_long (c ∷ p) (d ∷ q) e = let both = and_parts (nat_eq c.0 d.0) (same_path p q) e in let k = paths_long p q both.1 in omega arith
-
-pub not_same : (s t : Subobject) → (length s.path ≡ length t.path → ⊥) → false ≡ same_subobject s t
-not_same s t apart = sym (is_false (same_subobject s t) (λ e. apart (paths_long s.path t.path (and_parts (same_root s.root t.root) (same_path s.path t.path) e).1)))
 
 pub read_at : {A : Type 0} (xs : List A) (i : ℕ) (d : A) → i < length xs → slice_get xs i ≡ Some (get_or xs i d)
 read_at xs i d lt = slice_get-get_or xs i d lt

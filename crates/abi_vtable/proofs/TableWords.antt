@@ -109,17 +109,17 @@ module _ (h : Classes) (rows : List ClassLayout) (keeps : IsHierarchy h) (sound 
   part_along list is i k e = subst (λ o. AreAlong h (places_of h rows) (view_in v) k i o) (sym part_number)
       (all_along h (places_of h rows) (view_in v) (setting_of h rows keeps sound (view_in v) view.view) part.at part.class i k of.valid of.class (ap (λ xs. slice_get xs i) (sym is) ∙ e))
 
-  pub part_table : (t : Subobject) → slice_get (preorder h v.class) n ≡ Some t → (listed : List Offset) (keys : List EntryKey) (offset_words : List TableWord) (entry_words : List EntryWord) (top : ℤ) (before : ℕ) (words : List TableWord) →
-      listed ≡ offsets h (places_of h rows) (is_shared_base (seen (view_in v) part.at)) part.class → keys ≡ entries h (places_of h rows) part.class →
+  pub part_table : (t : Subobject) → slice_get (preorder h v.class) n ≡ Some t → (at_place : ℕ) (listed : List Offset) (keys : List EntryKey) (offset_words : List TableWord) (entry_words : List EntryWord) (top : ℤ) (before : ℕ) (words : List TableWord) →
+      at_place ≡ place (places_of h rows) (view_in v) part.at → listed ≡ offsets h (places_of h rows) (is_shared_base (seen (view_in v) part.at)) part.class → keys ≡ entries h (places_of h rows) part.class →
       GoAlong (IsOffsetWord h (places_of h rows) (view_in v) part.at) listed offset_words → GoAlong (IsEntryWord h (places_of h rows) (view_in v) part.at) keys entry_words →
-      top ≡ pos v.start -ℤ pos part.place → words ≡ reverse offset_words ++ Top top ∷ Info v.class ∷ map Entry entry_words → before ≡ length offset_words + 2 →
-      IsTable h (places_of h rows) (view_in v) t (record { class = part.class; place = part.place; before = before; words = words })
-  part_table t at listed keys offset_words entry_words top before words is_listed is_keys are_offsets are_entries is_top is_words is_before =
+      top ≡ pos v.start -ℤ pos at_place → words ≡ reverse offset_words ++ Top top ∷ Info v.class ∷ map Entry entry_words → before ≡ length offset_words + 2 →
+      IsTable h (places_of h rows) (view_in v) t (record { class = part.class; place = at_place; before = before; words = words })
+  part_table t at at_place listed keys offset_words entry_words top before words is_place is_listed is_keys are_offsets are_entries is_top is_words is_before =
       let same : t ≡ part.at = same_some t part.at (sym at ∙ part_number) in
-      let value : top ≡ between (places_of h rows) v.complete (seen (view_in v) part.at) (seen (view_in v) (whole_of v.class)) = is_top ∙ ap (λ m. pos m -ℤ pos part.place) view.start ∙ ap (λ m. pos (place (places_of h rows) (view_in v) (whole_of v.class)) -ℤ pos m) of.place in
-      let all : IsTable h (places_of h rows) (view_in v) part.at (record { class = part.class; place = part.place; before = before; words = words }) = record {
+      let value : top ≡ between (places_of h rows) v.complete (seen (view_in v) part.at) (seen (view_in v) (whole_of v.class)) = is_top ∙ ap (λ m. pos m -ℤ pos at_place) view.start ∙ ap (λ m. pos (place (places_of h rows) (view_in v) (whole_of v.class)) -ℤ pos m) is_place in
+      let all : IsTable h (places_of h rows) (view_in v) part.at (record { class = part.class; place = at_place; before = before; words = words }) = record {
         class = of.class;
-        place = of.place;
+        place = is_place;
         offset_words = offset_words;
         are_offsets = subst (λ xs. GoAlong (IsOffsetWord h (places_of h rows) (view_in v) part.at) xs offset_words) is_listed are_offsets;
         entry_words = entry_words;
@@ -127,4 +127,4 @@ module _ (h : Classes) (rows : List ClassLayout) (keeps : IsHierarchy h) (sound 
         words = is_words ∙ ap (λ d. reverse offset_words ++ Top d ∷ Info v.class ∷ map Entry entry_words) value;
         before = is_before;
       } in
-      subst (λ a. IsTable h (places_of h rows) (view_in v) a (record { class = part.class; place = part.place; before = before; words = words })) (sym same) all
+      subst (λ a. IsTable h (places_of h rows) (view_in v) a (record { class = part.class; place = at_place; before = before; words = words })) (sym same) all

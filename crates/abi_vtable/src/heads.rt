@@ -10,8 +10,8 @@ ghost use Rattle.abi_slots.specs.Views.{heads};
 ghost use Rattle.abi_vtable.specs.declared.view.Part.{Part};
 ghost use Rattle.abi_vtable.specs.invariants.Parts.{IsKept, view_in, leads_to, numbered, heads_of_root};
 
-use crate::view::{Part, ViewParts, is_same_root, shared_class};
-use cxx_subobject::Root;
+use crate::view::{Part, ViewParts};
+use cxx_subobject::{Root, is_same_root, shared_class};
 use foundation::NoMemory;
 use std::alloc::Global;
 

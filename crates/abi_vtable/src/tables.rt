@@ -13,7 +13,7 @@ ghost use Rattle.abi_slots.specs.declared.words.Offset.{Offset};
 ghost use Rattle.abi_slots.specs.declared.words.TableWord.TheVariants.{Top, Info, Entry};
 ghost use Rattle.abi_slots.specs.Limits.{most_offsets};
 ghost use Rattle.abi_slots.specs.Slots.{AreSlots};
-ghost use Rattle.abi_slots.specs.Views.{heads};
+ghost use Rattle.abi_slots.specs.Views.{place, heads};
 ghost use Rattle.abi_slots.specs.Groups.{GoAlong, is_shared_base, IsOffsetWord, IsEntryWord, IsTable, IsGroup};
 ghost use Rattle.abi_vtable.specs.invariants.Parts.{IsPartOf, IsViewParts, view_in, numbered};
 ghost use Rattle.abi_vtable.specs.invariants.Returns.{AreKnown};
@@ -21,7 +21,7 @@ ghost use Rattle.abi_vtable.specs.invariants.Words.{IsNamed, AreAlong};
 
 use crate::heads::heads_of;
 use crate::returns::KnownReturn;
-use crate::view::{Part, ViewParts, shared_class, view_parts};
+use crate::view::{Part, ViewParts, place_of_part, view_parts};
 use crate::words::{distance, entry_word, offset_word};
 use abi_slots::{
     EntryKey, EntryWord, Group, GroupName, Offset, Slots, Table, TableList, TableWord, WordList,
@@ -29,7 +29,7 @@ use abi_slots::{
 use abi_sound::SoundLayout;
 use cxx_hierarchy::{ClassId, Hierarchy};
 use cxx_overrider::Overriders;
-use cxx_subobject::{Subobject, subobject_below};
+use cxx_subobject::{Subobject, shared_class, subobject_below};
 use foundation::{NoMemory, Sequence};
 use std::alloc::Global;
 
@@ -43,7 +43,7 @@ fn is_shared_base(s: &Subobject) -> bool
     }
 }
 
-/// The words of offsets in the table of a part, in the order of the offsets.
+/// The words of offsets in the table of a part, which lies at a place of the complete object, in the order of the offsets.
 ///
 /// Errors: want of memory.
 fn offset_words<L: SoundLayout>(
@@ -53,18 +53,20 @@ fn offset_words<L: SoundLayout>(
     layout: &L,
     x: &ViewParts,
     t: &Part,
+    start: u32,
     offsets: &[Offset],
 ) -> Result<Vec<TableWord>, NoMemory>
     requires layout { L.lays_out layout.now h.now }
     requires overriders { AreOverriders h.now o.now }
     requires view { IsViewParts h.now (places_of h.now (L.rows layout.now)) x.now }
     requires part { IsPartOf h.now (places_of h.now (L.rows layout.now)) (view_in x.now) (preorder h.now x.now.class) t.now }
+    requires start { start ≡ place (places_of h.now (L.rows layout.now)) (view_in x.now) t.now.at }
     requires named { (i : ℕ) (offset : Offset) → slice_get offsets.now i ≡ Some offset → IsNamed h.now x.now.class offset }
     ensures { IfOk result (λ words. GoAlong (IsOffsetWord h.now (places_of h.now (L.rows layout.now)) (view_in x.now) t.now.at) offsets.now words.items) }
 {
     let mut words = Vec::new(alloc);
     for offset in offsets {
-        let word = offset_word(alloc, h, o, layout, x, t, offset)?;
+        let word = offset_word(alloc, h, o, layout, x, t, start, offset)?;
         words.push(word)?;
     }
     Ok(words)
@@ -168,11 +170,12 @@ fn table<L: SoundLayout>(
 {
     h.keeps();
     let t = &x.parts.as_slice()[number];
+    let place = place_of_part(h, layout, x, t);
     let offsets = slots.offsets(t.class, is_shared_base(&t.seen));
-    let offset_words = offset_words(alloc, h, o, layout, x, t, offsets)?;
+    let offset_words = offset_words(alloc, h, o, layout, x, t, place, offsets)?;
     let entries = slots.entries(t.class);
     let entry_words = entry_words(alloc, h, o, layout, slots, known, x, number, entries)?;
-    let top = distance(t.place, x.start);
+    let top = distance(place, x.start);
     let words = words_of(
         alloc,
         offset_words.as_slice(),
@@ -182,7 +185,7 @@ fn table<L: SoundLayout>(
     )?;
     Ok(Table {
         class: t.class,
-        place: t.place,
+        place,
         before: offset_words.len() as u32 + 2,
         words,
     })

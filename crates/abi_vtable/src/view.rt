@@ -4,9 +4,8 @@ ghost use Rattle.std.specs.Prelude.{◌≡◌, ◌<◌, ◌≤◌, ◌↔◌, �
 ghost use Rattle.cxx_hierarchy.specs.declared.records.ClassId.{ClassId};
 ghost use Rattle.cxx_hierarchy.specs.Classes.{Classes};
 ghost use Rattle.cxx_subobject.specs.declared.Subobject.{Subobject};
-ghost use Rattle.cxx_subobject.specs.Subobjects.{IsSubobject, same_root, same_path, same_subobject, shared_base, class_of};
+ghost use Rattle.cxx_subobject.specs.Subobjects.{IsSubobject, shared_base, class_of};
 ghost use Rattle.cxx_subobject.specs.Preorder.{preorder};
-ghost use Rattle.cxx_subobject.specs.VirtualBases.{shared_class};
 ghost use Rattle.abi_primary.specs.Kinds.{IsDynamic};
 ghost use Rattle.abi_sound.specs.Places.{places_of};
 ghost use Rattle.abi_slots.specs.Views.{IsView, seen, is_some, next};
@@ -17,19 +16,18 @@ use abi_slots::GroupName;
 use abi_sound::SoundLayout;
 use cxx_hierarchy::{ClassId, Hierarchy};
 use cxx_subobject::listing::longer_path;
-use cxx_subobject::{Root, Subobject, class_of, join, list_subobjects, subobject_below};
+use cxx_subobject::{Root, Subobject, class_of, is_same, join, list_subobjects, subobject_below};
 use foundation::{NoMemory, Sequence};
 use std::alloc::Global;
 
-/// A subobject of a view: where it is in the view, its class and whether that is dynamic, where it is in the complete object
-/// and at which place there, in bytes, and the number of the next of its chain.
+/// A subobject of a view: where it is in the view, its class and whether that is dynamic, where it is in the complete object,
+/// and the number of the next of its chain.
 #[derive(Debug, Drop)]
 pub struct Part {
     pub at: Subobject,
     pub class: ClassId,
     pub is_dynamic: bool,
     pub seen: Subobject,
-    pub place: u32,
     pub next: Option<usize>,
 }
 
@@ -51,68 +49,26 @@ pub struct ViewParts {
     pub starts: NumberList,
 }
 
-/// Whether two roots are one.
-pub(crate) fn is_same_root(one: Root, other: Root) -> bool
-    ensures { result ≡ same_root one other }
+/// The number of a subobject in a list, from a number on.
+fn number_from(list: &[Subobject], target: &Subobject, from: usize) -> Option<usize>
+    ensures { MatchOption result ((i : ℕ) → from ≤ i → slice_get list.now i ≡ Some target.now → ⊥) (λ i. slice_get list.now i ≡ Some target.now) }
 {
-    match one {
-        Root::Whole => match other {
-            Root::Whole => true,
-            Root::Shared(_) => false,
-        },
-        Root::Shared(v) => match other {
-            Root::Whole => false,
-            Root::Shared(w) => v.0 == w.0,
-        },
-    }
-}
-
-/// Whether two paths are one.
-fn is_same_path(one: &[ClassId], other: &[ClassId]) -> bool
-    ensures { result ≡ same_path one.now other.now }
-{
-    match one {
-        [] => other.is_empty(),
-        [c, one @ ..] => match other {
-            [] => false,
-            [d, other @ ..] => c.0 == d.0 && is_same_path(one, other),
-        },
-    }
-}
-
-/// Whether two subobjects are one.
-fn is_same(one: &Subobject, other: &Subobject) -> bool
-    ensures { result ≡ same_subobject one.now other.now }
-{
-    if !is_same_root(one.root, other.root) {
-        return false;
-    }
-    if one.path.len() != other.path.len() {
-        return false;
-    }
-    is_same_path(one.path.as_slice(), other.path.as_slice())
-}
-
-/// The virtual base that a subobject is, itself.
-pub(crate) fn shared_class(s: &Subobject) -> Option<ClassId>
-    ensures { result ≡ shared_class s.now }
-{
-    match s.root {
-        Root::Whole => None,
-        Root::Shared(v) => { if s.path.len() == 1 { Some(v) } else { None } }
-    }
-}
-
-/// The number of a subobject in a list.
-fn number_of(list: &[Subobject], target: &Subobject) -> Option<usize>
-    ensures { MatchOption result ((i : ℕ) → slice_get list.now i ≡ Some target.now → ⊥) (λ i. slice_get list.now i ≡ Some target.now) }
-{
-    for (n, s) in list.iter().enumerate() {
-        if is_same(s, target) {
+    for n in from..list.len() {
+        if is_same(&list[n], target) {
             return Some(n);
         }
     }
     None
+}
+
+/// The number of a subobject in a list. It is looked for from a number on first.
+fn number_of(list: &[Subobject], target: &Subobject, near: usize) -> Option<usize>
+    ensures { MatchOption result ((i : ℕ) → slice_get list.now i ≡ Some target.now → ⊥) (λ i. slice_get list.now i ≡ Some target.now) }
+{
+    match number_from(list, target, near) {
+        Some(n) => Some(n),
+        None => number_from(list, target, 0),
+    }
 }
 
 /// The class of a subobject.
@@ -154,7 +110,8 @@ fn is_holder<L: SoundLayout>(
     }
 }
 
-/// The number of the next of the chain of a subobject of the view.
+/// The number of the next of the chain of a subobject of the view, which stands at a number. A direct primary base stands
+/// behind it, and most often next to it.
 ///
 /// Errors: want of memory.
 fn next_of<L: SoundLayout>(
@@ -163,6 +120,7 @@ fn next_of<L: SoundLayout>(
     layout: &L,
     x: &ViewParts,
     list: &[Subobject],
+    number: usize,
     s: &Subobject,
     in_object: &Subobject,
     class: ClassId,
@@ -181,19 +139,19 @@ fn next_of<L: SoundLayout>(
         Primary::None => Ok(None),
         Primary::Direct(b) => {
             let below = subobject_below(alloc, s, &[b])?;
-            Ok(number_of(list, &below))
+            Ok(number_of(list, &below, number))
         }
         Primary::Virtual(v) => {
             if !is_holder(layout, h, x.complete, v, in_object) {
                 return Ok(None);
             }
             let base = shared_base(alloc, v)?;
-            Ok(number_of(list, &base))
+            Ok(number_of(list, &base, number))
         }
     }
 }
 
-/// What is kept of a subobject of the view.
+/// What is kept of a subobject of the view, which stands at a number.
 ///
 /// Errors: want of memory.
 fn part_of<L: SoundLayout>(
@@ -202,6 +160,7 @@ fn part_of<L: SoundLayout>(
     layout: &L,
     x: &ViewParts,
     list: &[Subobject],
+    number: usize,
     s: &Subobject,
 ) -> Result<Part, NoMemory>
     requires layout { L.lays_out layout.now h.now }
@@ -215,16 +174,29 @@ fn part_of<L: SoundLayout>(
     let class = class_at(s);
     let at = subobject_below(alloc, s, &[])?;
     let seen = join(alloc, h, x.complete, &x.at, s)?;
-    let next = next_of(alloc, h, layout, x, list, s, &seen, class)?;
-    let place = layout.place(h, x.complete, &seen);
+    let next = next_of(alloc, h, layout, x, list, number, s, &seen, class)?;
     Ok(Part {
         at,
         class,
         is_dynamic: is_dynamic(h, class),
         seen,
-        place,
         next,
     })
+}
+
+/// The place of a part in the complete object, in bytes. Few parts are asked for theirs, and a long path takes time.
+pub(crate) fn place_of_part<L: SoundLayout>(
+    h: &Hierarchy,
+    layout: &L,
+    x: &ViewParts,
+    part: &Part,
+) -> u32
+    requires layout { L.lays_out layout.now h.now }
+    requires known { x.now.complete.0 < length h.now }
+    requires seen { IsSubobject h.now x.now.complete part.now.seen }
+    ensures { result ≡ (places_of h.now (L.rows layout.now)).place x.now.complete part.now.seen }
+{
+    layout.place(h, x.complete, &part.seen)
 }
 
 /// The parts of the view, in preorder.
@@ -245,7 +217,7 @@ fn parts_of<L: SoundLayout>(
     h.keeps();
     let mut parts = Sequence::new(alloc);
     for s in list {
-        let part = part_of(alloc, h, layout, x, list, s)?;
+        let part = part_of(alloc, h, layout, x, list, parts.len(), s)?;
         parts.push(part)?;
     }
     Ok(parts)

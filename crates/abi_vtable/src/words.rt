@@ -5,7 +5,7 @@ ghost use Rattle.cxx_hierarchy.specs.declared.records.ClassId.{ClassId};
 ghost use Rattle.cxx_hierarchy.specs.Classes.{Classes};
 ghost use Rattle.cxx_subobject.specs.declared.Subobject.{Subobject};
 ghost use Rattle.cxx_subobject.specs.Subobjects.{IsSubobject};
-ghost use Rattle.cxx_subobject.specs.Inside.{IsInside, begins, is_longer};
+ghost use Rattle.cxx_subobject.specs.Inside.{IsInside};
 ghost use Rattle.cxx_subobject.specs.Preorder.{preorder};
 ghost use Rattle.cxx_overrider.specs.Functions.{is_pure};
 ghost use Rattle.cxx_overrider.specs.Overriders.{AreOverriders};
@@ -13,14 +13,14 @@ ghost use Rattle.abi_sound.specs.Places.{Places, places_of};
 ghost use Rattle.abi_slots.specs.declared.words.EntryKey.{EntryKey};
 ghost use Rattle.abi_slots.specs.declared.words.Offset.{Offset};
 ghost use Rattle.abi_slots.specs.Slots.{AreSlots};
-ghost use Rattle.abi_slots.specs.Views.{next, first_in};
+ghost use Rattle.abi_slots.specs.Views.{place, next, first_in};
 ghost use Rattle.abi_slots.specs.Groups.{GoAlong, named_in, vcall_for, code_word, declares_at, IsOffsetWord, IsEntryWord};
 ghost use Rattle.abi_vtable.specs.invariants.Parts.{IsNumberOf, IsPartOf, IsViewParts, IsSomeView, view_in};
 ghost use Rattle.abi_vtable.specs.invariants.Returns.{AreKnown};
 ghost use Rattle.abi_vtable.specs.invariants.Words.{IsNamed, IsOver, HasVcall, AreAlong, IsDeclaredBy, runs_at};
 
 use crate::returns::{KnownReturn, return_for};
-use crate::view::{Part, ViewParts, is_same_root};
+use crate::view::{Part, ViewParts, place_of_part};
 use abi_slots::{EntryKey, EntryWord, Offset, Slots, TableWord};
 use abi_sound::SoundLayout;
 use abi_thunk::{shared_place, this_adjust};
@@ -28,7 +28,7 @@ use cxx_hierarchy::{ClassId, Hierarchy};
 use cxx_overrider::signatures::declaration;
 use cxx_overrider::{FunctionId, Overriders};
 use cxx_subobject::listing::longer_path;
-use cxx_subobject::{Root, Subobject, contains};
+use cxx_subobject::{Root, Subobject, contains, is_longer};
 use foundation::NoMemory;
 use std::alloc::Global;
 
@@ -89,7 +89,7 @@ fn named_in(alloc: Global, d: ClassId, path: &[ClassId]) -> Result<Subobject, No
     })
 }
 
-/// The word of an offset in the table of a part.
+/// The word of an offset in the table of a part, which lies at a place of the complete object, in bytes.
 ///
 /// Errors: want of memory.
 pub(crate) fn offset_word<L: SoundLayout>(
@@ -99,12 +99,14 @@ pub(crate) fn offset_word<L: SoundLayout>(
     layout: &L,
     x: &ViewParts,
     t: &Part,
+    start: u32,
     offset: &Offset,
 ) -> Result<TableWord, NoMemory>
     requires layout { L.lays_out layout.now h.now }
     requires overriders { AreOverriders h.now o.now }
     requires view { IsViewParts h.now (places_of h.now (L.rows layout.now)) x.now }
     requires part { IsPartOf h.now (places_of h.now (L.rows layout.now)) (view_in x.now) (preorder h.now x.now.class) t.now }
+    requires start { start ≡ place (places_of h.now (L.rows layout.now)) (view_in x.now) t.now.at }
     requires named { IsNamed h.now x.now.class offset.now }
     ensures { IfOk result (IsOffsetWord h.now (places_of h.now (L.rows layout.now)) (view_in x.now) t.now.at offset.now) }
 {
@@ -112,13 +114,14 @@ pub(crate) fn offset_word<L: SoundLayout>(
     match offset {
         Offset::ToBase(v) => {
             let place = shared_place(h, layout, x.complete, *v);
-            Ok(TableWord::Vbase(distance(t.place, place), *v))
+            Ok(TableWord::Vbase(distance(start, place), *v))
         }
         Offset::ToOverrider(path, f) => {
             let s = named_in(alloc, x.class, path.as_slice())?;
             let g = o.final_function(h, x.class, &s, *f);
             let part = part_over(h, x, &s, g.class);
-            Ok(TableWord::Vcall(distance(t.place, part.place), *f))
+            let place = place_of_part(h, layout, x, part);
+            Ok(TableWord::Vcall(distance(start, place), *f))
         }
     }
 }
@@ -159,26 +162,6 @@ fn declarer_below(
         }),
         None => declarer_below(h, slots, x, part.next, n, steps - 1),
     }
-}
-
-/// Whether a path begins with another.
-fn begins(front: &[ClassId], path: &[ClassId]) -> bool
-    ensures { result ≡ begins front.now path.now }
-{
-    match front {
-        [] => true,
-        [c, front @ ..] => match path {
-            [] => false,
-            [d, path @ ..] => c.0 == d.0 && begins(front, path),
-        },
-    }
-}
-
-/// Whether the inner one lies in the non-virtual part of the outer one.
-fn is_longer(outer: &Subobject, inner: &Subobject) -> bool
-    ensures { result ≡ is_longer outer.now inner.now }
-{
-    is_same_root(outer.root, inner.root) && begins(outer.path.as_slice(), inner.path.as_slice())
 }
 
 /// The vcall word by which `this` is adjusted from one subobject to another, in bytes from the address point.

@@ -1,7 +1,11 @@
-mod MarkLemmas
+pub mod MarkLemmas
 pub mod ViewLemmas
-mod ValidViews
+pub mod ValidViews
 mod Noting
-mod Serving
+pub mod Serving
 mod KnownParts
 pub mod WordSteps
+pub mod BlockLemmas
+pub mod RunLemmas
+pub mod RunWords
+pub mod ImageBlocks

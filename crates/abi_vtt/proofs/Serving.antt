@@ -33,11 +33,14 @@ use Rattle.abi_vtable.proofs.Steps.{number_within}
 root_valid : (h : Classes) → IsHierarchy h → (c : ClassId) (root : Root) (s : Subobject) → Item (of_root root (preorder h c)) s → IsSubobject h c s
 root_valid h keeps c root s i = item_preorder h keeps c s (from_filter (λ (t : Subobject). same_root root t.root) (preorder h c) s i).0
 
-part_valid : (h : Classes) → IsHierarchy h → (c : ClassId) (s : Subobject) → Item (by_part h c) s → IsSubobject h c s
+pub part_valid : (h : Classes) → IsHierarchy h → (c : ClassId) (s : Subobject) → Item (by_part h c) s → IsSubobject h c s
 part_valid h keeps c s i = ⊎_elim
     (λ first. root_valid h keeps c Whole s first)
     (λ rest. let r = from_flat (λ v. of_root (Shared v) (preorder h c)) (virtual_bases h c) s rest in root_valid h keeps c (Shared r.0) s r.2)
     (item_cases (of_root Whole (preorder h c)) (flat_map (λ v. of_root (Shared v) (preorder h c)) (virtual_bases h c)) s i)
+
+pub head_valid : (h : Classes) (l : Places) → IsHierarchy h → (x : View) (s : Subobject) → Item (heads h l x) s → IsSubobject h x.class s
+head_valid h l keeps x s i = part_valid h keeps x.class s (from_filter (is_head h l x) (by_part h x.class) s i).0
 
 module _ (h : Classes) (l : Places) (v : ViewParts) (view : IsViewParts h l v) where
   pub parts_size : length (preorder h v.class) ≡ length v.parts

@@ -20,7 +20,7 @@ use Rattle.abi_slots.proofs.Loops.{pushed_more, pushed_all}
 use Rattle.abi_vtable.specs.declared.view.Part.{Part}
 use Rattle.abi_vtable.specs.declared.view.ViewParts.{ViewParts}
 use Rattle.abi_vtable.specs.invariants.Parts.{at_of, IsViewParts, view_in}
-use Rattle.abi_vtt.specs.declared.words.VttWord.{VttWord}
+use Rattle.abi_slots.specs.declared.words.VttWord.{VttWord}
 use Rattle.abi_vtt.specs.Vtts.{Item, item, has_virtual, is_built_base, below, needs_word, words_of_bases, sub_items, shared_items, IsVttWord, IsVtt}
 use Rattle.abi_vtt.specs.invariants.Marks.{marked, AreMarks}
 use Rattle.abi_vtt.specs.invariants.Served.{AreServing}
@@ -43,7 +43,7 @@ abbrev pub shared_rest : Classes → Places → List Subobject → List Item
 shared_rest h l list = flat_map (shared_items h l) (filter (has_virtual h) (filter_map shared_class list))
 
 -- one item more
-along_more : {A B : Type 0} (R : A → B → Type 0) (xs : List A) (ys : List B) (a : A) (b : B) → GoAlong R xs ys → R a b → GoAlong R (xs ++ a ∷ []) (ys ++ b ∷ [])
+pub along_more : {A B : Type 0} (R : A → B → Type 0) (xs : List A) (ys : List B) (a : A) (b : B) → GoAlong R xs ys → R a b → GoAlong R (xs ++ a ∷ []) (ys ++ b ∷ [])
 along_more {A} {B} R xs ys a b go holds = record {
   size = length_pushed ys b ∙ ap (λ n. n + 1) go.size ∙ sym (length_pushed xs a);
   each = λ i p q e f. ⊎_elim

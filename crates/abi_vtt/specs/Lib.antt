@@ -1,2 +1,4 @@
 pub mod Vtts
+pub mod Blocks
+pub mod VttImages
 pub mod invariants

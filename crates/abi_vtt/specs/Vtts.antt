@@ -15,7 +15,7 @@ use Rattle.abi_sound.specs.Places.{Places}
 use Rattle.abi_slots.specs.Listing.{is_direct, is_shared_root}
 use Rattle.abi_slots.specs.Views.{is_dynamic_class, heads, Serves}
 use Rattle.abi_slots.specs.Groups.{GoAlong}
-use Rattle.abi_vtt.specs.declared.words.VttWord.{VttWord}
+use Rattle.abi_slots.specs.declared.words.VttWord.{VttWord}
 
 -- a word of a VTT by what it is for: a view of the complete object, and a subobject of that view, whose table it points to
 pub record Item : Type 0 where

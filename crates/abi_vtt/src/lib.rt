@@ -6,17 +6,21 @@
 //! This crate owns that list as a definition, word by word: for which view and for which of its subobjects a word is
 //! (`Vtts`). The layer above may rely on: `vtt` gives these words over any sound layout, each with the number of the table that
 //! serves its subobject in the group of its view, and `views` gives the views in their order, each a subobject of the class.
+//! It owns the law on which construction rests (`Blocks`): where a sub-VTT stands depends on classes alone (`sub_vtts`), the
+//! tables of a view's non-virtual part stand at the front of its group, at distances that depend on its class alone
+//! (`first_run`), and so each table is found by the class (`each_found`). In an image all this holds of addresses (`VttImages`,
+//! by the law `vtt_in_image`).
 //! No call reads a table's words. A VTT takes memory as its words and the subobjects of its views do.
 #![tactic(auto)]
 
+pub mod laws;
 pub mod marks;
 pub mod needs;
 pub mod served;
 pub mod sub_vtt;
 pub mod view_list;
 pub mod vtt_list;
-pub mod words;
 
+pub use crate::laws::{each_found, first_run, sub_vtts, vtt_in_image};
 pub use crate::view_list::views;
 pub use crate::vtt_list::vtt;
-pub use crate::words::{VttList, VttWord};

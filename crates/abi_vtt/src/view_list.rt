@@ -5,7 +5,6 @@ ghost use Rattle.std.specs.List.{flat_map};
 ghost use Rattle.cxx_hierarchy.specs.declared.records.Base.{Base};
 ghost use Rattle.cxx_hierarchy.specs.declared.records.ClassId.{ClassId};
 ghost use Rattle.cxx_subobject.specs.Subobjects.{IsSubobject};
-ghost use Rattle.cxx_subobject.specs.VirtualBases.{shared_class};
 ghost use Rattle.abi_primary.specs.Kinds.{IsDynamic};
 ghost use Rattle.abi_vtt.specs.Vtts.{has_virtual, shared_views, sub_views, views, HasDynamicClass};
 ghost use Rattle.abi_vtt.specs.invariants.Marks.{AreMarks, marked};
@@ -13,7 +12,9 @@ ghost use Rattle.abi_vtt.specs.invariants.Marks.{AreMarks, marked};
 use crate::marks::{is_marked, virtual_marks};
 use cxx_hierarchy::{Base, ClassId, Hierarchy};
 use cxx_subobject::listing::longer_path;
-use cxx_subobject::{Root, Subobject, SubobjectList, list_subobjects, subobject_below};
+use cxx_subobject::{
+    Root, Subobject, SubobjectList, list_subobjects, shared_class, subobject_below,
+};
 use foundation::{NoMemory, Sequence};
 use std::alloc::Global;
 
@@ -22,16 +23,6 @@ pub(crate) fn is_built(marks: &[bool], base: &Base<ClassId>) -> bool
     ensures { result ≡ (not base.now.is_virtual && marked marks.now base.now.class) }
 {
     !base.is_virtual && is_marked(marks, base.class)
-}
-
-/// The virtual base that a subobject is, itself.
-pub(crate) fn shared_class(s: &Subobject) -> Option<ClassId>
-    ensures { result ≡ shared_class s.now }
-{
-    match s.root {
-        Root::Whole => None,
-        Root::Shared(v) => { if s.path.len() == 1 { Some(v) } else { None } }
-    }
 }
 
 /// Puts the views of a sub-VTT behind others.

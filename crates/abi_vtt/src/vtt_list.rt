@@ -11,13 +11,11 @@ ghost use Rattle.abi_vtt.specs.invariants.Growing.{Grows};
 
 use crate::marks::{is_marked, virtual_marks};
 use crate::sub_vtt::push_sub_vtt;
-use crate::view_list::shared_class;
-use crate::words::VttList;
-use abi_slots::GroupName;
+use abi_slots::{GroupName, VttList};
 use abi_sound::SoundLayout;
 use cxx_hierarchy::{ClassId, Hierarchy};
 use cxx_subobject::listing::longer_path;
-use cxx_subobject::{Root, Subobject, list_subobjects};
+use cxx_subobject::{Root, Subobject, list_subobjects, shared_class};
 use foundation::{NoMemory, Sequence};
 use std::alloc::Global;
 

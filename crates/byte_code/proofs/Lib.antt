@@ -1,2 +1,3 @@
 pub mod Pow
+pub mod Reading
 pub mod Words

@@ -1,10 +1,3 @@
 pub mod Lists
 pub mod Throughs
 pub mod Prefixes
-pub mod Heads
-pub mod Leaves
-pub mod SamePlaces
-pub mod SameRights
-pub mod SameValues
-pub mod SameStatements
-pub mod Vectors

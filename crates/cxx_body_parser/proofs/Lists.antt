@@ -4,11 +4,11 @@ use Rattle.std.proofs.lemmas.Grind.{common_steps}
 use Rattle.cxx_grammar.specs.declared.sort.Lexeme.{Lexeme}
 use Rattle.cxx_grammar.specs.Front.{Is, IsName}
 use Rattle.cxx_grammar.specs.declared.sort.Sort.TheVariants.{Dot, Comma}
-use Rattle.cxx_body_parser.specs.declared.tree.PlacePart.{PlacePart}
-use Rattle.cxx_body_parser.specs.declared.tree.Operand.{Operand}
-use Rattle.cxx_body_parser.specs.declared.tree.Statement.{Statement}
-use Rattle.cxx_body_parser.specs.Statements.{StatementReads, StatementsRead, one_statement, no_statement}
-use Rattle.cxx_body_parser.specs.Operands.{PartReads, PartsRead, DotsRead, some_parts, a_dot, no_dot, OperandReads, MoreRead, ArgumentsRead, some_arguments, one_more_operand, no_more_operands}
+use Rattle.cxx_syntax.specs.declared.tree.PlacePart.{PlacePart}
+use Rattle.cxx_syntax.specs.declared.tree.Operand.{Operand}
+use Rattle.cxx_syntax.specs.declared.tree.Statement.{Statement}
+use Rattle.cxx_syntax.specs.Statements.{StatementReads, StatementsRead, one_statement, no_statement}
+use Rattle.cxx_syntax.specs.Operands.{PartReads, PartsRead, DotsRead, some_parts, a_dot, no_dot, OperandReads, MoreRead, ArgumentsRead, some_arguments, one_more_operand, no_more_operands}
 
 -- the parts so far, whatever follows
 abbrev pub PartsSoFar : List ℕ → Lexeme → List Lexeme → List Lexeme → List PlacePart → Type 0

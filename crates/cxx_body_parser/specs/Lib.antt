@@ -1,4 +1,1 @@
-pub mod Operands
-pub mod Statements
 pub mod invariants
-pub mod Same

@@ -9,16 +9,16 @@ ghost use Rattle.cxx_grammar.specs.Event.{State, sorts, Event, DerivesPrefix};
 ghost use Rattle.cxx_grammar.specs.Lexemes.{lexemes, block_start};
 ghost use Rattle.cxx_grammar.specs.invariants.Run.{Follows};
 ghost use Rattle.cxx_grammar.specs.Table.{Only, AnOperand, ABlock, StatementsEnd};
-ghost use Rattle.cxx_body_parser.specs.Statements.{BodyReads, StatementsRead, StatementReads};
+ghost use Rattle.cxx_syntax.specs.Statements.{BodyReads, StatementsRead, StatementReads};
 
-use crate::operand::operand;
 use crate::statement::{
     copy, delete, dump, name_statement, print_statement, return_statement, scalar_declaration,
     this_statement,
 };
-use crate::tree::{BodyTree, Statement, StatementKind};
 use cxx_grammar::{Lexeme, Sort, is_same, lexemes, next, refusal, take};
 use cxx_hierarchy::{LimitNo, Stop};
+use cxx_syntax::operand::operand;
+use cxx_syntax::{BodyTree, Statement, StatementKind};
 use cxx_text::TokenList;
 use std::alloc::Global;
 

@@ -8,24 +8,24 @@ ghost use Rattle.cxx_grammar.specs.Front.{Is, IsName};
 ghost use Rattle.cxx_grammar.specs.Event.{State};
 ghost use Rattle.cxx_grammar.specs.invariants.Run.{Follows, FollowsBy};
 ghost use Rattle.cxx_grammar.specs.Table.{Use, Read, AName, ArgumentsEnd, Named, Tail, Member, Only, APointer, is_pointer, end_tasks};
-ghost use Rattle.cxx_body_parser.specs.Operands.{PartReads, PartsRead, PlaceReads, CallReads, ArgumentsRead};
+ghost use Rattle.cxx_syntax.specs.Operands.{PartReads, PartsRead, PlaceReads, CallReads, ArgumentsRead};
 ghost use Rattle.cxx_body_parser.specs.invariants.Through.{ThroughReads, tasks_after};
 
-use crate::operand::{operand, pointer, pointer_at, spot};
-use crate::tree::{CallText, OperandList, PlacePart, PlacePartList, PlaceText};
 use cxx_grammar::{Lexeme, Sort, is_same, next, refusal, take, take_name, take_number};
 use cxx_hierarchy::Stop;
+use cxx_syntax::operand::{operand, pointer, pointer_at};
+use cxx_syntax::{CallText, OperandList, PlacePart, PlacePartList, PlaceText, spot};
 use std::alloc::Global;
 
 /// What stands behind a pointer and `->`.
-#[derive(Debug, Drop)]
+#[derive(Drop)]
 pub(crate) enum Through {
     Place(PlaceText),
     Call(CallText),
 }
 
 // ["[" number "]"] after a name
-#[tactic(auto, using(crate::specs::Operands::a_part, crate::specs::Operands::no_index, crate::specs::Operands::an_index, cxx_grammar::proofs::Tails::no_index))]
+#[tactic(auto, using(cxx_syntax::specs::Operands::a_part, cxx_syntax::specs::Operands::no_index, cxx_syntax::specs::Operands::an_index, cxx_grammar::proofs::Tails::no_index))]
 fn part<'a>(
     alloc: Global,
     text: &[u8],

@@ -7,14 +7,14 @@ ghost use Rattle.cxx_grammar.specs.declared.sort.Sort.{Sort};
 ghost use Rattle.cxx_grammar.specs.Event.{State};
 ghost use Rattle.cxx_grammar.specs.invariants.Run.{Follows};
 ghost use Rattle.cxx_grammar.specs.Table.{Only, AName, APointer, AConstant, AfterOperand, AfterPointer, RightEnd, is_pointer, is_constant, is_operator};
-ghost use Rattle.cxx_body_parser.specs.Operands.{OperandReads, RightReads, operator_of, cast_of};
+ghost use Rattle.cxx_syntax.specs.Operands.{OperandReads, RightReads, operator_of, cast_of};
 ghost use Rattle.cxx_body_parser.specs.invariants.Through.{right_of};
 
-use crate::operand::{constant_at, operand, operand_at, pointer, spot};
 use crate::place::{Through, behind_pointer, place};
-use crate::tree::{BinaryOp, CastKind, CastText, Operand, Right};
 use cxx_grammar::{Lexeme, Sort, is_same, next, refusal, take, take_name};
 use cxx_hierarchy::Stop;
+use cxx_syntax::operand::{constant_at, operand, operand_at, pointer};
+use cxx_syntax::{BinaryOp, CastKind, CastText, Operand, Right, spot};
 use std::alloc::Global;
 
 // The operator of two operands that a sort is.

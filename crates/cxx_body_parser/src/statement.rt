@@ -9,16 +9,16 @@ ghost use Rattle.cxx_grammar.specs.Event.{State};
 ghost use Rattle.cxx_grammar.specs.invariants.Run.{Follows};
 ghost use Rattle.cxx_hierarchy.specs.declared.records.ValueType.{ValueType};
 ghost use Rattle.cxx_grammar.specs.Table.{Only, AName, AnOperand, APointer, InitEnd, ResultEnd, RightEnd, AfterName, Member, Written, PrintEnd, is_pointer, is_scalar_word, scalar_rest, end_tasks};
-ghost use Rattle.cxx_body_parser.specs.Operands.{PlaceReads, CallReads};
-ghost use Rattle.cxx_body_parser.specs.Statements.{ValueReads, InitReads, ResultReads, IsFirst, StatementReads};
+ghost use Rattle.cxx_syntax.specs.Operands.{PlaceReads, CallReads};
+ghost use Rattle.cxx_syntax.specs.Statements.{ValueReads, InitReads, ResultReads, IsFirst, StatementReads};
 
-use crate::operand::{operand, pointer, spot};
 use crate::place::{Through, behind_pointer};
 use crate::right::right;
-use crate::scalar::scalar;
-use crate::tree::{CallText, Operand, PlaceText, Right, Statement, StatementKind};
 use cxx_grammar::{Lexeme, Sort, is_same, name_of, next, refusal, take, take_name};
 use cxx_hierarchy::{Name, Stop, ValueType};
+use cxx_syntax::operand::{operand, pointer};
+use cxx_syntax::scalar::scalar;
+use cxx_syntax::{CallText, Operand, PlaceText, Right, Statement, StatementKind, spot};
 use std::alloc::Global;
 
 // ["=" right] before ";"

@@ -1,12 +1,1 @@
-pub mod SameBases
-pub mod SameParts
-pub mod SameRecords
-pub mod SameSources
-pub mod Turns
-pub mod Series
-pub mod Drafts
-pub mod Gathers
-pub mod Numbers
 pub mod Others
-pub mod Owners
-pub mod readings

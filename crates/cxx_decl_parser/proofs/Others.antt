@@ -1,17 +1,17 @@
 -- Steps of readers that answer as another reader did, where the state may differ afterwards.
-use Rattle.std.proofs.Common.{◌≡◌, List, [], ◌∷◌, ◌++◌, Result, Ok, Err, IfOk, Bool, true, ◌∙◌, sym, subst, ap, refl}
+use Rattle.std.proofs.Common.{◌≡◌, List, [], ◌++◌, Result, Ok, Err, IfOk, Bool, true, ◌∙◌, sym, subst, ap, refl}
 use Rattle.cxx_grammar.specs.declared.sort.Lexeme.{Lexeme}
 use Rattle.cxx_hierarchy.specs.declared.stop.Stop.{Stop}
 use Rattle.cxx_grammar.specs.Table.{Task}
 use Rattle.cxx_grammar.specs.Event.{State}
 use Rattle.cxx_grammar.specs.invariants.Run.{run, Stops, Follows}
-use Rattle.cxx_decl_parser.specs.declared.part.Item.{Item}
-use Rattle.cxx_decl_parser.specs.declared.part.Item.TheVariants as item
+use Rattle.cxx_syntax.specs.declared.part.Item.{Item}
+use Rattle.cxx_syntax.specs.declared.part.Item.TheVariants as item
 use Rattle.cxx_grammar.specs.declared.sort.Sort.TheVariants.{Virtual}
 use Rattle.cxx_grammar.specs.Front.{Is}
-use Rattle.cxx_decl_parser.specs.Parts.{VirtualReads, a_virtual}
-use Rattle.cxx_decl_parser.specs.Sources.{is_no_main}
-use Rattle.cxx_decl_parser.specs.invariants.Readers.{FollowsTo, main_after}
+use Rattle.cxx_syntax.specs.Parts.{VirtualReads, a_virtual}
+use Rattle.cxx_syntax.specs.Sources.{is_no_main}
+use Rattle.cxx_record_parser.specs.invariants.Readers.{FollowsTo, main_after}
 
 -- an error that another reader gave
 pub same_error_to : {X : Type 0} (rest_of : X → List Lexeme) (s s' : State) (state : X → State) (ms others left : List Task) (ts ts' : List Lexeme) (r : Result X Stop) (x : Stop) →

@@ -1,6 +1,6 @@
 //! The parts of a class.
 
-ghost use Rattle.std.specs.Prelude.{◌≡◌, ℕ, ◌≤◌, ◌∷◌, ◌++◌, [], List, Bool, true, false, Some, length, IfOk, IfErr};
+ghost use Rattle.std.specs.Prelude.{◌≡◌, ◌≤◌, ◌∷◌, ◌++◌, [], List, Bool, true, false, length, IfOk};
 ghost use Rattle.cxx_hierarchy.specs.declared.stop.Stop.{Stop};
 ghost use Rattle.cxx_hierarchy.specs.declared.records.FieldType.{FieldType};
 ghost use Rattle.cxx_hierarchy.specs.declared.records.ValueType.{ValueType};
@@ -8,61 +8,21 @@ ghost use Rattle.cxx_grammar.specs.declared.sort.Lexeme.{Lexeme};
 ghost use Rattle.cxx_grammar.specs.declared.sort.Sort.{Sort};
 ghost use Rattle.cxx_grammar.specs.Sorts.{is_name};
 ghost use Rattle.cxx_grammar.specs.Front.{IsName};
-ghost use Rattle.cxx_grammar.specs.Event.{State};
 ghost use Rattle.cxx_grammar.specs.invariants.Run.{Follows};
-ghost use Rattle.cxx_grammar.specs.Table.{Only, AName, ABlock, FieldEnd, ParamsEnd, AfterDeclared, AfterType, AfterOwnName, PartsEnd, is_scalar_word, scalar_rest};
-ghost use Rattle.cxx_body_parser.specs.Statements.{IsFirst, ValueReads};
-ghost use Rattle.cxx_decl_parser.specs.declared.part.Part.{Part};
-ghost use Rattle.cxx_decl_parser.specs.Parts.{access_of, FieldTypeReads, PartReads, PartsRead};
-ghost use Rattle.cxx_decl_parser.specs.invariants.Readers.{outside, max_lexemes, IsDraft};
+ghost use Rattle.cxx_grammar.specs.Table.{Only, AName, ABlock, ParamsEnd, AfterDeclared, AfterType, AfterOwnName, PartsEnd, is_scalar_word, scalar_rest};
+ghost use Rattle.cxx_syntax.specs.Statements.{IsFirst, ValueReads};
+ghost use Rattle.cxx_syntax.specs.declared.part.Part.{Part};
+ghost use Rattle.cxx_syntax.specs.Parts.{access_of, PartReads, PartsRead};
+ghost use Rattle.cxx_record_parser.specs.invariants.Readers.{outside, max_lexemes, IsDraft};
 
-use crate::base::access_of;
-use crate::draft::{Draft, public_after};
 use crate::function::{constructor, destructor, plain_function, virtual_part};
-use crate::part::Part;
-use crate::value::count;
-use cxx_body_parser::scalar::scalar;
 use cxx_grammar::{Lexeme, Sort, is_same, name_of, next, refusal, take, take_name};
-use cxx_hierarchy::{FieldType, Member, Name, ReturnType, Stop, ValueType};
+use cxx_hierarchy::{FieldType, Name, ReturnType, Stop, ValueType};
+use cxx_record_parser::draft::{Draft, public_after};
+use cxx_record_parser::member::{field_end, label};
+use cxx_syntax::Part;
+use cxx_syntax::scalar::scalar;
 use std::alloc::Global;
-
-// access ":" after its word
-fn label(first: Lexeme, access: bool, rest: &[Lexeme]) -> Result<(Part, &[Lexeme]), Stop>
-    requires { access_of first.sort ≡ Some access }
-    ensures reads { IfOk result (λ x. (text : List ℕ) (is_public : Bool) → PartReads text is_public x.0 (first ∷ rest.now) x.1.now) }
-    ensures shorter { IfOk result (λ x. length x.1.now ≤ length rest.now) }
-    ensures follows { (s : State) → Follows (λ x. x.1.now) s (Only Sort.Colon ∷ []) rest.now s [] result }
-{
-    let (_colon, rest) = take(rest, Sort::Colon)?;
-    Ok((Part::Label(access), rest))
-}
-
-// ["[" number "]"] ";" after the type and the name of a field
-fn field_end<'a>(
-    alloc: Global,
-    text: &[u8],
-    is_public: bool,
-    first: Lexeme,
-    ty: FieldType<Name>,
-    word: Lexeme,
-    rest: &'a [Lexeme],
-) -> Result<(Part, &'a [Lexeme]), Stop>
-    ensures reads { IfOk result (λ x. (ts a : List Lexeme) → IsFirst first ts → FieldTypeReads text.now ty ts a → IsName word a rest.now → PartReads text.now is_public x.0 ts x.1.now) }
-    ensures shorter { IfOk result (λ x. length x.1.now ≤ length rest.now) }
-    ensures follows { (s : State) → Follows (λ x. x.1.now) s (FieldEnd ∷ []) rest.now s [] result }
-{
-    let (count, rest) = count(rest)?;
-    let (_end, rest) = take(rest, Sort::Semicolon)?;
-    let name = name_of(alloc, text, &word)?;
-    let member = Member {
-        name,
-        ty,
-        count,
-        is_public,
-        at: word.at,
-    };
-    Ok((Part::Field(member, first.at), rest))
-}
 
 // the rest of a field or of a function after its value and its name
 fn after_declared<'a>(

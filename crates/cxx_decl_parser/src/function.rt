@@ -1,69 +1,24 @@
 //! Functions, constructors and destructors.
 
-ghost use Rattle.std.specs.Prelude.{◌≡◌, ◌≤◌, ◌∷◌, [], List, Bool, true, false, length, IfOk, IfErr};
+ghost use Rattle.std.specs.Prelude.{◌≡◌, ◌≤◌, ◌∷◌, [], List, Bool, true, false, length, IfOk};
 ghost use Rattle.cxx_hierarchy.specs.declared.stop.Stop.{Stop};
 ghost use Rattle.cxx_hierarchy.specs.declared.records.Function.{Function};
 ghost use Rattle.cxx_grammar.specs.declared.sort.Lexeme.{Lexeme};
 ghost use Rattle.cxx_grammar.specs.declared.sort.Sort.{Sort};
-ghost use Rattle.cxx_grammar.specs.Front.{Is};
-ghost use Rattle.cxx_grammar.specs.Lexemes.{bytes_of};
-ghost use Rattle.cxx_grammar.specs.Event.{State};
 ghost use Rattle.cxx_grammar.specs.invariants.Run.{Follows};
-ghost use Rattle.cxx_grammar.specs.Table.{Only, AName, ABlock, AnInit, InitsEnd, ConstructorEnd, ParamsEnd, VirtualEnd, AfterVirtual};
-ghost use Rattle.cxx_body_parser.specs.Statements.{IsFirst};
-ghost use Rattle.cxx_decl_parser.specs.Parts.{InitReads, InitsRead, VirtualReads, ReturnReads, PartReads};
-ghost use Rattle.cxx_decl_parser.specs.invariants.Readers.{HeadReads, outside};
+ghost use Rattle.cxx_grammar.specs.Table.{Only, AName, ABlock, ConstructorEnd, ParamsEnd, VirtualEnd, AfterVirtual};
+ghost use Rattle.cxx_syntax.specs.Statements.{IsFirst};
+ghost use Rattle.cxx_syntax.specs.Parts.{VirtualReads, ReturnReads, PartReads};
+ghost use Rattle.cxx_record_parser.specs.invariants.Readers.{HeadReads, outside};
 
-use crate::part::Part;
-use crate::source_text::{Init, InitList};
-use crate::value::{begins_value, params, value};
-use cxx_body_parser::{block, constant, spot};
-use cxx_grammar::{Lexeme, Sort, is_same, name_of, next, refusal, take, take_name};
-use cxx_hierarchy::{Function, Name, ParamList, ReturnType, Stop};
+use cxx_body_parser::block;
+use cxx_grammar::{Lexeme, Sort, is_same, next, refusal, take, take_name};
+use cxx_hierarchy::{Name, ReturnType, Stop};
+use cxx_record_parser::initializer::inits;
+use cxx_record_parser::member::function_of;
+use cxx_record_parser::value::{begins_value, params, value};
+use cxx_syntax::Part;
 use std::alloc::Global;
-
-// init
-fn init<'a>(alloc: Global, text: &[u8], rest: &'a [Lexeme]) -> Result<(Init, &'a [Lexeme]), Stop>
-    ensures reads { IfOk result (λ x. InitReads text.now x.0 rest.now x.1.now) }
-    ensures shorter { IfOk result (λ x. length x.1.now ≤ length rest.now) }
-    ensures follows { (s : State) → Follows (λ x. x.1.now) s (AnInit ∷ []) rest.now s [] result }
-{
-    let (word, rest) = take_name(rest)?;
-    let (_open, rest) = take(rest, Sort::OpenParen)?;
-    let (value, rest) = constant(rest)?;
-    let (_close, rest) = take(rest, Sort::CloseParen)?;
-    let name = spot(alloc, text, &word)?;
-    Ok((Init { name, value }, rest))
-}
-
-// [":" init {"," init}] before a block
-fn inits<'a>(
-    alloc: Global,
-    text: &[u8],
-    rest: &'a [Lexeme],
-) -> Result<(InitList, &'a [Lexeme]), Stop>
-    ensures reads { IfOk result (λ x. InitsRead text.now x.0 rest.now x.1.now) }
-    ensures shorter { IfOk result (λ x. length x.1.now ≤ length rest.now) }
-    ensures follows { (s : State) → Follows (λ x. x.1.now) s (ConstructorEnd ∷ []) rest.now s (ABlock ∷ []) result }
-{
-    let mut items = InitList::new(alloc);
-    let (sign, after) = next(rest)?;
-    if !is_same(sign.sort, Sort::Colon) {
-        return Ok((items, rest));
-    }
-    let (item, after) = init(alloc, text, after)?;
-    items.push(item)?;
-    let mut left = after;
-    loop {
-        let (sign, after) = next(left)?;
-        if !is_same(sign.sort, Sort::Comma) {
-            return Ok((items, left));
-        }
-        let (item, after) = init(alloc, text, after)?;
-        items.push(item)?;
-        left = after;
-    }
-}
 
 // "(" ")" [":" init {"," init}] block after the name of a constructor
 pub(crate) fn constructor<'a>(
@@ -103,30 +58,6 @@ pub(crate) fn destructor<'a>(
     let (_close, rest) = take(rest, Sort::CloseParen)?;
     let (tree, rest) = block(alloc, text, rest, 0)?;
     Ok((Part::Destructor(is_virtual, word.at, tree), rest))
-}
-
-// The function that a name token gives. The error is want of memory.
-fn function_of(
-    alloc: Global,
-    text: &[u8],
-    word: &Lexeme,
-    params: ParamList<Name>,
-    ret: ReturnType<Name>,
-    is_virtual: bool,
-    is_pure: bool,
-) -> Result<Function<Name>, Stop>
-    ensures ok { IfOk result (λ g. g ≡ record { name = bytes_of text.now word.now; params = params; ret = ret; is_virtual = is_virtual; is_pure = is_pure; at = word.now.at }) }
-    ensures err { IfErr result (λ e. e ≡ Stop.NoMemory) }
-{
-    let name = name_of(alloc, text, word)?;
-    Ok(Function {
-        name,
-        params,
-        ret,
-        is_virtual,
-        is_pure,
-        at: word.at,
-    })
 }
 
 // [param {"," param}] ")" block after the "(" of a function without "virtual"

@@ -1,26 +1,24 @@
 //! The items of a source.
 
-ghost use Rattle.std.specs.Prelude.{◌≡◌, ◌≤◌, ◌∷◌, ◌++◌, [], List, Bool, true, false, Some, length, IfOk, IfErr};
+ghost use Rattle.std.specs.Prelude.{◌≡◌, ◌≤◌, ◌∷◌, [], List, Bool, true, false, Some, length, IfOk};
 ghost use Rattle.cxx_hierarchy.specs.declared.stop.Stop.{Stop};
 ghost use Rattle.cxx_grammar.specs.declared.sort.Lexeme.{Lexeme};
 ghost use Rattle.cxx_grammar.specs.declared.sort.Sort.{Sort};
 ghost use Rattle.cxx_grammar.specs.Front.{IsName};
-ghost use Rattle.cxx_grammar.specs.Event.{State};
 ghost use Rattle.cxx_grammar.specs.invariants.Run.{Follows};
 ghost use Rattle.cxx_grammar.specs.Table.{Only, AName, ABlock, AfterInt, ClassTail, PartsEnd, ItemsEnd};
-ghost use Rattle.cxx_body_parser.specs.Statements.{IsFirst, ValueReads};
-ghost use Rattle.cxx_decl_parser.specs.Parts.{BasesRead};
-ghost use Rattle.cxx_decl_parser.specs.Sources.{default_of, IsClassKey, ItemReads, is_no_main};
-ghost use Rattle.cxx_decl_parser.specs.invariants.Readers.{begins_value, value_rest, outside, main_after, FollowsTo, max_lexemes};
+ghost use Rattle.cxx_syntax.specs.Parts.{BasesRead};
+ghost use Rattle.cxx_syntax.specs.Sources.{default_of, IsClassKey, ItemReads, is_no_main};
+ghost use Rattle.cxx_record_parser.specs.invariants.Readers.{begins_value, outside, main_after, FollowsTo, max_lexemes};
 
-use crate::base::bases;
 use crate::class_part::parts;
-use crate::part::Item;
-use crate::source_text;
-use crate::value::{begins_value, value};
 use cxx_body_parser::block;
 use cxx_grammar::{Lexeme, Sort, is_same, name_of, next, refusal, take, take_name};
 use cxx_hierarchy::{BaseList, Name, Rule, Scalar, Stop, ValueType};
+use cxx_record_parser::base::bases;
+use cxx_record_parser::value::begins_value;
+use cxx_record_parser::variable::{global, value_item};
+use cxx_syntax::Item;
 use foundation::Sequence;
 use std::alloc::Global;
 
@@ -74,49 +72,6 @@ fn class_item<'a>(
     let none = Sequence::new(alloc);
     let (item, after) = class_body(alloc, text, by_default, word, none, rest)?;
     Ok((item, after))
-}
-
-// name ";" after the value of a variable
-fn global<'a>(
-    alloc: Global,
-    text: &[u8],
-    first: Lexeme,
-    ty: ValueType<Name>,
-    rest: &'a [Lexeme],
-) -> Result<(Item, &'a [Lexeme]), Stop>
-    ensures reads { IfOk result (λ x. (ts : List Lexeme) → IsFirst first ts → ValueReads text.now ty ts rest.now → ItemReads text.now x.0 ts x.1.now) }
-    ensures variable { IfOk result (λ x. is_no_main x.0 ≡ true) }
-    ensures shorter { IfOk result (λ x. length x.1.now ≤ length rest.now) }
-    ensures follows { (s : State) → Follows (λ x. x.1.now) s (AName ∷ Only Sort.Semicolon ∷ []) rest.now s [] result }
-{
-    let (word, rest) = take_name(rest)?;
-    let (_end, rest) = take(rest, Sort::Semicolon)?;
-    let name = name_of(alloc, text, &word)?;
-    let variable = source_text::Global {
-        name,
-        ty,
-        ty_at: first.at,
-        at: word.at,
-    };
-    Ok((Item::Global(variable), rest))
-}
-
-// a variable, the first token of which was read
-fn value_item<'a>(
-    alloc: Global,
-    text: &[u8],
-    first: Lexeme,
-    rest: &'a [Lexeme],
-) -> Result<(Item, &'a [Lexeme]), Stop>
-    requires { begins_value first.sort ≡ true }
-    ensures reads { IfOk result (λ x. ItemReads text.now x.0 (first ∷ rest.now) x.1.now) }
-    ensures variable { IfOk result (λ x. is_no_main x.0 ≡ true) }
-    ensures shorter { IfOk result (λ x. length x.1.now ≤ length rest.now) }
-    ensures follows { (s : State) → Follows (λ x. x.1.now) s (value_rest first.sort ++ (Only Sort.Semicolon ∷ [])) rest.now s [] result }
-{
-    let (ty, rest) = value(alloc, text, first, rest)?;
-    let (item, rest) = global(alloc, text, first, ty, rest)?;
-    Ok((item, rest))
 }
 
 // "(" ")" block after "int" "main"

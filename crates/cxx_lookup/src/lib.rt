@@ -15,8 +15,6 @@ pub mod base_lookup;
 mod declarations;
 pub mod laws;
 pub mod member_lookup;
-#[cfg(test)]
-mod tests;
 
 pub use crate::base_lookup::unique_base;
 pub use crate::laws::{base_finding, name_finding};

@@ -17,6 +17,7 @@ use Rattle.cxx_overrider.specs.Overriding.{IsCandidate, IsFinalOverrider, IsCand
 use Rattle.cxx_overrider.proofs.SettlingLemmas.{overrider, same_class, same_overrider}
 use Rattle.cxx_overrider.proofs.Paths.{inside_antisymmetric}
 use Rattle.cxx_overrider.proofs.Finals.{contains_by}
+use Rattle.cxx_subobject.proofs.WalkLemmas.{placed_below}
 use Rattle.cxx_overrider.proofs.Candidates.{longer_inside}
 use Rattle.cxx_overrider.proofs.FinalLaws.{final_top, candidate_subobject}
 
@@ -24,22 +25,10 @@ same_front : (xs ys zs : List ClassId) → xs ++ ys ≡ xs ++ zs → ys ≡ zs
 same_front [] ys zs e = e
 same_front (x ∷ xs) ys zs e = same_front xs ys zs (let f : xs ++ ys ≡ xs ++ zs = cc in f)
 
--- a part of a virtual base is of that class or of one before it
-root_above : (h : Classes) → IsHierarchy h → (c d w : ClassId) (x : Subobject) → IsSubobject h c x → class_of x ≡ Some d → x.root ≡ Shared w → d.0 ≤ w.0
-root_above h keeps c d w _ (whole p l) e root = absurd (let f : Whole ≡ Shared w = root in cc)
-root_above h keeps c d w _ (shared v p has l) e root =
-    let f : Shared v ≡ Shared w = root in
-    let same : v ≡ w = cc in
-    let last : last_of v p ≡ d = cc in
-    let r = last_below h keeps v p l in
-    let a : v.0 ≡ w.0 = ap (λ (z : ClassId). z.0) same in
-    let b : (last_of v p).0 ≡ d.0 = ap (λ (z : ClassId). z.0) last in
-    omega arith
-
 module _ (h : Classes) (keeps : IsHierarchy h) (c d : ClassId) (x : Subobject) (there : IsSubobject h c x) (class : class_of x ≡ Some d) where
   -- no virtual base of a class among the parts of x is the root of x
   not_root : (e w : ClassId) → e.0 ≤ d.0 → HasVirtualBase h e w → x.root ≡ Shared w → ⊥
-  not_root e w le has root = let a = root_above h keeps c d w x there class root in let b = virtual_below h keeps e w has in omega arith
+  not_root e w le has root = let a = placed_below h keeps c d w x there class root in let b = virtual_below h keeps e w has in omega arith
 
   -- what lies in a part of x, as subobjects of c, lies in it as subobjects of x's class
   pub inside_part : (a b : Subobject) → IsSubobject h d a → IsSubobject h d b → IsInside h (join x a) (join x b) → IsInside h a b

@@ -26,8 +26,6 @@ pub mod pure;
 pub mod settling;
 pub mod signatures;
 pub mod tables;
-#[cfg(test)]
-mod tests;
 pub mod virtuals;
 pub mod within;
 

@@ -4,10 +4,10 @@ use Rattle.std.specs.Prelude.{Some, None, slice_get}
 use Rattle.std.proofs.lemmas.Option.{slice_get-get_or}
 use Rattle.std.proofs.Math.Seq.{take-suc}
 use Rattle.std.proofs.lemmas.List.{take_all}
-use Rattle.cxx_body_parser.specs.declared.tree.Statement.{Statement}
-use Rattle.cxx_body_parser.specs.declared.tree.StatementKind.{StatementKind}
-use Rattle.cxx_body_parser.specs.declared.tree.BodyTree.{BodyTree, out-BodyTree}
-use Rattle.cxx_body_parser.specs.Same.{SameBody, same_body, SameStatements, no_statements, more_statements, SameStatement, same_plain, same_if, same_if_else, same_while}
+use Rattle.cxx_syntax.specs.declared.tree.Statement.{Statement}
+use Rattle.cxx_syntax.specs.declared.tree.StatementKind.{StatementKind}
+use Rattle.cxx_syntax.specs.declared.tree.BodyTree.{BodyTree, out-BodyTree}
+use Rattle.cxx_syntax.specs.SameTrees.{SameBody, same_body, SameStatements, no_statements, more_statements, SameStatement, same_plain, same_if, same_if_else, same_while}
 use Rattle.cxx_resolve.specs.declared.simple.Simple.{Simple}
 use Rattle.cxx_resolve.specs.declared.simple.SimpleLine.{SimpleLine}
 use Rattle.cxx_resolve.specs.Form.{IsSimple, SayLines, none, next, AreSimpleLines}

@@ -16,8 +16,8 @@ use Rattle.cxx_hierarchy.specs.declared.records.Destructor.TheVariants.{Implicit
 use Rattle.cxx_hierarchy.specs.Classes.{Class, Classes, bases_of, members_of}
 use Rattle.cxx_hierarchy.specs.Hierarchies.{IsHierarchy}
 use Rattle.cxx_subobject.specs.Preorder.{preorder}
-use Rattle.cxx_body_parser.specs.declared.tree.Statement.{Statement}
-use Rattle.cxx_body_parser.specs.declared.tree.BodyTree.{BodyTree, out-BodyTree}
+use Rattle.cxx_syntax.specs.declared.tree.Statement.{Statement}
+use Rattle.cxx_syntax.specs.declared.tree.BodyTree.{BodyTree, out-BodyTree}
 use Rattle.cxx_resolve.specs.declared.simple.Simple.{Simple}
 use Rattle.cxx_resolve.specs.declared.simple.SimpleLine.{SimpleLine}
 use Rattle.cxx_resolve.specs.declared.program.SimpleProgram.{SimpleProgram}

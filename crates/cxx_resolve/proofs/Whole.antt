@@ -6,10 +6,10 @@ use Rattle.cxx_hierarchy.specs.declared.records.Scalar.TheVariants.{Int}
 use Rattle.cxx_hierarchy.specs.Scalars.{IsInRange}
 use Rattle.cxx_hierarchy.specs.Classes.{Classes}
 use Rattle.cxx_hierarchy.specs.Hierarchies.{IsHierarchy}
-use Rattle.cxx_body_parser.specs.declared.tree.Statement.{Statement}
-use Rattle.cxx_body_parser.specs.declared.tree.StatementKind.{StatementKind}
-use Rattle.cxx_body_parser.specs.declared.tree.BodyTree.{BodyTree, out-BodyTree}
-use Rattle.cxx_body_parser.specs.Same.{SameBody}
+use Rattle.cxx_syntax.specs.declared.tree.Statement.{Statement}
+use Rattle.cxx_syntax.specs.declared.tree.StatementKind.{StatementKind}
+use Rattle.cxx_syntax.specs.declared.tree.BodyTree.{BodyTree, out-BodyTree}
+use Rattle.cxx_syntax.specs.SameTrees.{SameBody}
 use Rattle.cxx_resolve.specs.declared.simple.Simple.{Simple}
 use Rattle.cxx_resolve.specs.declared.simple.SimpleLine.{SimpleLine}
 use Rattle.cxx_resolve.specs.declared.program.SimpleProgram.{SimpleProgram}

@@ -3,17 +3,17 @@ use Rattle.std.specs.Prelude.{◌≡◌, ℕ, ◌≤◌, ℤ, pos, neg_ℤ, Bool
 use Rattle.cxx_hierarchy.specs.declared.records.Scalar.TheVariants.{Int, Bool as TheBool}
 use Rattle.cxx_hierarchy.specs.declared.records.ValueType.TheVariants.{Number, Pointer}
 use Rattle.cxx_hierarchy.specs.NameTables.{Text}
-use Rattle.cxx_body_parser.specs.declared.tree.Spot.{Spot}
-use Rattle.cxx_body_parser.specs.declared.tree.PointerText.TheVariants as pointer
-use Rattle.cxx_body_parser.specs.declared.tree.Constant.TheVariants as constant
-use Rattle.cxx_body_parser.specs.declared.tree.Operand.TheVariants as operand
-use Rattle.cxx_body_parser.specs.declared.tree.PlaceText.{PlaceText}
-use Rattle.cxx_body_parser.specs.declared.tree.BinaryOp.TheVariants.{Equal as IsEqual}
-use Rattle.cxx_body_parser.specs.declared.tree.Right.TheVariants as right
-use Rattle.cxx_body_parser.specs.declared.tree.StatementKind.{StatementKind}
-use Rattle.cxx_body_parser.specs.declared.tree.StatementKind as kind
-use Rattle.cxx_body_parser.specs.declared.tree.Statement.{Statement}
-use Rattle.cxx_body_parser.specs.declared.tree.BodyTree.{BodyTree, out-BodyTree}
+use Rattle.cxx_syntax.specs.declared.tree.Spot.{Spot}
+use Rattle.cxx_syntax.specs.declared.tree.PointerText.TheVariants as pointer
+use Rattle.cxx_syntax.specs.declared.tree.Constant.TheVariants as constant
+use Rattle.cxx_syntax.specs.declared.tree.Operand.TheVariants as operand
+use Rattle.cxx_syntax.specs.declared.tree.PlaceText.{PlaceText}
+use Rattle.cxx_syntax.specs.declared.tree.BinaryOp.TheVariants.{Equal as IsEqual}
+use Rattle.cxx_syntax.specs.declared.tree.Right.TheVariants as right
+use Rattle.cxx_syntax.specs.declared.tree.StatementKind.{StatementKind}
+use Rattle.cxx_syntax.specs.declared.tree.StatementKind as kind
+use Rattle.cxx_syntax.specs.declared.tree.Statement.{Statement}
+use Rattle.cxx_syntax.specs.declared.tree.BodyTree.{BodyTree, out-BodyTree}
 use Rattle.cxx_resolve.specs.declared.simple.Simple.{Simple}
 use Rattle.cxx_resolve.specs.declared.simple.Simple.TheVariants.{New, Write, Read, Convert, Equal, Print}
 use Rattle.cxx_resolve.specs.declared.simple.SimpleLine.{SimpleLine}

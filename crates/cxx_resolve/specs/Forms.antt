@@ -6,21 +6,21 @@ use Rattle.cxx_hierarchy.specs.declared.records.Scalar.TheVariants as scalar
 use Rattle.cxx_hierarchy.specs.declared.records.ValueType.{ValueType}
 use Rattle.cxx_hierarchy.specs.declared.records.ValueType.TheVariants.{Number, Pointer}
 use Rattle.cxx_hierarchy.specs.NameTables.{Text}
-use Rattle.cxx_body_parser.specs.declared.tree.Spot.{Spot}
-use Rattle.cxx_body_parser.specs.declared.tree.PointerText.{PointerText}
-use Rattle.cxx_body_parser.specs.declared.tree.PointerText.TheVariants as pointer
-use Rattle.cxx_body_parser.specs.declared.tree.Constant.{Constant}
-use Rattle.cxx_body_parser.specs.declared.tree.Constant.TheVariants as constant
-use Rattle.cxx_body_parser.specs.declared.tree.Operand.{Operand}
-use Rattle.cxx_body_parser.specs.declared.tree.Operand.TheVariants as operand
-use Rattle.cxx_body_parser.specs.declared.tree.PlacePart.{PlacePart}
-use Rattle.cxx_body_parser.specs.declared.tree.PlaceText.{PlaceText}
-use Rattle.cxx_body_parser.specs.declared.tree.BinaryOp.{BinaryOp}
-use Rattle.cxx_body_parser.specs.declared.tree.BinaryOp.TheVariants as binary
-use Rattle.cxx_body_parser.specs.declared.tree.Right.{Right}
-use Rattle.cxx_body_parser.specs.declared.tree.Right.TheVariants as right
-use Rattle.cxx_body_parser.specs.declared.tree.StatementKind.{StatementKind}
-use Rattle.cxx_body_parser.specs.declared.tree.StatementKind as kind
+use Rattle.cxx_syntax.specs.declared.tree.Spot.{Spot}
+use Rattle.cxx_syntax.specs.declared.tree.PointerText.{PointerText}
+use Rattle.cxx_syntax.specs.declared.tree.PointerText.TheVariants as pointer
+use Rattle.cxx_syntax.specs.declared.tree.Constant.{Constant}
+use Rattle.cxx_syntax.specs.declared.tree.Constant.TheVariants as constant
+use Rattle.cxx_syntax.specs.declared.tree.Operand.{Operand}
+use Rattle.cxx_syntax.specs.declared.tree.Operand.TheVariants as operand
+use Rattle.cxx_syntax.specs.declared.tree.PlacePart.{PlacePart}
+use Rattle.cxx_syntax.specs.declared.tree.PlaceText.{PlaceText}
+use Rattle.cxx_syntax.specs.declared.tree.BinaryOp.{BinaryOp}
+use Rattle.cxx_syntax.specs.declared.tree.BinaryOp.TheVariants as binary
+use Rattle.cxx_syntax.specs.declared.tree.Right.{Right}
+use Rattle.cxx_syntax.specs.declared.tree.Right.TheVariants as right
+use Rattle.cxx_syntax.specs.declared.tree.StatementKind.{StatementKind}
+use Rattle.cxx_syntax.specs.declared.tree.StatementKind as kind
 use Rattle.cxx_resolve.specs.declared.simple.Simple.{Simple}
 use Rattle.cxx_resolve.specs.declared.simple.Simple.TheVariants.{New, Write, Read, Convert, Equal, Print}
 use Rattle.cxx_resolve.specs.Form.{spelled}

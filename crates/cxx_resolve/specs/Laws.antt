@@ -2,8 +2,8 @@
 use Rattle.std.specs.Prelude.{◌≡◌, ◌⊎◌}
 use Rattle.cxx_hierarchy.specs.Classes.{Classes}
 use Rattle.cxx_hierarchy.specs.Hierarchies.{IsHierarchy}
-use Rattle.cxx_body_parser.specs.declared.tree.BodyTree.{BodyTree}
-use Rattle.cxx_body_parser.specs.Same.{SameBody}
+use Rattle.cxx_syntax.specs.declared.tree.BodyTree.{BodyTree}
+use Rattle.cxx_syntax.specs.SameTrees.{SameBody}
 use Rattle.cxx_resolve.specs.declared.program.SimpleProgram.{SimpleProgram}
 use Rattle.cxx_resolve.specs.Typed.{IsTypedProgram}
 use Rattle.cxx_resolve.specs.Main.{MainResolves}

@@ -1,7 +1,7 @@
 -- Which trees of a `main` are run, and as which program.
 use Rattle.std.specs.Prelude.{◌≤◌, List, length}
 use Rattle.cxx_hierarchy.specs.Classes.{Classes}
-use Rattle.cxx_body_parser.specs.declared.tree.BodyTree.{BodyTree}
+use Rattle.cxx_syntax.specs.declared.tree.BodyTree.{BodyTree}
 use Rattle.cxx_resolve.specs.declared.simple.SimpleLine.{SimpleLine}
 use Rattle.cxx_resolve.specs.declared.program.SimpleProgram.{SimpleProgram}
 use Rattle.cxx_resolve.specs.SimpleHierarchy.{IsSimpleHierarchy}

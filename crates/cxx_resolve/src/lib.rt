@@ -20,8 +20,6 @@ pub mod program;
 mod resolution;
 pub mod simple;
 pub mod simple_hierarchy;
-#[cfg(test)]
-mod tests;
 mod variables;
 
 pub use crate::main_body::resolve_main;

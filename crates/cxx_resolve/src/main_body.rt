@@ -9,8 +9,8 @@ use crate::program::SimpleProgram;
 use crate::resolution::resolve_simple;
 use crate::simple::simple_main;
 use crate::simple_hierarchy::is_simple;
-use cxx_body_parser::BodyTree;
 use cxx_hierarchy::{Hierarchy, Rule, Stop};
+use cxx_syntax::BodyTree;
 use std::alloc::Global;
 
 /// The program of the body of a `main`, over the classes of its source.

@@ -5,10 +5,10 @@ ghost use Rattle.cxx_resolve.specs.declared.simple.SimpleLine.{SimpleLine};
 ghost use Rattle.cxx_resolve.specs.Form.{AreSimpleLines};
 ghost use Rattle.cxx_resolve.specs.Forms.{int_of, arrow_of, name_in, equal_form, number_form, pointer_form, declared_form, write_form, print_form, form_of};
 
-use cxx_body_parser::{
+use cxx_hierarchy::{Name, Scalar, ValueType};
+use cxx_syntax::{
     BinaryOp, BodyTree, Constant, Operand, PlaceText, PointerText, Right, Spot, StatementKind,
 };
-use cxx_hierarchy::{Name, Scalar, ValueType};
 use foundation::{NoMemory, Sequence};
 use std::alloc::Global;
 

@@ -25,7 +25,8 @@ decide_class c d = ⊎_elim (λ e. inl (same_id c d e)) (λ f. inr (λ e. f (ap 
 pub decide_subobject : (s t : Subobject) → Decided (s ≡ t)
 decide_subobject s t = ⊎_elim (λ e. inl (subobject_same s t e)) (λ not. inr (λ e. not (subst (λ (x : Subobject). same_subobject s x ≡ true) e (same_itself s)))) (decide_flag (same_subobject s t))
 
-base_of_shared : (h : Classes) (c v : ClassId) (s : Subobject) → IsSubobject h c s → s.root ≡ Shared v → HasVirtualBase h c v
+-- a subobject below a virtual base is one of a class that has that base
+pub base_of_shared : (h : Classes) (c v : ClassId) (s : Subobject) → IsSubobject h c s → s.root ≡ Shared v → HasVirtualBase h c v
 base_of_shared h c v _ (whole p l) e = absurd (let f : Whole ≡ Shared v = e in cc)
 base_of_shared h c v _ (shared w p has l) e = let f : Shared w ≡ Shared v = e in let same : w ≡ v = cc in subst (λ (x : ClassId). HasVirtualBase h c x) same has
 

@@ -5,6 +5,7 @@ pub mod InsideLemmas
 pub mod TestLemmas
 pub mod WalkLemmas
 pub mod SumLemmas
+pub mod OwnTrees
 pub mod CountLemmas
 pub mod VirtualBaseLemmas
 pub mod LocationLemmas

@@ -12,12 +12,16 @@ use Rattle.cxx_hierarchy.proofs.VirtualRows.{any_item, any_listed}
 use Rattle.cxx_subobject.specs.declared.Root.{Root}
 use Rattle.cxx_subobject.specs.declared.Root.TheVariants.{Whole, Shared}
 use Rattle.cxx_subobject.specs.declared.Subobject.{Subobject}
-use Rattle.cxx_subobject.specs.Subobjects.{Leads, IsSubobject, whole, shared, subobject, shared_base, base_subobject, last_of, class_of_path, class_of, same_root}
+use Rattle.cxx_subobject.specs.Subobjects.{Leads, IsSubobject, whole, shared, subobject, shared_base, base_subobject, last_of, class_of_path, class_of, same_root, same_subobject}
 use Rattle.cxx_subobject.specs.Inside.{IsInside, IsPublicWalk, stays, steps}
 use Rattle.cxx_subobject.specs.invariants.Tests.{begins, is_longer, ReachesRoot, ReachesRootPublicly, leads_publicly, is_public_path, is_public_down}
-use Rattle.foundation.proofs.Truth.{split}
-use Rattle.cxx_subobject.proofs.TreeLemmas.{base_down, base_across, root_same, root_itself}
+use Rattle.foundation.proofs.Truth.{split, is_false}
+use Rattle.cxx_subobject.proofs.TreeLemmas.{base_down, base_across, root_same, root_itself, subobject_same}
 use Rattle.cxx_subobject.proofs.PathLemmas.{same_id, last_append, leads_rest, class_there}
+
+-- subobjects whose paths differ in length are two
+pub not_same : (s t : Subobject) → (length s.path ≡ length t.path → ⊥) → false ≡ same_subobject s t
+not_same s t apart = sym (is_false (same_subobject s t) (λ e. apart (ap (λ (u : Subobject). length u.path) (subobject_same s t e))))
 
 -- the class of a path that is not empty
 pub last_there : (path : List ClassId) (d : ClassId) → 0 < length path → Some (slice_index_or path (length path - 1) d) ≡ class_of_path path

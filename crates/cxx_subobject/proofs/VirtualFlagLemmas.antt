@@ -1,28 +1,25 @@
 -- Which classes have virtual bases, class by class.
 use Rattle.std.proofs.Common.{◌≡◌, ℕ, ◌+◌, ◌<◌, inl, inr, ⊎_elim, Bool, true, false, List, [], ◌∷◌, ◌++◌, length, get_or, refl, ap, subst, sym, ◌∙◌, arith}
-use Rattle.std.specs.Prelude.{IsTrue, ◌↔◌, Contains, slice_index_or}
+use Rattle.std.specs.Prelude.{IsTrue, ◌↔◌, slice_index_or}
 use Rattle.std.proofs.lemmas.Bool.{cases_lt}
 use Rattle.std.proofs.lemmas.List.{get_or_push, get_or_append_left, length_push}
 use Rattle.cxx_hierarchy.specs.declared.records.ClassId.{ClassId}
-use Rattle.cxx_hierarchy.specs.declared.records.Base.{Base}
-use Rattle.cxx_hierarchy.specs.Classes.{Classes, bases_of}
+use Rattle.cxx_hierarchy.specs.Classes.{Classes}
 use Rattle.cxx_hierarchy.specs.Hierarchies.{IsHierarchy}
-use Rattle.cxx_hierarchy.specs.VirtualBases.{IsDirectBase, HasVirtualBase, direct, further}
+use Rattle.cxx_hierarchy.specs.VirtualBases.{HasVirtualBase, direct, further}
 use Rattle.cxx_subobject.specs.VirtualFlags.{HasVirtualBases, TellsVirtualBases}
 use Rattle.cxx_subobject.specs.invariants.VirtualFlags.{GetsVirtualBase}
 use Rattle.cxx_subobject.specs.invariants.Counts.{IsSharedSum}
-
-edge_of : (h : Classes) (c : ClassId) (base : Base ClassId) (way : Bool) → Contains (bases_of h c) base → base.is_virtual ≡ way → IsDirectBase h c way base.class
-edge_of h c base way listed is = record { base = base; listed = listed; class = refl; way = is }
+use Rattle.cxx_subobject.proofs.TreeLemmas.{edge}
 
 -- what a direct base says is so of the class
 from_base : (h : Classes) → IsHierarchy h → (flags : List Bool) (c : ClassId) → length flags ≡ c.0 → TellsVirtualBases h flags → GetsVirtualBase h flags c → HasVirtualBases h c
 from_base h keeps flags c size tells k = ⊎_elim
-    (λ is. record { base = k.base.class; has = direct c k.base.class (edge_of h c k.base true k.listed is) })
+    (λ is. record { base = k.base.class; has = direct c k.base.class (edge h c k.base true k.listed is) })
     (λ flagged.
     let before = keeps.bases c k.base k.listed in
     let below = (tells.each k.base.class (omega arith)).0 flagged in
-    record { base = below.base; has = further c k.base.class below.base k.base.is_virtual (edge_of h c k.base k.base.is_virtual k.listed refl) below.has })
+    record { base = below.base; has = further c k.base.class below.base k.base.is_virtual (edge h c k.base k.base.is_virtual k.listed refl) below.has })
     k.shares
 
 -- and what is so of the class a direct base says

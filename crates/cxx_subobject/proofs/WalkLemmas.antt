@@ -172,7 +172,7 @@ closed_here h c s found class closed = record {
 }
 
 -- the class of a subobject in a shared base is the base's or before it
-placed_below : (h : Classes) → IsHierarchy h → (top c w : ClassId) (s : Subobject) → IsSubobject h top s → class_of s ≡ Some c → s.root ≡ Shared w → c.0 ≤ w.0
+pub placed_below : (h : Classes) → IsHierarchy h → (top c w : ClassId) (s : Subobject) → IsSubobject h top s → class_of s ≡ Some c → s.root ≡ Shared w → c.0 ≤ w.0
 placed_below h keeps top c w _ (whole path l) class root = absurd (let e : Whole ≡ Shared w = root in cc)
 placed_below h keeps top c w _ (shared v path has l) class root =
     let e : Shared v ≡ Shared w = root in

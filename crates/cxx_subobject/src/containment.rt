@@ -7,11 +7,12 @@ ghost use Rattle.cxx_hierarchy.specs.Hierarchies.{IsHierarchy};
 ghost use Rattle.cxx_hierarchy.specs.VirtualBases.{HasVirtualBase};
 ghost use Rattle.cxx_hierarchy.specs.declared.records.ClassId.{ClassId};
 ghost use Rattle.cxx_subobject.specs.declared.Subobject.{Subobject};
-ghost use Rattle.cxx_subobject.specs.Subobjects.{IsSubobject, join, tail_of, class_of, shared_base, same_root};
+ghost use Rattle.cxx_subobject.specs.Subobjects.{IsSubobject, join, tail_of, class_of, shared_base};
 ghost use Rattle.cxx_subobject.specs.Inside.{IsInside, IsPart, IsPublicWalk};
 ghost use Rattle.cxx_subobject.specs.invariants.Tests.{begins, is_longer, ReachesRoot, ReachesRootPublicly, leads_publicly, is_public_path, is_public_down};
 
 use crate::listing::subobject_below;
+use crate::sameness::is_same_root;
 use crate::{Root, Subobject};
 use cxx_hierarchy::{ClassId, Hierarchy};
 use foundation::NoMemory;
@@ -52,24 +53,8 @@ pub fn class_of(s: &Subobject) -> Option<ClassId>
     }
 }
 
-/// Whether two roots are one.
-fn is_same_root(one: Root, other: Root) -> bool
-    ensures { result ≡ same_root one other }
-{
-    match one {
-        Root::Whole => match other {
-            Root::Whole => true,
-            Root::Shared(_) => false,
-        },
-        Root::Shared(v) => match other {
-            Root::Whole => false,
-            Root::Shared(w) => v.0 == w.0,
-        },
-    }
-}
-
 /// Whether the inner one has the root of the outer one and a path that goes on from its path.
-fn is_longer(outer: &Subobject, inner: &Subobject) -> bool
+pub fn is_longer(outer: &Subobject, inner: &Subobject) -> bool
     ensures { result ≡ is_longer outer.now inner.now }
 {
     is_same_root(outer.root, inner.root) && begins(outer.path.as_slice(), inner.path.as_slice())

@@ -8,7 +8,7 @@
 //!
 //! The layer above may rely on: the list of `subobjects_of` has exactly the subobjects of a class, each once, in
 //! preorder, and L5 stands in its place exactly past the limits; `contains` and `is_public_base` are their
-//! definitions and take no memory; containment is a partial order (`containment_is_order`), in which a shared base
+//! definitions and take no memory, and so do `is_same` and `is_longer`; containment is a partial order (`containment_is_order`), in which a shared base
 //! lies in all that reach it. `PartCounts` tells of all classes at once which are within the limits.
 #![tactic(auto)]
 
@@ -17,17 +17,19 @@ pub mod laws;
 pub mod listing;
 pub mod locations;
 pub mod parts;
-#[cfg(test)]
-mod tests;
+pub mod sameness;
 pub mod virtual_flags;
 
-pub use crate::containment::{class_of, containment_is_order, contains, is_public_base, join};
+pub use crate::containment::{
+    class_of, containment_is_order, contains, is_longer, is_public_base, join,
+};
 pub use crate::laws::{hops_are_of_owners, joins_are_subobjects, virtual_bases_are_listed};
 pub use crate::listing::{
     SubobjectList, list_subobjects, no_marks, subobject_below, subobjects_of,
 };
 pub use crate::locations::{Hop, HopList, Location};
 pub use crate::parts::PartCounts;
+pub use crate::sameness::{is_same, is_same_root, shared_class};
 use cxx_hierarchy::ClassId;
 use foundation::Sequence;
 

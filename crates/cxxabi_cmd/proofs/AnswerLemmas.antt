@@ -4,8 +4,8 @@ use Rattle.std.specs.Prelude.{IfOk, MatchOption}
 use Rattle.foundation.specs.declared.memory.NoMemory.{NoMemory as Want}
 use Rattle.cxx_hierarchy.specs.declared.stop.Stop.{Stop}
 use Rattle.cxx_hierarchy.specs.declared.stop.Stop.TheVariants as stop
-use Rattle.cxx_body_parser.specs.declared.tree.BodyTree.{BodyTree}
-use Rattle.cxx_decl_parser.specs.declared.source_text.SourceText.{SourceText}
+use Rattle.cxx_syntax.specs.declared.tree.BodyTree.{BodyTree}
+use Rattle.cxx_syntax.specs.declared.source_text.SourceText.{SourceText}
 use Rattle.cxx_resolve.specs.declared.program.SimpleProgram.{SimpleProgram}
 use Rattle.cxx_resolve.specs.Answers.{IsRefusal}
 use Rattle.cxx_resolve.specs.Main.{MainResolves}

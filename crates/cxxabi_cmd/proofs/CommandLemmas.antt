@@ -1,10 +1,9 @@
 -- Words and the commands that they ask for.
-use Rattle.std.proofs.Common.{◌≡◌, ℕ, ◌<◌, ◌≤◌, true, false, Option, Some, None, Result, Ok, Err, List, [], ◌∷◌, length, map, ap, sym, ◌∙◌, refl, subst, arith, get_or, codes}
+use Rattle.std.proofs.Common.{◌≡◌, ℕ, ◌<◌, ◌≤◌, true, false, Option, Some, None, Result, Ok, Err, List, [], ◌∷◌, length, map, ap, sym, ◌∙◌, refl, subst, arith, get_or}
 use Rattle.std.specs.Prelude.{IfOk, MatchOption}
 use Rattle.foundation.specs.declared.memory.NoMemory.{NoMemory as Want}
 use Rattle.cxxabi_cmd.specs.declared.command.Command.{Command}
-use Rattle.cxxabi_cmd.specs.declared.command.Command.TheVariants.{LayoutOf}
-use Rattle.cxxabi_cmd.specs.Commands.{Says, check, run, layout, layout_of, IsCommand, is_option}
+use Rattle.cxxabi_cmd.specs.Commands.{Says, check, run, layout, layout_of, tables, tables_of, IsCommand, is_option}
 
 one_item : {X Y : Type 0} (f : X → Y) (xs : List X) (x : X) → 1 ≤ length xs → length xs < 2 → x ≡ get_or xs 0 x → map f xs ≡ f x ∷ []
 one_item f [] x some few e = absurd (omega arith)
@@ -27,18 +26,21 @@ pub says_words : {X : Type 0} (f : X → List ℕ) (xs : List X) (x y : X) (byte
 says_words f xs x y bytes word name some few first second value is other =
     two_items f xs x y some few first second ∙ ap (λ w. w ∷ f y ∷ []) (sym value ∙ is) ∙ ap (λ n. word ∷ n ∷ []) (sym other)
 
-option_no_command : (words : List (List ℕ)) (name : List ℕ) (c : Command) → Says words c → words ≡ codes "layout" ∷ name ∷ [] → is_option name ≡ true → ⊥
-option_no_command _ name _ check same option = cc
-option_no_command _ name _ run same option = cc
-option_no_command _ name _ layout same option = cc
-option_no_command _ name _ (layout_of other plain) same option =
-    let one : other ≡ name = cc in
-    let clash : false ≡ true = sym plain ∙ ap is_option one ∙ option in cc
+both_ways : (a b : List ℕ) → a ≡ b → is_option a ≡ false → is_option b ≡ true → ⊥
+both_ways a b one off on = let clash : false ≡ true = sym off ∙ ap is_option one ∙ on in cc
 
--- what `layout` with a name is
-pub layout_with : (r : Result (Option Command) Want) (words : List (List ℕ)) (name : List ℕ) → words ≡ codes "layout" ∷ name ∷ [] →
-    IfOk r (λ found. MatchOption found (is_option name ≡ true) (λ command. (command ≡ LayoutOf name) × (is_option name ≡ false))) →
+option_no_command : (words : List (List ℕ)) (first name : List ℕ) (c : Command) → Says words c → words ≡ first ∷ name ∷ [] → is_option name ≡ true → ⊥
+option_no_command _ first name _ check same option = cc
+option_no_command _ first name _ run same option = cc
+option_no_command _ first name _ layout same option = cc
+option_no_command _ first name _ (layout_of other plain) same option = both_ways other name (cc) plain option
+option_no_command _ first name _ tables same option = cc
+option_no_command _ first name _ (tables_of other plain) same option = both_ways other name (cc) plain option
+
+-- what a word is with the name of a class
+pub named_with : (r : Result (Option Command) Want) (words : List (List ℕ)) (first name : List ℕ) (command : Command) → words ≡ first ∷ name ∷ [] → (is_option name ≡ false → Says (first ∷ name ∷ []) command) →
+    IfOk r (λ found. MatchOption found (is_option name ≡ true) (λ made. (made ≡ command) × (is_option name ≡ false))) →
     IfOk r (λ found. MatchOption found (IsCommand words → ⊥) (Says words))
-layout_with (Ok None) words name same option = λ command. option_no_command words name command.0 command.1 same option
-layout_with (Ok (Some command)) words name same is = subst (λ (c : Command). Says words c) (sym is.0) (subst (λ (w : List (List ℕ)). Says w (LayoutOf name)) (sym same) (layout_of name is.1))
-layout_with (Err e) words name same is = is
+named_with (Ok None) words first name command same says option = λ is. option_no_command words first name is.0 is.1 same option
+named_with (Ok (Some made)) words first name command same says is = subst (λ (c : Command). Says words c) (sym is.0) (subst (λ (w : List (List ℕ)). Says w command) (sym same) (says is.1))
+named_with (Err e) words first name command same says is = is

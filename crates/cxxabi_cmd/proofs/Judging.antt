@@ -11,9 +11,10 @@ use Rattle.cxx_hierarchy.specs.declared.stop.Stop.TheVariants as stop
 use Rattle.cxx_hierarchy.specs.Classes.{Classes}
 use Rattle.cxx_hierarchy.specs.ClassPass.{faults_of, StopsAt}
 use Rattle.cxx_hierarchy.specs.Resolved.{resolved}
-use Rattle.cxx_decl_parser.specs.declared.source_text.SourceText.{SourceText}
-use Rattle.cxx_decl_parser.specs.Sources.{SourceReads}
-use Rattle.cxxabi_cmd.specs.Verdict.{AreLexemes, IsSource, IsFirstFault, HasNoFault, Verdict, Stops, Accepts, by_text, by_records, by_classes, accepted}
+use Rattle.cxx_syntax.specs.declared.source_text.SourceText.{SourceText}
+use Rattle.cxx_syntax.specs.Sources.{SourceReads}
+use Rattle.cxx_hierarchy.specs.declared.stop.LimitNo.TheVariants.{L7}
+use Rattle.cxxabi_cmd.specs.Verdict.{AreLexemes, IsSource, IsFirstFault, HasNoFault, HasManyWords, HasFewWords, Verdict, Stops, Accepts, by_text, by_records, by_classes, by_words, accepted}
 
 -- what the reader of sources gives
 abbrev pub Reads : List ℕ → List Token → Option ℕ → SourceText → Type 0
@@ -46,8 +47,14 @@ pub classes_stop : (text : List ℕ) (tokens : List Token) (bad : Option ℕ) (s
 classes_stop text tokens bad source h e cover reads passes either = ⊎_elim (λ memory. inl memory)
     (λ first. inr (by_classes source e (source_of text tokens bad source cover reads) passes.0 (subst (λ (k : Classes). IsFirstFault k e) passes.1 first))) either
 
+pub words_stop : (text : List ℕ) (tokens : List Token) (bad : Option ℕ) (source : SourceText) (h : Classes) (e : Stop) → AreTokens text tokens bad → Reads text tokens bad source →
+    (faults_of source.records ≡ []) × (h ≡ resolved source.records) → HasNoFault h → (e ≡ stop.NoMemory) ⊎ ((e ≡ stop.Limit L7) × HasManyWords h) → (e ≡ stop.NoMemory) ⊎ Verdict text (Stops e)
+words_stop text tokens bad source h e cover reads passes none either = ⊎_elim (λ memory. inl memory)
+    (λ many. inr (subst (λ (d : Stop). Verdict text (Stops d)) (sym many.0)
+    (by_words source (source_of text tokens bad source cover reads) passes.0 (subst (λ (k : Classes). HasNoFault k) passes.1 none) (subst (λ (k : Classes). HasManyWords k) passes.1 many.1)))) either
+
 pub all_passed : (text : List ℕ) (tokens : List Token) (bad : Option ℕ) (source : SourceText) (h : Classes) → AreTokens text tokens bad → Reads text tokens bad source →
-    (faults_of source.records ≡ []) × (h ≡ resolved source.records) → HasNoFault h → Verdict text (Accepts source h)
-all_passed text tokens bad source h cover reads passes none =
+    (faults_of source.records ≡ []) × (h ≡ resolved source.records) → HasNoFault h → HasFewWords h → Verdict text (Accepts source h)
+all_passed text tokens bad source h cover reads passes none few =
     subst (λ (k : Classes). Verdict text (Accepts source k)) (sym passes.1)
-    (accepted source (source_of text tokens bad source cover reads) passes.0 (subst (λ (k : Classes). HasNoFault k) passes.1 none))
+    (accepted source (source_of text tokens bad source cover reads) passes.0 (subst (λ (k : Classes). HasNoFault k) passes.1 none) (subst (λ (k : Classes). HasFewWords k) passes.1 few))

@@ -6,8 +6,11 @@ pub mod AnswerLemmas
 pub mod MeaningFaults
 pub mod ClassFaults
 pub mod Judging
-pub mod LayoutLemmas
 pub mod Accepting
+pub mod LaidRows
+pub mod Listed
+pub mod ListLemmas
+pub mod ViewNames
 pub mod OneFault
 pub mod OneVerdict
 pub mod OneProgram

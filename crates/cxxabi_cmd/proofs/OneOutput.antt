@@ -6,23 +6,25 @@ use Rattle.cxx_hierarchy.specs.declared.stop.Stop.{Stop}
 use Rattle.cxx_hierarchy.specs.declared.stop.Rule.TheVariants.{Syntax, UnknownName}
 use Rattle.cxx_hierarchy.specs.Classes.{Class, Classes, class_names}
 use Rattle.cxx_hierarchy.specs.Hierarchies.{IsHierarchy}
-use Rattle.cxx_body_parser.specs.declared.tree.BodyTree.{BodyTree}
-use Rattle.cxx_decl_parser.specs.declared.source_text.SourceText.{SourceText}
-use Rattle.cxx_decl_parser.specs.Same.{SameSource}
+use Rattle.cxx_syntax.specs.declared.tree.BodyTree.{BodyTree}
+use Rattle.cxx_syntax.specs.declared.source_text.SourceText.{SourceText}
+use Rattle.cxx_syntax.specs.SameSources.{SameSource}
 use Rattle.cxx_resolve.specs.declared.program.SimpleProgram.{SimpleProgram}
 use Rattle.abi_sound.specs.declared.class_layout.ClassLayout.{ClassLayout}
 use Rattle.abi_layout.specs.Layouts.{IsLaid}
 use Rattle.foundation.proofs.Places.{contains_at}
-use Rattle.abi_layout.proofs.rules.OneLayoutFirst.{layout_is_one}
 use Rattle.cxxabi_cmd.specs.declared.command.Command.{Command}
-use Rattle.cxxabi_cmd.specs.declared.command.Command.TheVariants.{Check, Run, LayoutOf}
-use Rattle.cxxabi_cmd.specs.Commands.{Says, check, run, layout, layout_of}
-use Rattle.cxxabi_cmd.specs.Verdict.{Stops, Accepts}
+use Rattle.cxxabi_cmd.specs.declared.command.Command.TheVariants.{Check, Run, LayoutOf, TablesOf}
+use Rattle.cxxabi_cmd.specs.declared.listing.Listing.{Listing}
+use Rattle.cxxabi_cmd.specs.Commands.{Says, check, run, layout, layout_of, tables, tables_of}
+use Rattle.cxxabi_cmd.specs.Verdict.{Stops, Accepts, HasNoFault}
 use Rattle.cxxabi_cmd.specs.declared.status.Status.TheVariants.{Refused}
-use Rattle.cxxabi_cmd.specs.Output.{Output, usage, too_long, stopped, yielded, Yields, counted, no_main, not_taken, ran, unknown_class, laid_out, LaysOut, whole, too_much, AsksFor, all_classes, one_class, IsProgram, Answer, line_alone, text_answer, count_answer, layouts_text, status_of_stop, run_answer, run_by}
+use Rattle.cxxabi_cmd.specs.Output.{Output, usage, too_long, stopped, yielded, Yields, counted, no_main, not_taken, ran, unknown_class, listed, Lists, whole, too_much, AsksFor, all_layouts, one_layout, all_tables, one_tables, AsksForName, named_layout, named_tables, AreTexts, IsProgram, Answer, line_alone, text_answer, count_answer, status_of_stop, run_answer, run_by}
 use Rattle.cxxabi_cmd.proofs.OneVerdict.{one_verdict}
 use Rattle.cxxabi_cmd.proofs.OneProgram.{main_missing_left, main_missing_right, program_left, program_right, one_program}
-use Rattle.cxxabi_cmd.proofs.Accepting.{accepted_keeps}
+use Rattle.cxxabi_cmd.proofs.Accepting.{accepted_keeps, accepted_fine}
+use Rattle.cxxabi_cmd.proofs.LaidRows.{laid_is_one, sound_rows}
+use Rattle.cxxabi_cmd.proofs.Listed.{OneTables, AreKnown, one_texts, asked_known}
 
 -- the class of a name
 record IsNamed (h : Classes) (n : ℕ) (name : List ℕ) : Type 0 where
@@ -35,15 +37,11 @@ named_class [] n name at = absurd (cc)
 named_class (class ∷ h) zero name at = record { class = class; there = refl; named = cc }
 named_class (class ∷ h) (suc n) name at = let rest = named_class h n name at in record { class = rest.class; there = rest.there; named = rest.named }
 
--- a hierarchy has one layout
-laid_is_one : (h : Classes) (rows others : List ClassLayout) → IsHierarchy h → IsLaid h rows → IsLaid h others → rows ≡ others
-laid_is_one h rows others keeps laid laid' = layout_is_one h (length h) rows others keeps (omega arith) laid laid'
-
-no_both : (h : Classes) (xs ys : List ClassId) (rows others : List ClassLayout) → IsHierarchy h → IsLaid h rows → IsLaid h others → xs ≡ ys → length (layouts_text h rows xs) ≤ 16777216 → 16777216 < length (layouts_text h others ys) → ⊥
-no_both h xs ys rows others keeps laid laid' same short long =
-    let one = ap (λ (r : List ClassLayout). length (layouts_text h r xs)) (laid_is_one h rows others keeps laid laid') in
-    let two = ap (λ (x : List ClassId). length (layouts_text h others x)) same in
-    omega arith
+-- the first byte of words
+abbrev first_byte : List (List ℕ) → ℕ
+first_byte [] = 0
+first_byte ([] ∷ words) = 0
+first_byte ((byte ∷ bytes) ∷ words) = byte
 
 -- words ask for one command
 pub says_one : (a b : List (List ℕ)) (c d : Command) → Says a c → Says b d → a ≡ b → c ≡ d
@@ -51,18 +49,38 @@ says_one _ _ _ _ check check same = refl
 says_one _ _ _ _ check run same = absurd (cc)
 says_one _ _ _ _ check layout same = absurd (cc)
 says_one _ _ _ _ check (layout_of name plain) same = absurd (cc)
+says_one _ _ _ _ check tables same = absurd (cc)
+says_one _ _ _ _ check (tables_of name plain) same = absurd (cc)
 says_one _ _ _ _ run check same = absurd (cc)
 says_one _ _ _ _ run run same = refl
 says_one _ _ _ _ run layout same = absurd (cc)
 says_one _ _ _ _ run (layout_of name plain) same = absurd (cc)
+says_one _ _ _ _ run tables same = absurd (cc)
+says_one _ _ _ _ run (tables_of name plain) same = absurd (cc)
 says_one _ _ _ _ layout check same = absurd (cc)
 says_one _ _ _ _ layout run same = absurd (cc)
 says_one _ _ _ _ layout layout same = refl
 says_one _ _ _ _ layout (layout_of name plain) same = absurd (cc)
+says_one _ _ _ _ layout tables same = absurd (let e : 108 ≡ 116 = ap first_byte same in omega arith)
+says_one _ _ _ _ layout (tables_of name plain) same = absurd (let e : 108 ≡ 116 = ap first_byte same in omega arith)
 says_one _ _ _ _ (layout_of name plain) check same = absurd (cc)
 says_one _ _ _ _ (layout_of name plain) run same = absurd (cc)
 says_one _ _ _ _ (layout_of name plain) layout same = absurd (cc)
 says_one _ _ _ _ (layout_of name plain) (layout_of other plain') same = let one : name ≡ other = cc in ap LayoutOf one
+says_one _ _ _ _ (layout_of name plain) tables same = absurd (let e : 108 ≡ 116 = ap first_byte same in omega arith)
+says_one _ _ _ _ (layout_of name plain) (tables_of other plain') same = absurd (let e : 108 ≡ 116 = ap first_byte same in omega arith)
+says_one _ _ _ _ tables check same = absurd (cc)
+says_one _ _ _ _ tables run same = absurd (cc)
+says_one _ _ _ _ tables layout same = absurd (let e : 116 ≡ 108 = ap first_byte same in omega arith)
+says_one _ _ _ _ tables (layout_of name plain) same = absurd (let e : 116 ≡ 108 = ap first_byte same in omega arith)
+says_one _ _ _ _ tables tables same = refl
+says_one _ _ _ _ tables (tables_of name plain) same = absurd (cc)
+says_one _ _ _ _ (tables_of name plain) check same = absurd (cc)
+says_one _ _ _ _ (tables_of name plain) run same = absurd (cc)
+says_one _ _ _ _ (tables_of name plain) layout same = absurd (let e : 116 ≡ 108 = ap first_byte same in omega arith)
+says_one _ _ _ _ (tables_of name plain) (layout_of other plain') same = absurd (let e : 116 ≡ 108 = ap first_byte same in omega arith)
+says_one _ _ _ _ (tables_of name plain) tables same = absurd (cc)
+says_one _ _ _ _ (tables_of name plain) (tables_of other plain') same = let one : name ≡ other = cc in ap TablesOf one
 
 one_run : (s t : SourceText) (h : Classes) (p q : SimpleProgram) (rows others : List ClassLayout) → IsHierarchy h → SameSource s t → IsProgram s h p → IsProgram t h q → IsLaid h rows → IsLaid h others →
     run_answer h rows (run_by h rows p) ≡ run_answer h others (run_by h others q)
@@ -70,14 +88,26 @@ one_run s t h p q rows others keeps same one other laid laid' =
     ap (λ (r : List ClassLayout). run_answer h r (run_by h r p)) (laid_is_one h rows others keeps laid laid')
     ∙ ap (λ (x : SimpleProgram). run_answer h others (run_by h others x)) (one_program s t h p q keeps same one other)
 
--- neither `check` nor `run` asks for layouts
-no_check : (h : Classes) (c : Command) (classes : List ClassId) → AsksFor h c classes → Check ≡ c → ⊥
-no_check h _ _ all_classes same = cc
-no_check h _ _ (one_class name c at) same = cc
+-- neither `check` nor `run` asks for a listing
+no_check : (h : Classes) (c : Command) (listing : Listing) (classes : List ClassId) → AsksFor h c listing classes → Check ≡ c → ⊥
+no_check h _ _ _ all_layouts same = cc
+no_check h _ _ _ (one_layout name c at) same = cc
+no_check h _ _ _ all_tables same = cc
+no_check h _ _ _ (one_tables name c at) same = cc
 
-no_run : (h : Classes) (c : Command) (classes : List ClassId) → AsksFor h c classes → Run ≡ c → ⊥
-no_run h _ _ all_classes same = cc
-no_run h _ _ (one_class name c at) same = cc
+no_run : (h : Classes) (c : Command) (listing : Listing) (classes : List ClassId) → AsksFor h c listing classes → Run ≡ c → ⊥
+no_run h _ _ _ all_layouts same = cc
+no_run h _ _ _ (one_layout name c at) same = cc
+no_run h _ _ _ all_tables same = cc
+no_run h _ _ _ (one_tables name c at) same = cc
+
+unnamed_check : (c : Command) (name : List ℕ) → AsksForName c name → Check ≡ c → ⊥
+unnamed_check _ _ (named_layout name) same = cc
+unnamed_check _ _ (named_tables name) same = cc
+
+unnamed_run : (c : Command) (name : List ℕ) → AsksForName c name → Run ≡ c → ⊥
+unnamed_run _ _ (named_layout name) same = cc
+unnamed_run _ _ (named_tables name) same = cc
 
 -- what `check` answers
 checks : (size : ℕ) (t : SourceText) (h : Classes) (d : Command) (b : Answer) → Yields size t h d b → Check ≡ d → count_answer h ≡ b
@@ -85,8 +115,8 @@ checks size t h _ _ counted same = refl
 checks size t h _ _ (no_main none) same = absurd (cc)
 checks size t h _ _ (not_taken tree main nothing) same = absurd (cc)
 checks size t h _ _ (ran q rows is laid) same = absurd (cc)
-checks size t h _ _ (unknown_class name none) same = absurd (cc)
-checks size t h _ _ (laid_out command classes answer asks lays) same = absurd (no_check h command classes asks same)
+checks size t h _ _ (unknown_class command name asks none) same = absurd (unnamed_check command name asks same)
+checks size t h _ _ (listed command listing classes answer asks lists) same = absurd (no_check h command listing classes asks same)
 
 -- what `run` answers
 data Runs (size : ℕ) (t : SourceText) (h : Classes) : Answer → Type 0 where
@@ -99,8 +129,8 @@ runs size t h _ _ counted same = absurd (cc)
 runs size t h _ _ (no_main none) same = is_missing none
 runs size t h _ _ (not_taken tree main nothing) same = is_other tree main nothing
 runs size t h _ _ (ran q rows is laid) same = is_told q rows is laid
-runs size t h _ _ (unknown_class name none) same = absurd (cc)
-runs size t h _ _ (laid_out command classes answer asks lays) same = absurd (no_run h command classes asks same)
+runs size t h _ _ (unknown_class command name asks none) same = absurd (unnamed_run command name asks same)
+runs size t h _ _ (listed command listing classes answer asks lists) same = absurd (no_run h command listing classes asks same)
 
 runs_same : (size : ℕ) (s t : SourceText) (h : Classes) (a b : Answer) → IsHierarchy h → SameSource s t → Runs size s h a → Runs size t h b → a ≡ b
 runs_same size s t h _ _ keeps same (is_missing none) (is_missing none') = refl
@@ -123,69 +153,106 @@ named_once h keeps c d name at other =
     let two = named_class h d.0 name other in
     number_same c d (keeps.names c d one.class two.class one.there two.there (one.named ∙ sym two.named))
 
-asks_same : (h : Classes) (c d : Command) (xs ys : List ClassId) → IsHierarchy h → AsksFor h c xs → AsksFor h d ys → c ≡ d → xs ≡ ys
-asks_same h _ _ _ _ keeps all_classes all_classes same = refl
-asks_same h _ _ _ _ keeps all_classes (one_class name c at) same = absurd (cc)
-asks_same h _ _ _ _ keeps (one_class name c at) all_classes same = absurd (cc)
-asks_same h _ _ _ _ keeps (one_class name c at) (one_class name' d at') same =
+asks_same : (h : Classes) (c d : Command) (l m : Listing) (xs ys : List ClassId) → IsHierarchy h → AsksFor h c l xs → AsksFor h d m ys → c ≡ d → (l ≡ m) × (xs ≡ ys)
+asks_same h _ _ _ _ _ _ keeps all_layouts all_layouts same = (refl, refl)
+asks_same h _ _ _ _ _ _ keeps all_layouts (one_layout name c at) same = absurd (cc)
+asks_same h _ _ _ _ _ _ keeps all_layouts all_tables same = absurd (cc)
+asks_same h _ _ _ _ _ _ keeps all_layouts (one_tables name c at) same = absurd (cc)
+asks_same h _ _ _ _ _ _ keeps (one_layout name c at) all_layouts same = absurd (cc)
+asks_same h _ _ _ _ _ _ keeps (one_layout name c at) (one_layout name' d at') same =
     let names : name ≡ name' = cc in
-    ap (λ (x : ClassId). x ∷ []) (named_once h keeps c d name at (subst (λ (n : List ℕ). slice_get (class_names h) d.0 ≡ Some n) (sym names) at'))
+    (refl, ap (λ (x : ClassId). x ∷ []) (named_once h keeps c d name at (subst (λ (n : List ℕ). slice_get (class_names h) d.0 ≡ Some n) (sym names) at')))
+asks_same h _ _ _ _ _ _ keeps (one_layout name c at) all_tables same = absurd (cc)
+asks_same h _ _ _ _ _ _ keeps (one_layout name c at) (one_tables name' d at') same = absurd (cc)
+asks_same h _ _ _ _ _ _ keeps all_tables all_layouts same = absurd (cc)
+asks_same h _ _ _ _ _ _ keeps all_tables (one_layout name c at) same = absurd (cc)
+asks_same h _ _ _ _ _ _ keeps all_tables all_tables same = (refl, refl)
+asks_same h _ _ _ _ _ _ keeps all_tables (one_tables name c at) same = absurd (cc)
+asks_same h _ _ _ _ _ _ keeps (one_tables name c at) all_layouts same = absurd (cc)
+asks_same h _ _ _ _ _ _ keeps (one_tables name c at) (one_layout name' d at') same = absurd (cc)
+asks_same h _ _ _ _ _ _ keeps (one_tables name c at) all_tables same = absurd (cc)
+asks_same h _ _ _ _ _ _ keeps (one_tables name c at) (one_tables name' d at') same =
+    let names : name ≡ name' = cc in
+    (refl, ap (λ (x : ClassId). x ∷ []) (named_once h keeps c d name at (subst (λ (n : List ℕ). slice_get (class_names h) d.0 ≡ Some n) (sym names) at')))
 
-not_unknown : (h : Classes) (name : List ℕ) (c : Command) (classes : List ClassId) → AsksFor h c classes → LayoutOf name ≡ c → (Contains (class_names h) name → ⊥) → ⊥
-not_unknown h name _ _ all_classes same none = absurd (cc)
-not_unknown h name _ _ (one_class name' c at) same none = none (let names : name ≡ name' = cc in subst (λ (n : List ℕ). Contains (class_names h) n) (sym names) (contains_at (class_names h) c.0 name' at))
+is_named : (h : Classes) (name name' : List ℕ) (c : ClassId) → slice_get (class_names h) c.0 ≡ Some name' → name ≡ name' → (Contains (class_names h) name → ⊥) → ⊥
+is_named h name name' c at names none = none (subst (λ (n : List ℕ). Contains (class_names h) n) (sym names) (contains_at (class_names h) c.0 name' at))
 
-lays_same : (h : Classes) (xs ys : List ClassId) (a b : Answer) → IsHierarchy h → LaysOut h xs a → LaysOut h ys b → xs ≡ ys → a ≡ b
-lays_same h xs ys _ _ keeps (whole rows laid short) (whole rows' laid' short') same =
-    ap (λ (r : List ClassLayout). text_answer (layouts_text h r xs)) (laid_is_one h rows rows' keeps laid laid') ∙ ap (λ (x : List ClassId). text_answer (layouts_text h rows' x)) same
-lays_same h xs ys _ _ keeps (whole rows laid short) (too_much rows' laid' long) same = absurd (no_both h xs ys rows rows' keeps laid laid' same short long)
-lays_same h xs ys _ _ keeps (too_much rows laid long) (whole rows' laid' short) same = absurd (no_both h ys xs rows' rows keeps laid' laid (sym same) short long)
-lays_same h xs ys _ _ keeps (too_much rows laid long) (too_much rows' laid' long') same = refl
+not_unknown : (h : Classes) (c d : Command) (name : List ℕ) (listing : Listing) (classes : List ClassId) → AsksForName c name → AsksFor h d listing classes → c ≡ d → (Contains (class_names h) name → ⊥) → ⊥
+not_unknown h _ _ _ _ _ (named_layout name) all_layouts same none = absurd (cc)
+not_unknown h _ _ _ _ _ (named_layout name) (one_layout name' c at) same none = is_named h name name' c at (cc) none
+not_unknown h _ _ _ _ _ (named_layout name) all_tables same none = absurd (cc)
+not_unknown h _ _ _ _ _ (named_layout name) (one_tables name' c at) same none = absurd (cc)
+not_unknown h _ _ _ _ _ (named_tables name) all_layouts same none = absurd (cc)
+not_unknown h _ _ _ _ _ (named_tables name) (one_layout name' c at) same none = absurd (cc)
+not_unknown h _ _ _ _ _ (named_tables name) all_tables same none = absurd (cc)
+not_unknown h _ _ _ _ _ (named_tables name) (one_tables name' c at) same none = is_named h name name' c at (cc) none
 
--- what `layout` answers, of these classes or of none
-lays : (size : ℕ) (s t : SourceText) (h : Classes) (c d : Command) (xs : List ClassId) (a b : Answer) → IsHierarchy h → AsksFor h c xs → LaysOut h xs a → Yields size t h d b → c ≡ d → a ≡ b
-lays size s t h c _ xs a _ keeps asks is counted same = absurd (no_check h c xs asks (sym same))
-lays size s t h c _ xs a _ keeps asks is (no_main none) same = absurd (no_run h c xs asks (sym same))
-lays size s t h c _ xs a _ keeps asks is (not_taken tree main nothing) same = absurd (no_run h c xs asks (sym same))
-lays size s t h c _ xs a _ keeps asks is (ran q rows program laid) same = absurd (no_run h c xs asks (sym same))
-lays size s t h c _ xs a _ keeps asks is (unknown_class name none) same = absurd (not_unknown h name c xs asks (sym same) none)
-lays size s t h c _ xs a _ keeps asks is (laid_out command classes answer asks' is') same = lays_same h xs classes a answer keeps is is' (asks_same h c command xs classes keeps asks asks' same)
+-- over one layout classes have one text
+texts_same : OneTables → (h : Classes) (listing : Listing) (classes : List ClassId) (rows others : List ClassLayout) (a b : List ℕ) → IsHierarchy h → HasNoFault h → AreKnown h classes → IsLaid h rows → IsLaid h others → AreTexts h rows listing classes a → AreTexts h others listing classes b → a ≡ b
+texts_same law h listing classes rows others a b keeps fine known laid laid' are are' =
+    one_texts law h rows listing classes a b keeps (sound_rows h rows keeps fine laid) known are
+    (subst (λ (r : List ClassLayout). AreTexts h r listing classes b) (sym (laid_is_one h rows others keeps laid laid')) are')
 
-unknown : (size : ℕ) (t : SourceText) (h : Classes) (name : List ℕ) (d : Command) (b : Answer) → (Contains (class_names h) name → ⊥) → Yields size t h d b → LayoutOf name ≡ d → line_alone (Refused UnknownName size) ≡ b
-unknown size t h name _ _ none counted same = absurd (cc)
-unknown size t h name _ _ none (no_main empty) same = absurd (cc)
-unknown size t h name _ _ none (not_taken tree main nothing) same = absurd (cc)
-unknown size t h name _ _ none (ran q rows is laid) same = absurd (cc)
-unknown size t h name _ _ none (unknown_class name' none') same = refl
-unknown size t h name _ _ none (laid_out command classes answer asks is) same = absurd (not_unknown h name command classes asks same none)
+no_both : (a b : List ℕ) → a ≡ b → length a ≤ 16777216 → 16777216 < length b → ⊥
+no_both a b same short long = let size = ap (λ (t : List ℕ). length t) same in omega arith
+
+lists_same : OneTables → (h : Classes) (listing : Listing) (classes : List ClassId) (a b : Answer) → IsHierarchy h → HasNoFault h → AreKnown h classes → Lists h listing classes a → Lists h listing classes b → a ≡ b
+lists_same law h listing classes _ _ keeps fine known (whole rows text laid are short) (whole rows' text' laid' are' short') =
+    ap (λ (t : List ℕ). text_answer t) (texts_same law h listing classes rows rows' text text' keeps fine known laid laid' are are')
+lists_same law h listing classes _ _ keeps fine known (whole rows text laid are short) (too_much rows' text' laid' are' long) =
+    absurd (no_both text text' (texts_same law h listing classes rows rows' text text' keeps fine known laid laid' are are') short long)
+lists_same law h listing classes _ _ keeps fine known (too_much rows text laid are long) (whole rows' text' laid' are' short) =
+    absurd (no_both text' text (texts_same law h listing classes rows' rows text' text keeps fine known laid' laid are' are) short long)
+lists_same law h listing classes _ _ keeps fine known (too_much rows text laid are long) (too_much rows' text' laid' are' long') = refl
+
+-- what is answered where classes are listed
+lists : OneTables → (size : ℕ) (s t : SourceText) (h : Classes) (c d : Command) (l : Listing) (xs : List ClassId) (a b : Answer) → IsHierarchy h → HasNoFault h → AsksFor h c l xs → Lists h l xs a → Yields size t h d b → c ≡ d → a ≡ b
+lists law size s t h c _ l xs a _ keeps fine asks is counted same = absurd (no_check h c l xs asks (sym same))
+lists law size s t h c _ l xs a _ keeps fine asks is (no_main none) same = absurd (no_run h c l xs asks (sym same))
+lists law size s t h c _ l xs a _ keeps fine asks is (not_taken tree main nothing) same = absurd (no_run h c l xs asks (sym same))
+lists law size s t h c _ l xs a _ keeps fine asks is (ran q rows program laid) same = absurd (no_run h c l xs asks (sym same))
+lists law size s t h c _ l xs a _ keeps fine asks is (unknown_class command name names none) same = absurd (not_unknown h command c name l xs names asks (sym same) none)
+lists law size s t h c _ l xs a _ keeps fine asks is (listed command listing classes answer asks' is') same =
+    let e = asks_same h c command l listing xs classes keeps asks asks' same in
+    lists_same law h l xs a answer keeps fine (asked_known h c l xs asks) is
+    (subst (λ (m : Listing). Lists h m xs answer) (sym e.0) (subst (λ (ys : List ClassId). Lists h listing ys answer) (sym e.1) is'))
+
+unknown : (size : ℕ) (t : SourceText) (h : Classes) (c d : Command) (name : List ℕ) (b : Answer) → AsksForName c name → (Contains (class_names h) name → ⊥) → Yields size t h d b → c ≡ d → line_alone (Refused UnknownName size) ≡ b
+unknown size t h c _ name _ names none counted same = absurd (unnamed_check c name names (sym same))
+unknown size t h c _ name _ names none (no_main empty) same = absurd (unnamed_run c name names (sym same))
+unknown size t h c _ name _ names none (not_taken tree main nothing) same = absurd (unnamed_run c name names (sym same))
+unknown size t h c _ name _ names none (ran q rows is laid) same = absurd (unnamed_run c name names (sym same))
+unknown size t h c _ name _ names none (unknown_class command name' names' none') same = refl
+unknown size t h c _ name _ names none (listed command listing classes answer asks is) same = absurd (not_unknown h c command name listing classes names asks same none)
 
 -- a command answers one thing to sources that say the same
-pub one_yield : (size : ℕ) (s t : SourceText) (h : Classes) (c d : Command) (a b : Answer) → IsHierarchy h → SameSource s t → Yields size s h c a → Yields size t h d b → c ≡ d → a ≡ b
-one_yield size s t h _ d _ b keeps same counted y e = checks size t h d b y e
-one_yield size s t h _ d _ b keeps same (no_main none) y e = runs_same size s t h _ b keeps same (is_missing none) (runs size t h d b y e)
-one_yield size s t h _ d _ b keeps same (not_taken tree main nothing) y e = runs_same size s t h _ b keeps same (is_other tree main nothing) (runs size t h d b y e)
-one_yield size s t h _ d _ b keeps same (ran p rows is laid) y e = runs_same size s t h _ b keeps same (is_told p rows is laid) (runs size t h d b y e)
-one_yield size s t h _ d _ b keeps same (unknown_class name none) y e = unknown size t h name d b none y e
-one_yield size s t h _ d _ b keeps same (laid_out command classes answer asks is) y e = lays size s t h command d classes answer b keeps asks is y e
+pub one_yield : OneTables → (size : ℕ) (s t : SourceText) (h : Classes) (c d : Command) (a b : Answer) → IsHierarchy h → HasNoFault h → SameSource s t → Yields size s h c a → Yields size t h d b → c ≡ d → a ≡ b
+one_yield law size s t h _ d _ b keeps fine same counted y e = checks size t h d b y e
+one_yield law size s t h _ d _ b keeps fine same (no_main none) y e = runs_same size s t h _ b keeps same (is_missing none) (runs size t h d b y e)
+one_yield law size s t h _ d _ b keeps fine same (not_taken tree main nothing) y e = runs_same size s t h _ b keeps same (is_other tree main nothing) (runs size t h d b y e)
+one_yield law size s t h _ d _ b keeps fine same (ran p rows is laid) y e = runs_same size s t h _ b keeps same (is_told p rows is laid) (runs size t h d b y e)
+one_yield law size s t h _ d _ b keeps fine same (unknown_class command name names none) y e = unknown size t h command d name b names none y e
+one_yield law size s t h _ d _ b keeps fine same (listed command listing classes answer asks is) y e = lists law size s t h command d listing classes answer b keeps fine asks is y e
 
 -- words and bytes have one answer
-pub one_output : (words : List (List ℕ)) (bytes : List ℕ) (a b : Answer) → Output words bytes a → Output words bytes b → a ≡ b
-one_output words bytes _ _ (usage none) (usage none') = refl
-one_output words bytes _ _ (usage none) (too_long command long) = absurd (none command)
-one_output words bytes _ _ (usage none) (stopped e command short verdict) = absurd (none command)
-one_output words bytes _ _ (usage none) (yielded c t k b says short verdict yields) = absurd (none (c, says))
-one_output words bytes _ _ (too_long command long) (usage none) = absurd (none command)
-one_output words bytes _ _ (too_long command long) (too_long command' long') = refl
-one_output words bytes _ _ (too_long command long) (stopped e command' short verdict) = absurd (omega arith)
-one_output words bytes _ _ (too_long command long) (yielded c t k b says short verdict yields) = absurd (omega arith)
-one_output words bytes _ _ (stopped d command short verdict) (usage none) = absurd (none command)
-one_output words bytes _ _ (stopped d command short verdict) (too_long command' long) = absurd (omega arith)
-one_output words bytes _ _ (stopped d command short verdict) (stopped e command' short' verdict') = ap (λ (s : Stop). line_alone (status_of_stop s)) (one_verdict bytes (Stops d) (Stops e) verdict verdict')
-one_output words bytes _ _ (stopped d command short verdict) (yielded c t k b says short' verdict' yields) = absurd (one_verdict bytes (Stops d) (Accepts t k) verdict verdict')
-one_output words bytes _ _ (yielded c s h a says short verdict yields) (usage none) = absurd (none (c, says))
-one_output words bytes _ _ (yielded c s h a says short verdict yields) (too_long command long) = absurd (omega arith)
-one_output words bytes _ _ (yielded c s h a says short verdict yields) (stopped e command short' verdict') = absurd (one_verdict bytes (Accepts s h) (Stops e) verdict verdict')
-one_output words bytes _ _ (yielded c s h a says short verdict yields) (yielded d t k b says' short' verdict' yields') =
+pub one_output : OneTables → (words : List (List ℕ)) (bytes : List ℕ) (a b : Answer) → Output words bytes a → Output words bytes b → a ≡ b
+one_output law words bytes _ _ (usage none) (usage none') = refl
+one_output law words bytes _ _ (usage none) (too_long command long) = absurd (none command)
+one_output law words bytes _ _ (usage none) (stopped e command short verdict) = absurd (none command)
+one_output law words bytes _ _ (usage none) (yielded c t k b says short verdict yields) = absurd (none (c, says))
+one_output law words bytes _ _ (too_long command long) (usage none) = absurd (none command)
+one_output law words bytes _ _ (too_long command long) (too_long command' long') = refl
+one_output law words bytes _ _ (too_long command long) (stopped e command' short verdict) = absurd (omega arith)
+one_output law words bytes _ _ (too_long command long) (yielded c t k b says short verdict yields) = absurd (omega arith)
+one_output law words bytes _ _ (stopped d command short verdict) (usage none) = absurd (none command)
+one_output law words bytes _ _ (stopped d command short verdict) (too_long command' long) = absurd (omega arith)
+one_output law words bytes _ _ (stopped d command short verdict) (stopped e command' short' verdict') = ap (λ (s : Stop). line_alone (status_of_stop s)) (one_verdict bytes (Stops d) (Stops e) verdict verdict')
+one_output law words bytes _ _ (stopped d command short verdict) (yielded c t k b says short' verdict' yields) = absurd (one_verdict bytes (Stops d) (Accepts t k) verdict verdict')
+one_output law words bytes _ _ (yielded c s h a says short verdict yields) (usage none) = absurd (none (c, says))
+one_output law words bytes _ _ (yielded c s h a says short verdict yields) (too_long command long) = absurd (omega arith)
+one_output law words bytes _ _ (yielded c s h a says short verdict yields) (stopped e command short' verdict') = absurd (one_verdict bytes (Accepts s h) (Stops e) verdict verdict')
+one_output law words bytes _ _ (yielded c s h a says short verdict yields) (yielded d t k b says' short' verdict' yields') =
     let same = one_verdict bytes (Accepts s h) (Accepts t k) verdict verdict' in
     let here : Yields (length bytes) t h d b = subst (λ (x : Classes). Yields (length bytes) t x d b) (sym same.1) yields' in
-    one_yield (length bytes) s t h c d a b (accepted_keeps bytes s h verdict) same.0 yields here (says_one words words c d says says' refl)
+    one_yield law (length bytes) s t h c d a b (accepted_keeps bytes s h verdict) (accepted_fine bytes s h verdict) same.0 yields here (says_one words words c d says says' refl)

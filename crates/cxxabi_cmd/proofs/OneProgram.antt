@@ -2,13 +2,13 @@
 use Rattle.std.proofs.Common.{◌≡◌, Option, Some, None, List, [], refl, sym, ◌∙◌, subst}
 use Rattle.cxx_hierarchy.specs.Classes.{Classes}
 use Rattle.cxx_hierarchy.specs.Hierarchies.{IsHierarchy}
-use Rattle.cxx_body_parser.specs.declared.tree.Statement.{Statement}
-use Rattle.cxx_body_parser.specs.declared.tree.StatementKind.{StatementKind}
-use Rattle.cxx_body_parser.specs.declared.tree.BodyTree.{BodyTree, out-BodyTree}
-use Rattle.cxx_body_parser.specs.Same.{SameBody, same_body, SameStatements, no_statements, more_statements, SameStatement, same_plain, same_if, same_if_else, same_while}
-use Rattle.cxx_decl_parser.specs.declared.source_text.Body.{Body}
-use Rattle.cxx_decl_parser.specs.declared.source_text.SourceText.{SourceText}
-use Rattle.cxx_decl_parser.specs.Same.{SameBodies, no_bodies, more_bodies, SameMain, SameSource}
+use Rattle.cxx_syntax.specs.declared.tree.Statement.{Statement}
+use Rattle.cxx_syntax.specs.declared.tree.StatementKind.{StatementKind}
+use Rattle.cxx_syntax.specs.declared.tree.BodyTree.{BodyTree, out-BodyTree}
+use Rattle.cxx_syntax.specs.SameTrees.{SameBody, same_body, SameStatements, no_statements, more_statements, SameStatement, same_plain, same_if, same_if_else, same_while}
+use Rattle.cxx_syntax.specs.declared.source_text.Body.{Body}
+use Rattle.cxx_syntax.specs.declared.source_text.SourceText.{SourceText}
+use Rattle.cxx_syntax.specs.SameSources.{SameBodies, no_bodies, more_bodies, SameMain, SameSource}
 use Rattle.cxx_resolve.specs.declared.simple.Simple.{Simple}
 use Rattle.cxx_resolve.specs.declared.simple.SimpleLine.{SimpleLine}
 use Rattle.cxx_resolve.specs.declared.program.SimpleProgram.{SimpleProgram}

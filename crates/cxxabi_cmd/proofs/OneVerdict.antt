@@ -1,5 +1,5 @@
 -- The passes say one thing of a text.
-use Rattle.std.proofs.Common.{◌≡◌, ℕ, Option, Some, None, List, [], sym, ◌∙◌, ap, subst}
+use Rattle.std.proofs.Common.{◌≡◌, ℕ, Option, Some, None, List, [], refl, sym, ◌∙◌, ap, subst}
 use Rattle.cxx_text.specs.declared.token.Token.{Token}
 use Rattle.cxx_text.proofs.Unique.{tokens_same}
 use Rattle.cxx_grammar.specs.declared.sort.Lexeme.{Lexeme}
@@ -10,11 +10,13 @@ use Rattle.cxx_grammar.proofs.OneEvent.{event_same as events_same, no_source_eve
 use Rattle.cxx_hierarchy.specs.declared.stop.Stop.{Stop}
 use Rattle.cxx_hierarchy.specs.ClassPass.{Record, faults_of, first_of}
 use Rattle.cxx_hierarchy.specs.Resolved.{resolved}
-use Rattle.cxx_decl_parser.specs.declared.source_text.SourceText.{SourceText}
-use Rattle.cxx_decl_parser.specs.Sources.{SourceReads}
-use Rattle.cxx_decl_parser.specs.Same.{SameSource}
-use Rattle.cxx_decl_parser.proofs.SameSources.{source_same}
-use Rattle.cxxabi_cmd.specs.Verdict.{AreLexemes, IsSource, StopsText, IsFirstFault, HasNoFault, Judgement, Stops, Accepts, Verdict, by_text, by_records, by_classes, accepted}
+use Rattle.cxx_syntax.specs.declared.source_text.SourceText.{SourceText}
+use Rattle.cxx_syntax.specs.Sources.{SourceReads}
+use Rattle.cxx_syntax.specs.SameSources.{SameSource}
+use Rattle.cxx_one_reading.proofs.SameSources.{source_same}
+use Rattle.cxxabi_cmd.specs.Verdict.{AreLexemes, IsSource, StopsText, IsFirstFault, HasNoFault, HasManyWords, HasFewWords, Judgement, Stops, Accepts, Verdict, by_text, by_records, by_classes, by_words, accepted}
+use Rattle.cxxabi_cmd.proofs.Accepting.{source_keeps}
+use Rattle.cxxabi_cmd.proofs.LaidRows.{many_or_few}
 use Rattle.cxxabi_cmd.proofs.OneFault.{first_same, first_or_none}
 
 lexemes_same : (text : List ℕ) (a b : List Lexeme) → AreLexemes text a → AreLexemes text b → a ≡ b
@@ -53,25 +55,40 @@ refused_passes a b e same first none = let clash : None ≡ Some e = ap first_of
 same_first : (a b : List Record) (d e : Stop) → a ≡ b → first_of (faults_of a) ≡ Some d → first_of (faults_of b) ≡ Some e → d ≡ e
 same_first a b d e same one other = let both : Some d ≡ Some e = sym one ∙ ap (λ (r : List Record). first_of (faults_of r)) same ∙ other in cc
 
+-- a first fault is met in records, or none
+first_and_none : (a b : List Record) (e : Stop) → a ≡ b → IsFirstFault (resolved a) e → HasNoFault (resolved b) → ⊥
+first_and_none a b e same first nothing = first_or_none (resolved a) e first (subst (λ (r : List Record). HasNoFault (resolved r)) (sym same) nothing)
+
+many_and_few : (text : List ℕ) (s t : SourceText) → IsSource text s → IsSource text t → faults_of s.records ≡ [] → HasManyWords (resolved s.records) → HasFewWords (resolved t.records) → ⊥
+many_and_few text s t x y none many few =
+    many_or_few (resolved s.records) (source_keeps text s x none) many (subst (λ (r : List Record). HasFewWords (resolved r)) (sym (spells_one text s t x y).records) few)
+
 -- the text has one verdict
 pub one_verdict : (text : List ℕ) (a b : Judgement) → Verdict text a → Verdict text b → SameJudgement a b
 one_verdict text _ _ (by_text d x) (by_text e y) = event_same text d e x y
 one_verdict text _ _ (by_text d x) (by_records t e y first) = absurd (no_event text t d y x)
 one_verdict text _ _ (by_text d x) (by_classes t e y none first) = absurd (no_event text t d y x)
-one_verdict text _ _ (by_text d x) (accepted t y none nothing) = absurd (no_event text t d y x)
+one_verdict text _ _ (by_text d x) (by_words t y none nothing many) = absurd (no_event text t d y x)
+one_verdict text _ _ (by_text d x) (accepted t y none nothing few) = absurd (no_event text t d y x)
 one_verdict text _ _ (by_records s d x first) (by_text e y) = absurd (no_event text s e x y)
 one_verdict text _ _ (by_records s d x first) (by_records t e y first') = same_first s.records t.records d e (spells_one text s t x y).records first first'
 one_verdict text _ _ (by_records s d x first) (by_classes t e y none first') = absurd (refused_passes s.records t.records d (spells_one text s t x y).records first none)
-one_verdict text _ _ (by_records s d x first) (accepted t y none nothing) = absurd (refused_passes s.records t.records d (spells_one text s t x y).records first none)
+one_verdict text _ _ (by_records s d x first) (by_words t y none nothing many) = absurd (refused_passes s.records t.records d (spells_one text s t x y).records first none)
+one_verdict text _ _ (by_records s d x first) (accepted t y none nothing few) = absurd (refused_passes s.records t.records d (spells_one text s t x y).records first none)
 one_verdict text _ _ (by_classes s d x none first) (by_text e y) = absurd (no_event text s e x y)
 one_verdict text _ _ (by_classes s d x none first) (by_records t e y first') = absurd (refused_passes t.records s.records e (sym (spells_one text s t x y).records) first' none)
 one_verdict text _ _ (by_classes s d x none first) (by_classes t e y none' first') =
     first_same (resolved s.records) d e first (subst (λ (r : List Record). IsFirstFault (resolved r) e) (sym (spells_one text s t x y).records) first')
-one_verdict text _ _ (by_classes s d x none first) (accepted t y none' nothing) =
-    absurd (first_or_none (resolved s.records) d first (subst (λ (r : List Record). HasNoFault (resolved r)) (sym (spells_one text s t x y).records) nothing))
-one_verdict text _ _ (accepted s x none nothing) (by_text e y) = absurd (no_event text s e x y)
-one_verdict text _ _ (accepted s x none nothing) (by_records t e y first) = absurd (refused_passes t.records s.records e (sym (spells_one text s t x y).records) first none)
-one_verdict text _ _ (accepted s x none nothing) (by_classes t e y none' first) =
-    absurd (first_or_none (resolved s.records) e (subst (λ (r : List Record). IsFirstFault (resolved r) e) (sym (spells_one text s t x y).records) first) nothing)
-one_verdict text _ _ (accepted s x none nothing) (accepted t y none' nothing') =
+one_verdict text _ _ (by_classes s d x none first) (by_words t y none' nothing many) = absurd (first_and_none s.records t.records d (spells_one text s t x y).records first nothing)
+one_verdict text _ _ (by_classes s d x none first) (accepted t y none' nothing few) = absurd (first_and_none s.records t.records d (spells_one text s t x y).records first nothing)
+one_verdict text _ _ (by_words s x none nothing many) (by_text e y) = absurd (no_event text s e x y)
+one_verdict text _ _ (by_words s x none nothing many) (by_records t e y first) = absurd (refused_passes t.records s.records e (sym (spells_one text s t x y).records) first none)
+one_verdict text _ _ (by_words s x none nothing many) (by_classes t e y none' first) = absurd (first_and_none t.records s.records e (sym (spells_one text s t x y).records) first nothing)
+one_verdict text _ _ (by_words s x none nothing many) (by_words t y none' nothing' many') = refl
+one_verdict text _ _ (by_words s x none nothing many) (accepted t y none' nothing' few) = absurd (many_and_few text s t x y none many few)
+one_verdict text _ _ (accepted s x none nothing few) (by_text e y) = absurd (no_event text s e x y)
+one_verdict text _ _ (accepted s x none nothing few) (by_records t e y first) = absurd (refused_passes t.records s.records e (sym (spells_one text s t x y).records) first none)
+one_verdict text _ _ (accepted s x none nothing few) (by_classes t e y none' first) = absurd (first_and_none t.records s.records e (sym (spells_one text s t x y).records) first nothing)
+one_verdict text _ _ (accepted s x none nothing few) (by_words t y none' nothing' many) = absurd (many_and_few text t s y x none' many few)
+one_verdict text _ _ (accepted s x none nothing few) (accepted t y none' nothing' few') =
     let same = spells_one text s t x y in (same, ap (λ (r : List Record). resolved r) same.records)

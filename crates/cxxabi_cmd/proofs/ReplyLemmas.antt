@@ -1,70 +1,45 @@
 -- What the parts of the answer yield.
-use Rattle.std.proofs.Common.{◌≡◌, ℕ, zero, suc, ◌<◌, ◌≤◌, ◌⊎◌, ⊎_elim, Bool, true, false, not, Option, Some, None, Result, Ok, Err, List, [], ◌∷◌, ◌++◌, length, refl, sym, ◌∙◌, ap, subst, arith}
+use Rattle.std.proofs.Common.{◌≡◌, ℕ, ◌≤◌, ◌⊎◌, ⊎_elim, Bool, true, false, not, Option, Some, None, Result, Ok, Err, List, [], ◌∷◌, length, refl, sym, ◌∙◌, ap, subst}
 use Rattle.std.specs.Prelude.{IfOk, slice_get}
-use Rattle.std.specs.Bool.{OnTrue, OnFalse}
 use Rattle.std.specs.Option.{is_some}
 use Rattle.foundation.specs.declared.memory.NoMemory.{NoMemory as Want}
 use Rattle.cxx_hierarchy.specs.declared.records.ClassId.{ClassId}
-use Rattle.cxx_hierarchy.specs.declared.stop.LimitNo.TheVariants.{L9}
 use Rattle.cxx_hierarchy.specs.declared.stop.Stop.{Stop}
 use Rattle.cxx_hierarchy.specs.declared.stop.Stop.TheVariants as stop
 use Rattle.cxx_hierarchy.specs.Classes.{Classes, class_names}
-use Rattle.cxx_body_parser.specs.declared.tree.BodyTree.{BodyTree}
-use Rattle.cxx_decl_parser.specs.declared.source_text.SourceText.{SourceText}
-use Rattle.abi_sound.specs.declared.class_layout.ClassLayout.{ClassLayout}
+use Rattle.cxx_syntax.specs.declared.tree.BodyTree.{BodyTree}
+use Rattle.cxx_syntax.specs.declared.source_text.SourceText.{SourceText}
 use Rattle.abi_layout.specs.Layouts.{IsLaid}
 use Rattle.cxxabi_cmd.specs.declared.command.Command.{Command}
 use Rattle.cxxabi_cmd.specs.declared.command.Command.TheVariants.{Run}
 use Rattle.cxxabi_cmd.specs.declared.reply.Reply.{Reply}
-use Rattle.cxxabi_cmd.specs.declared.status.Status.TheVariants.{Limit}
 use Rattle.cxxabi_cmd.specs.Commands.{Says}
 use Rattle.cxxabi_cmd.specs.Verdict.{Verdict, Stops, Accepts}
 use Rattle.cxxabi_cmd.specs.Handed.{Seen, HandsOut}
-use Rattle.cxxabi_cmd.specs.Output.{Answer, AsksFor, IsProgram, Output, stopped, yielded, Yields, counted, no_main, not_taken, ran, unknown_class, laid_out, LaysOut, whole, too_much, IsAnswered, line_alone, text_answer, layouts_text, status_of_stop, run_by}
+use Rattle.cxxabi_cmd.specs.Output.{Answer, AsksFor, AsksForName, IsProgram, Output, stopped, yielded, Yields, counted, no_main, not_taken, ran, unknown_class, listed, Lists, whole, too_much, IsAnswered, line_alone, status_of_stop, run_by}
+use Rattle.cxxabi_cmd.specs.declared.listing.Listing.{Listing}
+use Rattle.cxxabi_cmd.specs.invariants.Listings.{ListsName, is_unknown, is_class}
 use Rattle.cxxabi_cmd.specs.invariants.Replies.{answer_of, machine_of, HandsBy}
-use Rattle.abi_layout.specs.AbiLayouts.{IsAbiLayout}
 use Rattle.cxxabi_cmd.proofs.AnswerLemmas.{answered_end}
-use Rattle.cxxabi_cmd.proofs.LayoutLemmas.{class_text, one_layout}
 use Rattle.cxxabi_cmd.proofs.OneOutput.{says_one}
 use Rattle.cxxabi_cmd.proofs.OneProgram.{program_left}
 use Rattle.cxxabi_cmd.proofs.OneVerdict.{one_verdict}
 
-pub on_false : (b : Bool) (P : Type 0) → OnFalse b P → b ≡ false → P
-on_false b P is off = subst (λ (x : Bool). OnFalse x P) off is
+-- the listing of all classes, and of the class of a name
+pub yields_all : (r : Result Reply Want) (size : ℕ) (source : SourceText) (h : Classes) (command : Command) (listing : Listing) (classes : List ClassId) → AsksFor h command listing classes → IfOk r (λ reply. Lists h listing classes (answer_of reply)) →
+    IfOk r (λ reply. Yields size source h command (answer_of reply))
+yields_all (Ok reply) size source h command listing classes asks is = listed command listing classes (answer_of reply) asks is
+yields_all (Err w) size source h command listing classes asks is = tt
 
-on_true_of : {P : Type 0} (b : Bool) → P → OnTrue b P
-on_true_of true p = p
-on_true_of false p = tt
+yields_name : (size : ℕ) (source : SourceText) (h : Classes) (command : Command) (listing : Listing) (name : List ℕ) (a : Answer) → AsksForName command name → ((c : ClassId) → slice_get (class_names h) c.0 ≡ Some name → AsksFor h command listing (c ∷ [])) →
+    ListsName size h listing name a → Yields size source h command a
+yields_name size source h command listing name _ names asks (is_unknown none) = unknown_class command name names none
+yields_name size source h command listing name _ names asks (is_class c a at lists) = listed command listing (c ∷ []) a (asks c at) lists
 
--- the rows of a layout are the layout
-pub is_laid : (h : Classes) (rows : List ClassLayout) → IsAbiLayout h rows → IsLaid h rows
-is_laid h rows is = record { nearly = is.laid.nearly; primaries = is.laid.primaries; by = is.laid.by }
-
--- a number that has a name is that of a class
-pub named_below : (h : Classes) (n : ℕ) (name : List ℕ) → slice_get (class_names h) n ≡ Some name → n < length h
-named_below [] n name at = absurd (cc)
-named_below (class ∷ h) zero name at = omega arith
-named_below (class ∷ h) (suc n) name at = let rest = named_below h n name at in omega arith
-
--- a text of layouts, or the limit that it passes
-pub replied : (r : Result Reply Want) (within : Bool) (size : ℕ) (source : SourceText) (h : Classes) (command : Command) (classes : List ClassId) (rows : List ClassLayout) (text : List ℕ) → AsksFor h command classes → IsLaid h rows →
-    OnTrue within (text ≡ layouts_text h rows classes) → OnTrue within (length text ≤ 16777216) → OnFalse within (16777216 < length (layouts_text h rows classes)) →
-    IfOk r (λ reply. OnTrue within (answer_of reply ≡ text_answer text)) → IfOk r (λ reply. OnFalse within (answer_of reply ≡ line_alone (Limit L9))) → IfOk r (λ reply. Yields size source h command (answer_of reply))
-replied (Ok reply) true size source h command classes rows text asks is same short past told limit =
-    let fits : length (layouts_text h rows classes) ≤ 16777216 = subst (λ (t : List ℕ). length t ≤ 16777216) same short in
-    let lays : LaysOut h classes (text_answer text) = subst (λ (t : List ℕ). LaysOut h classes (text_answer t)) (sym same) (whole rows is fits) in
-    subst (λ (a : Answer). Yields size source h command a) (sym told) (laid_out command classes (text_answer text) asks lays)
-replied (Ok reply) false size source h command classes rows text asks is same short past told limit =
-    subst (λ (a : Answer). Yields size source h command a) (sym limit) (laid_out command classes (line_alone (Limit L9)) asks (too_much rows is past))
-replied (Err w) within size source h command classes rows text asks is same short past told limit = tt
-
--- the layout of one class
-pub replied_one : (r : Result Reply Want) (within : Bool) (size : ℕ) (source : SourceText) (h : Classes) (command : Command) (class : ClassId) (rows : List ClassLayout) (before text : List ℕ) → AsksFor h command (class ∷ []) → IsLaid h rows → before ≡ [] →
-    text ≡ before ++ class_text h rows class → OnTrue within (length text ≤ 16777216) → OnFalse within (16777216 < length text) →
-    IfOk r (λ reply. OnTrue within (answer_of reply ≡ text_answer text)) → IfOk r (λ reply. OnFalse within (answer_of reply ≡ line_alone (Limit L9))) → IfOk r (λ reply. Yields size source h command (answer_of reply))
-replied_one r within size source h command class rows before text asks is empty same short past told limit =
-    let so : text ≡ layouts_text h rows (class ∷ []) = same ∙ ap (λ (t : List ℕ). t ++ class_text h rows class) empty ∙ sym (one_layout h rows class) in
-    replied r within size source h command (class ∷ []) rows text asks is (on_true_of within so) short (subst (λ (t : List ℕ). OnFalse within (16777216 < length t)) so past) told limit
+pub yields_one : (r : Result Reply Want) (size : ℕ) (source : SourceText) (h : Classes) (command : Command) (listing : Listing) (name : List ℕ) → AsksForName command name → ((c : ClassId) → slice_get (class_names h) c.0 ≡ Some name → AsksFor h command listing (c ∷ [])) →
+    IfOk r (λ reply. ListsName size h listing name (answer_of reply)) → IfOk r (λ reply. Yields size source h command (answer_of reply))
+yields_one (Ok reply) size source h command listing name names asks is = yields_name size source h command listing name (answer_of reply) names asks is
+yields_one (Err w) size source h command listing name names asks is = tt
 
 -- a main that is not there, and one that is
 pub is_missing : (m : Option BodyTree) (b : Bool) → is_some m ≡ not b → b ≡ true → m ≡ None
@@ -80,17 +55,17 @@ is_there None b is off = absurd (let clash : false ≡ true = is ∙ ap not off 
 is_there (Some tree) b is off = record { tree = tree; is = refl }
 
 -- an answer to an accepted source is an answer
-lays_answered : (h : Classes) (classes : List ClassId) (a : Answer) → LaysOut h classes a → IsAnswered a.status
-lays_answered h classes _ (whole rows laid short) = tt
-lays_answered h classes _ (too_much rows laid long) = tt
+lists_answered : (h : Classes) (listing : Listing) (classes : List ClassId) (a : Answer) → Lists h listing classes a → IsAnswered a.status
+lists_answered h listing classes _ (whole rows text laid are short) = tt
+lists_answered h listing classes _ (too_much rows text laid are long) = tt
 
 yields_answered : (size : ℕ) (source : SourceText) (h : Classes) (command : Command) (a : Answer) → Yields size source h command a → IsAnswered a.status
 yields_answered size source h _ _ counted = tt
 yields_answered size source h _ _ (no_main empty) = tt
 yields_answered size source h _ _ (not_taken tree main nothing) = tt
 yields_answered size source h _ _ (ran program rows is laid) = answered_end (run_by h rows program).ending
-yields_answered size source h _ _ (unknown_class name empty) = tt
-yields_answered size source h _ _ (laid_out command classes answer asks lays) = lays_answered h classes answer lays
+yields_answered size source h _ _ (unknown_class command name names empty) = tt
+yields_answered size source h _ _ (listed command listing classes answer asks lists) = lists_answered h listing classes answer lists
 
 pub reply_answered : (r : Result Reply Want) (size : ℕ) (source : SourceText) (h : Classes) (command : Command) → IfOk r (λ reply. Yields size source h command (answer_of reply)) → IfOk r (λ reply. IsAnswered reply.status)
 reply_answered (Ok reply) size source h command is = yields_answered size source h command (answer_of reply) is

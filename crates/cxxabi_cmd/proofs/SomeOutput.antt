@@ -4,17 +4,18 @@ use Rattle.std.specs.Prelude.{slice_get}
 use Rattle.std.proofs.lemmas.Bool.{cases_lt}
 use Rattle.cxx_grammar.specs.Lexemes.{lexemes, source_start}
 use Rattle.cxx_text.proofs.SomeTokens.{some_tokens}
-use Rattle.cxx_decl_parser.proofs.readings.Runs.{some_source}
+use Rattle.cxx_some_reading.proofs.Runs.{some_source}
 use Rattle.cxx_hierarchy.specs.declared.records.ClassId.{ClassId}
 use Rattle.cxx_hierarchy.specs.declared.stop.Stop.{Stop}
+use Rattle.cxx_hierarchy.specs.declared.stop.Stop.TheVariants.{Limit as AtLimit}
 use Rattle.cxx_hierarchy.specs.declared.stop.Rule.TheVariants.{Syntax, UnknownName}
-use Rattle.cxx_hierarchy.specs.declared.stop.LimitNo.TheVariants.{L1, L9}
+use Rattle.cxx_hierarchy.specs.declared.stop.LimitNo.TheVariants.{L1, L7, L9}
 use Rattle.cxx_hierarchy.specs.Classes.{Classes, class_names}
 use Rattle.cxx_hierarchy.specs.ClassPass.{faults_of, first_of}
 use Rattle.cxx_hierarchy.specs.Hierarchies.{IsHierarchy}
 use Rattle.cxx_hierarchy.specs.Resolved.{resolved}
-use Rattle.cxx_body_parser.specs.declared.tree.BodyTree.{BodyTree}
-use Rattle.cxx_decl_parser.specs.declared.source_text.SourceText.{SourceText}
+use Rattle.cxx_syntax.specs.declared.tree.BodyTree.{BodyTree}
+use Rattle.cxx_syntax.specs.declared.source_text.SourceText.{SourceText}
 use Rattle.cxx_resolve.specs.declared.program.SimpleProgram.{SimpleProgram}
 use Rattle.cxx_resolve.specs.Main.{MainResolves}
 use Rattle.cxx_resolve.proofs.MainDecisions.{some_program as main_or_none}
@@ -23,12 +24,16 @@ use Rattle.foundation.proofs.Places.{place_of}
 use Rattle.cxx_overrider.proofs.FaultSearch.{class_answer}
 use Rattle.abi_layout.proofs.rules.SomeAnswers.{large_decided, shared_decided}
 use Rattle.cxxabi_cmd.specs.declared.command.Command.{Command}
-use Rattle.cxxabi_cmd.specs.declared.command.Command.TheVariants.{Check, Run, Layout, LayoutOf}
+use Rattle.cxxabi_cmd.specs.declared.command.Command.TheVariants.{Check, Run, Layout, LayoutOf, Tables, TablesOf}
+use Rattle.cxxabi_cmd.specs.declared.listing.Listing.{Listing}
+use Rattle.cxxabi_cmd.specs.declared.listing.Listing.TheVariants.{OfLayout, OfTables}
 use Rattle.cxxabi_cmd.specs.declared.status.Status.TheVariants.{Refused, Usage, Limit}
 use Rattle.cxxabi_cmd.specs.Commands.{IsCommand}
-use Rattle.cxxabi_cmd.specs.Verdict.{AreLexemes, IsSource, Judgement, Verdict, Stops, Accepts, by_text, by_records, by_classes, accepted}
-use Rattle.cxxabi_cmd.specs.Output.{source_limit, text_limit, Answer, AsksFor, all_classes, one_class, IsProgram, LaysOut, whole, too_much, Yields, counted, no_main, not_taken, ran, unknown_class, laid_out, Output, usage, too_long, stopped, yielded, line_alone, count_answer, text_answer, layouts_text, status_of_stop, run_answer, run_by, numbered, first_classes}
-use Rattle.cxxabi_cmd.proofs.Accepting.{source_keeps, accepted_keeps}
+use Rattle.cxxabi_cmd.specs.Verdict.{AreLexemes, IsSource, HasNoFault, Judgement, Verdict, Stops, Accepts, by_text, by_records, by_classes, by_words, accepted}
+use Rattle.cxxabi_cmd.specs.Output.{source_limit, text_limit, Answer, AsksFor, all_layouts, one_layout, all_tables, one_tables, AsksForName, named_layout, named_tables, IsProgram, Lists, whole, too_much, Yields, counted, no_main, not_taken, ran, unknown_class, listed, Output, usage, too_long, stopped, yielded, line_alone, count_answer, text_answer, status_of_stop, run_answer, run_by, numbered, first_classes}
+use Rattle.cxxabi_cmd.proofs.Accepting.{source_keeps, accepted_keeps, accepted_fine}
+use Rattle.cxxabi_cmd.proofs.LaidRows.{no_meaning, sound_rows, words_decided}
+use Rattle.cxxabi_cmd.proofs.Listed.{SomeTables, AreKnown, some_texts, asked_known}
 use Rattle.cxxabi_cmd.proofs.SomeCommand.{same_text, some_command}
 use Rattle.cxxabi_cmd.proofs.SomeFault.{IsDecided, some_fault}
 
@@ -45,9 +50,14 @@ some_first : (faults : List Stop) → HasFirst faults
 some_first [] = is_empty refl
 some_first (stop ∷ rest) = is_first stop refl
 
+judged_words : (text : List ℕ) (source : SourceText) → IsSource text source → faults_of source.records ≡ [] → HasNoFault (resolved source.records) → (judgement : Judgement) × Verdict text judgement
+judged_words text source is none nothing =
+    ⊎_elim (λ many. (Stops (AtLimit L7), by_words source is none nothing many)) (λ few. (Accepts source (resolved source.records), accepted source is none nothing few))
+    (words_decided (resolved source.records) (source_keeps text source is none))
+
 judged_classes : (text : List ℕ) (source : SourceText) → IsSource text source → faults_of source.records ≡ [] → (judgement : Judgement) × Verdict text judgement
 judged_classes text source is none =
-    ⊎_elim (λ first. (Stops first.0, by_classes source first.0 is none first.1)) (λ nothing. (Accepts source (resolved source.records), accepted source is none nothing))
+    ⊎_elim (λ first. (Stops first.0, by_classes source first.0 is none first.1)) (λ nothing. judged_words text source is none nothing)
     (some_fault (resolved source.records) (classes_decided (resolved source.records) (source_keeps text source is none)))
 
 judged_records : (text : List ℕ) (source : SourceText) → IsSource text source → HasFirst (faults_of source.records) → (judgement : Judgement) × Verdict text judgement
@@ -82,20 +92,22 @@ some_place : (names : List (List ℕ)) (name : List ℕ) → IsThere names name
 some_place [] name = nowhere (λ n at. cc)
 some_place (first ∷ names) name = ⊎_elim (λ same. there_at zero (cc)) (λ other. later first names name other (some_place names name)) (same_text first name)
 
-lays : (h : Classes) (classes : List ClassId) → IsHierarchy h → (answer : Answer) × LaysOut h classes answer
-lays h classes keeps =
+lists : SomeTables → (h : Classes) (listing : Listing) (classes : List ClassId) → IsHierarchy h → HasNoFault h → AreKnown h classes → (answer : Answer) × Lists h listing classes answer
+lists law h listing classes keeps fine known =
     let laid = some_layout h keeps in
-    ⊎_elim (λ long. (line_alone (Limit L9), too_much laid.0 laid.1 long)) (λ short. (text_answer (layouts_text h laid.0 classes), whole laid.0 laid.1 short))
-    (cases_lt text_limit (length (layouts_text h laid.0 classes)))
+    let texts = some_texts law h laid.0 listing classes keeps (no_meaning h fine) (sound_rows h laid.0 keeps fine laid.1) known in
+    ⊎_elim (λ long. (line_alone (Limit L9), too_much laid.0 texts.0 laid.1 texts.1 long)) (λ short. (text_answer texts.0, whole laid.0 texts.0 laid.1 texts.1 short))
+    (cases_lt text_limit (length texts.0))
 
-yields_layout : (size : ℕ) (source : SourceText) (h : Classes) (command : Command) (classes : List ClassId) → IsHierarchy h → AsksFor h command classes → (answer : Answer) × Yields size source h command answer
-yields_layout size source h command classes keeps asks =
-    let is = lays h classes keeps in (is.0, laid_out command classes is.0 asks is.1)
+yields_list : SomeTables → (size : ℕ) (source : SourceText) (h : Classes) (command : Command) (listing : Listing) (classes : List ClassId) → IsHierarchy h → HasNoFault h → AsksFor h command listing classes → (answer : Answer) × Yields size source h command answer
+yields_list law size source h command listing classes keeps fine asks =
+    let is = lists law h listing classes keeps fine (asked_known h command listing classes asks) in (is.0, listed command listing classes is.0 asks is.1)
 
-yields_named : (size : ℕ) (source : SourceText) (h : Classes) (name : List ℕ) → IsHierarchy h → IsThere (class_names h) name → (answer : Answer) × Yields size source h (LayoutOf name) answer
-yields_named size source h name keeps (there_at n at) = yields_layout size source h (LayoutOf name) (numbered n ∷ []) keeps (one_class name (numbered n) at)
-yields_named size source h name keeps (nowhere none) =
-    (line_alone (Refused UnknownName size), unknown_class name (λ has. let place = place_of (class_names h) name has in none place.0 place.1))
+yields_named : SomeTables → (size : ℕ) (source : SourceText) (h : Classes) (command : Command) (listing : Listing) (name : List ℕ) → IsHierarchy h → HasNoFault h → AsksForName command name →
+    ((c : ClassId) → slice_get (class_names h) c.0 ≡ Some name → AsksFor h command listing (c ∷ [])) → IsThere (class_names h) name → (answer : Answer) × Yields size source h command answer
+yields_named law size source h command listing name keeps fine names asks (there_at n at) = yields_list law size source h command listing (numbered n ∷ []) keeps fine (asks (numbered n) at)
+yields_named law size source h command listing name keeps fine names asks (nowhere none) =
+    (line_alone (Refused UnknownName size), unknown_class command name names (λ has. let place = place_of (class_names h) name has in none place.0 place.1))
 
 -- a source is a program, or it is none
 abbrev IsRunOrNot : SourceText → Classes → Type 0
@@ -135,24 +147,26 @@ yields_run size source h (Some tree) keeps main =
     (some_program source h tree keeps main)
 
 -- a command has an answer to an accepted source
-pub some_yield : (size : ℕ) (source : SourceText) (h : Classes) (command : Command) → IsHierarchy h → (answer : Answer) × Yields size source h command answer
-some_yield size source h Check keeps = (count_answer h, counted)
-some_yield size source h Run keeps = yields_run size source h source.main keeps refl
-some_yield size source h Layout keeps = yields_layout size source h Layout (first_classes (length h)) keeps all_classes
-some_yield size source h (LayoutOf name) keeps = yields_named size source h name keeps (some_place (class_names h) name)
+pub some_yield : SomeTables → (size : ℕ) (source : SourceText) (h : Classes) (command : Command) → IsHierarchy h → HasNoFault h → (answer : Answer) × Yields size source h command answer
+some_yield law size source h Check keeps fine = (count_answer h, counted)
+some_yield law size source h Run keeps fine = yields_run size source h source.main keeps refl
+some_yield law size source h Layout keeps fine = yields_list law size source h Layout OfLayout (first_classes (length h)) keeps fine all_layouts
+some_yield law size source h (LayoutOf name) keeps fine = yields_named law size source h (LayoutOf name) OfLayout name keeps fine (named_layout name) (one_layout name) (some_place (class_names h) name)
+some_yield law size source h Tables keeps fine = yields_list law size source h Tables OfTables (first_classes (length h)) keeps fine all_tables
+some_yield law size source h (TablesOf name) keeps fine = yields_named law size source h (TablesOf name) OfTables name keeps fine (named_tables name) (one_tables name) (some_place (class_names h) name)
 
-output_by : (words : List (List ℕ)) (bytes : List ℕ) → IsCommand words → length bytes ≤ source_limit → (judgement : Judgement) → Verdict bytes judgement → (answer : Answer) × Output words bytes answer
-output_by words bytes command short (Stops stop) verdict = (line_alone (status_of_stop stop), stopped stop command short verdict)
-output_by words bytes command short (Accepts source h) verdict =
-    let yields = some_yield (length bytes) source h command.0 (accepted_keeps bytes source h verdict) in
+output_by : SomeTables → (words : List (List ℕ)) (bytes : List ℕ) → IsCommand words → length bytes ≤ source_limit → (judgement : Judgement) → Verdict bytes judgement → (answer : Answer) × Output words bytes answer
+output_by law words bytes command short (Stops stop) verdict = (line_alone (status_of_stop stop), stopped stop command short verdict)
+output_by law words bytes command short (Accepts source h) verdict =
+    let yields = some_yield law (length bytes) source h command.0 (accepted_keeps bytes source h verdict) (accepted_fine bytes source h verdict) in
     (yields.0, yielded command.0 source h yields.0 command.1 short verdict yields.1)
 
 -- words and bytes have an answer
-pub some_output : (words : List (List ℕ)) (bytes : List ℕ) → (answer : Answer) × Output words bytes answer
-some_output words bytes =
+pub some_output : SomeTables → (words : List (List ℕ)) (bytes : List ℕ) → (answer : Answer) × Output words bytes answer
+some_output law words bytes =
     ⊎_elim
     (λ command. ⊎_elim (λ long. (line_alone (Limit L1), too_long command long))
-    (λ short. let judged = some_verdict bytes short in output_by words bytes command short judged.0 judged.1)
+    (λ short. let judged = some_verdict bytes short in output_by law words bytes command short judged.0 judged.1)
     (cases_lt source_limit (length bytes)))
     (λ none. (line_alone Usage, usage none))
     (some_command words)

@@ -8,7 +8,7 @@ use Rattle.byte_machine.specs.declared.machine.Machine.{Machine}
 use Rattle.byte_machine.specs.MachineState.{code_of, image_of, state_of}
 use Rattle.byte_machine.specs.Turn.{State, begun}
 use Rattle.cxx_hierarchy.specs.Classes.{Classes}
-use Rattle.cxx_decl_parser.specs.declared.source_text.SourceText.{SourceText}
+use Rattle.cxx_syntax.specs.declared.source_text.SourceText.{SourceText}
 use Rattle.cxx_resolve.specs.declared.program.SimpleProgram.{SimpleProgram}
 use Rattle.abi_sound.specs.declared.class_layout.ClassLayout.{ClassLayout}
 use Rattle.abi_sound.specs.Places.{places_of}

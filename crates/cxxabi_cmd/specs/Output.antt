@@ -1,6 +1,5 @@
 -- Which text and which status belong to words and the bytes of a source.
 use Rattle.std.specs.Prelude.{◌≡◌, ℕ, zero, suc, ◌<◌, ◌≤◌, Contains, slice_get, List, [], ◌∷◌, ◌++◌, length, map, codes, Option, Some, None, IfSome, string_bytes, String}
-use Rattle.std.specs.List.{flat_map}
 use Rattle.std.specs.Fmt.{decimal}
 use Rattle.cxx_text.specs.Cover.{max_text_bytes}
 use Rattle.cxx_hierarchy.specs.declared.records.ClassId.{ClassId}
@@ -9,19 +8,24 @@ use Rattle.cxx_hierarchy.specs.declared.stop.LimitNo.TheVariants.{L1, L9}
 use Rattle.cxx_hierarchy.specs.declared.stop.Stop.{Stop}
 use Rattle.cxx_hierarchy.specs.declared.stop.Stop.TheVariants as stop
 use Rattle.cxx_hierarchy.specs.Classes.{Classes, class_names}
-use Rattle.cxx_body_parser.specs.declared.tree.BodyTree.{BodyTree}
-use Rattle.cxx_decl_parser.specs.declared.source_text.SourceText.{SourceText}
+use Rattle.cxx_syntax.specs.declared.tree.BodyTree.{BodyTree}
+use Rattle.cxx_syntax.specs.declared.source_text.SourceText.{SourceText}
 use Rattle.cxx_resolve.specs.declared.program.SimpleProgram.{SimpleProgram}
 use Rattle.cxx_resolve.specs.Main.{MainResolves}
 use Rattle.path_model.specs.Runs.{Ran, Ending, Done as IsDone, UndefinedAt, OutOfSteps as IsOutOfSteps, LimitMet, run_of}
 use Rattle.path_model.specs.Rules.{undefined_no}
 use Rattle.abi_sound.specs.declared.class_layout.ClassLayout.{ClassLayout}
 use Rattle.abi_sound.specs.Places.{places_of}
+use Rattle.abi_tables.specs.declared.tables.ClassTables.{ClassTables}
+use Rattle.abi_tables.specs.Tables.{AreClassTables}
 use Rattle.abi_layout.specs.Layouts.{IsLaid}
 use Rattle.abi_print.specs.Texts.{text_of}
 use Rattle.abi_print.specs.LayoutTexts.{layout_text}
+use Rattle.abi_print.specs.TableTexts.{tables_text}
 use Rattle.cxxabi_cmd.specs.declared.command.Command.{Command}
-use Rattle.cxxabi_cmd.specs.declared.command.Command.TheVariants.{Check, Run, Layout, LayoutOf}
+use Rattle.cxxabi_cmd.specs.declared.command.Command.TheVariants.{Check, Run, Layout, LayoutOf, Tables, TablesOf}
+use Rattle.cxxabi_cmd.specs.declared.listing.Listing.{Listing}
+use Rattle.cxxabi_cmd.specs.declared.listing.Listing.TheVariants.{OfLayout, OfTables}
 use Rattle.cxxabi_cmd.specs.declared.status.Status.{Status}
 use Rattle.cxxabi_cmd.specs.declared.status.Status.TheVariants.{Done, Refused, Usage, Undefined, OutOfSteps, Limit, ReadFault, WriteFault, NoMemory}
 use Rattle.cxxabi_cmd.specs.Commands.{Says, IsCommand}
@@ -94,14 +98,33 @@ abbrev pub first_classes : ℕ → List ClassId
 first_classes zero = []
 first_classes (suc n) = first_classes n ++ numbered n ∷ []
 
--- the classes whose layout a command asks for
-pub data AsksFor (h : Classes) : Command → List ClassId → Type 0 where
-  all_classes : AsksFor h Layout (first_classes (length h))
-  one_class : (name : List ℕ) (c : ClassId) → slice_get (class_names h) c.0 ≡ Some name → AsksFor h (LayoutOf name) (c ∷ [])
+-- what a command asks for, and of which classes
+pub data AsksFor (h : Classes) : Command → Listing → List ClassId → Type 0 where
+  all_layouts : AsksFor h Layout OfLayout (first_classes (length h))
+  one_layout : (name : List ℕ) (c : ClassId) → slice_get (class_names h) c.0 ≡ Some name → AsksFor h (LayoutOf name) OfLayout (c ∷ [])
+  all_tables : AsksFor h Tables OfTables (first_classes (length h))
+  one_tables : (name : List ℕ) (c : ClassId) → slice_get (class_names h) c.0 ≡ Some name → AsksFor h (TablesOf name) OfTables (c ∷ [])
 
--- the layouts of classes, one after the other
-abbrev pub layouts_text : Classes → List ClassLayout → List ClassId → List ℕ
-layouts_text h rows classes = flat_map (layout_text h rows (places_of h rows).place) classes
+-- the command asks for the class of a name
+pub data AsksForName : Command → List ℕ → Type 0 where
+  named_layout : (name : List ℕ) → AsksForName (LayoutOf name) name
+  named_tables : (name : List ℕ) → AsksForName (TablesOf name) name
+
+-- the text of a class's tables, over these rows
+pub record IsTablesText (h : Classes) (rows : List ClassLayout) (c : ClassId) (text : List ℕ) : Type 0 where
+  pub tables : ClassTables
+  pub made : AreClassTables h (places_of h rows) c tables
+  pub is : text ≡ tables_text h (places_of h rows).place c tables.groups tables.vtt tables.info
+
+-- the text of a class, over these rows
+abbrev pub IsClassText : Classes → List ClassLayout → Listing → ClassId → List ℕ → Type 0
+IsClassText h rows OfLayout c text = text ≡ layout_text h rows (places_of h rows).place c
+IsClassText h rows OfTables c text = IsTablesText h rows c text
+
+-- the texts of classes, one after the other
+pub data AreTexts (h : Classes) (rows : List ClassLayout) (listing : Listing) : List ClassId → List ℕ → Type 0 where
+  no_texts : AreTexts h rows listing [] []
+  more_texts : (c : ClassId) (classes : List ClassId) (text rest : List ℕ) → IsClassText h rows listing c text → AreTexts h rows listing classes rest → AreTexts h rows listing (c ∷ classes) (text ++ rest)
 
 -- a source that has a main alone besides its classes, all of the form that is run, is this program
 pub record IsProgram (source : SourceText) (h : Classes) (program : SimpleProgram) : Type 0 where
@@ -111,10 +134,10 @@ pub record IsProgram (source : SourceText) (h : Classes) (program : SimpleProgra
   pub main : source.main ≡ Some tree
   pub resolves : MainResolves h tree program
 
--- what is answered to the layout of these classes
-pub data LaysOut (h : Classes) (classes : List ClassId) : Answer → Type 0 where
-  whole : (rows : List ClassLayout) → IsLaid h rows → length (layouts_text h rows classes) ≤ text_limit → LaysOut h classes (text_answer (layouts_text h rows classes))
-  too_much : (rows : List ClassLayout) → IsLaid h rows → text_limit < length (layouts_text h rows classes) → LaysOut h classes (line_alone (Limit L9))
+-- what is answered where these classes are listed
+pub data Lists (h : Classes) (listing : Listing) (classes : List ClassId) : Answer → Type 0 where
+  whole : (rows : List ClassLayout) (text : List ℕ) → IsLaid h rows → AreTexts h rows listing classes text → length text ≤ text_limit → Lists h listing classes (text_answer text)
+  too_much : (rows : List ClassLayout) (text : List ℕ) → IsLaid h rows → AreTexts h rows listing classes text → text_limit < length text → Lists h listing classes (line_alone (Limit L9))
 
 -- what a command answers to an accepted source of so many bytes
 pub data Yields (size : ℕ) (source : SourceText) (h : Classes) : Command → Answer → Type 0 where
@@ -124,8 +147,8 @@ pub data Yields (size : ℕ) (source : SourceText) (h : Classes) : Command → A
       Yields size source h Run (line_alone (Refused Syntax 0))
   ran : (program : SimpleProgram) (rows : List ClassLayout) → IsProgram source h program → IsLaid h rows →
       Yields size source h Run (run_answer h rows (run_by h rows program))
-  unknown_class : (name : List ℕ) → (Contains (class_names h) name → ⊥) → Yields size source h (LayoutOf name) (line_alone (Refused UnknownName size))
-  laid_out : (command : Command) (classes : List ClassId) (answer : Answer) → AsksFor h command classes → LaysOut h classes answer → Yields size source h command answer
+  unknown_class : (command : Command) (name : List ℕ) → AsksForName command name → (Contains (class_names h) name → ⊥) → Yields size source h command (line_alone (Refused UnknownName size))
+  listed : (command : Command) (listing : Listing) (classes : List ClassId) (answer : Answer) → AsksFor h command listing classes → Lists h listing classes answer → Yields size source h command answer
 
 -- what is answered to words and the bytes of a source
 pub data Output (words : List (List ℕ)) (bytes : List ℕ) : Answer → Type 0 where

@@ -1,5 +1,5 @@
 -- What the passes over a source say of it.
-use Rattle.std.specs.Prelude.{◌≡◌, ℕ, ◌<◌, Option, Some, List, [], length}
+use Rattle.std.specs.Prelude.{◌≡◌, ℕ, ◌<◌, ◌≤◌, Option, Some, List, [], length}
 use Rattle.cxx_text.specs.declared.token.Token.{Token}
 use Rattle.cxx_text.specs.Cover.{AreTokens}
 use Rattle.cxx_grammar.specs.declared.sort.Lexeme.{Lexeme}
@@ -10,13 +10,17 @@ use Rattle.cxx_hierarchy.specs.declared.records.ClassId.{ClassId}
 use Rattle.cxx_hierarchy.specs.declared.stop.Stop.{Stop}
 use Rattle.cxx_hierarchy.specs.declared.stop.Stop.TheVariants.{Refused, Limit}
 use Rattle.cxx_hierarchy.specs.declared.stop.Rule.TheVariants.{SharedPlace}
-use Rattle.cxx_hierarchy.specs.declared.stop.LimitNo.TheVariants.{L6}
+use Rattle.cxx_hierarchy.specs.declared.stop.LimitNo.TheVariants.{L6, L7}
 use Rattle.cxx_hierarchy.specs.Classes.{Class, Classes, class_at}
 use Rattle.cxx_hierarchy.specs.ClassPass.{faults_of, first_of}
 use Rattle.cxx_hierarchy.specs.Resolved.{resolved}
-use Rattle.cxx_decl_parser.specs.declared.source_text.SourceText.{SourceText}
-use Rattle.cxx_decl_parser.specs.Sources.{SourceReads}
+use Rattle.cxx_syntax.specs.declared.source_text.SourceText.{SourceText}
+use Rattle.cxx_syntax.specs.Sources.{SourceReads}
 use Rattle.cxx_overrider.specs.Faults.{Spot, spot, size_part, place_part, IsBefore, Fault as MeaningFault}
+use Rattle.abi_sound.specs.declared.class_layout.ClassLayout.{ClassLayout}
+use Rattle.abi_sound.specs.Places.{places_of}
+use Rattle.abi_count.specs.Counts.{all_words, most_words}
+use Rattle.abi_layout.specs.Layouts.{IsLaid}
 use Rattle.abi_layout.specs.Refusals.{IsLargeClass, HasSharedPlace}
 
 -- the tokens of the text, up to its end or to the first place where none stands, have these sorts
@@ -57,14 +61,28 @@ pub record IsFirstFault (h : Classes) (stop : Stop) : Type 0 where
 pub record HasNoFault (h : Classes) : Type 0 where
   pub none : (at : Spot) (stop : Stop) → Fault h at stop → ⊥
 
+-- over their layout, the virtual tables and the VTTs of the classes have more words than the limit
+pub record HasManyWords (h : Classes) : Type 0 where
+  pub rows : List ClassLayout
+  pub laid : IsLaid h rows
+  pub many : most_words < all_words h (places_of h rows)
+
+-- they are within it
+pub record HasFewWords (h : Classes) : Type 0 where
+  pub rows : List ClassLayout
+  pub laid : IsLaid h rows
+  pub few : all_words h (places_of h rows) ≤ most_words
+
 -- what is said of a source: where it stops, or that it is accepted, with its classes
 pub data Judgement : Type 0 where
   Stops : Stop → Judgement
   Accepts : SourceText → Classes → Judgement
 
--- the passes in their order: the text, the class records, and the classes with their counts, meanings, sizes and places
+-- the passes in their order: the text, the class records, the classes with their counts, meanings, sizes and places, and the
+-- words of their tables
 pub data Verdict (text : List ℕ) : Judgement → Type 0 where
   by_text : (stop : Stop) → StopsText text stop → Verdict text (Stops stop)
   by_records : (source : SourceText) (stop : Stop) → IsSource text source → first_of (faults_of source.records) ≡ Some stop → Verdict text (Stops stop)
   by_classes : (source : SourceText) (stop : Stop) → IsSource text source → faults_of source.records ≡ [] → IsFirstFault (resolved source.records) stop → Verdict text (Stops stop)
-  accepted : (source : SourceText) → IsSource text source → faults_of source.records ≡ [] → HasNoFault (resolved source.records) → Verdict text (Accepts source (resolved source.records))
+  by_words : (source : SourceText) → IsSource text source → faults_of source.records ≡ [] → HasNoFault (resolved source.records) → HasManyWords (resolved source.records) → Verdict text (Stops (Limit L7))
+  accepted : (source : SourceText) → IsSource text source → faults_of source.records ≡ [] → HasNoFault (resolved source.records) → HasFewWords (resolved source.records) → Verdict text (Accepts source (resolved source.records))

@@ -13,18 +13,20 @@ ghost use Rattle.abi_layout.specs.Layouts.{IsLaid};
 ghost use Rattle.abi_refine.specs.Endings.{ending_of};
 ghost use Rattle.cxxabi_cmd.specs.Output.{Answer, IsProgram, Yields, IsAnswered, line_alone, run_answer, run_by, status_of};
 ghost use Rattle.cxxabi_cmd.specs.Handed.{IsMachineOf};
+ghost use Rattle.cxxabi_cmd.specs.invariants.Listings.{IsReady};
 ghost use Rattle.cxxabi_cmd.specs.invariants.Replies.{answer_of, machine_of, HandsBy};
 
 use crate::command::Command;
-use crate::layout_answer::{lay_out_all, lay_out_one};
+use crate::list_answer::{list_all, list_one};
+use crate::listing::Listing;
 use crate::reply::{BUDGET, Reply, class_count, line_alone};
 use crate::status::{Status, last_line_of};
 use crate::verdict::Accepted;
 use abi_layout::AbiLayout;
 use abi_refine::{End, Execution, execute};
-use cxx_decl_parser::SourceText;
 use cxx_hierarchy::{Hierarchy, Rule, Stop};
 use cxx_resolve::{SimpleProgram, resolve_main};
+use cxx_syntax::SourceText;
 use foundation::NoMemory;
 use path_model::Undefined;
 use std::alloc::Global;
@@ -118,7 +120,7 @@ fn program_of(
 
 // What is answered to `run`.
 fn run_main(alloc: Global, size: u32, accepted: &Accepted) -> Result<Reply, NoMemory>
-    requires { IsAbiLayout accepted.now.hierarchy accepted.now.layout }
+    requires { IsReady accepted.now }
     ensures yields { IfOk result (λ reply. Yields size accepted.now.source accepted.now.hierarchy Command.Run (answer_of reply)) }
     ensures machine { IfOk result (λ reply. HandsBy Command.Run accepted.now.source accepted.now.hierarchy (machine_of reply)) }
 {
@@ -139,14 +141,20 @@ pub(crate) fn answer(
     size: u32,
     accepted: &Accepted,
 ) -> Result<Reply, NoMemory>
-    requires { IsAbiLayout accepted.now.hierarchy accepted.now.layout }
+    requires { IsReady accepted.now }
     ensures yields { IfOk result (λ reply. Yields size accepted.now.source accepted.now.hierarchy command.now (answer_of reply)) }
     ensures machine { IfOk result (λ reply. HandsBy command.now accepted.now.source accepted.now.hierarchy (machine_of reply)) }
 {
     match command {
         Command::Check => class_count(alloc, &accepted.hierarchy),
         Command::Run => run_main(alloc, size, accepted),
-        Command::Layout => lay_out_all(alloc, accepted),
-        Command::LayoutOf(name) => lay_out_one(alloc, size, name.as_slice(), accepted),
+        Command::Layout => list_all(alloc, Listing::OfLayout, accepted),
+        Command::LayoutOf(name) => {
+            list_one(alloc, size, Listing::OfLayout, name.as_slice(), accepted)
+        }
+        Command::Tables => list_all(alloc, Listing::OfTables, accepted),
+        Command::TablesOf(name) => {
+            list_one(alloc, size, Listing::OfTables, name.as_slice(), accepted)
+        }
     }
 }

@@ -19,6 +19,10 @@ pub enum Command {
     Layout,
     /// The layout of the class of a name.
     LayoutOf(Name),
+    /// The tables of all its classes.
+    Tables,
+    /// The tables of the class of a name.
+    TablesOf(Name),
 }
 
 // Whether a word begins with `-`, so that it is no name.
@@ -31,15 +35,35 @@ fn is_option(word: &[u8]) -> bool
     }
 }
 
-// The command of two words.
-fn layout_of(alloc: Global, name: &str) -> Result<Option<Command>, NoMemory>
-    ensures { IfOk result (λ found. MatchOption found (is_option name.now ≡ true) (λ command. (command ≡ Command.LayoutOf name.now) × (is_option name.now ≡ false))) }
+// The name that a word is, and None where it is an option.
+fn name_of(alloc: Global, word: &str) -> Result<Option<Name>, NoMemory>
+    ensures { IfOk result (λ found. MatchOption found (is_option word.now ≡ true) (λ name. (name ≡ word.now) × (is_option word.now ≡ false))) }
 {
-    if is_option(name.as_bytes()) {
+    if is_option(word.as_bytes()) {
         return Ok(None);
     }
-    let bytes = Vec::from_slice(alloc, name.as_bytes())?;
-    Ok(Some(Command::LayoutOf(Sequence::from_vec(bytes))))
+    let bytes = Vec::from_slice(alloc, word.as_bytes())?;
+    Ok(Some(Sequence::from_vec(bytes)))
+}
+
+// The command `layout` with a second word.
+fn layout_of(alloc: Global, word: &str) -> Result<Option<Command>, NoMemory>
+    ensures { IfOk result (λ found. MatchOption found (is_option word.now ≡ true) (λ command. (command ≡ Command.LayoutOf word.now) × (is_option word.now ≡ false))) }
+{
+    match name_of(alloc, word)? {
+        Some(name) => Ok(Some(Command::LayoutOf(name))),
+        None => Ok(None),
+    }
+}
+
+// The command `tables` with a second word.
+fn tables_of(alloc: Global, word: &str) -> Result<Option<Command>, NoMemory>
+    ensures { IfOk result (λ found. MatchOption found (is_option word.now ≡ true) (λ command. (command ≡ Command.TablesOf word.now) × (is_option word.now ≡ false))) }
+{
+    match name_of(alloc, word)? {
+        Some(name) => Ok(Some(Command::TablesOf(name))),
+        None => Ok(None),
+    }
 }
 
 /// The command that the words ask for, and None where they are those of none.
@@ -53,10 +77,12 @@ pub(crate) fn command_of(alloc: Global, words: &[String]) -> Result<Option<Comma
             "check" => Ok(Some(Command::Check)),
             "run" => Ok(Some(Command::Run)),
             "layout" => Ok(Some(Command::Layout)),
+            "tables" => Ok(Some(Command::Tables)),
             _ => Ok(None),
         },
         [word, name] => match word.as_str() {
             "layout" => layout_of(alloc, name.as_str()),
+            "tables" => tables_of(alloc, name.as_str()),
             _ => Ok(None),
         },
         _ => Ok(None),

@@ -12,7 +12,8 @@
 
 mod answer;
 pub mod command;
-mod layout_answer;
+mod list_answer;
+pub mod listing;
 pub mod reading;
 mod reply;
 pub mod run;

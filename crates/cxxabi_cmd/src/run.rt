@@ -17,6 +17,7 @@ use crate::source::Source;
 use crate::status::Status;
 use crate::verdict::judge;
 use crate::writing::write_text;
+use abi_tables::{one_tables, some_tables};
 use byte_machine::Machine;
 use byte_memory::FlatMemory;
 use cxx_hierarchy::{LimitNo, Stop};
@@ -135,12 +136,15 @@ pub fn run_cxxabi<S: Source, K: Sink>(
 }
 
 /// Words and the bytes of a source have one answer, as a law for readers of `Output`. It does nothing.
-#[tactic(auto, using(crate::proofs::OneOutput::one_output))]
 pub fn one_output()
     ensures { (words : List (List ℕ)) (bytes : List ℕ) (a b : Answer) → Output words bytes a → Output words bytes b → a ≡ b }
-{}
+{
+    one_tables();
+}
 
 /// Words and the bytes of a source have an answer, as a law for readers of `Output`. It does nothing.
 pub fn some_output()
     ensures { (words : List (List ℕ)) (bytes : List ℕ) → (answer : Answer) × Output words bytes answer }
-{}
+{
+    some_tables();
+}

@@ -2,23 +2,32 @@
 
 ghost use Rattle.std.specs.Prelude.{◌≡◌, ◌≤◌, ◌⊎◌, IfOk, IfErr, OnOk, length};
 ghost use Rattle.cxx_overrider.specs.Faults.{StopsIn};
+ghost use Rattle.cxx_overrider.specs.Overriders.{AreOverriders};
+ghost use Rattle.abi_sound.specs.Places.{places_of};
+ghost use Rattle.abi_slots.specs.Slots.{AreSlots};
 ghost use Rattle.abi_layout.specs.AbiLayouts.{IsAbiLayout};
+ghost use Rattle.cxxabi_cmd.specs.invariants.Listings.{IsReady};
 ghost use Rattle.cxxabi_cmd.specs.Output.{source_limit};
-ghost use Rattle.cxxabi_cmd.specs.Verdict.{Verdict, Stops, Accepts, IsFirstFault, HasNoFault};
+ghost use Rattle.cxxabi_cmd.specs.Verdict.{Verdict, Stops, Accepts, IsFirstFault, HasNoFault, HasManyWords, HasFewWords};
 
+use abi_count::check_words;
 use abi_layout::{AbiLayout, lay_out, lay_out_first};
-use cxx_decl_parser::{SourceText, parse_source};
-use cxx_hierarchy::{Hierarchy, Stop, build};
-use cxx_overrider::{ClassStop, check_by_class};
+use abi_slots::Slots;
+use cxx_decl_parser::parse_source;
+use cxx_hierarchy::{Hierarchy, LimitNo, Stop, build};
+use cxx_overrider::{ClassStop, Overriders, check_by_class};
+use cxx_syntax::SourceText;
 use cxx_text::tokens;
 use std::alloc::Global;
 
-// A source that is accepted, its classes, and their layout.
+// A source that is accepted, its classes, their final overriders, their layout, and what they list for their tables.
 #[derive(Drop)]
 pub(crate) struct Accepted {
     pub(crate) source: SourceText,
     pub(crate) hierarchy: Hierarchy,
+    pub(crate) overriders: Overriders,
     pub(crate) layout: AbiLayout,
+    pub(crate) slots: Slots,
 }
 
 // The first fault of classes of which the meaning refuses one: that of the layout of a class before it, or else this.
@@ -47,18 +56,38 @@ fn first_stop(alloc: Global, h: &Hierarchy, refused: ClassStop) -> Stop
 }
 
 // Makes the pass over the classes: their meanings and their layout.
-fn check_classes(alloc: Global, h: &Hierarchy) -> Result<AbiLayout, Stop>
+fn check_classes(alloc: Global, h: &Hierarchy) -> Result<(Overriders, AbiLayout), Stop>
     ensures none { OnOk result (HasNoFault h.now) }
-    ensures layout { IfOk result (IsAbiLayout h.now) }
+    ensures overriders { IfOk result (λ passed. AreOverriders h.now passed.0) }
+    ensures layout { IfOk result (λ passed. IsAbiLayout h.now passed.1) }
     ensures err { IfErr result (λ stop. (stop ≡ Stop.NoMemory) ⊎ IsFirstFault h.now stop) }
 {
     h.keeps();
     match check_by_class(alloc, h) {
-        Ok(_) => {}
-        Err(refused) => return Err(first_stop(alloc, h, refused)),
+        Ok(overriders) => {
+            let layout = lay_out(alloc, h)?;
+            Ok((overriders, layout))
+        }
+        Err(refused) => Err(first_stop(alloc, h, refused)),
     }
-    let layout = lay_out(alloc, h)?;
-    Ok(layout)
+}
+
+// Makes the pass over the words of the tables, of which the classes list these.
+fn check_tables(
+    alloc: Global,
+    h: &Hierarchy,
+    overriders: &Overriders,
+    layout: &AbiLayout,
+) -> Result<Slots, Stop>
+    requires overriders { AreOverriders h.now overriders.now }
+    requires layout { IsAbiLayout h.now layout.now }
+    ensures few { OnOk result (HasFewWords h.now) }
+    ensures slots { IfOk result (AreSlots h.now (places_of h.now layout.now)) }
+    ensures err { IfErr result (λ stop. (stop ≡ Stop.NoMemory) ⊎ ((stop ≡ Stop.Limit LimitNo.L7) × HasManyWords h.now)) }
+{
+    let slots = Slots::new(alloc, h, overriders, layout)?;
+    check_words(alloc, h, layout, &slots)?;
+    Ok(slots)
 }
 
 // Makes the passes over the bytes of a source.
@@ -67,16 +96,21 @@ fn check_classes(alloc: Global, h: &Hierarchy) -> Result<AbiLayout, Stop>
 pub(crate) fn judge(alloc: Global, bytes: &[u8]) -> Result<Accepted, Stop>
     requires { length bytes.now ≤ source_limit }
     ensures ok { IfOk result (λ accepted. Verdict bytes.now (Accepts accepted.source accepted.hierarchy)) }
-    ensures layout { IfOk result (λ accepted. IsAbiLayout accepted.hierarchy accepted.layout) }
+    ensures ready { IfOk result (λ accepted. IsReady accepted) }
     ensures err { IfErr result (λ stop. (stop ≡ Stop.NoMemory) ⊎ Verdict bytes.now (Stops stop)) }
 {
     let list = tokens(alloc, bytes)?;
     let source = parse_source(alloc, bytes, &list)?;
     let hierarchy = build(alloc, &source.records)?;
-    let layout = check_classes(alloc, &hierarchy)?;
-    Ok(Accepted {
-        source,
-        hierarchy,
-        layout,
-    })
+    let (overriders, layout) = check_classes(alloc, &hierarchy)?;
+    match check_tables(alloc, &hierarchy, &overriders, &layout) {
+        Ok(slots) => Ok(Accepted {
+            source,
+            hierarchy,
+            overriders,
+            layout,
+            slots,
+        }),
+        Err(stop) => Err(stop),
+    }
 }

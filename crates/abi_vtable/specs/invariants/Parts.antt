@@ -27,7 +27,6 @@ pub record IsPartOf (h : Classes) (l : Places) (x : View) (list : List Subobject
   pub dynamic : IsTrue part.is_dynamic ↔ IsDynamic h part.class
   pub seen : part.seen ≡ seen x part.at
   pub seen_valid : IsSubobject h x.complete part.seen
-  pub place : part.place ≡ place l x part.at
   pub next : IsNumberOf list part.next (next l x part.at)
 
 abbrev pub at_of : Part → Subobject

@@ -7,7 +7,7 @@ use Rattle.abi_sound.specs.Places.{Places}
 use Rattle.abi_slots.specs.Views.{is_dynamic}
 use Rattle.abi_slots.specs.Groups.{GoAlong}
 use Rattle.abi_vtable.specs.declared.view.Part.{Part}
-use Rattle.abi_vtt.specs.declared.words.VttWord.{VttWord}
+use Rattle.abi_slots.specs.declared.words.VttWord.{VttWord}
 use Rattle.abi_vtt.specs.Vtts.{Item, IsVttWord}
 
 -- a part of a view whose classes are known

@@ -5,9 +5,9 @@ use Rattle.cxx_grammar.specs.declared.sort.Lexeme.{Lexeme}
 use Rattle.cxx_grammar.specs.Table.{Use, Task, Only, end_tasks}
 use Rattle.cxx_body_parser.specs.declared.place.Through.{Through}
 use Rattle.cxx_body_parser.specs.declared.place.Through.TheVariants.{Place, Call}
-use Rattle.cxx_body_parser.specs.declared.tree.Right.{Right}
-use Rattle.cxx_body_parser.specs.declared.tree.Right.TheVariants as right
-use Rattle.cxx_body_parser.specs.Operands.{PlaceReads, CallReads}
+use Rattle.cxx_syntax.specs.declared.tree.Right.{Right}
+use Rattle.cxx_syntax.specs.declared.tree.Right.TheVariants as right
+use Rattle.cxx_syntax.specs.Operands.{PlaceReads, CallReads}
 
 -- place | call
 abbrev pub ThroughReads : List ℕ → Through → List Lexeme → List Lexeme → Type 0

@@ -1,9 +1,9 @@
-use Rattle.std.proofs.Common.{◌≡◌, ◌∙◌, ◌++◌, ◌+◌, ◌<◌, ℕ, Option, Some, List, length, add-one, append_assoc, refl, ap, subst, sym}
+use Rattle.std.proofs.Common.{◌≡◌, ◌∙◌, ◌++◌, ◌+◌, ℕ, Option, Some, List, length, add-one, append_assoc, refl, ap, subst, sym}
 use Rattle.std.specs.List.{slice_get}
 use Rattle.std.proofs.lemmas.Option.{slice_get_read}
 use Rattle.cxx_hierarchy.specs.declared.records.ClassId.{ClassId}
 use Rattle.cxx_hierarchy.specs.declared.records.Member.{Member}
-use Rattle.cxx_hierarchy.specs.Classes.{Class, Classes, members_in, members_of}
+use Rattle.cxx_hierarchy.specs.Classes.{Classes, members_in, members_of}
 use Rattle.abi_sound.specs.declared.class_layout.ClassLayout.{ClassLayout}
 use Rattle.abi_sound.specs.Places.{number_in, members_in as places_in}
 use Rattle.abi_print.specs.LayoutTexts.{field_in, field_text, fields_text, member_place}

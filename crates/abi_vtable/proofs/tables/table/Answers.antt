@@ -7,6 +7,9 @@ use Rattle.abi_slots.specs.declared.words.TableWord.{TableWord}
 use Rattle.abi_slots.specs.declared.words.TableWord.TheVariants.{Top, Info, Entry}
 use Rattle.abi_vtable.specs.declared.view.Part.{Part}
 use Rattle.abi_vtable.proofs.Lists.{there_at}
+use Rattle.cxx_subobject.specs.Preorder.{preorder}
+use Rattle.abi_vtable.specs.invariants.Parts.{view_in}
+use Rattle.abi_vtable.proofs.Over.{part_place}
 use Rattle.abi_vtable.proofs.TableWords.{part_known, part_number, shared_part, listed_offsets, part_named, part_keys, part_along, part_table}
 use Rattle.abi_vtable.proofs.tables.table.Goals as goal
 
@@ -22,6 +25,33 @@ offset_words-requires-clause-part g c =
     let there = ap (λ xs. slice_get xs c.args.number) (sym c.as_slice.ensures) ∙ there_at c.as_slice.result.now c.args.number part lt c.index-as_slice-number.is in
     let known = part_known h rows c.keeps.ensures sound v c.requires.view c.args.number part there in
     c.requires.view.parts.each c.args.number part there
+
+pub place_of_part-place-requires-clause-known : goal.place_of_part-place-requires-clause-known
+place_of_part-place-requires-clause-known g c = c.requires.view.view.known
+
+pub place_of_part-place-requires-clause-seen : goal.place_of_part-place-requires-clause-seen
+place_of_part-place-requires-clause-seen g c =
+    let h = c.args.h.now in
+    let rows = g.L.SoundLayout.rows c.args.layout.now in
+    let l = places_of h rows in
+    let v = c.args.x.now in
+    let part = c.index-as_slice-number.result in
+    let lt : c.args.number < length c.as_slice.result.now = subst (λ (xs : List Part). c.args.number < length xs) (sym c.as_slice.ensures) c.requires.number in
+    let there = ap (λ xs. slice_get xs c.args.number) (sym c.as_slice.ensures) ∙ there_at c.as_slice.result.now c.args.number part lt c.index-as_slice-number.is in
+    let of = c.requires.view.parts.each c.args.number part there in
+    of.seen_valid
+
+pub offset_words-requires-clause-start : goal.offset_words-requires-clause-start
+offset_words-requires-clause-start g c =
+    let h = c.args.h.now in
+    let rows = g.L.SoundLayout.rows c.args.layout.now in
+    let l = places_of h rows in
+    let v = c.args.x.now in
+    let part = c.index-as_slice-number.result in
+    let lt : c.args.number < length c.as_slice.result.now = subst (λ (xs : List Part). c.args.number < length xs) (sym c.as_slice.ensures) c.requires.number in
+    let there = ap (λ xs. slice_get xs c.args.number) (sym c.as_slice.ensures) ∙ there_at c.as_slice.result.now c.args.number part lt c.index-as_slice-number.is in
+    let of = c.requires.view.parts.each c.args.number part there in
+    part_place h l (view_in v) (preorder h v.class) part c.place_of_part-place.result of c.place_of_part-place.ensures
 
 pub offset_words-requires-clause-named : goal.offset_words-requires-clause-named
 offset_words-requires-clause-named g c =
@@ -87,5 +117,5 @@ returns-clause-table g c = λ t at.
     ∙ ap (λ (es : List EntryWord). reverse offset_items ++ Top top ∷ Info v.class ∷ map Entry es) c.as_slice-3.ensures.value in
     let size : length c.as_slice-2.result.now ≡ length offset_items = ap length c.as_slice-2.ensures.value in
     let before : c.len.result + 2 ≡ length offset_items + 2 = ap (λ n. n + 2) (c.len.ensures ∙ sym c.as_slice-2.ensures.len ∙ size) in
-    part_table h rows c.keeps.ensures sound v c.requires.view c.args.number part there t at c.offsets-offsets.result.now c.entries-entries.result.now offset_items entry_items top (c.len.result + 2) c.in_ok-words.words listed (c.entries-entries.ensures.entries h l c.requires.slots known)
+    part_table h rows c.keeps.ensures sound v c.requires.view c.args.number part there t at c.place_of_part-place.result c.offsets-offsets.result.now c.entries-entries.result.now offset_items entry_items top (c.len.result + 2) c.in_ok-words.words (part_place h l (view_in v) (preorder h v.class) part c.place_of_part-place.result (c.requires.view.parts.each c.args.number part there) c.place_of_part-place.ensures) listed (c.entries-entries.ensures.entries h l c.requires.slots known)
     c.in_ok-offset_words.ensures (c.in_ok-entry_words.ensures.words part.at (part_number h rows c.keeps.ensures sound v c.requires.view c.args.number part there)) c.distance-top.ensures words before

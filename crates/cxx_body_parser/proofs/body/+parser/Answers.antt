@@ -4,9 +4,9 @@ use Rattle.cxx_grammar.specs.Table.{Only, StatementsEnd, AfterName, AName, Membe
 use Rattle.cxx_grammar.specs.invariants.Run.{run}
 use Rattle.cxx_grammar.proofs.Tails.{name_statement, scalar_statement}
 use Rattle.cxx_grammar.proofs.Steps.{then_same, takes}
-use Rattle.cxx_body_parser.specs.Statements.{a_body, an_if, an_if_else, a_while}
-use Rattle.cxx_body_parser.specs.declared.tree.BodyTree.{roll-BodyTree}
-use Rattle.cxx_body_parser.specs.declared.tree.StatementKind.TheViews.{the_lemmas}
+use Rattle.cxx_syntax.specs.Statements.{a_body, an_if, an_if_else, a_while}
+use Rattle.cxx_syntax.specs.declared.tree.BodyTree.{roll-BodyTree}
+use Rattle.cxx_syntax.specs.declared.tree.StatementKind.TheViews.{the_lemmas}
 use Rattle.cxx_body_parser.proofs.Lists.{next_statement, all_statements}
 use Rattle.cxx_body_parser.proofs.body.+parser.Goals as goal
 

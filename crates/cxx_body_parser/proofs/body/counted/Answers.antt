@@ -3,7 +3,7 @@ use Rattle.cxx_hierarchy.specs.declared.stop.Stop.TheVariants as stop
 use Rattle.cxx_grammar.specs.Grammar.{block_form}
 use Rattle.cxx_grammar.specs.Event.{Event, DerivesPrefix}
 use Rattle.cxx_grammar.proofs.Prefix.{block_front, block_stop}
-use Rattle.cxx_body_parser.specs.Statements.{BodyReads}
+use Rattle.cxx_syntax.specs.Statements.{BodyReads}
 use Rattle.cxx_body_parser.proofs.Prefixes.{rest_dropped}
 use Rattle.cxx_body_parser.proofs.body.counted.Goals as goal
 

@@ -3,7 +3,7 @@ use Rattle.cxx_grammar.specs.declared.sort.Sort.TheVariants.{Comma}
 use Rattle.cxx_grammar.specs.Table.{ArgumentsEnd, MoreArgumentsEnd, AnOperand}
 use Rattle.cxx_grammar.proofs.Tails.{arguments_begin}
 use Rattle.cxx_grammar.proofs.Steps.{same_error, takes}
-use Rattle.cxx_body_parser.specs.Operands.{no_arguments}
+use Rattle.cxx_syntax.specs.Operands.{no_arguments}
 use Rattle.cxx_body_parser.proofs.Lists.{first_argument, next_argument, all_arguments}
 use Rattle.cxx_body_parser.proofs.place.arguments.Goals as goal
 

@@ -3,7 +3,7 @@ use Rattle.cxx_grammar.specs.Table.{AName, Member, Named}
 use Rattle.cxx_body_parser.specs.invariants.Through.{tasks_after}
 use Rattle.cxx_grammar.proofs.Tails.{no_call}
 use Rattle.cxx_grammar.proofs.Steps.{same_error_by}
-use Rattle.cxx_body_parser.specs.Operands.{a_call, a_qualified_call, a_place}
+use Rattle.cxx_syntax.specs.Operands.{a_call, a_qualified_call, a_place}
 use Rattle.cxx_body_parser.proofs.place.behind_pointer.Goals as goal
 
 pub returns-then-is_same-clause-reads : goal.returns-then-is_same-clause-reads

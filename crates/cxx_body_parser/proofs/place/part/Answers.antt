@@ -1,5 +1,5 @@
 use Rattle.std.proofs.Common.{rules, refl}
-use Rattle.cxx_body_parser.specs.Operands.{a_part, an_index, no_index}
+use Rattle.cxx_syntax.specs.Operands.{a_part, an_index, no_index}
 use Rattle.cxx_body_parser.proofs.place.part.Goals as goal
 
 pub returns-in_ok-_close-clause-reads : goal.returns-in_ok-_close-clause-reads

@@ -1,4 +1,4 @@
-use Rattle.cxx_body_parser.specs.Operands.{a_place}
+use Rattle.cxx_syntax.specs.Operands.{a_place}
 use Rattle.cxx_body_parser.proofs.place.place.Goals as goal
 
 pub returns-clause-reads : goal.returns-clause-reads

@@ -3,7 +3,7 @@ use Rattle.cxx_grammar.specs.declared.sort.Sort.TheVariants.{Semicolon, Ampersan
 use Rattle.cxx_grammar.specs.Table.{Only, RightEnd, ReadPlaceEnd, APointer, AName, Named, Read}
 use Rattle.cxx_grammar.proofs.Tails.{read_place}
 use Rattle.cxx_grammar.proofs.Steps.{same_error, takes}
-use Rattle.cxx_body_parser.specs.Operands.{an_address}
+use Rattle.cxx_syntax.specs.Operands.{an_address}
 use Rattle.cxx_body_parser.proofs.right.address_right.Goals as goal
 
 pub returns-in_err-value-clause-follows : goal.returns-in_err-value-clause-follows

@@ -3,7 +3,7 @@ use Rattle.cxx_grammar.specs.declared.sort.Sort.TheVariants.{Semicolon}
 use Rattle.cxx_grammar.specs.Table.{Only, AnOperand, AfterOperand}
 use Rattle.cxx_grammar.proofs.Tails.{operator}
 use Rattle.cxx_grammar.proofs.Steps.{same_error}
-use Rattle.cxx_body_parser.specs.Operands.{an_operand, a_binary}
+use Rattle.cxx_syntax.specs.Operands.{an_operand, a_binary}
 use Rattle.cxx_body_parser.proofs.right.binary.Goals as goal
 
 pub returns-in-None-clause-reads : goal.returns-in-None-clause-reads

@@ -1,5 +1,5 @@
 use Rattle.std.proofs.Common.{refl}
-use Rattle.cxx_body_parser.specs.Operands.{a_cast, a_named_cast}
+use Rattle.cxx_syntax.specs.Operands.{a_cast, a_named_cast}
 use Rattle.cxx_body_parser.proofs.right.cast_right.Goals as goal
 
 pub returns-clause-reads : goal.returns-clause-reads

@@ -1,4 +1,4 @@
-use Rattle.cxx_body_parser.specs.Operands.{constant_operand}
+use Rattle.cxx_syntax.specs.Operands.{constant_operand}
 use Rattle.cxx_body_parser.proofs.right.constant_right.Goals as goal
 
 pub returns-clause-reads : goal.returns-clause-reads

@@ -1,5 +1,5 @@
 use Rattle.std.proofs.Common.{refl}
-use Rattle.cxx_body_parser.specs.Operands.{a_new}
+use Rattle.cxx_syntax.specs.Operands.{a_new}
 use Rattle.cxx_body_parser.proofs.right.new_right.Goals as goal
 
 pub returns-clause-reads : goal.returns-clause-reads

@@ -1,5 +1,5 @@
 use Rattle.std.proofs.Common.{refl}
-use Rattle.cxx_body_parser.specs.Statements.{an_assignment}
+use Rattle.cxx_syntax.specs.Statements.{an_assignment}
 use Rattle.cxx_body_parser.proofs.statement.assignment.Goals as goal
 
 pub returns-clause-reads : goal.returns-clause-reads

@@ -1,5 +1,5 @@
 use Rattle.std.proofs.Common.{refl}
-use Rattle.cxx_body_parser.specs.Statements.{a_delete}
+use Rattle.cxx_syntax.specs.Statements.{a_delete}
 use Rattle.cxx_body_parser.proofs.statement.delete.Goals as goal
 
 pub returns-clause-reads : goal.returns-clause-reads

@@ -1,5 +1,5 @@
 use Rattle.std.proofs.Common.{rules, refl, ◌∷◌, [], ◌∙◌}
-use Rattle.cxx_body_parser.specs.Statements.{an_init, no_init}
+use Rattle.cxx_syntax.specs.Statements.{an_init, no_init}
 use Rattle.cxx_grammar.specs.declared.sort.Sort.TheVariants.{Semicolon, Assign}
 use Rattle.cxx_grammar.specs.Table.{Only, InitEnd, RightEnd}
 use Rattle.cxx_grammar.proofs.Steps.{same_error, takes}

@@ -1,5 +1,5 @@
 use Rattle.std.proofs.Common.{rules, sym, ◌∷◌, [], ◌∙◌}
-use Rattle.cxx_body_parser.specs.Statements.{no_result, a_result}
+use Rattle.cxx_syntax.specs.Statements.{no_result, a_result}
 use Rattle.cxx_grammar.specs.declared.sort.Sort.TheVariants.{Semicolon}
 use Rattle.cxx_grammar.specs.Table.{Only, ResultEnd, AnOperand}
 use Rattle.cxx_grammar.proofs.Tails as tails

@@ -1,5 +1,5 @@
 use Rattle.std.proofs.Common.{rules, refl, ◌∷◌, [], ◌∙◌}
-use Rattle.cxx_body_parser.specs.Statements.{a_scalar}
+use Rattle.cxx_syntax.specs.Statements.{a_scalar}
 use Rattle.cxx_grammar.specs.Table.{InitEnd, AName, scalar_rest}
 use Rattle.std.proofs.Common.{◌++◌, append_assoc}
 use Rattle.cxx_grammar.proofs.Steps.{same_error}

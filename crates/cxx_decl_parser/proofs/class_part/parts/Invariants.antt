@@ -1,12 +1,9 @@
-use Rattle.std.proofs.Common.{◌≡◌, ◌+◌, ◌≤◌, ℕ, Bool, false, List, [], ◌∷◌, length, is_some}
-use Rattle.cxx_grammar.specs.Table.{ABase, BasesEnd, ParamsEnd, MoreParamsEnd, ConstructorEnd, InitsEnd, PartsEnd, ItemsEnd}
-use Rattle.cxx_grammar.specs.Event.{State}
+use Rattle.std.proofs.Common.{◌+◌, ◌≤◌, Bool, List, [], ◌∷◌, length}
+use Rattle.cxx_grammar.specs.Table.{PartsEnd}
 use Rattle.cxx_grammar.specs.invariants.Run.{Leads}
-use Rattle.cxx_decl_parser.specs.declared.part.Part.{Part}
-use Rattle.cxx_decl_parser.specs.declared.part.Item.{Item}
-use Rattle.cxx_decl_parser.specs.Sources.{AreItemsOf}
-use Rattle.cxx_decl_parser.specs.invariants.Readers.{outside, IsDraft}
-use Rattle.cxx_decl_parser.proofs.Series.{BasesSoFar, ParamsSoFar, InitsSoFar, PartsSoFar, ItemsSoFar}
+use Rattle.cxx_syntax.specs.declared.part.Part.{Part}
+use Rattle.cxx_record_parser.specs.invariants.Readers.{outside, IsDraft}
+use Rattle.cxx_record_parser.proofs.Series.{PartsSoFar}
 use Rattle.cxx_decl_parser.proofs.class_part.parts.Given as goal
 
 abbrev pub invariant-loop-draft : goal.invariant-loop-draft

@@ -1,12 +1,10 @@
-use Rattle.std.proofs.Common.{◌≡◌, ◌≤◌, ℕ, Bool, false, List, [], ◌∷◌, length, is_some}
-use Rattle.cxx_grammar.specs.Table.{ABase, BasesEnd, ParamsEnd, MoreParamsEnd, ConstructorEnd, InitsEnd, PartsEnd, ItemsEnd}
-use Rattle.cxx_grammar.specs.Event.{State}
+use Rattle.std.proofs.Common.{◌≤◌, false, List, [], ◌∷◌, length, is_some}
+use Rattle.cxx_grammar.specs.Table.{ItemsEnd}
 use Rattle.cxx_grammar.specs.invariants.Run.{Leads}
-use Rattle.cxx_decl_parser.specs.declared.part.Part.{Part}
-use Rattle.cxx_decl_parser.specs.declared.part.Item.{Item}
-use Rattle.cxx_decl_parser.specs.Sources.{AreItemsOf}
-use Rattle.cxx_decl_parser.specs.invariants.Readers.{outside, IsDraft}
-use Rattle.cxx_decl_parser.proofs.Series.{BasesSoFar, ParamsSoFar, InitsSoFar, PartsSoFar, ItemsSoFar}
+use Rattle.cxx_syntax.specs.declared.part.Item.{Item}
+use Rattle.cxx_syntax.specs.Sources.{AreItemsOf}
+use Rattle.cxx_record_parser.specs.invariants.Readers.{outside}
+use Rattle.cxx_record_parser.proofs.Series.{ItemsSoFar}
 use Rattle.cxx_decl_parser.proofs.source.items.Given as goal
 
 abbrev pub invariant-loop-source : goal.invariant-loop-source

@@ -7,7 +7,8 @@ use Rattle.cxx_overrider.specs.Overriding.{IsAbstract}
 use Rattle.cxx_overrider.specs.invariants.Abstract.{HasPureAt}
 use Rattle.std.proofs.lemmas.Bool.{cases_lt, MatchBool-at_false}
 use Rattle.cxx_overrider.proofs.AbstractLemmas.{none_abstract}
-use Rattle.cxx_overrider.proofs.VirtualFlagTable.{table_no_virtual_bases, root_has}
+use Rattle.cxx_subobject.proofs.DecidingLemmas.{base_of_shared}
+use Rattle.cxx_overrider.proofs.VirtualFlagTable.{table_no_virtual_bases}
 use Rattle.cxx_overrider.proofs.abstracts.is_abstract_class.Goals as goal
 
 pub loop-number-preserved : goal.loop-number-preserved
@@ -35,5 +36,5 @@ returns-then-not-has_virtual_bases c =
     let whole_none = MatchBool-at_false (IsAbstract h c.args.c) ((t : Signature) → HasPureAt h c.args.c Whole t → ⊥) c.if-has_pure_whole.false c.has_pure_whole.ensures in
     let shared_none = λ (v : ClassId) (s : Signature) (lt : v.0 < c.args.c.0) (at : HasPureAt h c.args.c (Shared v) s).
     table_no_virtual_bases h c.args.tables.now c.deref.result.now c.args.c c.has_virtual_bases.result c.requires.tables c.requires.known c.deref.ensures.value c.has_virtual_bases.ensures c.if-not-has_virtual_bases.true v
-    (root_has h c.args.c v at.subobject at.of_class.valid at.at_root) in
+    (base_of_shared h c.args.c v at.subobject at.of_class.valid at.at_root) in
     (λ e. cc, λ k. absurd (none_abstract h c.keeps.ensures c.args.c whole_none shared_none k))

@@ -1,6 +1,6 @@
 -- Each statement says its line, or there are no lines.
 use Rattle.std.proofs.Common.{List, arith, refl, sym, ◌∙◌, subst}
-use Rattle.cxx_body_parser.specs.declared.tree.Statement.{Statement}
+use Rattle.cxx_syntax.specs.declared.tree.Statement.{Statement}
 use Rattle.cxx_resolve.specs.Form.{SayLines}
 use Rattle.cxx_resolve.proofs.FormLines.{begin_lines, more_lines, all_lines, no_lines}
 use Rattle.cxx_resolve.proofs.simple.simple_main.Goals as goal

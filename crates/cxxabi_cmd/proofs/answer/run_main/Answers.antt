@@ -5,7 +5,8 @@ use Rattle.cxxabi_cmd.specs.declared.command.Command.TheVariants.{Run}
 use Rattle.cxxabi_cmd.specs.declared.status.Status.TheVariants.{Refused}
 use Rattle.cxxabi_cmd.specs.Output.{no_main, not_taken, ran, line_alone, run_answer, run_by}
 use Rattle.cxxabi_cmd.proofs.AnswerLemmas.{yields, hands_none, hands_machine, not_program, the_program}
-use Rattle.cxxabi_cmd.proofs.ReplyLemmas.{is_laid, is_missing, is_there}
+use Rattle.cxxabi_cmd.proofs.LaidRows.{is_laid}
+use Rattle.cxxabi_cmd.proofs.ReplyLemmas.{is_missing, is_there}
 use Rattle.cxxabi_cmd.proofs.answer.run_main.Goals as goal
 
 pub returns-then-is_none-clause-yields : goal.returns-then-is_none-clause-yields
@@ -35,14 +36,14 @@ returns-clause-yields c =
     let rows = c.args.accepted.now.layout in
     let is = the_program c.args.accepted.now.source h c.in_ok-program.field-0 c.in-Some.program c.in_ok-program.ensures c.in-Some.is in
     yields c.run_program.result c.args.size c.args.accepted.now.source h Run (run_answer h rows (run_by h rows c.in-Some.program)) c.run_program.ensures.answer
-    (ran c.in-Some.program rows is (is_laid h rows c.requires))
+    (ran c.in-Some.program rows is (is_laid h rows c.requires.layout))
 
 pub returns-clause-machine : goal.returns-clause-machine
 returns-clause-machine c =
     let h = c.args.accepted.now.hierarchy in
     let rows = c.args.accepted.now.layout in
     let is = the_program c.args.accepted.now.source h c.in_ok-program.field-0 c.in-Some.program c.in_ok-program.ensures c.in-Some.is in
-    hands_machine c.run_program.result Run c.args.accepted.now.source h c.in-Some.program rows refl is (is_laid h rows c.requires) c.run_program.ensures.machine
+    hands_machine c.run_program.result Run c.args.accepted.now.source h c.in-Some.program rows refl is (is_laid h rows c.requires.layout) c.run_program.ensures.machine
 
 pub run_program-requires-clause-few : goal.run_program-requires-clause-few
 run_program-requires-clause-few c =

@@ -2,7 +2,7 @@ use Rattle.std.proofs.Common.{◌≡◌, ◌⊎◌, Err, sym, subst, rules}
 use Rattle.std.specs.Prelude.{IfErr}
 use Rattle.cxx_hierarchy.specs.declared.stop.Stop.TheVariants as stop
 use Rattle.cxxabi_cmd.specs.Verdict.{Verdict, Stops}
-use Rattle.cxxabi_cmd.proofs.Judging.{text_stop, records_stop, classes_stop, all_passed}
+use Rattle.cxxabi_cmd.proofs.Judging.{text_stop, records_stop, classes_stop, words_stop, all_passed}
 use Rattle.cxxabi_cmd.proofs.verdict.judge.Goals as goal
 
 pub returns-in_err-source-clause-err : goal.returns-in_err-source-clause-err
@@ -17,12 +17,16 @@ returns-in_err-hierarchy-clause-err c =
     subst (λ r. IfErr r (λ e. (e ≡ stop.NoMemory) ⊎ Verdict c.args.bytes.now (Stops e))) (sym r)
     (records_stop c.args.bytes.now c.in_ok-list.list.tokens c.in_ok-list.list.bad c.in_ok-source.source c.in_err-hierarchy.field-0.0 c.in_ok-list.ensures.cover c.in_ok-source.ensures.reads c.in_err-hierarchy.ensures.err)
 
-pub returns-in_err-layout-clause-err : goal.returns-in_err-layout-clause-err
-returns-in_err-layout-clause-err c =
-    let r : c.from_residual-in_err-layout.result ≡ Err c.in_err-layout.field-0.0 = search rules in
+pub returns-in_err-overriders-clause-err : goal.returns-in_err-overriders-clause-err
+returns-in_err-overriders-clause-err c =
+    let r : c.from_residual-in_err-overriders.result ≡ Err c.in_err-overriders.field-0.0 = search rules in
     subst (λ r. IfErr r (λ e. (e ≡ stop.NoMemory) ⊎ Verdict c.args.bytes.now (Stops e))) (sym r)
-    (classes_stop c.args.bytes.now c.in_ok-list.list.tokens c.in_ok-list.list.bad c.in_ok-source.source c.in_ok-hierarchy.hierarchy c.in_err-layout.field-0.0 c.in_ok-list.ensures.cover c.in_ok-source.ensures.reads c.in_ok-hierarchy.ensures.ok c.in_err-layout.ensures.err)
+    (classes_stop c.args.bytes.now c.in_ok-list.list.tokens c.in_ok-list.list.bad c.in_ok-source.source c.in_ok-hierarchy.hierarchy c.in_err-overriders.field-0.0 c.in_ok-list.ensures.cover c.in_ok-source.ensures.reads c.in_ok-hierarchy.ensures.ok c.in_err-overriders.ensures.err)
 
-pub returns-clause-ok : goal.returns-clause-ok
-returns-clause-ok c =
-    all_passed c.args.bytes.now c.in_ok-list.list.tokens c.in_ok-list.list.bad c.in_ok-source.source c.in_ok-hierarchy.hierarchy c.in_ok-list.ensures.cover c.in_ok-source.ensures.reads c.in_ok-hierarchy.ensures.ok c.in_ok-layout.ensures.none
+pub returns-clause-err : goal.returns-clause-err
+returns-clause-err c =
+    words_stop c.args.bytes.now c.in_ok-list.list.tokens c.in_ok-list.list.bad c.in_ok-source.source c.in_ok-hierarchy.hierarchy c.in-Err.stop c.in_ok-list.ensures.cover c.in_ok-source.ensures.reads c.in_ok-hierarchy.ensures.ok c.in_ok-overriders.ensures.none c.in-Err.ensures.err
+
+pub returns-in-Ok-clause-ok : goal.returns-in-Ok-clause-ok
+returns-in-Ok-clause-ok c =
+    all_passed c.args.bytes.now c.in_ok-list.list.tokens c.in_ok-list.list.bad c.in_ok-source.source c.in_ok-hierarchy.hierarchy c.in_ok-list.ensures.cover c.in_ok-source.ensures.reads c.in_ok-hierarchy.ensures.ok c.in_ok-overriders.ensures.none c.in-Ok.ensures.few

@@ -1,0 +1,7 @@
+mod TreeSums
+mod HeadSums
+mod VttSums
+pub mod NumberLemmas
+pub mod ViewLemmas
+mod TableLengths
+mod CheckLemmas

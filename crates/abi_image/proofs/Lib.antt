@@ -1,0 +1,12 @@
+pub mod Lists
+pub mod Filling
+pub mod Recording
+pub mod InfoWords
+pub mod Placing
+pub mod PointWords
+pub mod ByteWords
+pub mod Naming
+pub mod VttWords
+pub mod FirstPoints
+pub mod Together
+pub mod Singles

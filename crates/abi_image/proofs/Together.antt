@@ -1,0 +1,101 @@
+use Rattle.std.proofs.Common.{◌≡◌, ℕ, suc, ◌+◌, ◌*◌, ◌<◌, Some, List, [], ◌∷◌, map, length, refl, ap, sym, ◌∙◌, subst, arith}
+use Rattle.std.specs.List.{slice_get, slice_index_or}
+use Rattle.abi_slots.specs.declared.code_numbers.CodeRow.{CodeRow}
+use Rattle.abi_slots.specs.declared.words.Group.{Group}
+use Rattle.abi_slots.specs.declared.words.VttWord.{VttWord}
+use Rattle.abi_slots.specs.declared.words.TypeInfo.{TypeInfo}
+use Rattle.abi_slots.specs.Images.{HasInfo, StandsAt, vtt_address}
+use Rattle.abi_image.specs.declared.TheConstants.{BASE}
+use Rattle.abi_image.specs.declared.draft.Draft.{Draft}
+use Rattle.abi_image.specs.declared.parts.Parts.{Parts}
+use Rattle.abi_image.specs.declared.regions.Region.{Region}
+use Rattle.abi_image.specs.invariants.Drafts.{AllAt, AllBySize, HaveClassWords, Puts, address_in, address_of, class_id, class_in, group_size, info_size, total, vtt_size}
+use Rattle.abi_image.specs.invariants.Parts.{AreAt, AreParts, IsDraftOf, IsRegion, groups_start, infos_start, vtts_start}
+use Rattle.abi_image.specs.invariants.Points.{AreFirstPoints, AreGroupPoints, HasPointAt}
+use Rattle.abi_image.proofs.Filling.{length_after, puts_both}
+use Rattle.abi_image.proofs.Lists.{get_below}
+
+length_map : {A : Type 0} (f : A → ℕ) (xs : List A) → length (map f xs) ≡ length xs
+length_map f [] = refl
+length_map f (x ∷ xs) = ap suc (length_map f xs)
+
+pub as_many : {A : Type 0} (size : A → ℕ) (xs : List A) (start : ℕ) (list : List ℕ) → AreAt start (map size xs) list → length list ≡ length xs
+as_many size xs start list are = are.size ∙ length_map size xs
+
+-- what stands one after the other stands at the addresses of a list
+stood : {A : Type 0} (size : A → ℕ) (P : ℕ → A → ℕ → Type 0) (xs : List A) (at start : ℕ) (list : List ℕ) → at ≡ start → AreAt start (map size xs) list → AllBySize size P xs at → (i : ℕ) (x : A) → slice_get xs i ≡ Some x → P i x (address_in list i)
+stood size P xs at start list e are all i x there =
+    let l : length (map size xs) ≡ length xs = length_map size xs in
+    let b : i < length xs = get_below xs i x there in
+    let less : i < length (map size xs) = omega arith in
+    subst (λ n. P i x n) (ap (λ s. address_of (map size xs) s i) e ∙ sym (are.each i less)) (all i x there)
+
+-- what was put for all parts is what the image has
+pub together : (codes : List CodeRow) (groups : List Group) (vtts : List (List VttWord)) (infos : List TypeInfo) (parts : Parts) (a b c d e : Draft) → AreParts groups vtts infos parts → a.words.items ≡ [] → a.records_at ≡ parts.infos.end →
+    Puts a b (2 * length vtts) (λ image at. HaveClassWords image parts.firsts.items parts.vtts.at.items vtts at) →
+    Puts b c (total (map group_size groups)) (λ image at. AllBySize group_size (λ i group there. StandsAt image codes (class_in parts.infos.at.items) group there) groups at) →
+    Puts c d (total (map vtt_size vtts)) (λ image at. AllBySize vtt_size (λ i vtt there. AllAt (HasPointAt image groups (address_in parts.groups.at.items)) vtt there) vtts at) →
+    Puts d e (total (map info_size infos)) (λ image at. AllBySize info_size (λ i info there. HasInfo image (class_in parts.infos.at.items) (class_id i) info there) infos at) →
+    IsDraftOf codes groups vtts infos parts e
+together codes groups vtts infos parts a b c d e are nothing_yet place first second third fourth =
+    let m1 : ℕ = 2 * length vtts in
+    let m2 : ℕ = total (map group_size groups) in
+    let m3 : ℕ = total (map vtt_size vtts) in
+    let m4 : ℕ = total (map info_size infos) in
+    let empty : length a.words.items ≡ 0 = ap length nothing_yet in
+    let l1 : length b.words.items ≡ length a.words.items + m1 = length_after a b m1 _ first in
+    let l2 : length c.words.items ≡ length b.words.items + m2 = length_after b c m2 _ second in
+    let l3 : length d.words.items ≡ length c.words.items + m3 = length_after c d m3 _ third in
+    let l4 : length e.words.items ≡ length d.words.items + m4 = length_after d e m4 _ fourth in
+    let end_is : parts.infos.end ≡ infos_start groups vtts + 8 * m4 = are.infos_at.end_is in
+    let kept : e.records_at ≡ parts.infos.end = fourth.same_place ∙ third.same_place ∙ second.same_place ∙ first.same_place ∙ place in
+    let one = puts_both a b c m1 m2 (λ image at. HaveClassWords image parts.firsts.items parts.vtts.at.items vtts at) (λ image at. AllBySize group_size (λ i group there. StandsAt image codes (class_in parts.infos.at.items) group there) groups at) first second in
+    let two = puts_both a c d (m1 + m2) m3 _ (λ image at. AllBySize vtt_size (λ i vtt there. AllAt (HasPointAt image groups (address_in parts.groups.at.items)) vtt there) vtts at) one third in
+    let all = puts_both a d e (m1 + m2 + m3) m4 _ (λ image at. AllBySize info_size (λ i info there. HasInfo image (class_in parts.infos.at.items) (class_id i) info there) infos at) two fourth in
+    record {
+      place = omega arith;
+      says = λ image inside.
+          let h = all.says image inside in
+          let at : ℕ = BASE + 8 * length a.words.items in
+          let group_place : at + 8 * m1 ≡ groups_start vtts = omega arith in
+          let vtt_place : at + 8 * (m1 + m2) ≡ vtts_start groups vtts = omega arith in
+          let info_place : at + 8 * (m1 + m2 + m3) ≡ infos_start groups vtts = omega arith in
+          record {
+            each_group = λ i group there. stood group_size (λ j g k. StandsAt image codes (class_in parts.infos.at.items) g k) groups (at + 8 * m1) (groups_start vtts) parts.groups.at.items group_place are.groups_at h.0.0.1 i group there;
+            each_vtt = λ id words i word there inner. stood vtt_size (λ j vtt k. AllAt (HasPointAt image groups (address_in parts.groups.at.items)) vtt k) vtts (at + 8 * (m1 + m2)) (vtts_start groups vtts) parts.vtts.at.items vtt_place are.vtts_at h.0.1 id.0 words there i word inner;
+            each_info = λ id info there. stood info_size (λ j t k. HasInfo image (class_in parts.infos.at.items) (class_id j) t k) infos (at + 8 * (m1 + m2 + m3)) (infos_start groups vtts) parts.infos.at.items info_place are.infos_at.each h.1 id.0 info there;
+            directory = λ id words there.
+                let pair = h.0.0.0 id.0 words there in
+                let start : at + 16 * id.0 ≡ BASE + 16 * id.0 = omega arith in
+                record {
+                  point = slice_index_or parts.firsts.items id.0 0;
+                  at_point = subst (λ n. image n ≡ Some (slice_index_or parts.firsts.items id.0 0)) start pair.0;
+                  is_point = are.firsts.each id (get_below vtts id.0 words there);
+                  at_vtt = subst (λ n. image (n + 8) ≡ Some (vtt_address (class_in parts.vtts.at.items id) words)) start pair.1;
+                };
+            above = record {
+              above_zero = omega arith;
+              groups = are.groups_at.above;
+              vtts = λ id. are.vtts_at.above id.0;
+              infos = λ id. are.infos_at.each.above id.0;
+            };
+          };
+    }
+
+-- the regions that were made one behind the other are the parts
+pub parts_are : (groups : List Group) (vtts : List (List VttWord)) (infos : List TypeInfo) (p : Parts) (half start : ℕ) (group_sizes vtt_sizes info_sizes : List ℕ) (group_region vtt_region info_region : Region) →
+    half ≡ BASE + 8 * length vtts → start ≡ half + 8 * length vtts → group_sizes ≡ map group_size groups → vtt_sizes ≡ map vtt_size vtts → info_sizes ≡ map info_size infos →
+    IsRegion start group_sizes group_region → IsRegion group_region.end vtt_sizes vtt_region → IsRegion vtt_region.end info_sizes info_region →
+    p.groups.at.items ≡ group_region.at.items → p.vtts ≡ vtt_region → p.infos ≡ info_region →
+    AreGroupPoints groups p.groups.at.items p.groups.points.items → AreFirstPoints groups (address_in p.groups.at.items) (length vtts) p.firsts.items → AreParts groups vtts infos p
+parts_are groups vtts infos p half start gs vs is gr vr ir half_is start_is gs_is vs_is is_is g v i at_is vtts_is infos_is points firsts =
+    let s1 : start ≡ groups_start vtts = omega arith in
+    let g_end : gr.end ≡ vtts_start groups vtts = g.end_is ∙ ap (λ n. n + 8 * total gs) s1 ∙ ap (λ l. groups_start vtts + 8 * total l) gs_is in
+    let v_end : vr.end ≡ infos_start groups vtts = v.end_is ∙ ap (λ n. n + 8 * total vs) g_end ∙ ap (λ l. vtts_start groups vtts + 8 * total l) vs_is in
+    record {
+      groups_at = subst (λ l. AreAt (groups_start vtts) (map group_size groups) l) (sym at_is) (subst (λ l. AreAt (groups_start vtts) l gr.at.items) gs_is (subst (λ n. AreAt n gs gr.at.items) s1 g.each));
+      vtts_at = subst (λ (r : Region). AreAt (vtts_start groups vtts) (map vtt_size vtts) r.at.items) (sym vtts_is) (subst (λ l. AreAt (vtts_start groups vtts) l vr.at.items) vs_is (subst (λ n. AreAt n vs vr.at.items) g_end v.each));
+      infos_at = subst (λ (r : Region). IsRegion (infos_start groups vtts) (map info_size infos) r) (sym infos_is) (subst (λ l. IsRegion (infos_start groups vtts) l ir) is_is (subst (λ n. IsRegion n is ir) v_end i));
+      points = points;
+      firsts = firsts;
+    }

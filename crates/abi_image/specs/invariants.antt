@@ -1,0 +1,4 @@
+pub mod Bytes
+pub mod Drafts
+pub mod Parts
+pub mod Points

@@ -1,0 +1,256 @@
+//! The text of a table: its words behind their numbers (Itanium C++ ABI 2.5.2).
+
+ghost use Rattle.std.specs.Prelude.{◌≡◌, ◌++◌, ℕ, pos, ◌-ℤ◌, OnOk, codes};
+ghost use Rattle.std.specs.Fmt.{signed_decimal};
+ghost use Rattle.std.specs.Option.{option_copied};
+ghost use Rattle.cxx_overrider.specs.Functions.{declaration_of};
+ghost use Rattle.abi_print.specs.LayoutTexts.{name_of};
+ghost use Rattle.abi_print.specs.TableTexts.{name_behind, function_text, vcall_text, this_text, vbase_text, return_text, kind_text, entry_text, word_text, words_text, table_name, table_text};
+
+use crate::layout_lines::{append, append_class, append_number};
+use abi_slots::{CodeKind, EntryWord, ReturnAdjust, Table, TableWord, ThisAdjust};
+use cxx_hierarchy::{ClassId, Function, Hierarchy};
+use cxx_overrider::FunctionId;
+use cxx_overrider::signatures::declaration;
+use foundation::NoMemory;
+use std::alloc::Global;
+
+pub(crate) fn append_signed(alloc: Global, text: &mut Vec<u8>, number: i64) -> Result<(), NoMemory>
+    ensures { OnOk result (text.new.items ≡ text.old.items ++ signed_decimal number) }
+{
+    let digits = number.to_string(alloc)?;
+    append(text, digits.as_bytes())?;
+    Ok(())
+}
+
+/// What a class declares under an index; None for the destructor, and where there is no such class.
+fn declared<'a>(h: &'a Hierarchy, f: FunctionId) -> Option<&'a Function<ClassId>>
+    ensures { option_copied result ≡ declaration_of h.now f }
+{
+    if f.class.0 >= h.len() {
+        return None;
+    }
+    declaration(h, f)
+}
+
+/// Puts the name of a function at the end of a text, and `~C` for the destructor of a class C.
+fn append_member_name(text: &mut Vec<u8>, h: &Hierarchy, f: FunctionId) -> Result<(), NoMemory>
+    ensures { OnOk result (text.new.items ≡ text.old.items ++ name_behind (name_of h.now f.class) (declaration_of h.now f)) }
+{
+    match declared(h, f) {
+        Some(function) => append(text, function.name.as_slice())?,
+        None => {
+            append(text, b"~")?;
+            append_class(text, h, f.class)?;
+        }
+    }
+    Ok(())
+}
+
+/// Puts a function at the end of a text, behind its class.
+fn append_function(text: &mut Vec<u8>, h: &Hierarchy, f: FunctionId) -> Result<(), NoMemory>
+    ensures { OnOk result (text.new.items ≡ text.old.items ++ function_text h.now f) }
+{
+    append_class(text, h, f.class)?;
+    append(text, b"::")?;
+    append_member_name(text, h, f)?;
+    Ok(())
+}
+
+fn append_vcall(alloc: Global, text: &mut Vec<u8>, vcall: Option<i64>) -> Result<(), NoMemory>
+    ensures { OnOk result (text.new.items ≡ text.old.items ++ vcall_text vcall) }
+{
+    match vcall {
+        None => Ok(()),
+        Some(bytes) => {
+            append(text, b" vcall ")?;
+            append_signed(alloc, text, bytes)?;
+            Ok(())
+        }
+    }
+}
+
+/// Puts at the end of a text how `this` is adjusted.
+fn append_this(alloc: Global, text: &mut Vec<u8>, this: Option<ThisAdjust>) -> Result<(), NoMemory>
+    ensures { OnOk result (text.new.items ≡ text.old.items ++ this_text this) }
+{
+    match this {
+        None => Ok(()),
+        Some(adjust) => {
+            append(text, b" this ")?;
+            append_signed(alloc, text, adjust.constant)?;
+            append_vcall(alloc, text, adjust.vcall)?;
+            Ok(())
+        }
+    }
+}
+
+fn append_vbase(alloc: Global, text: &mut Vec<u8>, vbase: Option<i64>) -> Result<(), NoMemory>
+    ensures { OnOk result (text.new.items ≡ text.old.items ++ vbase_text vbase) }
+{
+    match vbase {
+        None => Ok(()),
+        Some(bytes) => {
+            append(text, b"vbase ")?;
+            append_signed(alloc, text, bytes)?;
+            append(text, b" ")?;
+            Ok(())
+        }
+    }
+}
+
+/// Puts at the end of a text how a result is adjusted.
+fn append_return(
+    alloc: Global,
+    text: &mut Vec<u8>,
+    returns: Option<ReturnAdjust>,
+) -> Result<(), NoMemory>
+    ensures { OnOk result (text.new.items ≡ text.old.items ++ return_text returns) }
+{
+    match returns {
+        None => Ok(()),
+        Some(adjust) => {
+            append(text, b" return ")?;
+            append_vbase(alloc, text, adjust.vbase)?;
+            append_signed(alloc, text, adjust.constant)?;
+            Ok(())
+        }
+    }
+}
+
+fn kind_text(kind: CodeKind) -> &'static [u8]
+    ensures { result.now ≡ kind_text kind }
+{
+    match kind {
+        CodeKind::Plain => b"func ",
+        CodeKind::Complete => b"complete ",
+        CodeKind::Deleting => b"deleting ",
+    }
+}
+
+/// Puts the word of an entry at the end of a text.
+fn append_entry(
+    alloc: Global,
+    text: &mut Vec<u8>,
+    h: &Hierarchy,
+    word: &EntryWord,
+) -> Result<(), NoMemory>
+    ensures { OnOk result (text.new.items ≡ text.old.items ++ entry_text h.now word.now) }
+{
+    match word {
+        EntryWord::Unused => append(text, b"unused")?,
+        EntryWord::Pure(f) => {
+            append(text, b"pure ")?;
+            append_function(text, h, *f)?;
+        }
+        EntryWord::Code(f, kind, this, returns) => {
+            append(text, kind_text(*kind))?;
+            append_function(text, h, *f)?;
+            append_this(alloc, text, *this)?;
+            append_return(alloc, text, *returns)?;
+        }
+    }
+    Ok(())
+}
+
+/// Puts a word of a table at the end of a text.
+fn append_word(
+    alloc: Global,
+    text: &mut Vec<u8>,
+    h: &Hierarchy,
+    word: &TableWord,
+) -> Result<(), NoMemory>
+    ensures { OnOk result (text.new.items ≡ text.old.items ++ word_text h.now word.now) }
+{
+    match word {
+        TableWord::Vcall(distance, f) => {
+            append(text, b"vcall ")?;
+            append_signed(alloc, text, *distance)?;
+            append(text, b" ")?;
+            append_function(text, h, *f)?;
+        }
+        TableWord::Vbase(distance, v) => {
+            append(text, b"vbase ")?;
+            append_signed(alloc, text, *distance)?;
+            append(text, b" ")?;
+            append_class(text, h, *v)?;
+        }
+        TableWord::Top(distance) => {
+            append(text, b"top ")?;
+            append_signed(alloc, text, *distance)?;
+        }
+        TableWord::Info(c) => {
+            append(text, b"typeinfo ")?;
+            append_class(text, h, *c)?;
+        }
+        TableWord::Entry(entry) => append_entry(alloc, text, h, entry)?,
+    }
+    Ok(())
+}
+
+/// Puts the line of a word of a table at the end of a text.
+fn append_word_line(
+    alloc: Global,
+    text: &mut Vec<u8>,
+    h: &Hierarchy,
+    number: i64,
+    word: &TableWord,
+) -> Result<(), NoMemory>
+    ensures { OnOk result (text.new.items ≡ text.old.items ++ signed_decimal number ++ codes " " ++ word_text h.now word.now ++ codes "\n") }
+{
+    append_signed(alloc, text, number)?;
+    append(text, b" ")?;
+    append_word(alloc, text, h, word)?;
+    append(text, b"\n")?;
+    Ok(())
+}
+
+/// Puts the words of a table at the end of a text, each behind its number, which counts from the address point.
+/// `before` is the number of words before that.
+fn append_words(
+    alloc: Global,
+    text: &mut Vec<u8>,
+    h: &Hierarchy,
+    before: u32,
+    words: &[TableWord],
+) -> Result<(), NoMemory>
+    ensures { OnOk result (text.new.items ≡ text.old.items ++ words_text h.now (pos 0 -ℤ pos before) words.now) }
+{
+    let mut number = 0 - i64::from(before);
+    for word in words {
+        append_word_line(alloc, text, h, number, word)?;
+        number += 1;
+    }
+    Ok(())
+}
+
+/// Puts the name of a table at the end of a text: the class of its subobject, and that one's place.
+pub(crate) fn append_table_name(
+    alloc: Global,
+    text: &mut Vec<u8>,
+    h: &Hierarchy,
+    table: &Table,
+) -> Result<(), NoMemory>
+    ensures { OnOk result (text.new.items ≡ text.old.items ++ table_name h.now table.now) }
+{
+    append_class(text, h, table.class)?;
+    append(text, b"@")?;
+    append_number(alloc, text, table.place)?;
+    Ok(())
+}
+
+/// Puts the lines of a table at the end of a text.
+pub(crate) fn append_table(
+    alloc: Global,
+    text: &mut Vec<u8>,
+    h: &Hierarchy,
+    table: &Table,
+) -> Result<(), NoMemory>
+    ensures { OnOk result (text.new.items ≡ text.old.items ++ table_text h.now table.now) }
+{
+    append(text, b"table ")?;
+    append_table_name(alloc, text, h, table)?;
+    append(text, b"\n")?;
+    append_words(alloc, text, h, table.before, table.words.as_slice())?;
+    Ok(())
+}

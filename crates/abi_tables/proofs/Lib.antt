@@ -1,0 +1,6 @@
+mod Along
+mod GroupViews
+mod OneTables
+mod SomeGroup
+mod SomeTables
+mod Steps

@@ -1,0 +1,7 @@
+use Rattle.std.proofs.Common.{◌≡◌, ◌<◌, ◌≤◌, ℕ, Some}
+use Rattle.std.specs.List.{slice_get}
+use Rattle.abi_vtable.proofs.view.number_from.Given as goal
+
+-- none from there so far is the one
+abbrev pub invariant-loop-n : goal.invariant-loop-n
+invariant-loop-n l = (k : ℕ) → k < l.n → l.from ≤ k → slice_get l.list k ≡ Some l.target → ⊥

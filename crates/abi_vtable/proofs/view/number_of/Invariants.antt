@@ -1,7 +1,0 @@
-use Rattle.std.proofs.Common.{◌≡◌, ◌<◌, ℕ, Some}
-use Rattle.std.specs.List.{slice_get}
-use Rattle.abi_vtable.proofs.view.number_of.Given as goal
-
--- none so far is the one
-abbrev pub invariant-loop-n : goal.invariant-loop-n
-invariant-loop-n l = (k : ℕ) → k < l.n → slice_get l.list k ≡ Some l.target → ⊥

@@ -1,4 +1,0 @@
-use Rattle.cxx_body_parser.proofs.operand.constant.Goals as goal
-
-pub returns-clause-reads : goal.returns-clause-reads
-returns-clause-reads c = rw c.in_ok-first.ensures.ok c.in_ok-value.ensures.reads

@@ -1,0 +1,10 @@
+pub mod Heads
+pub mod Leaves
+pub mod SamePlaces
+pub mod SameRights
+pub mod SameValues
+pub mod SameStatements
+pub mod SameBases
+pub mod SameParts
+pub mod SameRecords
+pub mod SameSources

@@ -1,0 +1,5 @@
+pub mod Turns
+pub mod Series
+pub mod Drafts
+pub mod Gathers
+pub mod Numbers
