@@ -34,8 +34,3 @@ def text_of(words, source):
     if status == 2:
         raise Problem(f"this build of Tagymelur has no command '{' '.join(words)}' yet", 2)
     raise Problem(f"the source is not taken: {said}. Run tools/explain {words[0]} on it, and it shows the place and the rule")
-
-
-def has_tables():
-    """Whether this build knows the command `tables`."""
-    return answer(["tables"], "")[1] == 0

@@ -12,7 +12,7 @@ from lib import program
 STAND_IN = """#!/bin/sh
 echo "$*" >> "$RT_CALLS"
 if [ "$1" = all ]; then
-    printf '== foundation\\nlogic=proved\\n== tagymelur\\nlogic=proved\\n== summary\\n'
+    printf '== foundation\\nlogic=proved\\n== elsewhere\\nlogic=proved\\n== b\\nlogic=proved\\n== summary\\n'
     exit "${RT_STATUS:-0}"
 fi
 [ "${RT_STATUS:-0}" = 0 ] || exit 1
@@ -29,7 +29,7 @@ class Build(unittest.TestCase):
             os.makedirs(os.path.join(self.top, folder))
         for name in ("tagymelur", "examples/first.cpp"):
             shutil.copy(os.path.join(program.TOP, name), os.path.join(self.top, name))
-        self.write("crates.txt", "# two crates\nfoundation:\ntagymelur: foundation\n")
+        self.write("crates.txt", "# seven crates of the program, and one beside it\nfoundation:\nb: foundation\nc: b\nd: c\ne: d\nf: e\nelsewhere: f\ntagymelur: f\n")
         self.write("bin/rt", STAND_IN)
         os.chmod(os.path.join(self.top, "bin/rt"), stat.S_IRWXU)
         self.calls = os.path.join(self.top, "calls")
@@ -45,8 +45,10 @@ class Build(unittest.TestCase):
     def test_it_tells_how_far_it_is_and_builds_once(self):
         done = self.run_script("check")
         self.assertEqual((done.returncode, done.stdout), (0, "ran check\ntext\n"), done.stderr)
-        self.assertIn("1 of 2 crates after 0 min 0 s: foundation\n", done.stderr)
-        self.assertIn("2 of 2 crates", done.stderr)
+        self.assertIn("1 of 7 crates after 0 min 0 s: foundation\n", done.stderr)
+        self.assertIn("2 of 7 crates after 0 min 0 s: b\n", done.stderr)
+        self.assertNotIn("elsewhere", done.stderr)
+        self.assertIn("the last crates and the program, after 0 min", done.stderr)
         again = self.run_script("layout", "D")
         self.assertEqual((again.returncode, again.stdout, again.stderr), (0, "ran layout D\ntext\n", ""))
         with open(self.calls, encoding="utf-8") as file:
