@@ -1,7 +1,7 @@
 -- The words of the group of a view are a sum of numbers of its class and of the virtual bases of that.
-use Rattle.std.proofs.Common.{◌≡◌, ℕ, ◌+◌, ⊎_elim, true, false, List, [], ◌∷◌, ◌++◌, refl, ap, subst, sym, ◌∙◌, append_assoc}
-use Rattle.std.specs.Prelude.{Option, Some, None, Bool, not, ◌&&◌, ◌||◌, IsTrue, ◌↔◌, if◌then◌else◌}
-use Rattle.std.specs.List.{sum_by, flat_map, list_any}
+use Rattle.std.proofs.Common.{◌≡◌, ℕ, ◌+◌, ⊎_elim, true, false, [], ◌∷◌, ◌++◌, refl, ap, subst, sym, ◌∙◌}
+use Rattle.std.specs.Prelude.{Some, None, Bool, not, ◌&&◌, ◌||◌, IsTrue, ◌↔◌, if◌then◌else◌}
+use Rattle.std.specs.List.{sum_by, list_any}
 use Rattle.std.proofs.lemmas.Bool.{eqb-true, eq-eqb, and_from}
 use Rattle.cxx_hierarchy.specs.declared.records.ClassId.{ClassId}
 use Rattle.cxx_hierarchy.specs.Classes.{Classes}
@@ -9,16 +9,15 @@ use Rattle.cxx_hierarchy.specs.VirtualBases.{HasVirtualBase}
 use Rattle.cxx_subobject.specs.declared.Root.{Root}
 use Rattle.cxx_subobject.specs.declared.Root.TheVariants.{Whole, Shared}
 use Rattle.cxx_subobject.specs.declared.Subobject.{Subobject}
-use Rattle.cxx_subobject.specs.Subobjects.{IsSubobject, whole, shared, subobject, shared_base, whole_of, class_of, class_of_path, same_root}
+use Rattle.cxx_subobject.specs.Subobjects.{IsSubobject, subobject, shared_base, whole_of, class_of, class_of_path, same_root}
 use Rattle.cxx_subobject.specs.Preorder.{preorder}
 use Rattle.cxx_subobject.specs.VirtualBases.{virtual_bases}
 use Rattle.cxx_subobject.proofs.PathLemmas.{class_there, part_virtual, same_id}
 use Rattle.cxx_subobject.proofs.InsideLemmas.{join_whole}
-use Rattle.cxx_subobject.proofs.TreeLemmas.{root_same, same_itself, has_preorder, preorder_once, once_filter, has_filter}
+use Rattle.cxx_subobject.proofs.TreeLemmas.{same_itself, has_preorder, has_filter}
 use Rattle.cxx_subobject.proofs.TestLemmas.{class_below}
-use Rattle.cxx_subobject.proofs.VirtualBaseLemmas.{virtual_once}
-use Rattle.foundation.proofs.Truth.{split, is_false}
-use Rattle.foundation.proofs.Members.{Has, EachOnce, AreApart, EachApart, has_at, has_cases, from_flat_map, once_append, once_flat_map}
+use Rattle.foundation.proofs.Truth.{is_false}
+use Rattle.foundation.proofs.Members.{Has, has_at, has_cases, from_flat_map}
 use Rattle.abi_primary.specs.declared.Primary.{Primary}
 use Rattle.abi_primary.specs.declared.Primary.TheVariants.{None as NoPrimary, Direct, Virtual}
 use Rattle.abi_primary.specs.PrimaryBase.{is_virtual_primary}
@@ -30,7 +29,7 @@ use Rattle.abi_slots.specs.Groups.{is_shared_base}
 use Rattle.abi_slots.proofs.Lists.{any_item, item_any, found_passes}
 use Rattle.abi_slots.proofs.Bases.{preorder_item, item_preorder}
 use Rattle.abi_slots.proofs.Chains.{Setting, is_held, same_some, seen_valid, seen_class, seen_down, not_shared_path}
-use Rattle.abi_slots.proofs.OneHead.{front_same, some_path, IsHeld, held_if}
+use Rattle.abi_slots.proofs.OneHead.{front_same, some_path, held_if}
 use Rattle.abi_slots.proofs.Complete.{same_bool}
 use Rattle.abi_slots.proofs.Heads.{dynamic_test, part_item}
 use Rattle.abi_slots.proofs.HeadsOnce.{parts_once}

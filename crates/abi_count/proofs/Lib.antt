@@ -4,4 +4,5 @@ mod VttSums
 pub mod NumberLemmas
 pub mod ViewLemmas
 mod TableLengths
+mod FlagLemmas
 mod CheckLemmas

@@ -1,68 +1,23 @@
 //! The limit on the words of tables.
 
-ghost use Rattle.std.specs.Prelude.{◌≡◌, [], ◌∷◌, ◌+◌, ◌≤◌, ◌<◌, ◌⊎◌, ℕ, All, IfErr, IfOk, OnOk, Some, length};
-ghost use Rattle.cxx_subobject.specs.Subobjects.{IsSubobject, class_of, whole_of};
-ghost use Rattle.abi_primary.specs.Kinds.{IsDynamic};
+ghost use Rattle.std.specs.Prelude.{◌≡◌, ◌+◌, ◌≤◌, ◌<◌, ◌⊎◌, ℕ, IfErr, IfOk, OnOk, length};
+ghost use Rattle.cxx_subobject.specs.Subobjects.{IsSubobject, class_of};
 ghost use Rattle.abi_sound.specs.Places.{places_of};
 ghost use Rattle.abi_slots.specs.Slots.{AreSlots};
-ghost use Rattle.abi_slots.specs.Views.{IsView};
 ghost use Rattle.abi_vtt.specs.Vtts.{HasDynamicClass};
-ghost use Rattle.abi_count.specs.Counts.{AreVttLengths, all_words, class_words, group_views, most_words, words_of_view};
+ghost use Rattle.abi_count.specs.Counts.{AreVttLengths, all_words, class_words, most_words, words_of_view};
 ghost use Rattle.abi_count.specs.invariants.Weights.{AreNumbers, cut, head_words, sides_of};
 
-use crate::numbers::{MOST_WORDS, capped, has_virtual, is_dynamic, sides_of};
+use crate::numbers::{MOST_WORDS, capped, sides_of};
 use crate::view_words::{head_word_counts, view_words};
+use crate::views::group_views;
 use crate::vtt_lengths::VttLengths;
 use abi_slots::Slots;
 use abi_sound::SoundLayout;
-use abi_vtt::views;
 use cxx_hierarchy::{ClassId, Hierarchy, LimitNo, Stop};
-use cxx_subobject::listing::longer_path;
-use cxx_subobject::{Root, Subobject, SubobjectList, class_of};
-use foundation::{NoMemory, Sequence};
+use cxx_subobject::{Subobject, class_of};
+use foundation::NoMemory;
 use std::alloc::Global;
-
-/// The whole of a class, as a list.
-///
-/// Errors: want of memory.
-fn whole_list(alloc: Global, c: ClassId) -> Result<SubobjectList, NoMemory>
-    ensures { IfOk result (λ list. list ≡ whole_of c ∷ []) }
-{
-    let path = longer_path(alloc, &[c], &[])?;
-    let mut list = Sequence::new(alloc);
-    list.push(Subobject {
-        root: Root::Whole,
-        path,
-    })?;
-    Ok(list)
-}
-
-/// The views of a class that have a group.
-///
-/// Errors: want of memory.
-fn group_views<L: SoundLayout>(
-    alloc: Global,
-    h: &Hierarchy,
-    layout: &L,
-    c: ClassId,
-) -> Result<SubobjectList, NoMemory>
-    requires layout { L.lays_out layout.now h.now }
-    requires known { c.0 < length h.now }
-    ensures list { IfOk result (λ list. list ≡ group_views h.now c) }
-    ensures valid { IfOk result (λ list. All (IsSubobject h.now c) list) }
-    ensures dynamic { IfOk result (λ list. All (HasDynamicClass h.now) list) }
-{
-    h.keeps();
-    if has_virtual(h, layout, c) {
-        let built = views(alloc, h, c)?;
-        return Ok(built);
-    }
-    if !is_dynamic(h, c) {
-        return Ok(Sequence::new(alloc));
-    }
-    let list = whole_list(alloc, c)?;
-    Ok(list)
-}
 
 /// The words of the group of a view.
 fn words_of_view<L: SoundLayout>(

@@ -8,8 +8,6 @@ ghost use Rattle.cxx_subobject.specs.VirtualBases.{virtual_bases};
 ghost use Rattle.cxx_subobject.specs.invariants.Counts.{own_bases, own_of};
 ghost use Rattle.abi_sound.specs.Places.{places_of};
 ghost use Rattle.abi_slots.specs.Listing.{is_direct};
-ghost use Rattle.abi_slots.specs.Views.{is_dynamic};
-ghost use Rattle.abi_vtt.specs.Vtts.{has_virtual};
 ghost use Rattle.abi_count.specs.Counts.{most_words};
 ghost use Rattle.abi_count.specs.invariants.Weights.{AreNumbers, cut, number_of, side, sides, sides_of};
 
@@ -38,27 +36,6 @@ pub(crate) fn number_of(numbers: &[u32], c: ClassId) -> u32
         numbers[number]
     } else {
         0
-    }
-}
-
-/// Whether a class is dynamic.
-pub(crate) fn is_dynamic(h: &Hierarchy, c: ClassId) -> bool
-    requires { c.0 < length h.now }
-    ensures { result ≡ is_dynamic h.now c }
-{
-    h.keeps();
-    abi_primary::is_dynamic(h, c)
-}
-
-/// Whether a class has virtual bases.
-pub(crate) fn has_virtual<L: SoundLayout>(h: &Hierarchy, layout: &L, c: ClassId) -> bool
-    requires layout { L.lays_out layout.now h.now }
-    requires known { c.0 < length h.now }
-    ensures { result ≡ has_virtual h.now c }
-{
-    match layout.layout(c).virtual_bases.as_slice() {
-        [] => false,
-        [_, ..] => true,
     }
 }
 

@@ -10,9 +10,11 @@ ghost use Rattle.abi_slots.specs.Groups.{is_shared_base};
 ghost use Rattle.abi_slots.specs.Slots.{AreSlots, IsVirtualBase};
 ghost use Rattle.abi_slots.specs.Views.{IsView};
 ghost use Rattle.abi_count.specs.Counts.{group_words, words_of_class};
+ghost use Rattle.abi_count.specs.invariants.Flags.{TellDynamic};
 ghost use Rattle.abi_count.specs.invariants.Weights.{AreNumbers, IsHeldIn, cut, head_words, sides_of, top_words, view_at};
 
-use crate::numbers::{MOST_WORDS, capped, is_dynamic, number_of};
+use crate::kinds::{dynamic_flags, flag_of, is_dynamic};
+use crate::numbers::{MOST_WORDS, capped, number_of};
 use abi_slots::Slots;
 use abi_sound::SoundLayout;
 use cxx_hierarchy::{ClassId, Hierarchy};
@@ -28,12 +30,19 @@ fn class_table(slots: &Slots, c: ClassId, is_shared: bool) -> u32
 }
 
 /// The words of the table of a head that is no virtual base.
-fn head_word_count<L: SoundLayout>(h: &Hierarchy, _layout: &L, slots: &Slots, c: ClassId) -> u32
-    requires slots { AreSlots h.now (places_of h.now (L.rows _layout.now)) slots.now }
-    requires known { c.0 < length h.now }
-    ensures { result ≡ head_words h.now (places_of h.now (L.rows _layout.now)) c }
+fn head_word_count<L: SoundLayout>(
+    _h: &Hierarchy,
+    _layout: &L,
+    slots: &Slots,
+    flags: &[bool],
+    c: ClassId,
+) -> u32
+    requires slots { AreSlots _h.now (places_of _h.now (L.rows _layout.now)) slots.now }
+    requires flags { TellDynamic _h.now flags.now }
+    requires known { c.0 < length _h.now }
+    ensures { result ≡ head_words _h.now (places_of _h.now (L.rows _layout.now)) c }
 {
-    if is_dynamic(h, c) {
+    if flag_of(flags, c) {
         class_table(slots, c, false)
     } else {
         0
@@ -52,9 +61,10 @@ pub(crate) fn head_word_counts<L: SoundLayout>(
     requires { AreSlots h.now (places_of h.now (L.rows layout.now)) slots.now }
     ensures { IfOk result (λ words. AreNumbers h.now (head_words h.now (places_of h.now (L.rows layout.now))) words.items) }
 {
+    let flags = dynamic_flags(alloc, h)?;
     let mut words = Vec::new(alloc);
     for n in 0..h.len() {
-        let word = head_word_count(h, layout, slots, ClassId(n));
+        let word = head_word_count(h, layout, slots, &flags, ClassId(n));
         words.push(word.min(MOST_WORDS + 1))?;
     }
     Ok(words)

@@ -5,11 +5,12 @@ ghost use Rattle.cxx_hierarchy.specs.declared.records.ClassId.{ClassId};
 ghost use Rattle.cxx_hierarchy.specs.Classes.{Classes};
 ghost use Rattle.abi_sound.specs.Places.{Places, places_of};
 ghost use Rattle.abi_count.specs.Counts.{AreVttLengths, most_words, vtt_words};
+ghost use Rattle.abi_count.specs.invariants.Flags.{TellDynamic};
 ghost use Rattle.abi_count.specs.invariants.Weights.{AreNumbers, base_words, dynamic_word, sub_words, virtual_word};
 
-use crate::numbers::{
-    capped, has_virtual, is_dynamic, number_of, own_sums, pair_sums, shared_sums, sides_of,
-};
+use crate::kinds::{dynamic_flags, flag_of};
+use crate::numbers::{capped, number_of, own_sums, pair_sums, shared_sums, sides_of};
+use crate::views::has_virtual;
 use abi_sound::SoundLayout;
 use cxx_hierarchy::{ClassId, Hierarchy};
 use foundation::{NoMemory, Sequence};
@@ -23,31 +24,36 @@ pub struct VttLengths {
 }
 
 /// A word, where a class is dynamic.
-fn dynamic_word(h: &Hierarchy, c: ClassId) -> u32
-    requires { c.0 < length h.now }
-    ensures { result ≡ dynamic_word h.now c }
+fn dynamic_word(_h: &Hierarchy, flags: &[bool], c: ClassId) -> u32
+    requires known { c.0 < length _h.now }
+    requires flags { TellDynamic _h.now flags.now }
+    ensures { result ≡ dynamic_word _h.now c }
 {
-    if is_dynamic(h, c) { 1 } else { 0 }
+    if flag_of(flags, c) { 1 } else { 0 }
 }
 
 /// For each class a word, where it is dynamic.
-fn dynamic_words(alloc: Global, h: &Hierarchy) -> Result<Vec<u32>, NoMemory>
+///
+/// Errors: want of memory.
+fn dynamic_words(alloc: Global, h: &Hierarchy, flags: &[bool]) -> Result<Vec<u32>, NoMemory>
+    requires { TellDynamic h.now flags.now }
     ensures { IfOk result (λ words. AreNumbers h.now (dynamic_word h.now) words.items) }
 {
     let mut words = Vec::new(alloc);
     for n in 0..h.len() {
-        words.push(dynamic_word(h, ClassId(n)))?;
+        words.push(dynamic_word(h, flags, ClassId(n)))?;
     }
     Ok(words)
 }
 
 /// A word, where a class is dynamic and has virtual bases.
-fn virtual_word<L: SoundLayout>(h: &Hierarchy, layout: &L, c: ClassId) -> u32
+fn virtual_word<L: SoundLayout>(h: &Hierarchy, layout: &L, flags: &[bool], c: ClassId) -> u32
     requires layout { L.lays_out layout.now h.now }
     requires known { c.0 < length h.now }
+    requires flags { TellDynamic h.now flags.now }
     ensures { result ≡ virtual_word h.now c }
 {
-    if is_dynamic(h, c) && has_virtual(h, layout, c) {
+    if flag_of(flags, c) && has_virtual(h, layout, c) {
         1
     } else {
         0
@@ -55,17 +61,21 @@ fn virtual_word<L: SoundLayout>(h: &Hierarchy, layout: &L, c: ClassId) -> u32
 }
 
 /// For each class a word, where it is dynamic and has virtual bases.
+///
+/// Errors: want of memory.
 fn virtual_words<L: SoundLayout>(
     alloc: Global,
     h: &Hierarchy,
     layout: &L,
+    flags: &[bool],
 ) -> Result<Vec<u32>, NoMemory>
-    requires { L.lays_out layout.now h.now }
+    requires layout { L.lays_out layout.now h.now }
+    requires flags { TellDynamic h.now flags.now }
     ensures { IfOk result (λ words. AreNumbers h.now (virtual_word h.now) words.items) }
 {
     let mut words = Vec::new(alloc);
     for n in 0..h.len() {
-        words.push(virtual_word(h, layout, ClassId(n)))?;
+        words.push(virtual_word(h, layout, flags, ClassId(n)))?;
     }
     Ok(words)
 }
@@ -109,10 +119,11 @@ fn base_words<L: SoundLayout>(
     requires { L.lays_out layout.now h.now }
     ensures { IfOk result (λ words. AreNumbers h.now (base_words h.now (places_of h.now (L.rows layout.now))) words.items) }
 {
-    let dynamic = dynamic_words(alloc, h)?;
+    let flags = dynamic_flags(alloc, h)?;
+    let dynamic = dynamic_words(alloc, h, &flags)?;
     let below_shared = sides_of(alloc, h, layout, &dynamic)?;
     let shared = pair_sums(alloc, h, &dynamic, &below_shared)?;
-    let with_virtual = virtual_words(alloc, h, layout)?;
+    let with_virtual = virtual_words(alloc, h, layout, &flags)?;
     let own = sides_of(alloc, h, layout, &with_virtual)?;
     let words = shared_sums(alloc, h, layout, &own, &shared)?;
     Ok(words)

@@ -11,7 +11,7 @@ use indexmap::IndexMap;
 use std::alloc::Global;
 
 /// Numbers of groups by hashes of their names. They are tried first, and nothing is believed of them.
-pub type Guesses = IndexMap<u64, usize>;
+pub(crate) type Guesses = IndexMap<u64, usize>;
 
 /// Whether two names are one.
 fn is_same_name(one: &GroupName, other: &GroupName) -> bool
@@ -36,7 +36,7 @@ fn hash_of(name: &GroupName) -> u64 {
 /// Guesses for the names of groups. What they are is not said.
 ///
 /// Errors: want of memory.
-pub fn guess_numbers(alloc: Global, groups: &[Group]) -> Result<Guesses, NoMemory> {
+pub(crate) fn guess_numbers(alloc: Global, groups: &[Group]) -> Result<Guesses, NoMemory> {
     let mut guesses = IndexMap::new(alloc);
     for (i, group) in groups.iter().enumerate() {
         guesses.insert(hash_of(&group.name), i)?;
@@ -68,7 +68,7 @@ fn first_named(groups: &[Group], name: &GroupName) -> usize
 }
 
 /// The number of a group with a name, which is guessed first.
-pub fn find_group(groups: &[Group], guesses: &Guesses, name: &GroupName) -> usize
+pub(crate) fn find_group(groups: &[Group], guesses: &Guesses, name: &GroupName) -> usize
     requires { (table : ℕ) × HasTable groups.now name.now table }
     ensures { IsNumberOf groups.now name.now result }
 {

@@ -14,7 +14,7 @@ pub mod directory;
 pub mod draft;
 pub mod encoding;
 pub mod entries;
-pub mod finding;
+mod finding;
 pub mod image;
 pub mod infos;
 pub mod numbers;

@@ -4,8 +4,8 @@ use Rattle.cxx_hierarchy.specs.declared.records.ClassId.{ClassId}
 use Rattle.cxx_hierarchy.specs.declared.records.Scalar.{Scalar}
 use Rattle.cxx_hierarchy.specs.declared.records.ValueType.TheVariants.{Number}
 use Rattle.cxx_hierarchy.specs.Classes.{Classes}
-use Rattle.cxx_resolve.specs.declared.program.MemberPlace.{MemberPlace}
-use Rattle.cxx_resolve.specs.Typed.{LeadsToNumber}
+use Rattle.cxx_simple.specs.declared.program.MemberPlace.{MemberPlace}
+use Rattle.cxx_simple.specs.Typed.{LeadsToNumber}
 use Rattle.abi_sound.specs.declared.class_layout.ClassLayout.{ClassLayout}
 use Rattle.abi_sound.specs.Places.{place_of, member_place}
 use Rattle.abi_sound.specs.Sound.{IsSoundLayout}

@@ -3,8 +3,8 @@ use Rattle.std.proofs.Common.{◌≡◌, ℕ, ◌+◌, ◌<◌, ◌^◌, Option,
 use Rattle.cxx_hierarchy.specs.declared.records.ClassId.{ClassId}
 use Rattle.cxx_subobject.specs.declared.Subobject.{Subobject}
 use Rattle.cxx_subobject.specs.Subobjects.{join}
-use Rattle.cxx_resolve.specs.declared.program.Converted.{Converted}
-use Rattle.cxx_resolve.specs.Typed.{IsBase, IsConverted}
+use Rattle.cxx_simple.specs.declared.program.Converted.{Converted}
+use Rattle.cxx_simple.specs.Typed.{IsBase, IsConverted}
 use Rattle.abi_lower.proofs.SoundPlaces.{IsSound}
 use Rattle.byte_memory.specs.declared.memory.Region.{Region}
 use Rattle.byte_machine.specs.declared.heap.Opened.{Opened}

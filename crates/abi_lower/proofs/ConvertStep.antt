@@ -5,12 +5,12 @@ use Rattle.cxx_hierarchy.specs.declared.records.ClassId.{ClassId}
 use Rattle.cxx_hierarchy.specs.declared.records.ValueType.TheVariants.{Pointer as PointerType}
 use Rattle.cxx_subobject.specs.declared.Subobject.{Subobject}
 use Rattle.cxx_subobject.specs.Subobjects.{join}
-use Rattle.cxx_resolve.specs.declared.program.Converted.{Converted}
-use Rattle.cxx_resolve.specs.declared.program.Statement.TheVariants.{Convert}
-use Rattle.cxx_resolve.specs.Typed.{IsBase, IsConverted}
+use Rattle.cxx_simple.specs.declared.program.Converted.{Converted}
+use Rattle.cxx_simple.specs.declared.program.Statement.TheVariants.{Convert}
+use Rattle.cxx_simple.specs.Typed.{IsBase, IsConverted}
 use Rattle.abi_lower.proofs.SoundPlaces.{IsSound}
-use Rattle.path_model.specs.Values.{State, Value, Unset, Number, Pointer, variable_at}
-use Rattle.path_model.specs.Steps.{converted, converted_at, set_to}
+use Rattle.simple_model.specs.Values.{State, Value, Unset, Number, Pointer, variable_at}
+use Rattle.simple_model.specs.Steps.{converted, converted_at, set_to}
 use Rattle.byte_machine.specs.Effect.{Running, word_at}
 use Rattle.byte_machine.proofs.Leads.{Leads, leads_end, leads_set, leads_unset, leads_add}
 use Rattle.abi_lower.specs.Blocks.{Setup, block_of, convert_block}

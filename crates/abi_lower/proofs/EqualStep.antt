@@ -8,12 +8,12 @@ use Rattle.std.proofs.lemmas.Option.{slice_get_within}
 use Rattle.cxx_hierarchy.specs.declared.records.ClassId.{ClassId}
 use Rattle.cxx_hierarchy.specs.declared.records.ValueType.TheVariants.{Pointer as PointerType}
 use Rattle.cxx_subobject.specs.Subobjects.{join, same_subobject}
-use Rattle.cxx_resolve.specs.declared.program.Converted.{Converted}
-use Rattle.cxx_resolve.specs.declared.program.Statement.TheVariants.{Equal}
-use Rattle.cxx_resolve.specs.Typed.{bool, IsConverted}
+use Rattle.cxx_simple.specs.declared.program.Converted.{Converted}
+use Rattle.cxx_simple.specs.declared.program.Statement.TheVariants.{Equal}
+use Rattle.cxx_simple.specs.Typed.{bool, IsConverted}
 use Rattle.abi_lower.proofs.SoundPlaces.{IsSound}
-use Rattle.path_model.specs.Values.{State, Value, Unset, Number, Pointer, variable_at}
-use Rattle.path_model.specs.Steps.{converted, converted_at, compared, truth}
+use Rattle.simple_model.specs.Values.{State, Value, Unset, Number, Pointer, variable_at}
+use Rattle.simple_model.specs.Steps.{converted, converted_at, compared, truth}
 use Rattle.byte_memory.specs.declared.memory.Region.{Region}
 use Rattle.byte_code.specs.declared.op.ArithKind.TheVariants.{Equal as EqualWords}
 use Rattle.byte_machine.specs.Effect.{Running, word_at, arith_of}

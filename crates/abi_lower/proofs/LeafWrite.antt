@@ -13,7 +13,7 @@ use Rattle.cxx_subobject.specs.Subobjects.{same_subobject}
 use Rattle.abi_sound.specs.Places.{size_of_value}
 use Rattle.abi_lower.proofs.SoundPlaces.{IsSound}
 use Rattle.abi_sound.specs.Leaves.{IsLeaf, leaf_place}
-use Rattle.path_model.specs.Values.{Value, Leaves, with_leaf}
+use Rattle.simple_model.specs.Values.{Value, Leaves, with_leaf}
 use Rattle.byte_memory.specs.declared.memory.Region.{Region}
 use Rattle.byte_memory.specs.Bytes.{number_from, stored}
 use Rattle.byte_memory.specs.Store.{Store, store_of}

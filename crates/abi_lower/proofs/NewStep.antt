@@ -12,13 +12,13 @@ use Rattle.cxx_hierarchy.specs.declared.records.ValueType.{ValueType}
 use Rattle.cxx_hierarchy.specs.declared.records.ValueType.TheVariants.{Number as NumberType, Pointer as PointerType}
 use Rattle.cxx_subobject.specs.declared.Subobject.{Subobject}
 use Rattle.cxx_subobject.specs.Subobjects.{whole_of, whole}
-use Rattle.cxx_resolve.specs.declared.program.Statement.TheVariants.{New}
-use Rattle.cxx_resolve.specs.Typed.{IsPointer}
+use Rattle.cxx_simple.specs.declared.program.Statement.TheVariants.{New}
+use Rattle.cxx_simple.specs.Typed.{IsPointer}
 use Rattle.abi_sound.specs.Places.{size_of_value}
 use Rattle.abi_lower.proofs.SoundPlaces.{IsSound}
 use Rattle.abi_sound.specs.Leaves.{IsLeaf, leaf_place}
-use Rattle.path_model.specs.Values.{State, Value, Leaves, Unset, Number, Pointer, value_in}
-use Rattle.path_model.specs.Steps.{made, heap_total, rounded}
+use Rattle.simple_model.specs.Values.{State, Value, Leaves, Unset, Number, Pointer, value_in}
+use Rattle.simple_model.specs.Steps.{made, heap_total, rounded}
 use Rattle.byte_memory.specs.declared.memory.Region.{Region}
 use Rattle.byte_memory.specs.Regions.{total_of}
 use Rattle.byte_memory.specs.Bytes.{number_from}

@@ -8,8 +8,8 @@ use Rattle.cxx_hierarchy.specs.declared.records.ValueType.TheVariants.{Number as
 use Rattle.cxx_hierarchy.specs.Scalars.{size_of}
 use Rattle.cxx_subobject.specs.declared.Subobject.{Subobject}
 use Rattle.cxx_subobject.specs.Subobjects.{class_of, join}
-use Rattle.cxx_resolve.specs.declared.program.MemberPlace.{MemberPlace}
-use Rattle.cxx_resolve.specs.Typed.{IsPointer, LeadsToNumber}
+use Rattle.cxx_simple.specs.declared.program.MemberPlace.{MemberPlace}
+use Rattle.cxx_simple.specs.Typed.{IsPointer, LeadsToNumber}
 use Rattle.abi_sound.specs.Places.{size_of_value}
 use Rattle.abi_lower.proofs.SoundPlaces.{IsSound}
 use Rattle.abi_sound.specs.Leaves.{IsLeaf, leaf_place}

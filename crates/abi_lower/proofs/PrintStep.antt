@@ -4,9 +4,9 @@ use Rattle.std.specs.List.{slice_get}
 use Rattle.cxx_hierarchy.specs.declared.records.ClassId.{ClassId}
 use Rattle.cxx_hierarchy.specs.declared.records.ValueType.{ValueType}
 use Rattle.cxx_hierarchy.specs.declared.records.ValueType.TheVariants.{Number as NumberType, Pointer as PointerType}
-use Rattle.cxx_resolve.specs.declared.program.Statement.TheVariants.{Print}
-use Rattle.path_model.specs.Values.{State, Value, Unset, Number, Pointer, variable_at}
-use Rattle.path_model.specs.Steps.{NumberOut, PointerOut, printed}
+use Rattle.cxx_simple.specs.declared.program.Statement.TheVariants.{Print}
+use Rattle.simple_model.specs.Values.{State, Value, Unset, Number, Pointer, variable_at}
+use Rattle.simple_model.specs.Steps.{NumberOut, PointerOut, printed}
 use Rattle.byte_code.specs.Numbers.{number_of, word_of}
 use Rattle.byte_code.proofs.Words.{number_of-word_of}
 use Rattle.byte_machine.specs.declared.turn.RawOut.TheVariants.{Number as RawNumber, Address as RawAddress}

@@ -7,12 +7,12 @@ use Rattle.cxx_hierarchy.specs.declared.records.Scalar.TheVariants.{Int}
 use Rattle.cxx_hierarchy.specs.declared.records.ValueType.TheVariants.{Number as NumberType, Pointer as PointerType}
 use Rattle.cxx_hierarchy.specs.Scalars.{size_of, promoted}
 use Rattle.cxx_subobject.specs.Subobjects.{join}
-use Rattle.cxx_resolve.specs.declared.program.MemberPlace.{MemberPlace}
-use Rattle.cxx_resolve.specs.declared.program.Statement.TheVariants.{Read}
-use Rattle.cxx_resolve.specs.Typed.{int, IsPointer, LeadsToNumber}
+use Rattle.cxx_simple.specs.declared.program.MemberPlace.{MemberPlace}
+use Rattle.cxx_simple.specs.declared.program.Statement.TheVariants.{Read}
+use Rattle.cxx_simple.specs.Typed.{int, IsPointer, LeadsToNumber}
 use Rattle.abi_lower.proofs.SoundPlaces.{IsSound}
-use Rattle.path_model.specs.Values.{State, Value, Unset, Number, Pointer, variable_at}
-use Rattle.path_model.specs.Steps.{fetched, set_to}
+use Rattle.simple_model.specs.Values.{State, Value, Unset, Number, Pointer, variable_at}
+use Rattle.simple_model.specs.Steps.{fetched, set_to}
 use Rattle.byte_memory.specs.Bytes.{number_from}
 use Rattle.byte_code.specs.declared.op.Op.TheVariants.{Load, Check}
 use Rattle.byte_code.specs.declared.op.Check.TheVariants.{SetLeaf}

@@ -1,10 +1,10 @@
 -- Each statement's block does its step: one line for each kind.
 use Rattle.std.proofs.Common.{◌≡◌, []}
-use Rattle.cxx_resolve.specs.declared.program.Statement.{Statement}
-use Rattle.cxx_resolve.specs.Typed.{IsTyped, new, write, read, convert, equal, print}
+use Rattle.cxx_simple.specs.declared.program.Statement.{Statement}
+use Rattle.cxx_simple.specs.Typed.{IsTyped, new, write, read, convert, equal, print}
 use Rattle.abi_lower.proofs.SoundPlaces.{IsSound}
-use Rattle.path_model.specs.Values.{State}
-use Rattle.path_model.specs.Steps.{move_of}
+use Rattle.simple_model.specs.Values.{State}
+use Rattle.simple_model.specs.Steps.{move_of}
 use Rattle.byte_machine.specs.Effect.{Running}
 use Rattle.byte_machine.proofs.Leads.{Leads}
 use Rattle.abi_lower.specs.Blocks.{Setup, block_of}

@@ -9,7 +9,7 @@ use Rattle.byte_memory.specs.Cells.{cell}
 use Rattle.byte_machine.specs.Effect.{word_at}
 use Rattle.cxx_hierarchy.specs.declared.records.ClassId.{ClassId}
 use Rattle.cxx_hierarchy.specs.declared.records.ValueType.{ValueType}
-use Rattle.path_model.specs.Values.{Value, value_in}
+use Rattle.simple_model.specs.Values.{Value, value_in}
 use Rattle.abi_lower.specs.Blocks.{Setup}
 use Rattle.abi_lower.specs.Stands.{Means, VariablesStand}
 

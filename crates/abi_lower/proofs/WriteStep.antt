@@ -6,12 +6,12 @@ use Rattle.cxx_hierarchy.specs.declared.records.Scalar.{Scalar}
 use Rattle.cxx_hierarchy.specs.declared.records.ValueType.TheVariants.{Number as NumberType, Pointer as PointerType}
 use Rattle.cxx_hierarchy.specs.Scalars.{size_of, stored_as}
 use Rattle.cxx_subobject.specs.Subobjects.{join}
-use Rattle.cxx_resolve.specs.declared.program.MemberPlace.{MemberPlace}
-use Rattle.cxx_resolve.specs.declared.program.Statement.TheVariants.{Write}
-use Rattle.cxx_resolve.specs.Typed.{IsPointer, LeadsToNumber}
+use Rattle.cxx_simple.specs.declared.program.MemberPlace.{MemberPlace}
+use Rattle.cxx_simple.specs.declared.program.Statement.TheVariants.{Write}
+use Rattle.cxx_simple.specs.Typed.{IsPointer, LeadsToNumber}
 use Rattle.abi_lower.proofs.SoundPlaces.{IsSound}
-use Rattle.path_model.specs.Values.{State, Value, Unset, Number, Pointer, variable_at, with_leaf}
-use Rattle.path_model.specs.Steps.{written, kept_by}
+use Rattle.simple_model.specs.Values.{State, Value, Unset, Number, Pointer, variable_at, with_leaf}
+use Rattle.simple_model.specs.Steps.{written, kept_by}
 use Rattle.byte_memory.specs.Store.{store_of}
 use Rattle.byte_code.specs.declared.op.Op.TheVariants.{Store, Check}
 use Rattle.byte_code.specs.declared.op.Check.TheVariants.{SetRegister}

@@ -8,12 +8,12 @@ use Rattle.cxx_hierarchy.specs.declared.records.ValueType.TheVariants.{Number as
 use Rattle.cxx_hierarchy.specs.Scalars.{size_of, is_signed, stored_as}
 use Rattle.cxx_hierarchy.specs.Classes.{Classes, leaf_type}
 use Rattle.cxx_subobject.specs.Subobjects.{class_of}
-use Rattle.cxx_resolve.specs.declared.program.Converted.{Converted}
-use Rattle.cxx_resolve.specs.declared.program.MemberPlace.{MemberPlace}
-use Rattle.cxx_resolve.specs.declared.program.Statement.{Statement}
-use Rattle.cxx_resolve.specs.declared.program.Statement.TheVariants.{New, Write, Read, Convert, Equal, Print}
-use Rattle.cxx_resolve.specs.declared.program.TypedLine.{TypedLine}
-use Rattle.cxx_resolve.specs.Typed.{Types}
+use Rattle.cxx_simple.specs.declared.program.Converted.{Converted}
+use Rattle.cxx_simple.specs.declared.program.MemberPlace.{MemberPlace}
+use Rattle.cxx_simple.specs.declared.program.Statement.{Statement}
+use Rattle.cxx_simple.specs.declared.program.Statement.TheVariants.{New, Write, Read, Convert, Equal, Print}
+use Rattle.cxx_simple.specs.declared.program.TypedLine.{TypedLine}
+use Rattle.cxx_simple.specs.Typed.{Types}
 use Rattle.abi_sound.specs.Places.{Places}
 use Rattle.byte_code.specs.declared.width.Width.{Width}
 use Rattle.byte_code.specs.declared.code.Block.{Block}

@@ -9,9 +9,9 @@ use Rattle.cxx_subobject.specs.declared.Subobject.{Subobject}
 use Rattle.cxx_subobject.specs.Subobjects.{IsSubobject, class_of}
 use Rattle.abi_sound.specs.Places.{size_of_value}
 use Rattle.abi_sound.specs.Leaves.{IsLeaf, leaf_place}
-use Rattle.path_model.specs.Rules.{undefined_no}
-use Rattle.path_model.specs.Values.{State, Value, Leaves, Unset, Number, Pointer, value_in}
-use Rattle.path_model.specs.Steps.{Out, NumberOut, PointerOut, Move, Goes, Refuses, Limits, Ends, heap_total}
+use Rattle.path_rules.specs.Rules.{undefined_no}
+use Rattle.simple_model.specs.Values.{State, Value, Leaves, Unset, Number, Pointer, value_in}
+use Rattle.simple_model.specs.Steps.{Out, NumberOut, PointerOut, Move, Goes, Refuses, Limits, Ends, heap_total}
 use Rattle.byte_memory.specs.declared.memory.Region.{Region}
 use Rattle.byte_memory.specs.Regions.{IsAscending, total_of}
 use Rattle.byte_memory.specs.Bytes.{number_from}

@@ -8,7 +8,7 @@ ghost use Rattle.cxx_hierarchy.specs.Classes.{leaf_type};
 ghost use Rattle.cxx_hierarchy.specs.Scalars.{stored_as};
 ghost use Rattle.byte_code.specs.Numbers.{word_of};
 ghost use Rattle.cxx_subobject.specs.Subobjects.{class_of};
-ghost use Rattle.cxx_resolve.specs.Typed.{IsTyped, IsTypedProgram, IsPointer, IsConverted, LeadsToNumber};
+ghost use Rattle.cxx_simple.specs.Typed.{IsTyped, IsTypedProgram, IsPointer, IsConverted, LeadsToNumber};
 ghost use Rattle.abi_sound.specs.Places.{places_of};
 ghost use Rattle.abi_lower.specs.Blocks.{setup, class_or_first, pointed, pointed_in, declaring, scalar_in, scalar_of, offset, base_offset, width_of, write_block, read_block, convert_block, equal_block, print_block, print_as as print_as_of, block_of, block_for, closing, code_for};
 
@@ -16,7 +16,7 @@ use crate::convert::{kept, register_width, width};
 use abi_sound::{SoundLayout, member_place};
 use byte_code::{ArithKind, Block, BlockList, Check, Code, Op, OpList, PrintAs};
 use cxx_hierarchy::{ClassId, FieldType, Hierarchy, Scalar, ValueType};
-use cxx_resolve::{Converted, MemberPlace, SimpleProgram, Statement, TypedLine};
+use cxx_simple::{Converted, MemberPlace, SimpleProgram, Statement, TypedLine};
 use foundation::{NoMemory, Sequence};
 use std::alloc::Global;
 

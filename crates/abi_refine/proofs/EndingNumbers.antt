@@ -3,10 +3,10 @@ use Rattle.std.proofs.Common.{◌≡◌, ℕ, Option, Some, None, refl, ap, sym,
 use Rattle.std.specs.Prelude.{nat_eq, if◌then◌else◌}
 use Rattle.cxx_hierarchy.specs.declared.stop.LimitNo.{LimitNo}
 use Rattle.cxx_hierarchy.specs.declared.stop.LimitNo.TheVariants.{L1, L2, L3, L4, L5, L6, L7, L8, L9, L10}
-use Rattle.path_model.specs.declared.Undefined.{Undefined}
-use Rattle.path_model.specs.declared.Undefined.TheVariants.{NullUse, Dangling, NotReady, OutsideView, Unset, PureCall, BadDowncast, NonVirtualDelete, NotHeapObject, NotComplete, MissingReturn, Overflow}
-use Rattle.path_model.specs.Runs.{Ending, Done, UndefinedAt, OutOfSteps, LimitMet}
-use Rattle.path_model.specs.Rules.{undefined_no}
+use Rattle.path_rules.specs.declared.Undefined.{Undefined}
+use Rattle.path_rules.specs.declared.Undefined.TheVariants.{NullUse, Dangling, NotReady, OutsideView, Unset, PureCall, BadDowncast, NonVirtualDelete, NotHeapObject, NotComplete, MissingReturn, Overflow}
+use Rattle.simple_model.specs.Runs.{Ending, Done, UndefinedAt, OutOfSteps, LimitMet}
+use Rattle.path_rules.specs.Rules.{undefined_no}
 use Rattle.cxx_hierarchy.specs.Stops.{limit_no}
 use Rattle.abi_refine.specs.Endings.{turn_of}
 

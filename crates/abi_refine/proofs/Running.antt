@@ -5,11 +5,11 @@ use Rattle.std.specs.List.{slice_get}
 use Rattle.std.proofs.lemmas.List.{append-nil, length-replicate}
 use Rattle.std.proofs.lemmas.Grind.{flat_map-append}
 use Rattle.std.proofs.lemmas.Bool.Decides.{nat_tests}
-use Rattle.cxx_resolve.specs.declared.program.SimpleProgram.{SimpleProgram}
+use Rattle.cxx_simple.specs.declared.program.SimpleProgram.{SimpleProgram}
 use Rattle.abi_lower.proofs.SoundPlaces.{IsSound}
-use Rattle.path_model.specs.Values.{State, Unset, value_in}
-use Rattle.path_model.specs.Steps.{Move, Goes, Refuses, Limits, Ends, step}
-use Rattle.path_model.specs.Runs.{Ran, run_of, run_from, ran_by, state_at, next_state, start}
+use Rattle.simple_model.specs.Values.{State, Unset, value_in}
+use Rattle.simple_model.specs.Steps.{Move, Goes, Refuses, Limits, Ends, step}
+use Rattle.simple_model.specs.Runs.{Ran, run_of, run_from, ran_by, state_at, next_state, start}
 use Rattle.byte_memory.specs.Store.{empty}
 use Rattle.byte_code.specs.declared.code.Code.{Code}
 use Rattle.byte_code.specs.declared.code.Block.{Block}

@@ -9,7 +9,7 @@ use Rattle.foundation.proofs.Places.{get_within}
 use Rattle.cxx_hierarchy.specs.declared.records.ClassId.{ClassId}
 use Rattle.cxx_subobject.specs.declared.Subobject.{Subobject}
 use Rattle.abi_lower.proofs.SoundPlaces.{IsSound}
-use Rattle.path_model.specs.Steps.{Out, NumberOut, PointerOut}
+use Rattle.simple_model.specs.Steps.{Out, NumberOut, PointerOut}
 use Rattle.byte_memory.specs.declared.memory.Region.{Region}
 use Rattle.byte_memory.proofs.Lists.{find-first}
 use Rattle.byte_machine.specs.declared.heap.Opened.{Opened}

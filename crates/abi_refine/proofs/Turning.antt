@@ -9,18 +9,18 @@ use Rattle.std.proofs.lemmas.Bool.Decides.{nat_tests}
 use Rattle.foundation.proofs.Places.{each_at, get_last, get_before}
 use Rattle.cxx_hierarchy.specs.declared.records.ClassId.{ClassId}
 use Rattle.cxx_hierarchy.specs.Classes.{Classes}
-use Rattle.cxx_resolve.specs.declared.program.MemberPlace.{MemberPlace}
-use Rattle.cxx_resolve.specs.declared.program.Statement.{Statement}
-use Rattle.cxx_resolve.specs.declared.program.Statement.TheVariants.{New, Write, Read, Convert, Equal, Print}
-use Rattle.cxx_resolve.specs.declared.program.TypedLine.{TypedLine}
-use Rattle.cxx_resolve.specs.declared.program.SimpleProgram.{SimpleProgram}
-use Rattle.cxx_resolve.specs.Typed.{IsTyped, IsTypedProgram}
+use Rattle.cxx_simple.specs.declared.program.MemberPlace.{MemberPlace}
+use Rattle.cxx_simple.specs.declared.program.Statement.{Statement}
+use Rattle.cxx_simple.specs.declared.program.Statement.TheVariants.{New, Write, Read, Convert, Equal, Print}
+use Rattle.cxx_simple.specs.declared.program.TypedLine.{TypedLine}
+use Rattle.cxx_simple.specs.declared.program.SimpleProgram.{SimpleProgram}
+use Rattle.cxx_simple.specs.Typed.{IsTyped, IsTypedProgram}
 use Rattle.cxx_subobject.specs.declared.Subobject.{Subobject}
 use Rattle.cxx_subobject.specs.Subobjects.{join}
 use Rattle.abi_lower.proofs.SoundPlaces.{IsSound}
-use Rattle.path_model.specs.Values.{State, Value, Unset, Number, Pointer, variable_at}
-use Rattle.path_model.specs.Steps.{Move, Goes, Refuses, Limits, Ends, made, written, set_to, fetched, compared, converted_at, pointer_printed, printed, move_of, move_in, step, heap_total, rounded}
-use Rattle.path_model.specs.Runs.{state_at, next_state}
+use Rattle.simple_model.specs.Values.{State, Value, Unset, Number, Pointer, variable_at}
+use Rattle.simple_model.specs.Steps.{Move, Goes, Refuses, Limits, Ends, made, written, set_to, fetched, compared, converted_at, pointer_printed, printed, move_of, move_in, step, heap_total, rounded}
+use Rattle.simple_model.specs.Runs.{state_at, next_state}
 use Rattle.byte_code.specs.declared.code.Block.{Block}
 use Rattle.byte_code.specs.declared.code.Code.{Code}
 use Rattle.byte_machine.specs.declared.turn.RawOut.{RawOut}

@@ -1,13 +1,13 @@
 -- When a turn of the byte machine agrees with a step of the subobject machine.
 use Rattle.std.specs.Prelude.{◌≡◌, ◌+◌, Bool, true, false, nat_eq, List, []}
-use Rattle.path_model.specs.Steps.{Move, Goes, Refuses, Limits, Ends}
+use Rattle.simple_model.specs.Steps.{Move, Goes, Refuses, Limits, Ends}
 use Rattle.byte_machine.specs.declared.turn.RawOut.{RawOut}
 use Rattle.byte_machine.specs.declared.turn.MachineTurn.{MachineTurn}
 use Rattle.byte_machine.specs.declared.turn.MachineTurn.TheVariants.{Went, Ended, Refused, OutOfSteps, Limit}
 use Rattle.byte_machine.specs.Turn.{State as Bytes}
 use Rattle.abi_lower.specs.Blocks.{Setup}
 use Rattle.abi_lower.specs.Stands.{StandsFor, ReadAs}
-use Rattle.path_model.specs.Rules.{undefined_no}
+use Rattle.path_rules.specs.Rules.{undefined_no}
 use Rattle.cxx_hierarchy.specs.Stops.{limit_no}
 
 -- one step was taken

@@ -1,8 +1,8 @@
 -- How an execution ends.
-use Rattle.path_model.specs.Runs.{Ending, Done as RunDone, UndefinedAt, OutOfSteps as RunOutOfSteps, LimitMet}
+use Rattle.simple_model.specs.Runs.{Ending, Done as RunDone, UndefinedAt, OutOfSteps as RunOutOfSteps, LimitMet}
 use Rattle.byte_machine.specs.declared.turn.MachineTurn.{MachineTurn}
 use Rattle.byte_machine.specs.declared.turn.MachineTurn.TheVariants.{Ended, Refused, OutOfSteps as TurnOutOfSteps, Limit as TurnLimit}
-use Rattle.path_model.specs.Rules.{undefined_no}
+use Rattle.path_rules.specs.Rules.{undefined_no}
 use Rattle.cxx_hierarchy.specs.Stops.{limit_no}
 use Rattle.abi_refine.specs.declared.ending.End.{End}
 use Rattle.abi_refine.specs.declared.ending.End.TheVariants.{Done, Undefined, OutOfSteps, Limit}

@@ -1,16 +1,16 @@
 //! How an execution ends.
 
 ghost use Rattle.std.specs.Prelude.{◌≡◌, ℕ};
-ghost use Rattle.path_model.specs.declared.Undefined.{Undefined};
-ghost use Rattle.path_model.specs.Runs.{Ending};
+ghost use Rattle.path_rules.specs.declared.Undefined.{Undefined};
+ghost use Rattle.simple_model.specs.Runs.{Ending};
 ghost use Rattle.cxx_hierarchy.specs.declared.stop.LimitNo.{LimitNo};
-ghost use Rattle.path_model.specs.Rules.{undefined_no};
+ghost use Rattle.path_rules.specs.Rules.{undefined_no};
 ghost use Rattle.cxx_hierarchy.specs.Stops.{limit_no};
 ghost use Rattle.abi_refine.specs.Endings.{ending_of, turn_of};
 
 use byte_machine::MachineTurn;
 use cxx_hierarchy::LimitNo;
-use path_model::Undefined;
+use path_rules::Undefined;
 
 /// How an execution ends.
 #[derive(Clone, Copy, Debug, PartialEq, Eq)]

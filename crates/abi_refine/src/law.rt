@@ -1,10 +1,10 @@
 //! One turn.
 
 ghost use Rattle.std.specs.Prelude.{◌≡◌, IfOk, OnOk, OnErr, [], false, true};
-ghost use Rattle.cxx_resolve.specs.Typed.{IsTypedProgram};
+ghost use Rattle.cxx_simple.specs.Typed.{IsTypedProgram};
 ghost use Rattle.abi_sound.specs.Places.{places_of};
-ghost use Rattle.path_model.specs.Steps.{step};
-ghost use Rattle.path_model.specs.Runs.{state_at};
+ghost use Rattle.simple_model.specs.Steps.{step};
+ghost use Rattle.simple_model.specs.Runs.{state_at};
 ghost use Rattle.byte_machine.specs.Turn.{Turns};
 ghost use Rattle.byte_machine.specs.MachineState.{code_of, image_of, state_of, has_failed};
 ghost use Rattle.abi_lower.specs.Blocks.{setup, code_for};
@@ -15,7 +15,7 @@ use abi_sound::SoundLayout;
 use byte_machine::{Machine, MachineTurn, RawOutList};
 use byte_memory::Memory;
 use cxx_hierarchy::Hierarchy;
-use cxx_resolve::SimpleProgram;
+use cxx_simple::SimpleProgram;
 use foundation::NoMemory;
 
 /// One turn of a machine that stands for the state of the program after as many steps as it has taken.

@@ -1,9 +1,9 @@
 //! A whole run.
 
 ghost use Rattle.std.specs.Prelude.{◌≡◌, ℕ, ◌+◌, ◌≤◌, ◌<◌, ◌^◌, ◌++◌, IfOk, [], Some, None, false, length};
-ghost use Rattle.cxx_resolve.specs.Typed.{IsTypedProgram};
+ghost use Rattle.cxx_simple.specs.Typed.{IsTypedProgram};
 ghost use Rattle.abi_sound.specs.Places.{places_of};
-ghost use Rattle.path_model.specs.Runs.{run_of, run_from, start};
+ghost use Rattle.simple_model.specs.Runs.{run_of, run_from, start};
 ghost use Rattle.byte_memory.specs.Store.{empty};
 ghost use Rattle.byte_machine.specs.Turn.{begun};
 ghost use Rattle.byte_machine.specs.MachineState.{code_of, image_of, state_of, has_failed};
@@ -22,7 +22,7 @@ use byte_code::{ByteList, ImageBytes};
 use byte_machine::{Machine, MachineTurn, RawOut};
 use byte_memory::{FlatMemory, Memory};
 use cxx_hierarchy::Hierarchy;
-use cxx_resolve::SimpleProgram;
+use cxx_simple::SimpleProgram;
 use foundation::{NoMemory, Sequence};
 use std::alloc::Global;
 

@@ -24,7 +24,7 @@ use Rattle.abi_primary.specs.declared.Primary.TheVariants.{None as NoPrimary, Di
 use Rattle.abi_sound.specs.Places.{Places}
 use Rattle.abi_slots.specs.declared.words.EntryKey.{EntryKey}
 use Rattle.abi_slots.specs.Limits.{most_entries}
-use Rattle.abi_slots.specs.Virtuals.{index_of, implicit_index, indices_in, function_at, functions_in, declared, is_virtual, own}
+use Rattle.cxx_overrider.specs.Virtuals.{index_of, implicit_index, indices_in, function_at, functions_in, declared, is_virtual, own}
 use Rattle.abi_slots.specs.Listing.{kinds_in, keys_of, shares, primary_entries, new_entries, with_new, entries_in, entries}
 
 -- functions

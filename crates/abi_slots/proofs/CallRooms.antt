@@ -12,7 +12,7 @@ use Rattle.cxx_overrider.specs.Functions.{Signature, signature_of}
 use Rattle.abi_primary.specs.declared.Primary.{Primary}
 use Rattle.abi_sound.specs.Places.{Places}
 use Rattle.abi_slots.specs.declared.words.Offset.{Offset}
-use Rattle.abi_slots.specs.Virtuals.{own}
+use Rattle.cxx_overrider.specs.Virtuals.{own}
 use Rattle.abi_slots.specs.Listing.{push_all, call, calls_in}
 use Rattle.abi_slots.specs.Rows.{is_chosen, class_of_base, below}
 use Rattle.abi_slots.proofs.Lists.{Item}

@@ -17,7 +17,7 @@ use Rattle.abi_primary.specs.declared.Primary.TheVariants.{None as NoPrimary, Di
 use Rattle.abi_sound.specs.Places.{Places}
 use Rattle.abi_slots.specs.declared.words.Offset.{Offset}
 use Rattle.abi_slots.specs.declared.words.Offset.TheVariants.{ToBase, ToOverrider}
-use Rattle.abi_slots.specs.Virtuals.{same_name, own}
+use Rattle.cxx_overrider.specs.Virtuals.{same_name, own}
 use Rattle.cxx_subobject.specs.VirtualBases.{virtual_bases}
 use Rattle.abi_slots.specs.Listing.{vcall_number, is_name, is_direct, is_first_base, is_other_base, below_bases, call, calls_in, calls, with_calls, push_all, primary_offsets, offsets_in, offsets}
 use Rattle.abi_slots.proofs.Lists.{Item, item_left, item_right, item_cases, item_map, from_map, item_flat, from_flat, item_filter, at_place}

@@ -18,7 +18,7 @@ use Rattle.abi_slots.specs.declared.words.CodeKind.{CodeKind}
 use Rattle.abi_slots.specs.declared.words.CodeKind.TheVariants.{Plain, Complete, Deleting}
 use Rattle.abi_slots.specs.declared.words.EntryKey.{EntryKey}
 use Rattle.abi_slots.specs.declared.entries.Listing.{Listing}
-use Rattle.abi_slots.specs.Virtuals.{same_name, own}
+use Rattle.cxx_overrider.specs.Virtuals.{same_name, own}
 use Rattle.abi_slots.specs.Listing.{key, kinds_in, keys_of, own_keys, same_key, shares, primary_entries, new_entries, entries_in, entries, listing}
 use Rattle.abi_slots.specs.Rows.{listed, listed_all, listing_of, listings_of, has_entry, function_of, declared_in, is_first, HaveOneEntry}
 use Rattle.abi_slots.specs.Slots.{first_kind, first_key, declared_at}

@@ -21,7 +21,7 @@ use Rattle.cxx_subobject.specs.Preorder.{preorder}
 use Rattle.cxx_overrider.specs.declared.FunctionId.{FunctionId}
 use Rattle.cxx_overrider.specs.Functions.{Signature, signature_at, signature_in, signature_of, says_virtual}
 use Rattle.cxx_overrider.specs.Overriding.{IsVirtual}
-use Rattle.abi_slots.specs.Virtuals.{function_at, index_of, implicit_index, indices_in, functions_in, declared, same_name, says_named, is_virtual, own}
+use Rattle.cxx_overrider.specs.Virtuals.{function_at, index_of, implicit_index, indices_in, functions_in, declared, same_name, says_named, is_virtual, own}
 use Rattle.abi_slots.proofs.Lists.{Item, item_first, item_left, item_right, item_map, from_map, from_filter, item_filter, any_item}
 use Rattle.abi_slots.proofs.Names.{is_name_of}
 use Rattle.abi_slots.proofs.Bases.{preorder_item, chosen}

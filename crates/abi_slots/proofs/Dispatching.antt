@@ -34,7 +34,7 @@ use Rattle.abi_slots.specs.declared.words.Offset.{Offset}
 use Rattle.abi_slots.specs.declared.words.Offset.TheVariants.{ToBase, ToOverrider}
 use Rattle.abi_slots.specs.declared.words.Table.{Table}
 use Rattle.abi_slots.specs.declared.words.Group.{Group}
-use Rattle.abi_slots.specs.Virtuals.{same_name, own}
+use Rattle.cxx_overrider.specs.Virtuals.{same_name, own}
 use Rattle.abi_slots.specs.Listing.{key, same_key, kinds_in, keys_of, listing, entries, offsets, entry_number, vbase_number, vcall_number}
 use Rattle.abi_slots.specs.Views.{View, seen, place, next}
 use Rattle.abi_slots.specs.Groups.{between, this_constant, this_adjust, vcall_bytes, vcall_for, return_for, named_in, IsOffsetWord, to_base, to_overrider, declares_in, declares_at, declarer, code_word, IsEntryWord, nothing, runs, is_shared_base, IsTable, view_of, IsGroup}

@@ -19,7 +19,7 @@ use Rattle.abi_sound.specs.Places.{Places}
 use Rattle.abi_slots.specs.declared.words.EntryKey.{EntryKey}
 use Rattle.abi_slots.specs.declared.words.Offset.{Offset}
 use Rattle.abi_slots.specs.declared.words.Offset.TheVariants.{ToBase, ToOverrider}
-use Rattle.abi_slots.specs.Virtuals.{same_name, own}
+use Rattle.cxx_overrider.specs.Virtuals.{same_name, own}
 use Rattle.cxx_subobject.specs.VirtualBases.{virtual_bases}
 use Rattle.abi_slots.specs.Listing.{same_kind, needs_return, keys_of, shares, same_key, or_itself, listing, entry_number, vbase_number, is_base, same_offset, push_new, is_direct, primary_entries, new_entries, with_new, entries_in, entries, is_first_base, is_other_base, below_bases, call, calls_in, calls, with_calls, push_all, primary_offsets, offsets_in, offsets}
 use Rattle.abi_slots.proofs.Lists.{Keeps, keeps_itself, keeps_through, keeps_front, Item, item_first, item_later, item_left, item_right, item_none, item_split, item_cases, item_map, item_filter, from_filter, any_item, item_any, any_right, at_place, found_passes, found_some, found_none, flat_same}

@@ -18,7 +18,7 @@ use Rattle.abi_slots.specs.declared.words.CodeKind.TheVariants.{Plain, Complete,
 use Rattle.abi_slots.specs.declared.words.EntryKey.{EntryKey}
 use Rattle.abi_slots.specs.declared.words.Offset.{Offset}
 use Rattle.abi_slots.specs.declared.words.Offset.TheVariants.{ToBase, ToOverrider}
-use Rattle.abi_slots.specs.Virtuals.{scalar_number, same_type, same_types, same_signature, same_signatures, same_name}
+use Rattle.cxx_overrider.specs.Virtuals.{scalar_number, same_type, same_types, same_signature, same_signatures, same_name}
 use Rattle.abi_slots.specs.Listing.{same_kind, same_function, same_key, is_base, is_name}
 
 pub same_class : (c d : ClassId) → c.0 ≡ d.0 → c ≡ d

@@ -6,7 +6,7 @@ use Rattle.cxx_hierarchy.specs.Classes.{Classes}
 use Rattle.cxx_overrider.specs.declared.FunctionId.{FunctionId}
 use Rattle.cxx_overrider.specs.Functions.{signature_of}
 use Rattle.cxx_overrider.specs.invariants.Numbers.{number_of, IsNumbering}
-use Rattle.abi_slots.specs.Virtuals.{same_name}
+use Rattle.cxx_overrider.specs.Virtuals.{same_name}
 use Rattle.abi_slots.proofs.Names.{name_is, is_name_of, has_name}
 use Rattle.abi_slots.proofs.Complete.{same_bool}
 

@@ -19,7 +19,7 @@ use Rattle.abi_sound.specs.Places.{Places}
 use Rattle.abi_slots.specs.declared.words.Offset.{Offset}
 use Rattle.abi_slots.specs.declared.words.Offset.TheVariants.{ToBase, ToOverrider}
 use Rattle.abi_slots.specs.Limits.{most_offsets}
-use Rattle.abi_slots.specs.Virtuals.{same_name, own}
+use Rattle.cxx_overrider.specs.Virtuals.{same_name, own}
 use Rattle.abi_slots.specs.Listing.{same_offset, push_new, push_all, calls, with_calls, primary_offsets, offsets_in, offsets}
 use Rattle.abi_slots.proofs.Lists.{Item, item_first, item_later, item_none, item_split, item_cases, from_map, any_item, item_any}
 use Rattle.abi_slots.proofs.Names.{same_class, is_name_of}

@@ -11,7 +11,7 @@ use Rattle.cxx_subobject.specs.Preorder.{preorder}
 use Rattle.cxx_overrider.specs.declared.FunctionId.{FunctionId}
 use Rattle.cxx_overrider.specs.Functions.{says_virtual}
 use Rattle.cxx_overrider.specs.Overriding.{IsVirtual}
-use Rattle.abi_slots.specs.Virtuals.{function_at, functions_in, indices_in, declared, same_name, says_named, is_virtual, own}
+use Rattle.cxx_overrider.specs.Virtuals.{function_at, functions_in, indices_in, declared, same_name, says_named, is_virtual, own}
 use Rattle.abi_slots.proofs.Lists.{Item, item_none, from_map, from_filter, item_any}
 use Rattle.abi_slots.proofs.Names.{has_name}
 use Rattle.abi_slots.proofs.Bases.{item_preorder}

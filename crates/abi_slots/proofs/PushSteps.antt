@@ -9,7 +9,7 @@ use Rattle.cxx_overrider.specs.declared.FunctionId.{FunctionId}
 use Rattle.cxx_overrider.specs.invariants.Numbers.{number_of, IsNumbering}
 use Rattle.abi_slots.specs.declared.words.Offset.{Offset}
 use Rattle.abi_slots.specs.declared.words.Offset.TheVariants.{ToBase, ToOverrider}
-use Rattle.abi_slots.specs.Virtuals.{same_name}
+use Rattle.cxx_overrider.specs.Virtuals.{same_name}
 use Rattle.abi_slots.specs.Listing.{same_offset, push_new, push_all}
 use Rattle.abi_slots.specs.invariants.OffsetWords.{base_number, name_number, has_number, AreWords}
 use Rattle.abi_slots.proofs.Lists.{Keeps}

@@ -14,7 +14,7 @@ use Rattle.abi_slots.specs.declared.words.EntryKey.{EntryKey}
 use Rattle.abi_slots.specs.declared.entries.Listing.{Listing}
 use Rattle.abi_slots.specs.declared.rows.SlotRow.{SlotRow}
 use Rattle.abi_slots.specs.declared.offset_tables.OffsetTable.{OffsetTable}
-use Rattle.abi_slots.specs.Virtuals.{own}
+use Rattle.cxx_overrider.specs.Virtuals.{own}
 use Rattle.abi_slots.specs.Listing.{key, kinds_in, keys_of, own_keys, same_key, place_in, listing, entries, offsets, entry_number}
 use Rattle.abi_slots.specs.Rows.{listing_of, listings_of, declared_in, is_first, AreEntryNumbers}
 use Rattle.abi_slots.specs.Slots.{first_kind, first_key, IsSlotRow}

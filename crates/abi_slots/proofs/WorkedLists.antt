@@ -19,7 +19,7 @@ use Rattle.abi_sound.specs.Places.{places_of}
 use Rattle.abi_slots.specs.declared.words.CodeKind.TheVariants.{Plain, Complete, Deleting}
 use Rattle.abi_slots.specs.declared.words.EntryWord.TheVariants.{Code}
 use Rattle.abi_slots.specs.declared.words.Offset.TheVariants.{ToBase, ToOverrider}
-use Rattle.abi_slots.specs.Virtuals.{function_at}
+use Rattle.cxx_overrider.specs.Virtuals.{function_at}
 use Rattle.abi_slots.specs.Listing.{key, entries, offsets, entry_number, vbase_number}
 use Rattle.abi_slots.specs.Views.{View, heads}
 use Rattle.abi_slots.specs.Groups.{declarer, code_word}

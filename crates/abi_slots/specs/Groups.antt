@@ -25,7 +25,7 @@ use Rattle.abi_slots.specs.declared.words.Offset.{Offset}
 use Rattle.abi_slots.specs.declared.words.Offset.TheVariants.{ToBase, ToOverrider}
 use Rattle.abi_slots.specs.declared.words.Table.{Table}
 use Rattle.abi_slots.specs.declared.words.Group.{Group}
-use Rattle.abi_slots.specs.Virtuals.{same_name, own}
+use Rattle.cxx_overrider.specs.Virtuals.{same_name, own}
 use Rattle.cxx_subobject.specs.VirtualBases.{shared_at}
 use Rattle.abi_slots.specs.Listing.{key, same_key, listing, entries, offsets, conversion, base_of, vbase_number, vcall_number}
 use Rattle.abi_slots.specs.Views.{View, IsView, seen, place, next, first_in, heads}

@@ -1,4 +1,3 @@
-pub mod Virtuals
 pub mod Listing
 pub mod Views
 pub mod Groups

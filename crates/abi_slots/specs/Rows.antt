@@ -13,7 +13,7 @@ use Rattle.abi_slots.specs.declared.entries.Listing.{Listing}
 use Rattle.abi_slots.specs.declared.words.CodeKind.{CodeKind}
 use Rattle.abi_slots.specs.declared.words.CodeKind.TheVariants.{Plain, Complete, Deleting}
 use Rattle.abi_slots.specs.Listing.{same_key, place_in, own_keys, listing, shares, or_itself, is_first_base, is_other_base}
-use Rattle.abi_slots.specs.Virtuals.{own}
+use Rattle.cxx_overrider.specs.Virtuals.{own}
 
 -- a key with the entry that it shares, or its own
 abbrev pub listed : EntryKey → Option EntryKey → Listing

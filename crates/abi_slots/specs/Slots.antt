@@ -14,7 +14,7 @@ use Rattle.abi_slots.specs.declared.words.CodeKind.TheVariants.{Plain, Complete}
 use Rattle.abi_slots.specs.declared.words.EntryKey.{EntryKey}
 use Rattle.abi_slots.specs.declared.rows.SlotRow.{SlotRow}
 use Rattle.abi_slots.specs.declared.slots.Slots.{Slots}
-use Rattle.abi_slots.specs.Virtuals.{same_name, own}
+use Rattle.cxx_overrider.specs.Virtuals.{same_name, own}
 use Rattle.abi_slots.specs.Listing.{key, same_key, listing, entries, offsets, is_name, entry_number, vbase_number, vcall_number}
 
 -- the number of a word from the address point, where offsets are counted from the third word before it downwards

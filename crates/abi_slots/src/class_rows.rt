@@ -5,7 +5,7 @@ ghost use Rattle.cxx_hierarchy.specs.Classes.{Classes};
 ghost use Rattle.cxx_overrider.specs.Overriders.{AreOverriders};
 ghost use Rattle.cxx_overrider.specs.invariants.Numbers.{IsNumbering};
 ghost use Rattle.abi_sound.specs.Places.{Places, places_of};
-ghost use Rattle.abi_slots.specs.Virtuals.{own};
+ghost use Rattle.cxx_overrider.specs.Virtuals.{own};
 ghost use Rattle.abi_slots.specs.Limits.{most_offsets};
 ghost use Rattle.abi_slots.specs.Listing.{entries, offsets, primary_entries, primary_offsets};
 ghost use Rattle.abi_slots.specs.Rows.{listings_of, AreOwn};

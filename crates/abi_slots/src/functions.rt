@@ -10,7 +10,7 @@ ghost use Rattle.cxx_subobject.specs.Subobjects.{IsSubobject, class_of};
 ghost use Rattle.cxx_overrider.specs.Functions.{return_of};
 ghost use Rattle.cxx_overrider.specs.invariants.Numbers.{IsNumbering};
 ghost use Rattle.cxx_overrider.specs.Overriders.{AreOverriders};
-ghost use Rattle.abi_slots.specs.Virtuals.{function_at, index_of, declared, same_name, is_virtual, own};
+ghost use Rattle.cxx_overrider.specs.Virtuals.{function_at, index_of, declared, same_name, is_virtual, own};
 ghost use Rattle.abi_slots.specs.Listing.{pointee, conversion, is_class, base_of};
 
 use crate::words::Conversion;

@@ -7,7 +7,7 @@ ghost use Rattle.cxx_hierarchy.specs.Classes.{Classes};
 ghost use Rattle.cxx_hierarchy.specs.VirtualBases.{HasVirtualBase};
 ghost use Rattle.cxx_overrider.specs.Overriders.{AreOverriders};
 ghost use Rattle.abi_sound.specs.Places.{Places, places_of};
-ghost use Rattle.abi_slots.specs.Virtuals.{own};
+ghost use Rattle.cxx_overrider.specs.Virtuals.{own};
 ghost use Rattle.abi_slots.specs.Limits.{most_entries, most_offsets};
 ghost use Rattle.abi_slots.specs.Listing.{is_name, entries, offsets, entry_number, vbase_number, vcall_number};
 ghost use Rattle.abi_slots.specs.Slots.{word_number, first_key, declared_at, IsVirtualBase, AreSlots};

@@ -22,7 +22,7 @@ use Rattle.abi_slots.specs.declared.words.Offset.TheVariants.{ToBase, ToOverride
 use Rattle.abi_slots.specs.declared.words.Table.{Table}
 use Rattle.abi_slots.specs.declared.words.TableWord.{TableWord}
 use Rattle.abi_slots.specs.declared.words.TableWord.TheVariants.{Vcall, Vbase, Top, Info, Entry}
-use Rattle.abi_slots.specs.Virtuals.{same_name, own}
+use Rattle.cxx_overrider.specs.Virtuals.{same_name, own}
 use Rattle.abi_slots.specs.Listing.{key, same_key, listing, entries, offsets}
 use Rattle.abi_slots.specs.Views.{View, seen, place, next, walk, first_in, heads}
 use Rattle.abi_slots.specs.Groups.{GoAlong, between, named_in, IsOffsetWord, to_base, to_overrider, declares_in, declares_at, declarer, code_word, IsEntryWord, nothing, runs, is_shared_base, IsTable}

@@ -1,57 +1,21 @@
 -- The views of a class, one by one.
-use Rattle.std.proofs.Common.{◌≡◌, ℕ, suc, ◌+◌, arith, ◌<◌, ◌≤◌, Bool, true, false, Some, List, [], ◌∷◌, map, length, get_or, ap, subst, sym, ◌∙◌}
-use Rattle.std.specs.Prelude.{if◌then◌else◌, slice_get, IsTrue, ◌↔◌, IfOk, Result, Ok, Err}
+use Rattle.std.proofs.Common.{◌≡◌, ℕ, suc, ◌+◌, arith, ◌<◌, Some, List, map, length, get_or, ap, subst, sym, ◌∙◌}
+use Rattle.std.specs.Prelude.{slice_get}
 use Rattle.std.proofs.lemmas.Option.{slice_get-get_or}
-use Rattle.foundation.proofs.Truth.{is_false}
-use Rattle.foundation.specs.declared.memory.NoMemory.{NoMemory}
 use Rattle.cxx_hierarchy.specs.declared.records.ClassId.{ClassId}
 use Rattle.cxx_hierarchy.specs.Classes.{Classes}
 use Rattle.cxx_hierarchy.specs.Hierarchies.{IsHierarchy}
-use Rattle.cxx_hierarchy.specs.VirtualBases.{HasVirtualBase}
 use Rattle.cxx_subobject.specs.declared.Subobject.{Subobject}
-use Rattle.cxx_subobject.specs.Subobjects.{IsSubobject, whole_of, class_of}
+use Rattle.cxx_subobject.specs.Subobjects.{IsSubobject, class_of}
 use Rattle.abi_primary.specs.Kinds.{IsDynamic}
-use Rattle.abi_primary.proofs.VirtualListLemmas.{AreNoBases, no_virtual}
 use Rattle.abi_sound.specs.Places.{Places}
 use Rattle.abi_slots.specs.declared.words.Group.{Group}
 use Rattle.abi_slots.specs.declared.words.GroupName.{GroupName}
 use Rattle.abi_slots.specs.Groups.{GoAlong, IsGroup}
-use Rattle.abi_slots.specs.Views.{is_dynamic}
-use Rattle.abi_vtt.specs.Vtts.{has_virtual, views}
 use Rattle.abi_count.specs.Counts.{group_views}
-use Rattle.abi_count.proofs.ViewLemmas.{dynamic_is}
 use Rattle.abi_tables.specs.Tables.{group_name, IsNamed, names_of, names_to, AreGroups}
 use Rattle.abi_tables.specs.invariants.Growing.{Grows}
 use Rattle.abi_tables.proofs.GroupViews.{IsDynamicPart, group_part, part_class}
-use Rattle.abi_vtt.proofs.MarkLemmas.{has_some, some_has}
-
--- a virtual base was found, or none is there
-
-pub virtual_found : (h : Classes) → IsHierarchy h → (c v : ClassId) → HasVirtualBase h c v → true ≡ has_virtual h c
-virtual_found h keeps c v has = sym (has_some h keeps c v has)
-
-pub virtual_none : (h : Classes) → IsHierarchy h → (c : ClassId) (n : ℕ) → AreNoBases h c n → c.0 ≤ n → false ≡ has_virtual h c
-virtual_none h keeps c n free le = sym (is_false (has_virtual h c) (λ e. let r = some_has h keeps c e in no_virtual h c n keeps free le r.0 r.1))
-
--- the three kinds of classes
-
-abbrev otherwise : Classes → ClassId → Bool → List Subobject
-otherwise h c b = if b then whole_of c ∷ [] else []
-
-abbrev viewed : Classes → ClassId → Bool → Bool → List Subobject
-viewed h c b d = if b then views h c else otherwise h c d
-
-views_other : (h : Classes) → IsHierarchy h → (c : ClassId) (b d : Bool) (list : List Subobject) → b ≡ has_virtual h c → b ≡ false → IsTrue d ↔ IsDynamic h c → list ≡ otherwise h c d → list ≡ group_views h c
-views_other h keeps c b d list is off way e =
-    e ∙ ap (otherwise h c) (dynamic_is h keeps c d way) ∙ ap (λ a. viewed h c a (is_dynamic h c)) (sym off ∙ is)
-
--- the whole alone, or none
-pub views_alone : (h : Classes) → IsHierarchy h → (c : ClassId) (b d : Bool) (r : Result (List Subobject) NoMemory) → b ≡ has_virtual h c → b ≡ false → IsTrue d ↔ IsDynamic h c → d ≡ true → IfOk r (λ list. list ≡ whole_of c ∷ []) → IfOk r (λ list. list ≡ group_views h c)
-views_alone h keeps c b d (Ok list) is off way on e = views_other h keeps c b d list is off way (e ∙ ap (otherwise h c) (sym on))
-views_alone h keeps c b d (Err err) is off way on e = tt
-
-pub views_none : (h : Classes) → IsHierarchy h → (c : ClassId) (b d : Bool) (list : List Subobject) → b ≡ has_virtual h c → b ≡ false → IsTrue d ↔ IsDynamic h c → d ≡ false → list ≡ [] → list ≡ group_views h c
-views_none h keeps c b d list is off way empty e = views_other h keeps c b d list is off way (e ∙ ap (otherwise h c) (sym empty))
 
 -- one view
 pub view_there : (h : Classes) → IsHierarchy h → (c : ClassId) (items list : List Subobject) (i : ℕ) (s : Subobject) → items ≡ list → list ≡ group_views h c → i < length items → s ≡ get_or items i s → IsDynamicPart h c s

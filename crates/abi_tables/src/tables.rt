@@ -8,7 +8,8 @@ ghost use Rattle.abi_slots.specs.Groups.{GoAlong};
 ghost use Rattle.abi_vtt.specs.Vtts.{IsVttWord};
 ghost use Rattle.abi_tables.specs.Tables.{AreClassTables, class_items};
 
-use crate::group_list::{has_virtual, push_groups};
+use crate::group_list::push_groups;
+use abi_count::has_virtual;
 use abi_rtti::type_info;
 use abi_slots::{GroupList, Slots, TypeInfo, VttList};
 use abi_sound::SoundLayout;
@@ -40,7 +41,7 @@ fn class_vtt<L: SoundLayout>(
     ensures { IfOk result (GoAlong (IsVttWord h.now (places_of h.now (L.rows layout.now)) c) (class_items h.now (places_of h.now (L.rows layout.now)) c)) }
 {
     h.keeps();
-    if has_virtual(h, c) {
+    if has_virtual(h, layout, c) {
         return vtt(alloc, h, layout, c);
     }
     Ok(Sequence::new(alloc))

@@ -18,7 +18,7 @@ use Rattle.abi_primary.specs.declared.Primary.TheVariants.{None as NoPrimary, Di
 use Rattle.abi_sound.specs.Places.{Places}
 use Rattle.abi_slots.specs.declared.words.CodeKind.{CodeKind}
 use Rattle.abi_slots.specs.declared.words.EntryKey.{EntryKey}
-use Rattle.abi_slots.specs.Virtuals.{same_name, own}
+use Rattle.cxx_overrider.specs.Virtuals.{same_name, own}
 use Rattle.abi_slots.specs.Listing.{key, same_key, kinds_in, keys_of, own_keys, shares, primary_entries, new_entries, entries_in, entries, or_itself, listing}
 use Rattle.abi_slots.specs.Slots.{declared_at}
 use Rattle.abi_slots.specs.Views.{View, is_some, next_by, next_in, next, walk, first_in}

@@ -19,7 +19,7 @@ use Rattle.abi_sound.specs.Sound.{IsSoundLayout}
 use Rattle.abi_slots.specs.declared.words.EntryWord.{EntryWord}
 use Rattle.abi_slots.specs.declared.words.EntryWord.TheVariants.{Unused, Pure, Code}
 use Rattle.abi_slots.specs.declared.words.EntryKey.{EntryKey}
-use Rattle.abi_slots.specs.Virtuals.{same_name, own}
+use Rattle.cxx_overrider.specs.Virtuals.{same_name, own}
 use Rattle.abi_slots.specs.Views.{View, seen, next, first_in}
 use Rattle.abi_slots.specs.Groups.{this_adjust, vcall_for, return_for, declares_at, declarer, code_word, IsEntryWord, nothing, runs}
 use Rattle.abi_slots.proofs.Bases.{item_contains}

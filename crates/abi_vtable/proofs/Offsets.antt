@@ -14,7 +14,7 @@ use Rattle.cxx_overrider.specs.declared.FunctionId.{FunctionId}
 use Rattle.cxx_overrider.specs.Overriding.{IsVirtualIn}
 use Rattle.abi_sound.specs.Places.{Places}
 use Rattle.abi_slots.specs.declared.words.Offset.{Offset}
-use Rattle.abi_slots.specs.Virtuals.{own}
+use Rattle.cxx_overrider.specs.Virtuals.{own}
 use Rattle.abi_slots.specs.Listing.{offsets}
 use Rattle.abi_slots.specs.Views.{View, seen}
 use Rattle.abi_slots.specs.Groups.{named_in, is_shared_base}

@@ -22,7 +22,7 @@ use Rattle.abi_slots.specs.declared.words.Conversion.{Conversion}
 use Rattle.abi_slots.specs.declared.words.ReturnAdjust.{ReturnAdjust}
 use Rattle.abi_slots.specs.declared.words.Offset.{Offset}
 use Rattle.abi_slots.specs.declared.words.Offset.TheVariants.{ToBase, ToOverrider}
-use Rattle.abi_slots.specs.Virtuals.{same_name, own}
+use Rattle.cxx_overrider.specs.Virtuals.{same_name, own}
 use Rattle.abi_slots.specs.Listing.{base_of, is_name, offsets}
 use Rattle.abi_slots.specs.Views.{View, IsView, seen, place}
 use Rattle.abi_slots.specs.Groups.{between, named_in, return_adjust, vbase_bytes, adjust_to, adjust_by, IsOffsetWord, to_base, to_overrider}

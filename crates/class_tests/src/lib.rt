@@ -1,5 +1,5 @@
 //! Tests of the layers over class records, each over the text of a source: subobjects, look-up, overriders, programs,
-//! primary bases and layouts.
+//! primary bases, layouts and virtual tables.
 //!
 //! This crate owns no definition, and nothing stands on it. Each test calls the public functions of one layer once, with
 //! ample memory; what they answer in general is said by their contracts.
@@ -15,3 +15,5 @@ mod overriders;
 mod source;
 #[cfg(test)]
 mod subobjects;
+#[cfg(test)]
+mod tables;

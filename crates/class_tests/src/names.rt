@@ -6,7 +6,7 @@ use crate::source::hierarchy_of;
 use cxx_decl_parser::parse_source;
 use cxx_hierarchy::{ClassId, build};
 use cxx_lookup::{Found, lookup, unique_base};
-use cxx_resolve::resolve_main;
+use cxx_simple::resolve_main;
 use cxx_text::tokens;
 use std::test::Fail;
 

@@ -1,9 +1,8 @@
-pub mod Typed
-pub mod Form
-pub mod Forms
-pub mod SimpleHierarchy
-pub mod Resolves
-pub mod Answers
-pub mod Main
-pub mod Laws
-pub mod invariants
+pub mod Stops
+pub mod Turns
+pub mod Settled
+pub mod Globals
+pub mod Initializers
+pub mod Statements
+pub mod Walks
+pub mod Programs

@@ -1,18 +1,29 @@
-//! Laws of what a `main` resolves to, for the layers above. Each does nothing.
+//! Laws of what a source resolves to, for the layers above. Each does nothing.
 
-ghost use Rattle.cxx_resolve.specs.Laws.{ResolveToOne, ResolveToTyped, ResolveOrNot};
+ghost use Rattle.std.specs.Prelude.{◌≡◌, ◌≤◌, ℕ, List, Err, length};
+ghost use Rattle.cxx_grammar.specs.declared.sort.Lexeme.{Lexeme};
+ghost use Rattle.cxx_hierarchy.specs.declared.stop.Stop.TheVariants.{NoMemory};
+ghost use Rattle.cxx_hierarchy.specs.Classes.{Classes};
+ghost use Rattle.cxx_syntax.specs.declared.source_text.SourceText.{SourceText};
+ghost use Rattle.cxx_syntax.specs.SameSources.{SameSource};
+ghost use Rattle.cxx_syntax.specs.Sources.{SourceReads};
+ghost use Rattle.cxx_resolve.specs.Programs.{program_of, HasFewStatements};
 
-/// Bodies of a `main` that say the same resolve to one program at most.
+use cxx_expression::answered;
+
+/// Sources that say the same resolve to one answer.
 pub fn one_program()
-    ensures { ResolveToOne }
+    ensures { (h : Classes) (a b : SourceText) → SameSource a b → program_of h a ≡ program_of h b }
 {}
 
-/// The types of a resolved program fit.
-pub fn typed()
-    ensures { ResolveToTyped }
-{}
-
-/// The body of a `main` resolves to a program, or to none.
+/// Each source resolves to a program, or to a refusal or a limit: the rules leave no other case.
 pub fn some_program()
-    ensures { ResolveOrNot }
+    ensures { (h : Classes) (source : SourceText) → program_of h source ≡ Err NoMemory → ⊥ }
+{
+    answered();
+}
+
+/// Each body of a source that tokens spell has fewer statements than there are tokens.
+pub fn statements_are_few()
+    ensures { (text : List ℕ) (s : SourceText) (ts rest : List Lexeme) (n : ℕ) → SourceReads text s ts rest → length ts ≤ n → HasFewStatements n s }
 {}

@@ -1,30 +1,26 @@
-//! Programs with every name resolved.
+//! From the trees of bodies to a typed program, or to the first refusal (ISO C++03 3.3, 3.4, 4, 5, 10.2, 12.6.2).
 //!
-//! A resolved program names a variable by its number, a class by its number, a member by the subobject that declares
-//! it and its number there, and a converted pointer by the subobject that is its base. This crate owns that form, the
-//! form of `main` and of classes that `run` takes (`IsSimple`, `IsSimpleHierarchy`), what a body resolves to
-//! (`MainResolves`, by the look-up of a member and of the one base of a class), and programs whose types fit
-//! (`IsTypedProgram`).
+//! This crate owns what a source resolves to (`program_of`): the globals, then the bodies in source order with `main` at its
+//! place among them, in each the initializers and then the statements; or the first refusal or limit, of a statement by the
+//! least number and its first place. It owns the meaning of a statement and of a block (`block_meaning`): how many statements
+//! it has, and what it adds to those before it, by its number and the number behind it. Both are functions of the classes and
+//! the trees.
 //!
-//! The layer above may rely on: `resolve_main` gives a program that the body resolves to, and refuses exactly the
-//! bodies and classes that have none; bodies that say the same have one such program at most (`one_program`), its
-//! types fit (`typed`), and its statements stand in text order with their lines.
+//! The layer above may rely on: `resolve` answers exactly `program_of`; sources that say the same have one answer
+//! (`one_program`); each source has a program, a refusal or a limit (`some_program`); and the bodies of a source that tokens
+//! spell have fewer statements than there are tokens (`statements_are_few`).
 #![tactic(auto)]
 
-mod fields;
-mod known;
+mod blocks;
+mod bodies;
+mod declarations;
+pub mod draft;
+mod globals;
+mod initializers;
 pub mod laws;
-mod look_up;
-pub mod main_body;
-pub mod program;
-mod resolution;
-pub mod simple;
-pub mod simple_hierarchy;
-mod variables;
+pub mod resolution;
+mod sizes;
+mod statements;
 
-pub use crate::main_body::resolve_main;
-pub use crate::program::{
-    Converted, LineList, MemberPlace, SimpleProgram, Statement, TypeList, TypedLine,
-};
-pub use crate::simple::{Simple, SimpleLine, SimpleLines, simple_main};
-pub use crate::simple_hierarchy::is_simple;
+pub use crate::laws::{one_program, some_program, statements_are_few};
+pub use crate::resolution::resolve;

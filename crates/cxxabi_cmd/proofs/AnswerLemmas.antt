@@ -6,9 +6,10 @@ use Rattle.cxx_hierarchy.specs.declared.stop.Stop.{Stop}
 use Rattle.cxx_hierarchy.specs.declared.stop.Stop.TheVariants as stop
 use Rattle.cxx_syntax.specs.declared.tree.BodyTree.{BodyTree}
 use Rattle.cxx_syntax.specs.declared.source_text.SourceText.{SourceText}
-use Rattle.cxx_resolve.specs.declared.program.SimpleProgram.{SimpleProgram}
-use Rattle.cxx_resolve.specs.Answers.{IsRefusal}
-use Rattle.cxx_resolve.specs.Main.{MainResolves}
+use Rattle.cxx_program.specs.declared.program.TypedProgram.{TypedProgram}
+use Rattle.cxx_simple.specs.declared.program.SimpleProgram.{SimpleProgram}
+use Rattle.cxx_simple.specs.Answers.{IsRefusal}
+use Rattle.cxx_simple.specs.Main.{MainResolves}
 use Rattle.abi_layout.specs.Layouts.{IsLaid}
 use Rattle.cxxabi_cmd.specs.declared.command.Command.{Command}
 use Rattle.cxxabi_cmd.specs.declared.command.Command.TheVariants.{Run}
@@ -19,7 +20,7 @@ use Rattle.cxx_hierarchy.specs.Classes.{Classes}
 use Rattle.abi_sound.specs.declared.class_layout.ClassLayout.{ClassLayout}
 use Rattle.abi_sound.specs.Places.{places_of}
 use Rattle.abi_print.specs.Texts.{text_of}
-use Rattle.path_model.specs.Runs.{Ran, Ending, Done, UndefinedAt, OutOfSteps, LimitMet}
+use Rattle.simple_model.specs.Runs.{Ran, Ending, Done, UndefinedAt, OutOfSteps, LimitMet}
 use Rattle.cxxabi_cmd.specs.declared.status.Status.{Status}
 use Rattle.cxxabi_cmd.specs.Statuses.{last_line}
 use Rattle.cxxabi_cmd.specs.Output.{Answer, IsProgram, Yields, run_answer, status_of, budget, IsAnswered}
@@ -51,9 +52,9 @@ no_program (Ok found) source h tree e main none either =
 no_program (Err w) source h tree e main none either = none
 
 -- an answer that was made
-pub yields : (r : Result Reply Want) (size : ℕ) (source : SourceText) (h : Classes) (c : Command) (a : Answer) → IfOk r (λ reply. answer_of reply ≡ a) → Yields size source h c a → IfOk r (λ reply. Yields size source h c (answer_of reply))
-yields (Ok reply) size source h c a same is = subst (λ (b : Answer). Yields size source h c b) (sym same) is
-yields (Err w) size source h c a same is = same
+pub yields : (r : Result Reply Want) (size : ℕ) (source : SourceText) (h : Classes) (typed : TypedProgram) (c : Command) (a : Answer) → IfOk r (λ reply. answer_of reply ≡ a) → Yields size source h typed c a → IfOk r (λ reply. Yields size source h typed c (answer_of reply))
+yields (Ok reply) size source h typed c a same is = subst (λ (b : Answer). Yields size source h typed c b) (sym same) is
+yields (Err w) size source h typed c a same is = same
 
 -- no machine, for a reason
 pub hands_none : (r : Result Reply Want) (c : Command) (source : SourceText) (h : Classes) → IfOk r (λ reply. machine_of reply ≡ None) →

@@ -1,10 +1,11 @@
 -- The verdict of the passes that were made.
-use Rattle.std.proofs.Common.{◌≡◌, ℕ, ◌⊎◌, ⊎_elim, inl, inr, Option, List, [], refl, sym, subst}
+use Rattle.std.proofs.Common.{◌≡◌, ℕ, ◌+◌, ◌^◌, ◌≤◌, ◌⊎◌, ⊎_elim, inl, inr, Option, Result, Ok, Err, List, [], length, refl, sym, subst, arith}
 use Rattle.cxx_text.specs.declared.token.Token.{Token}
-use Rattle.cxx_text.specs.Cover.{AreTokens}
+use Rattle.cxx_text.specs.Cover.{AreTokens, max_text_bytes}
 use Rattle.cxx_grammar.specs.declared.sort.Lexeme.{Lexeme}
 use Rattle.cxx_grammar.specs.Grammar.{source_form}
 use Rattle.cxx_grammar.specs.Lexemes.{lexemes, source_start}
+use Rattle.cxx_grammar.proofs.Lexed.{length-lexemes}
 use Rattle.cxx_grammar.specs.Event.{DerivesPrefix, Event, at_start}
 use Rattle.cxx_hierarchy.specs.declared.stop.Stop.{Stop}
 use Rattle.cxx_hierarchy.specs.declared.stop.Stop.TheVariants as stop
@@ -14,7 +15,11 @@ use Rattle.cxx_hierarchy.specs.Resolved.{resolved}
 use Rattle.cxx_syntax.specs.declared.source_text.SourceText.{SourceText}
 use Rattle.cxx_syntax.specs.Sources.{SourceReads}
 use Rattle.cxx_hierarchy.specs.declared.stop.LimitNo.TheVariants.{L7}
-use Rattle.cxxabi_cmd.specs.Verdict.{AreLexemes, IsSource, IsFirstFault, HasNoFault, HasManyWords, HasFewWords, Verdict, Stops, Accepts, by_text, by_records, by_classes, by_words, accepted}
+use Rattle.cxx_program.specs.declared.program.TypedProgram.{TypedProgram}
+use Rattle.cxx_resolve.specs.Programs.{program_of, HasFewStatements}
+use Rattle.cxx_resolve.proofs.Counted.{statements_are_few}
+use Rattle.cxx_resolve.specs.Stops.{Fails}
+use Rattle.cxxabi_cmd.specs.Verdict.{AreLexemes, IsSource, IsFirstFault, HasNoFault, HasManyWords, HasFewWords, Verdict, Stops, Accepts, by_text, by_records, by_classes, by_bodies, by_words, accepted}
 
 -- what the reader of sources gives
 abbrev pub Reads : List ℕ → List Token → Option ℕ → SourceText → Type 0
@@ -47,14 +52,34 @@ pub classes_stop : (text : List ℕ) (tokens : List Token) (bad : Option ℕ) (s
 classes_stop text tokens bad source h e cover reads passes either = ⊎_elim (λ memory. inl memory)
     (λ first. inr (by_classes source e (source_of text tokens bad source cover reads) passes.0 (subst (λ (k : Classes). IsFirstFault k e) passes.1 first))) either
 
-pub words_stop : (text : List ℕ) (tokens : List Token) (bad : Option ℕ) (source : SourceText) (h : Classes) (e : Stop) → AreTokens text tokens bad → Reads text tokens bad source →
-    (faults_of source.records ≡ []) × (h ≡ resolved source.records) → HasNoFault h → (e ≡ stop.NoMemory) ⊎ ((e ≡ stop.Limit L7) × HasManyWords h) → (e ≡ stop.NoMemory) ⊎ Verdict text (Stops e)
-words_stop text tokens bad source h e cover reads passes none either = ⊎_elim (λ memory. inl memory)
-    (λ many. inr (subst (λ (d : Stop). Verdict text (Stops d)) (sym many.0)
-    (by_words source (source_of text tokens bad source cover reads) passes.0 (subst (λ (k : Classes). HasNoFault k) passes.1 none) (subst (λ (k : Classes). HasManyWords k) passes.1 many.1)))) either
+-- the bodies of a text have few statements
+pub few_statements : (text : List ℕ) (tokens : List Token) (bad : Option ℕ) (source : SourceText) → length tokens ≤ max_text_bytes + 1 → Reads text tokens bad source → HasFewStatements (2 ^ 32) source
+few_statements text tokens bad source few reads =
+    statements_are_few text source (lexemes text source_start tokens bad) reads.0 (2 ^ 32) reads.1 (let size = length-lexemes text source_start tokens bad in omega (arith, few, size))
 
-pub all_passed : (text : List ℕ) (tokens : List Token) (bad : Option ℕ) (source : SourceText) (h : Classes) → AreTokens text tokens bad → Reads text tokens bad source →
-    (faults_of source.records ≡ []) × (h ≡ resolved source.records) → HasNoFault h → HasFewWords h → Verdict text (Accepts source h)
-all_passed text tokens bad source h cover reads passes none few =
-    subst (λ (k : Classes). Verdict text (Accepts source k)) (sym passes.1)
-    (accepted source (source_of text tokens bad source cover reads) passes.0 (subst (λ (k : Classes). HasNoFault k) passes.1 none) (subst (λ (k : Classes). HasFewWords k) passes.1 few))
+-- a stop that is no want of memory is the answer
+fails : (e : Stop) (answer : Result TypedProgram Stop) → Fails e answer → (e ≡ stop.NoMemory) ⊎ (answer ≡ Err e)
+fails stop.NoMemory answer is = inl refl
+fails (stop.Refused rule at) answer is = inr is
+fails (stop.Limit limit) answer is = inr is
+
+pub bodies_stop : (text : List ℕ) (tokens : List Token) (bad : Option ℕ) (source : SourceText) (h : Classes) (e : Stop) → AreTokens text tokens bad → Reads text tokens bad source →
+    (faults_of source.records ≡ []) × (h ≡ resolved source.records) → HasNoFault h → Fails e (program_of h source) → (e ≡ stop.NoMemory) ⊎ Verdict text (Stops e)
+bodies_stop text tokens bad source h e cover reads passes none is = ⊎_elim (λ memory. inl memory)
+    (λ resolves. inr (by_bodies source e (source_of text tokens bad source cover reads) passes.0 (subst (λ (k : Classes). HasNoFault k) passes.1 none)
+    (subst (λ (k : Classes). program_of k source ≡ Err e) passes.1 resolves)))
+    (fails e (program_of h source) is)
+
+pub words_stop : (text : List ℕ) (tokens : List Token) (bad : Option ℕ) (source : SourceText) (h : Classes) (program : TypedProgram) (e : Stop) → AreTokens text tokens bad → Reads text tokens bad source →
+    (faults_of source.records ≡ []) × (h ≡ resolved source.records) → HasNoFault h → program_of h source ≡ Ok program → (e ≡ stop.NoMemory) ⊎ ((e ≡ stop.Limit L7) × HasManyWords h) → (e ≡ stop.NoMemory) ⊎ Verdict text (Stops e)
+words_stop text tokens bad source h program e cover reads passes none resolves either = ⊎_elim (λ memory. inl memory)
+    (λ many. inr (subst (λ (d : Stop). Verdict text (Stops d)) (sym many.0)
+    (by_words source program (source_of text tokens bad source cover reads) passes.0 (subst (λ (k : Classes). HasNoFault k) passes.1 none)
+    (subst (λ (k : Classes). program_of k source ≡ Ok program) passes.1 resolves) (subst (λ (k : Classes). HasManyWords k) passes.1 many.1)))) either
+
+pub all_passed : (text : List ℕ) (tokens : List Token) (bad : Option ℕ) (source : SourceText) (h : Classes) (program : TypedProgram) → AreTokens text tokens bad → Reads text tokens bad source →
+    (faults_of source.records ≡ []) × (h ≡ resolved source.records) → HasNoFault h → program_of h source ≡ Ok program → HasFewWords h → Verdict text (Accepts source h program)
+all_passed text tokens bad source h program cover reads passes none resolves few =
+    subst (λ (k : Classes). Verdict text (Accepts source k program)) (sym passes.1)
+    (accepted source program (source_of text tokens bad source cover reads) passes.0 (subst (λ (k : Classes). HasNoFault k) passes.1 none)
+    (subst (λ (k : Classes). program_of k source ≡ Ok program) passes.1 resolves) (subst (λ (k : Classes). HasFewWords k) passes.1 few))

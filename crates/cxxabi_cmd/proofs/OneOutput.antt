@@ -9,7 +9,8 @@ use Rattle.cxx_hierarchy.specs.Hierarchies.{IsHierarchy}
 use Rattle.cxx_syntax.specs.declared.tree.BodyTree.{BodyTree}
 use Rattle.cxx_syntax.specs.declared.source_text.SourceText.{SourceText}
 use Rattle.cxx_syntax.specs.SameSources.{SameSource}
-use Rattle.cxx_resolve.specs.declared.program.SimpleProgram.{SimpleProgram}
+use Rattle.cxx_program.specs.declared.program.TypedProgram.{TypedProgram}
+use Rattle.cxx_simple.specs.declared.program.SimpleProgram.{SimpleProgram}
 use Rattle.abi_sound.specs.declared.class_layout.ClassLayout.{ClassLayout}
 use Rattle.abi_layout.specs.Layouts.{IsLaid}
 use Rattle.foundation.proofs.Places.{contains_at}
@@ -110,13 +111,13 @@ unnamed_run _ _ (named_layout name) same = cc
 unnamed_run _ _ (named_tables name) same = cc
 
 -- what `check` answers
-checks : (size : ℕ) (t : SourceText) (h : Classes) (d : Command) (b : Answer) → Yields size t h d b → Check ≡ d → count_answer h ≡ b
-checks size t h _ _ counted same = refl
-checks size t h _ _ (no_main none) same = absurd (cc)
-checks size t h _ _ (not_taken tree main nothing) same = absurd (cc)
-checks size t h _ _ (ran q rows is laid) same = absurd (cc)
-checks size t h _ _ (unknown_class command name asks none) same = absurd (unnamed_check command name asks same)
-checks size t h _ _ (listed command listing classes answer asks lists) same = absurd (no_check h command listing classes asks same)
+checks : (size : ℕ) (t : SourceText) (h : Classes) (typed : TypedProgram) (d : Command) (b : Answer) → Yields size t h typed d b → Check ≡ d → count_answer h ≡ b
+checks size t h typed _ _ counted same = refl
+checks size t h typed _ _ (no_main none) same = absurd (cc)
+checks size t h typed _ _ (not_taken tree main nothing) same = absurd (cc)
+checks size t h typed _ _ (ran q rows is laid) same = absurd (cc)
+checks size t h typed _ _ (unknown_class command name asks none) same = absurd (unnamed_check command name asks same)
+checks size t h typed _ _ (listed command listing classes answer asks lists) same = absurd (no_check h command listing classes asks same)
 
 -- what `run` answers
 data Runs (size : ℕ) (t : SourceText) (h : Classes) : Answer → Type 0 where
@@ -124,13 +125,13 @@ data Runs (size : ℕ) (t : SourceText) (h : Classes) : Answer → Type 0 where
   is_other : (tree : BodyTree) → t.main ≡ Some tree → ((program : SimpleProgram) → IsProgram t h program → ⊥) → Runs size t h (line_alone (Refused Syntax 0))
   is_told : (q : SimpleProgram) (rows : List ClassLayout) → IsProgram t h q → IsLaid h rows → Runs size t h (run_answer h rows (run_by h rows q))
 
-runs : (size : ℕ) (t : SourceText) (h : Classes) (d : Command) (b : Answer) → Yields size t h d b → Run ≡ d → Runs size t h b
-runs size t h _ _ counted same = absurd (cc)
-runs size t h _ _ (no_main none) same = is_missing none
-runs size t h _ _ (not_taken tree main nothing) same = is_other tree main nothing
-runs size t h _ _ (ran q rows is laid) same = is_told q rows is laid
-runs size t h _ _ (unknown_class command name asks none) same = absurd (unnamed_run command name asks same)
-runs size t h _ _ (listed command listing classes answer asks lists) same = absurd (no_run h command listing classes asks same)
+runs : (size : ℕ) (t : SourceText) (h : Classes) (typed : TypedProgram) (d : Command) (b : Answer) → Yields size t h typed d b → Run ≡ d → Runs size t h b
+runs size t h typed _ _ counted same = absurd (cc)
+runs size t h typed _ _ (no_main none) same = is_missing none
+runs size t h typed _ _ (not_taken tree main nothing) same = is_other tree main nothing
+runs size t h typed _ _ (ran q rows is laid) same = is_told q rows is laid
+runs size t h typed _ _ (unknown_class command name asks none) same = absurd (unnamed_run command name asks same)
+runs size t h typed _ _ (listed command listing classes answer asks lists) same = absurd (no_run h command listing classes asks same)
 
 runs_same : (size : ℕ) (s t : SourceText) (h : Classes) (a b : Answer) → IsHierarchy h → SameSource s t → Runs size s h a → Runs size t h b → a ≡ b
 runs_same size s t h _ _ keeps same (is_missing none) (is_missing none') = refl
@@ -207,52 +208,53 @@ lists_same law h listing classes _ _ keeps fine known (too_much rows text laid a
 lists_same law h listing classes _ _ keeps fine known (too_much rows text laid are long) (too_much rows' text' laid' are' long') = refl
 
 -- what is answered where classes are listed
-lists : OneTables → (size : ℕ) (s t : SourceText) (h : Classes) (c d : Command) (l : Listing) (xs : List ClassId) (a b : Answer) → IsHierarchy h → HasNoFault h → AsksFor h c l xs → Lists h l xs a → Yields size t h d b → c ≡ d → a ≡ b
-lists law size s t h c _ l xs a _ keeps fine asks is counted same = absurd (no_check h c l xs asks (sym same))
-lists law size s t h c _ l xs a _ keeps fine asks is (no_main none) same = absurd (no_run h c l xs asks (sym same))
-lists law size s t h c _ l xs a _ keeps fine asks is (not_taken tree main nothing) same = absurd (no_run h c l xs asks (sym same))
-lists law size s t h c _ l xs a _ keeps fine asks is (ran q rows program laid) same = absurd (no_run h c l xs asks (sym same))
-lists law size s t h c _ l xs a _ keeps fine asks is (unknown_class command name names none) same = absurd (not_unknown h command c name l xs names asks (sym same) none)
-lists law size s t h c _ l xs a _ keeps fine asks is (listed command listing classes answer asks' is') same =
+lists : OneTables → (size : ℕ) (s t : SourceText) (h : Classes) (typed : TypedProgram) (c d : Command) (l : Listing) (xs : List ClassId) (a b : Answer) → IsHierarchy h → HasNoFault h → AsksFor h c l xs → Lists h l xs a → Yields size t h typed d b → c ≡ d → a ≡ b
+lists law size s t h typed c _ l xs a _ keeps fine asks is counted same = absurd (no_check h c l xs asks (sym same))
+lists law size s t h typed c _ l xs a _ keeps fine asks is (no_main none) same = absurd (no_run h c l xs asks (sym same))
+lists law size s t h typed c _ l xs a _ keeps fine asks is (not_taken tree main nothing) same = absurd (no_run h c l xs asks (sym same))
+lists law size s t h typed c _ l xs a _ keeps fine asks is (ran q rows program laid) same = absurd (no_run h c l xs asks (sym same))
+lists law size s t h typed c _ l xs a _ keeps fine asks is (unknown_class command name names none) same = absurd (not_unknown h command c name l xs names asks (sym same) none)
+lists law size s t h typed c _ l xs a _ keeps fine asks is (listed command listing classes answer asks' is') same =
     let e = asks_same h c command l listing xs classes keeps asks asks' same in
     lists_same law h l xs a answer keeps fine (asked_known h c l xs asks) is
     (subst (λ (m : Listing). Lists h m xs answer) (sym e.0) (subst (λ (ys : List ClassId). Lists h listing ys answer) (sym e.1) is'))
 
-unknown : (size : ℕ) (t : SourceText) (h : Classes) (c d : Command) (name : List ℕ) (b : Answer) → AsksForName c name → (Contains (class_names h) name → ⊥) → Yields size t h d b → c ≡ d → line_alone (Refused UnknownName size) ≡ b
-unknown size t h c _ name _ names none counted same = absurd (unnamed_check c name names (sym same))
-unknown size t h c _ name _ names none (no_main empty) same = absurd (unnamed_run c name names (sym same))
-unknown size t h c _ name _ names none (not_taken tree main nothing) same = absurd (unnamed_run c name names (sym same))
-unknown size t h c _ name _ names none (ran q rows is laid) same = absurd (unnamed_run c name names (sym same))
-unknown size t h c _ name _ names none (unknown_class command name' names' none') same = refl
-unknown size t h c _ name _ names none (listed command listing classes answer asks is) same = absurd (not_unknown h c command name listing classes names asks same none)
+unknown : (size : ℕ) (t : SourceText) (h : Classes) (typed : TypedProgram) (c d : Command) (name : List ℕ) (b : Answer) → AsksForName c name → (Contains (class_names h) name → ⊥) → Yields size t h typed d b → c ≡ d → line_alone (Refused UnknownName size) ≡ b
+unknown size t h typed c _ name _ names none counted same = absurd (unnamed_check c name names (sym same))
+unknown size t h typed c _ name _ names none (no_main empty) same = absurd (unnamed_run c name names (sym same))
+unknown size t h typed c _ name _ names none (not_taken tree main nothing) same = absurd (unnamed_run c name names (sym same))
+unknown size t h typed c _ name _ names none (ran q rows is laid) same = absurd (unnamed_run c name names (sym same))
+unknown size t h typed c _ name _ names none (unknown_class command name' names' none') same = refl
+unknown size t h typed c _ name _ names none (listed command listing classes answer asks is) same = absurd (not_unknown h c command name listing classes names asks same none)
 
 -- a command answers one thing to sources that say the same
-pub one_yield : OneTables → (size : ℕ) (s t : SourceText) (h : Classes) (c d : Command) (a b : Answer) → IsHierarchy h → HasNoFault h → SameSource s t → Yields size s h c a → Yields size t h d b → c ≡ d → a ≡ b
-one_yield law size s t h _ d _ b keeps fine same counted y e = checks size t h d b y e
-one_yield law size s t h _ d _ b keeps fine same (no_main none) y e = runs_same size s t h _ b keeps same (is_missing none) (runs size t h d b y e)
-one_yield law size s t h _ d _ b keeps fine same (not_taken tree main nothing) y e = runs_same size s t h _ b keeps same (is_other tree main nothing) (runs size t h d b y e)
-one_yield law size s t h _ d _ b keeps fine same (ran p rows is laid) y e = runs_same size s t h _ b keeps same (is_told p rows is laid) (runs size t h d b y e)
-one_yield law size s t h _ d _ b keeps fine same (unknown_class command name names none) y e = unknown size t h command d name b names none y e
-one_yield law size s t h _ d _ b keeps fine same (listed command listing classes answer asks is) y e = lists law size s t h command d listing classes answer b keeps fine asks is y e
+pub one_yield : OneTables → (size : ℕ) (s t : SourceText) (h : Classes) (typed : TypedProgram) (c d : Command) (a b : Answer) → IsHierarchy h → HasNoFault h → SameSource s t → Yields size s h typed c a → Yields size t h typed d b → c ≡ d → a ≡ b
+one_yield law size s t h typed _ d _ b keeps fine same counted y e = checks size t h typed d b y e
+one_yield law size s t h typed _ d _ b keeps fine same (no_main none) y e = runs_same size s t h _ b keeps same (is_missing none) (runs size t h typed d b y e)
+one_yield law size s t h typed _ d _ b keeps fine same (not_taken tree main nothing) y e = runs_same size s t h _ b keeps same (is_other tree main nothing) (runs size t h typed d b y e)
+one_yield law size s t h typed _ d _ b keeps fine same (ran p rows is laid) y e = runs_same size s t h _ b keeps same (is_told p rows is laid) (runs size t h typed d b y e)
+one_yield law size s t h typed _ d _ b keeps fine same (unknown_class command name names none) y e = unknown size t h typed command d name b names none y e
+one_yield law size s t h typed _ d _ b keeps fine same (listed command listing classes answer asks is) y e = lists law size s t h typed command d listing classes answer b keeps fine asks is y e
 
 -- words and bytes have one answer
 pub one_output : OneTables → (words : List (List ℕ)) (bytes : List ℕ) (a b : Answer) → Output words bytes a → Output words bytes b → a ≡ b
 one_output law words bytes _ _ (usage none) (usage none') = refl
 one_output law words bytes _ _ (usage none) (too_long command long) = absurd (none command)
 one_output law words bytes _ _ (usage none) (stopped e command short verdict) = absurd (none command)
-one_output law words bytes _ _ (usage none) (yielded c t k b says short verdict yields) = absurd (none (c, says))
+one_output law words bytes _ _ (usage none) (yielded c t k q b says short verdict yields) = absurd (none (c, says))
 one_output law words bytes _ _ (too_long command long) (usage none) = absurd (none command)
 one_output law words bytes _ _ (too_long command long) (too_long command' long') = refl
 one_output law words bytes _ _ (too_long command long) (stopped e command' short verdict) = absurd (omega arith)
-one_output law words bytes _ _ (too_long command long) (yielded c t k b says short verdict yields) = absurd (omega arith)
+one_output law words bytes _ _ (too_long command long) (yielded c t k q b says short verdict yields) = absurd (omega arith)
 one_output law words bytes _ _ (stopped d command short verdict) (usage none) = absurd (none command)
 one_output law words bytes _ _ (stopped d command short verdict) (too_long command' long) = absurd (omega arith)
 one_output law words bytes _ _ (stopped d command short verdict) (stopped e command' short' verdict') = ap (λ (s : Stop). line_alone (status_of_stop s)) (one_verdict bytes (Stops d) (Stops e) verdict verdict')
-one_output law words bytes _ _ (stopped d command short verdict) (yielded c t k b says short' verdict' yields) = absurd (one_verdict bytes (Stops d) (Accepts t k) verdict verdict')
-one_output law words bytes _ _ (yielded c s h a says short verdict yields) (usage none) = absurd (none (c, says))
-one_output law words bytes _ _ (yielded c s h a says short verdict yields) (too_long command long) = absurd (omega arith)
-one_output law words bytes _ _ (yielded c s h a says short verdict yields) (stopped e command short' verdict') = absurd (one_verdict bytes (Accepts s h) (Stops e) verdict verdict')
-one_output law words bytes _ _ (yielded c s h a says short verdict yields) (yielded d t k b says' short' verdict' yields') =
-    let same = one_verdict bytes (Accepts s h) (Accepts t k) verdict verdict' in
-    let here : Yields (length bytes) t h d b = subst (λ (x : Classes). Yields (length bytes) t x d b) (sym same.1) yields' in
-    one_yield law (length bytes) s t h c d a b (accepted_keeps bytes s h verdict) (accepted_fine bytes s h verdict) same.0 yields here (says_one words words c d says says' refl)
+one_output law words bytes _ _ (stopped d command short verdict) (yielded c t k q b says short' verdict' yields) = absurd (one_verdict bytes (Stops d) (Accepts t k q) verdict verdict')
+one_output law words bytes _ _ (yielded c s h p a says short verdict yields) (usage none) = absurd (none (c, says))
+one_output law words bytes _ _ (yielded c s h p a says short verdict yields) (too_long command long) = absurd (omega arith)
+one_output law words bytes _ _ (yielded c s h p a says short verdict yields) (stopped e command short' verdict') = absurd (one_verdict bytes (Accepts s h p) (Stops e) verdict verdict')
+one_output law words bytes _ _ (yielded c s h p a says short verdict yields) (yielded d t k q b says' short' verdict' yields') =
+    let same = one_verdict bytes (Accepts s h p) (Accepts t k q) verdict verdict' in
+    let classes : Yields (length bytes) t h q d b = subst (λ (x : Classes). Yields (length bytes) t x q d b) (sym same.1) yields' in
+    let here : Yields (length bytes) t h p d b = subst (λ (x : TypedProgram). Yields (length bytes) t h x d b) (sym same.2) classes in
+    one_yield law (length bytes) s t h p c d a b (accepted_keeps bytes s h p verdict) (accepted_fine bytes s h p verdict) same.0 yields here (says_one words words c d says says' refl)

@@ -9,13 +9,13 @@ use Rattle.cxx_syntax.specs.SameTrees.{SameBody, same_body, SameStatements, no_s
 use Rattle.cxx_syntax.specs.declared.source_text.Body.{Body}
 use Rattle.cxx_syntax.specs.declared.source_text.SourceText.{SourceText}
 use Rattle.cxx_syntax.specs.SameSources.{SameBodies, no_bodies, more_bodies, SameMain, SameSource}
-use Rattle.cxx_resolve.specs.declared.simple.Simple.{Simple}
-use Rattle.cxx_resolve.specs.declared.simple.SimpleLine.{SimpleLine}
-use Rattle.cxx_resolve.specs.declared.program.SimpleProgram.{SimpleProgram}
-use Rattle.cxx_resolve.specs.Form.{IsSimple, SayLines, none, next}
-use Rattle.cxx_resolve.specs.Main.{MainResolves}
-use Rattle.cxx_resolve.proofs.Whole.{one_main}
-use Rattle.cxx_resolve.proofs.FormLines.{says_nothing, same_start}
+use Rattle.cxx_simple.specs.declared.simple.Simple.{Simple}
+use Rattle.cxx_simple.specs.declared.simple.SimpleLine.{SimpleLine}
+use Rattle.cxx_simple.specs.declared.program.SimpleProgram.{SimpleProgram}
+use Rattle.cxx_simple.specs.Form.{IsSimple, SayLines, none, next}
+use Rattle.cxx_simple.specs.Main.{MainResolves}
+use Rattle.cxx_simple.proofs.Whole.{one_main}
+use Rattle.cxx_simple.proofs.FormLines.{says_nothing, same_start}
 use Rattle.cxxabi_cmd.specs.Output.{IsProgram}
 
 says_left : (s t : Statement) (x : Simple) → SameStatement s t → IsSimple t.kind x → IsSimple s.kind x

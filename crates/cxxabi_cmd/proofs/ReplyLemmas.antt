@@ -9,6 +9,7 @@ use Rattle.cxx_hierarchy.specs.declared.stop.Stop.TheVariants as stop
 use Rattle.cxx_hierarchy.specs.Classes.{Classes, class_names}
 use Rattle.cxx_syntax.specs.declared.tree.BodyTree.{BodyTree}
 use Rattle.cxx_syntax.specs.declared.source_text.SourceText.{SourceText}
+use Rattle.cxx_program.specs.declared.program.TypedProgram.{TypedProgram}
 use Rattle.abi_layout.specs.Layouts.{IsLaid}
 use Rattle.cxxabi_cmd.specs.declared.command.Command.{Command}
 use Rattle.cxxabi_cmd.specs.declared.command.Command.TheVariants.{Run}
@@ -26,20 +27,20 @@ use Rattle.cxxabi_cmd.proofs.OneProgram.{program_left}
 use Rattle.cxxabi_cmd.proofs.OneVerdict.{one_verdict}
 
 -- the listing of all classes, and of the class of a name
-pub yields_all : (r : Result Reply Want) (size : ℕ) (source : SourceText) (h : Classes) (command : Command) (listing : Listing) (classes : List ClassId) → AsksFor h command listing classes → IfOk r (λ reply. Lists h listing classes (answer_of reply)) →
-    IfOk r (λ reply. Yields size source h command (answer_of reply))
-yields_all (Ok reply) size source h command listing classes asks is = listed command listing classes (answer_of reply) asks is
-yields_all (Err w) size source h command listing classes asks is = tt
+pub yields_all : (r : Result Reply Want) (size : ℕ) (source : SourceText) (h : Classes) (typed : TypedProgram) (command : Command) (listing : Listing) (classes : List ClassId) → AsksFor h command listing classes → IfOk r (λ reply. Lists h listing classes (answer_of reply)) →
+    IfOk r (λ reply. Yields size source h typed command (answer_of reply))
+yields_all (Ok reply) size source h typed command listing classes asks is = listed command listing classes (answer_of reply) asks is
+yields_all (Err w) size source h typed command listing classes asks is = tt
 
-yields_name : (size : ℕ) (source : SourceText) (h : Classes) (command : Command) (listing : Listing) (name : List ℕ) (a : Answer) → AsksForName command name → ((c : ClassId) → slice_get (class_names h) c.0 ≡ Some name → AsksFor h command listing (c ∷ [])) →
-    ListsName size h listing name a → Yields size source h command a
-yields_name size source h command listing name _ names asks (is_unknown none) = unknown_class command name names none
-yields_name size source h command listing name _ names asks (is_class c a at lists) = listed command listing (c ∷ []) a (asks c at) lists
+yields_name : (size : ℕ) (source : SourceText) (h : Classes) (typed : TypedProgram) (command : Command) (listing : Listing) (name : List ℕ) (a : Answer) → AsksForName command name → ((c : ClassId) → slice_get (class_names h) c.0 ≡ Some name → AsksFor h command listing (c ∷ [])) →
+    ListsName size h listing name a → Yields size source h typed command a
+yields_name size source h typed command listing name _ names asks (is_unknown none) = unknown_class command name names none
+yields_name size source h typed command listing name _ names asks (is_class c a at lists) = listed command listing (c ∷ []) a (asks c at) lists
 
-pub yields_one : (r : Result Reply Want) (size : ℕ) (source : SourceText) (h : Classes) (command : Command) (listing : Listing) (name : List ℕ) → AsksForName command name → ((c : ClassId) → slice_get (class_names h) c.0 ≡ Some name → AsksFor h command listing (c ∷ [])) →
-    IfOk r (λ reply. ListsName size h listing name (answer_of reply)) → IfOk r (λ reply. Yields size source h command (answer_of reply))
-yields_one (Ok reply) size source h command listing name names asks is = yields_name size source h command listing name (answer_of reply) names asks is
-yields_one (Err w) size source h command listing name names asks is = tt
+pub yields_one : (r : Result Reply Want) (size : ℕ) (source : SourceText) (h : Classes) (typed : TypedProgram) (command : Command) (listing : Listing) (name : List ℕ) → AsksForName command name → ((c : ClassId) → slice_get (class_names h) c.0 ≡ Some name → AsksFor h command listing (c ∷ [])) →
+    IfOk r (λ reply. ListsName size h listing name (answer_of reply)) → IfOk r (λ reply. Yields size source h typed command (answer_of reply))
+yields_one (Ok reply) size source h typed command listing name names asks is = yields_name size source h typed command listing name (answer_of reply) names asks is
+yields_one (Err w) size source h typed command listing name names asks is = tt
 
 -- a main that is not there, and one that is
 pub is_missing : (m : Option BodyTree) (b : Bool) → is_some m ≡ not b → b ≡ true → m ≡ None
@@ -59,43 +60,43 @@ lists_answered : (h : Classes) (listing : Listing) (classes : List ClassId) (a :
 lists_answered h listing classes _ (whole rows text laid are short) = tt
 lists_answered h listing classes _ (too_much rows text laid are long) = tt
 
-yields_answered : (size : ℕ) (source : SourceText) (h : Classes) (command : Command) (a : Answer) → Yields size source h command a → IsAnswered a.status
-yields_answered size source h _ _ counted = tt
-yields_answered size source h _ _ (no_main empty) = tt
-yields_answered size source h _ _ (not_taken tree main nothing) = tt
-yields_answered size source h _ _ (ran program rows is laid) = answered_end (run_by h rows program).ending
-yields_answered size source h _ _ (unknown_class command name names empty) = tt
-yields_answered size source h _ _ (listed command listing classes answer asks lists) = lists_answered h listing classes answer lists
+yields_answered : (size : ℕ) (source : SourceText) (h : Classes) (typed : TypedProgram) (command : Command) (a : Answer) → Yields size source h typed command a → IsAnswered a.status
+yields_answered size source h typed _ _ counted = tt
+yields_answered size source h typed _ _ (no_main empty) = tt
+yields_answered size source h typed _ _ (not_taken tree main nothing) = tt
+yields_answered size source h typed _ _ (ran program rows is laid) = answered_end (run_by h rows program).ending
+yields_answered size source h typed _ _ (unknown_class command name names empty) = tt
+yields_answered size source h typed _ _ (listed command listing classes answer asks lists) = lists_answered h listing classes answer lists
 
-pub reply_answered : (r : Result Reply Want) (size : ℕ) (source : SourceText) (h : Classes) (command : Command) → IfOk r (λ reply. Yields size source h command (answer_of reply)) → IfOk r (λ reply. IsAnswered reply.status)
-reply_answered (Ok reply) size source h command is = yields_answered size source h command (answer_of reply) is
-reply_answered (Err w) size source h command is = is
+pub reply_answered : (r : Result Reply Want) (size : ℕ) (source : SourceText) (h : Classes) (typed : TypedProgram) (command : Command) → IfOk r (λ reply. Yields size source h typed command (answer_of reply)) → IfOk r (λ reply. IsAnswered reply.status)
+reply_answered (Ok reply) size source h typed command is = yields_answered size source h typed command (answer_of reply) is
+reply_answered (Err w) size source h typed command is = is
 
 -- the output for an accepted source
-pub accepted_output : (r : Result Reply Want) (size : ℕ) (bytes : List ℕ) (source : SourceText) (h : Classes) (command : Command) → IfOk r (λ reply. Yields size source h command (answer_of reply)) → size ≡ length bytes → length bytes ≤ 262144 → Verdict bytes (Accepts source h) →
+pub accepted_output : (r : Result Reply Want) (size : ℕ) (bytes : List ℕ) (source : SourceText) (h : Classes) (typed : TypedProgram) (command : Command) → IfOk r (λ reply. Yields size source h typed command (answer_of reply)) → size ≡ length bytes → length bytes ≤ 262144 → Verdict bytes (Accepts source h typed) →
     IfOk r (λ reply. (words : List (List ℕ)) → Says words command → Output words bytes (answer_of reply))
-accepted_output (Ok reply) size bytes source h command is same short verdict =
-    λ words says. yielded command source h (answer_of reply) says short verdict (subst (λ (n : ℕ). Yields n source h command (answer_of reply)) same is)
-accepted_output (Err w) size bytes source h command is same short verdict = is
+accepted_output (Ok reply) size bytes source h typed command is same short verdict =
+    λ words says. yielded command source h typed (answer_of reply) says short verdict (subst (λ (n : ℕ). Yields n source h typed command (answer_of reply)) same is)
+accepted_output (Err w) size bytes source h typed command is same short verdict = is
 
 -- the machine for an accepted source
-hands : (words : List (List ℕ)) (bytes : List ℕ) (source : SourceText) (h : Classes) (command : Command) (m : Option Seen) → HandsBy command source h m → length bytes ≤ 262144 → Verdict bytes (Accepts source h) → Says words command → HandsOut words bytes m
-hands words bytes source h command None nothing short verdict says = λ k rows program has.
-    let same = one_verdict bytes (Accepts source h) (Accepts has.is_run.source k) verdict has.is_run.accepted in
+hands : (words : List (List ℕ)) (bytes : List ℕ) (source : SourceText) (h : Classes) (typed : TypedProgram) (command : Command) (m : Option Seen) → HandsBy command source h m → length bytes ≤ 262144 → Verdict bytes (Accepts source h typed) → Says words command → HandsOut words bytes m
+hands words bytes source h typed command None nothing short verdict says = λ k rows program has.
+    let same = one_verdict bytes (Accepts source h typed) (Accepts has.is_run.source k has.is_run.typed) verdict has.is_run.accepted in
     let here : IsProgram has.is_run.source h program = subst (λ (x : Classes). IsProgram has.is_run.source x program) (sym same.1) has.is_run.is_program in
     nothing (says_one words words command Run says has.asked refl) program rows (program_left source has.is_run.source h program same.0 here) (subst (λ (x : Classes). IsLaid x rows) (sym same.1) has.is_run.laid)
-hands words bytes source h command (Some m) run short verdict says = record {
+hands words bytes source h typed command (Some m) run short verdict says = record {
   h = h;
   rows = run.1.rows;
   program = run.1.program;
-  has_run = record { asked = subst (λ (c : Command). Says words c) run.0 says; short = short; is_run = record { source = source; accepted = verdict; is_program = run.1.is_program; laid = run.1.laid } };
+  has_run = record { asked = subst (λ (c : Command). Says words c) run.0 says; short = short; is_run = record { source = source; typed = typed; accepted = verdict; is_program = run.1.is_program; laid = run.1.laid } };
   is_machine = run.1.is_machine;
 }
 
-pub accepted_machine : (r : Result Reply Want) (bytes : List ℕ) (source : SourceText) (h : Classes) (command : Command) → IfOk r (λ reply. HandsBy command source h (machine_of reply)) → length bytes ≤ 262144 → Verdict bytes (Accepts source h) →
+pub accepted_machine : (r : Result Reply Want) (bytes : List ℕ) (source : SourceText) (h : Classes) (typed : TypedProgram) (command : Command) → IfOk r (λ reply. HandsBy command source h (machine_of reply)) → length bytes ≤ 262144 → Verdict bytes (Accepts source h typed) →
     IfOk r (λ reply. (words : List (List ℕ)) → Says words command → HandsOut words bytes (machine_of reply))
-accepted_machine (Ok reply) bytes source h command is short verdict = λ words says. hands words bytes source h command (machine_of reply) is short verdict says
-accepted_machine (Err w) bytes source h command is short verdict = is
+accepted_machine (Ok reply) bytes source h typed command is short verdict = λ words says. hands words bytes source h typed command (machine_of reply) is short verdict says
+accepted_machine (Err w) bytes source h typed command is short verdict = is
 
 -- the output for a source that stops
 abbrev pub IsStopped : Stop → Reply → Type 0
@@ -108,7 +109,7 @@ stopped_output (Ok reply) bytes command s is either short =
 stopped_output (Err w) bytes command s is either short = is
 
 stopped_hands : (words : List (List ℕ)) (bytes : List ℕ) (s : Stop) (m : Option Seen) → m ≡ None → Verdict bytes (Stops s) → HandsOut words bytes m
-stopped_hands words bytes s m same verdict = subst (λ (n : Option Seen). HandsOut words bytes n) (sym same) (λ h rows program has. one_verdict bytes (Stops s) (Accepts has.is_run.source h) verdict has.is_run.accepted)
+stopped_hands words bytes s m same verdict = subst (λ (n : Option Seen). HandsOut words bytes n) (sym same) (λ h rows program has. one_verdict bytes (Stops s) (Accepts has.is_run.source h has.is_run.typed) verdict has.is_run.accepted)
 
 pub stopped_machine : (r : Result Reply Want) (bytes : List ℕ) (command : Command) (s : Stop) → IfOk r (λ reply. IsStopped s reply) → IfOk r (λ reply. machine_of reply ≡ None) → (s ≡ stop.NoMemory) ⊎ Verdict bytes (Stops s) →
     IfOk r (λ reply. (words : List (List ℕ)) → Says words command → HandsOut words bytes (machine_of reply))

@@ -1,5 +1,5 @@
 -- Words and the bytes of a source have an answer.
-use Rattle.std.proofs.Common.{◌≡◌, ℕ, zero, suc, ◌≤◌, ◌⊎◌, ⊎_elim, inl, inr, Option, Some, None, List, [], ◌∷◌, length, refl, sym, ◌∙◌, subst}
+use Rattle.std.proofs.Common.{◌≡◌, ℕ, zero, suc, ◌≤◌, ◌⊎◌, ⊎_elim, inl, inr, Option, Some, None, Result, Ok, Err, List, [], ◌∷◌, length, refl, sym, ◌∙◌, subst}
 use Rattle.std.specs.Prelude.{slice_get}
 use Rattle.std.proofs.lemmas.Bool.{cases_lt}
 use Rattle.cxx_grammar.specs.Lexemes.{lexemes, source_start}
@@ -16,9 +16,11 @@ use Rattle.cxx_hierarchy.specs.Hierarchies.{IsHierarchy}
 use Rattle.cxx_hierarchy.specs.Resolved.{resolved}
 use Rattle.cxx_syntax.specs.declared.tree.BodyTree.{BodyTree}
 use Rattle.cxx_syntax.specs.declared.source_text.SourceText.{SourceText}
-use Rattle.cxx_resolve.specs.declared.program.SimpleProgram.{SimpleProgram}
-use Rattle.cxx_resolve.specs.Main.{MainResolves}
-use Rattle.cxx_resolve.proofs.MainDecisions.{some_program as main_or_none}
+use Rattle.cxx_program.specs.declared.program.TypedProgram.{TypedProgram}
+use Rattle.cxx_simple.specs.declared.program.SimpleProgram.{SimpleProgram}
+use Rattle.cxx_resolve.specs.Programs.{program_of}
+use Rattle.cxx_simple.specs.Main.{MainResolves}
+use Rattle.cxx_simple.proofs.MainDecisions.{some_program as main_or_none}
 use Rattle.abi_layout.proofs.rules.SomeLayout.{some_layout}
 use Rattle.foundation.proofs.Places.{place_of}
 use Rattle.cxx_overrider.proofs.FaultSearch.{class_answer}
@@ -29,7 +31,7 @@ use Rattle.cxxabi_cmd.specs.declared.listing.Listing.{Listing}
 use Rattle.cxxabi_cmd.specs.declared.listing.Listing.TheVariants.{OfLayout, OfTables}
 use Rattle.cxxabi_cmd.specs.declared.status.Status.TheVariants.{Refused, Usage, Limit}
 use Rattle.cxxabi_cmd.specs.Commands.{IsCommand}
-use Rattle.cxxabi_cmd.specs.Verdict.{AreLexemes, IsSource, HasNoFault, Judgement, Verdict, Stops, Accepts, by_text, by_records, by_classes, by_words, accepted}
+use Rattle.cxxabi_cmd.specs.Verdict.{AreLexemes, IsSource, HasNoFault, Judgement, Verdict, Stops, Accepts, by_text, by_records, by_classes, by_bodies, by_words, accepted}
 use Rattle.cxxabi_cmd.specs.Output.{source_limit, text_limit, Answer, AsksFor, all_layouts, one_layout, all_tables, one_tables, AsksForName, named_layout, named_tables, IsProgram, Lists, whole, too_much, Yields, counted, no_main, not_taken, ran, unknown_class, listed, Output, usage, too_long, stopped, yielded, line_alone, count_answer, text_answer, status_of_stop, run_answer, run_by, numbered, first_classes}
 use Rattle.cxxabi_cmd.proofs.Accepting.{source_keeps, accepted_keeps, accepted_fine}
 use Rattle.cxxabi_cmd.proofs.LaidRows.{no_meaning, sound_rows, words_decided}
@@ -50,14 +52,18 @@ some_first : (faults : List Stop) → HasFirst faults
 some_first [] = is_empty refl
 some_first (stop ∷ rest) = is_first stop refl
 
-judged_words : (text : List ℕ) (source : SourceText) → IsSource text source → faults_of source.records ≡ [] → HasNoFault (resolved source.records) → (judgement : Judgement) × Verdict text judgement
-judged_words text source is none nothing =
-    ⊎_elim (λ many. (Stops (AtLimit L7), by_words source is none nothing many)) (λ few. (Accepts source (resolved source.records), accepted source is none nothing few))
+judged_words : (text : List ℕ) (source : SourceText) (program : TypedProgram) → IsSource text source → faults_of source.records ≡ [] → HasNoFault (resolved source.records) → program_of (resolved source.records) source ≡ Ok program → (judgement : Judgement) × Verdict text judgement
+judged_words text source program is none nothing resolves =
+    ⊎_elim (λ many. (Stops (AtLimit L7), by_words source program is none nothing resolves many)) (λ few. (Accepts source (resolved source.records) program, accepted source program is none nothing resolves few))
     (words_decided (resolved source.records) (source_keeps text source is none))
+
+judged_bodies : (text : List ℕ) (source : SourceText) (answer : Result TypedProgram Stop) → IsSource text source → faults_of source.records ≡ [] → HasNoFault (resolved source.records) → program_of (resolved source.records) source ≡ answer → (judgement : Judgement) × Verdict text judgement
+judged_bodies text source (Ok program) is none nothing resolves = judged_words text source program is none nothing resolves
+judged_bodies text source (Err stop) is none nothing resolves = (Stops stop, by_bodies source stop is none nothing resolves)
 
 judged_classes : (text : List ℕ) (source : SourceText) → IsSource text source → faults_of source.records ≡ [] → (judgement : Judgement) × Verdict text judgement
 judged_classes text source is none =
-    ⊎_elim (λ first. (Stops first.0, by_classes source first.0 is none first.1)) (λ nothing. judged_words text source is none nothing)
+    ⊎_elim (λ first. (Stops first.0, by_classes source first.0 is none first.1)) (λ nothing. judged_bodies text source (program_of (resolved source.records) source) is none nothing refl)
     (some_fault (resolved source.records) (classes_decided (resolved source.records) (source_keeps text source is none)))
 
 judged_records : (text : List ℕ) (source : SourceText) → IsSource text source → HasFirst (faults_of source.records) → (judgement : Judgement) × Verdict text judgement
@@ -99,14 +105,14 @@ lists law h listing classes keeps fine known =
     ⊎_elim (λ long. (line_alone (Limit L9), too_much laid.0 texts.0 laid.1 texts.1 long)) (λ short. (text_answer texts.0, whole laid.0 texts.0 laid.1 texts.1 short))
     (cases_lt text_limit (length texts.0))
 
-yields_list : SomeTables → (size : ℕ) (source : SourceText) (h : Classes) (command : Command) (listing : Listing) (classes : List ClassId) → IsHierarchy h → HasNoFault h → AsksFor h command listing classes → (answer : Answer) × Yields size source h command answer
-yields_list law size source h command listing classes keeps fine asks =
+yields_list : SomeTables → (size : ℕ) (source : SourceText) (h : Classes) (typed : TypedProgram) (command : Command) (listing : Listing) (classes : List ClassId) → IsHierarchy h → HasNoFault h → AsksFor h command listing classes → (answer : Answer) × Yields size source h typed command answer
+yields_list law size source h typed command listing classes keeps fine asks =
     let is = lists law h listing classes keeps fine (asked_known h command listing classes asks) in (is.0, listed command listing classes is.0 asks is.1)
 
-yields_named : SomeTables → (size : ℕ) (source : SourceText) (h : Classes) (command : Command) (listing : Listing) (name : List ℕ) → IsHierarchy h → HasNoFault h → AsksForName command name →
-    ((c : ClassId) → slice_get (class_names h) c.0 ≡ Some name → AsksFor h command listing (c ∷ [])) → IsThere (class_names h) name → (answer : Answer) × Yields size source h command answer
-yields_named law size source h command listing name keeps fine names asks (there_at n at) = yields_list law size source h command listing (numbered n ∷ []) keeps fine (asks (numbered n) at)
-yields_named law size source h command listing name keeps fine names asks (nowhere none) =
+yields_named : SomeTables → (size : ℕ) (source : SourceText) (h : Classes) (typed : TypedProgram) (command : Command) (listing : Listing) (name : List ℕ) → IsHierarchy h → HasNoFault h → AsksForName command name →
+    ((c : ClassId) → slice_get (class_names h) c.0 ≡ Some name → AsksFor h command listing (c ∷ [])) → IsThere (class_names h) name → (answer : Answer) × Yields size source h typed command answer
+yields_named law size source h typed command listing name keeps fine names asks (there_at n at) = yields_list law size source h typed command listing (numbered n ∷ []) keeps fine (asks (numbered n) at)
+yields_named law size source h typed command listing name keeps fine names asks (nowhere none) =
     (line_alone (Refused UnknownName size), unknown_class command name names (λ has. let place = place_of (class_names h) name has in none place.0 place.1))
 
 -- a source is a program, or it is none
@@ -138,28 +144,28 @@ some_program source h tree keeps main =
     (λ other. inr (no_globals source h other))
     (is_nothing source.globals)
 
-yields_run : (size : ℕ) (source : SourceText) (h : Classes) (main : Option BodyTree) → IsHierarchy h → source.main ≡ main → (answer : Answer) × Yields size source h Run answer
-yields_run size source h None keeps main = (line_alone (Refused UnknownName size), no_main main)
-yields_run size source h (Some tree) keeps main =
+yields_run : (size : ℕ) (source : SourceText) (h : Classes) (typed : TypedProgram) (main : Option BodyTree) → IsHierarchy h → source.main ≡ main → (answer : Answer) × Yields size source h typed Run answer
+yields_run size source h typed None keeps main = (line_alone (Refused UnknownName size), no_main main)
+yields_run size source h typed (Some tree) keeps main =
     ⊎_elim
     (λ found. let laid = some_layout h keeps in (run_answer h laid.0 (run_by h laid.0 found.0), ran found.0 laid.0 found.1 laid.1))
     (λ none. (line_alone (Refused Syntax 0), not_taken tree main none))
     (some_program source h tree keeps main)
 
 -- a command has an answer to an accepted source
-pub some_yield : SomeTables → (size : ℕ) (source : SourceText) (h : Classes) (command : Command) → IsHierarchy h → HasNoFault h → (answer : Answer) × Yields size source h command answer
-some_yield law size source h Check keeps fine = (count_answer h, counted)
-some_yield law size source h Run keeps fine = yields_run size source h source.main keeps refl
-some_yield law size source h Layout keeps fine = yields_list law size source h Layout OfLayout (first_classes (length h)) keeps fine all_layouts
-some_yield law size source h (LayoutOf name) keeps fine = yields_named law size source h (LayoutOf name) OfLayout name keeps fine (named_layout name) (one_layout name) (some_place (class_names h) name)
-some_yield law size source h Tables keeps fine = yields_list law size source h Tables OfTables (first_classes (length h)) keeps fine all_tables
-some_yield law size source h (TablesOf name) keeps fine = yields_named law size source h (TablesOf name) OfTables name keeps fine (named_tables name) (one_tables name) (some_place (class_names h) name)
+pub some_yield : SomeTables → (size : ℕ) (source : SourceText) (h : Classes) (typed : TypedProgram) (command : Command) → IsHierarchy h → HasNoFault h → (answer : Answer) × Yields size source h typed command answer
+some_yield law size source h typed Check keeps fine = (count_answer h, counted)
+some_yield law size source h typed Run keeps fine = yields_run size source h typed source.main keeps refl
+some_yield law size source h typed Layout keeps fine = yields_list law size source h typed Layout OfLayout (first_classes (length h)) keeps fine all_layouts
+some_yield law size source h typed (LayoutOf name) keeps fine = yields_named law size source h typed (LayoutOf name) OfLayout name keeps fine (named_layout name) (one_layout name) (some_place (class_names h) name)
+some_yield law size source h typed Tables keeps fine = yields_list law size source h typed Tables OfTables (first_classes (length h)) keeps fine all_tables
+some_yield law size source h typed (TablesOf name) keeps fine = yields_named law size source h typed (TablesOf name) OfTables name keeps fine (named_tables name) (one_tables name) (some_place (class_names h) name)
 
 output_by : SomeTables → (words : List (List ℕ)) (bytes : List ℕ) → IsCommand words → length bytes ≤ source_limit → (judgement : Judgement) → Verdict bytes judgement → (answer : Answer) × Output words bytes answer
 output_by law words bytes command short (Stops stop) verdict = (line_alone (status_of_stop stop), stopped stop command short verdict)
-output_by law words bytes command short (Accepts source h) verdict =
-    let yields = some_yield law (length bytes) source h command.0 (accepted_keeps bytes source h verdict) (accepted_fine bytes source h verdict) in
-    (yields.0, yielded command.0 source h yields.0 command.1 short verdict yields.1)
+output_by law words bytes command short (Accepts source h typed) verdict =
+    let yields = some_yield law (length bytes) source h typed command.0 (accepted_keeps bytes source h typed verdict) (accepted_fine bytes source h typed verdict) in
+    (yields.0, yielded command.0 source h typed yields.0 command.1 short verdict yields.1)
 
 -- words and bytes have an answer
 pub some_output : SomeTables → (words : List (List ℕ)) (bytes : List ℕ) → (answer : Answer) × Output words bytes answer

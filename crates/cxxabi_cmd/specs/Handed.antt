@@ -9,7 +9,8 @@ use Rattle.byte_machine.specs.MachineState.{code_of, image_of, state_of}
 use Rattle.byte_machine.specs.Turn.{State, begun}
 use Rattle.cxx_hierarchy.specs.Classes.{Classes}
 use Rattle.cxx_syntax.specs.declared.source_text.SourceText.{SourceText}
-use Rattle.cxx_resolve.specs.declared.program.SimpleProgram.{SimpleProgram}
+use Rattle.cxx_program.specs.declared.program.TypedProgram.{TypedProgram}
+use Rattle.cxx_simple.specs.declared.program.SimpleProgram.{SimpleProgram}
 use Rattle.abi_sound.specs.declared.class_layout.ClassLayout.{ClassLayout}
 use Rattle.abi_sound.specs.Places.{places_of}
 use Rattle.abi_layout.specs.Layouts.{IsLaid}
@@ -42,7 +43,8 @@ pub record IsMachineOf (h : Classes) (rows : List ClassLayout) (program : Simple
 -- the source is accepted, and its main is run as this program over this layout
 pub record IsRun (bytes : List ℕ) (h : Classes) (rows : List ClassLayout) (program : SimpleProgram) : Type 0 where
   pub source : SourceText
-  pub accepted : Verdict bytes (Accepts source h)
+  pub typed : TypedProgram
+  pub accepted : Verdict bytes (Accepts source h typed)
   pub is_program : IsProgram source h program
   pub laid : IsLaid h rows
 

@@ -10,10 +10,11 @@ use Rattle.cxx_hierarchy.specs.declared.stop.Stop.TheVariants as stop
 use Rattle.cxx_hierarchy.specs.Classes.{Classes, class_names}
 use Rattle.cxx_syntax.specs.declared.tree.BodyTree.{BodyTree}
 use Rattle.cxx_syntax.specs.declared.source_text.SourceText.{SourceText}
-use Rattle.cxx_resolve.specs.declared.program.SimpleProgram.{SimpleProgram}
-use Rattle.cxx_resolve.specs.Main.{MainResolves}
-use Rattle.path_model.specs.Runs.{Ran, Ending, Done as IsDone, UndefinedAt, OutOfSteps as IsOutOfSteps, LimitMet, run_of}
-use Rattle.path_model.specs.Rules.{undefined_no}
+use Rattle.cxx_program.specs.declared.program.TypedProgram.{TypedProgram}
+use Rattle.cxx_simple.specs.declared.program.SimpleProgram.{SimpleProgram}
+use Rattle.cxx_simple.specs.Main.{MainResolves}
+use Rattle.simple_model.specs.Runs.{Ran, Ending, Done as IsDone, UndefinedAt, OutOfSteps as IsOutOfSteps, LimitMet, run_of}
+use Rattle.path_rules.specs.Rules.{undefined_no}
 use Rattle.abi_sound.specs.declared.class_layout.ClassLayout.{ClassLayout}
 use Rattle.abi_sound.specs.Places.{places_of}
 use Rattle.abi_tables.specs.declared.tables.ClassTables.{ClassTables}
@@ -139,24 +140,24 @@ pub data Lists (h : Classes) (listing : Listing) (classes : List ClassId) : Answ
   whole : (rows : List ClassLayout) (text : List ℕ) → IsLaid h rows → AreTexts h rows listing classes text → length text ≤ text_limit → Lists h listing classes (text_answer text)
   too_much : (rows : List ClassLayout) (text : List ℕ) → IsLaid h rows → AreTexts h rows listing classes text → text_limit < length text → Lists h listing classes (line_alone (Limit L9))
 
--- what a command answers to an accepted source of so many bytes
-pub data Yields (size : ℕ) (source : SourceText) (h : Classes) : Command → Answer → Type 0 where
-  counted : Yields size source h Check (count_answer h)
-  no_main : source.main ≡ None → Yields size source h Run (line_alone (Refused UnknownName size))
+-- what a command answers to an accepted source of so many bytes, which resolves to this program
+pub data Yields (size : ℕ) (source : SourceText) (h : Classes) (typed : TypedProgram) : Command → Answer → Type 0 where
+  counted : Yields size source h typed Check (count_answer h)
+  no_main : source.main ≡ None → Yields size source h typed Run (line_alone (Refused UnknownName size))
   not_taken : (tree : BodyTree) → source.main ≡ Some tree → ((program : SimpleProgram) → IsProgram source h program → ⊥) →
-      Yields size source h Run (line_alone (Refused Syntax 0))
+      Yields size source h typed Run (line_alone (Refused Syntax 0))
   ran : (program : SimpleProgram) (rows : List ClassLayout) → IsProgram source h program → IsLaid h rows →
-      Yields size source h Run (run_answer h rows (run_by h rows program))
-  unknown_class : (command : Command) (name : List ℕ) → AsksForName command name → (Contains (class_names h) name → ⊥) → Yields size source h command (line_alone (Refused UnknownName size))
-  listed : (command : Command) (listing : Listing) (classes : List ClassId) (answer : Answer) → AsksFor h command listing classes → Lists h listing classes answer → Yields size source h command answer
+      Yields size source h typed Run (run_answer h rows (run_by h rows program))
+  unknown_class : (command : Command) (name : List ℕ) → AsksForName command name → (Contains (class_names h) name → ⊥) → Yields size source h typed command (line_alone (Refused UnknownName size))
+  listed : (command : Command) (listing : Listing) (classes : List ClassId) (answer : Answer) → AsksFor h command listing classes → Lists h listing classes answer → Yields size source h typed command answer
 
 -- what is answered to words and the bytes of a source
 pub data Output (words : List (List ℕ)) (bytes : List ℕ) : Answer → Type 0 where
   usage : (IsCommand words → ⊥) → Output words bytes (line_alone Usage)
   too_long : IsCommand words → source_limit < length bytes → Output words bytes (line_alone (Limit L1))
   stopped : (stop : Stop) → IsCommand words → length bytes ≤ source_limit → Verdict bytes (Stops stop) → Output words bytes (line_alone (status_of_stop stop))
-  yielded : (command : Command) (source : SourceText) (h : Classes) (answer : Answer) → Says words command → length bytes ≤ source_limit →
-      Verdict bytes (Accepts source h) → Yields (length bytes) source h command answer → Output words bytes answer
+  yielded : (command : Command) (source : SourceText) (h : Classes) (typed : TypedProgram) (answer : Answer) → Says words command → length bytes ≤ source_limit →
+      Verdict bytes (Accepts source h typed) → Yields (length bytes) source h typed command answer → Output words bytes answer
 
 -- an answer was written: neither a fault nor want of memory
 abbrev pub IsAnswered : Status → Type 0

@@ -1,5 +1,5 @@
 -- What the passes over a source say of it.
-use Rattle.std.specs.Prelude.{◌≡◌, ℕ, ◌<◌, ◌≤◌, Option, Some, List, [], length}
+use Rattle.std.specs.Prelude.{◌≡◌, ℕ, ◌<◌, ◌≤◌, Option, Some, Ok, Err, List, [], length}
 use Rattle.cxx_text.specs.declared.token.Token.{Token}
 use Rattle.cxx_text.specs.Cover.{AreTokens}
 use Rattle.cxx_grammar.specs.declared.sort.Lexeme.{Lexeme}
@@ -17,6 +17,8 @@ use Rattle.cxx_hierarchy.specs.Resolved.{resolved}
 use Rattle.cxx_syntax.specs.declared.source_text.SourceText.{SourceText}
 use Rattle.cxx_syntax.specs.Sources.{SourceReads}
 use Rattle.cxx_overrider.specs.Faults.{Spot, spot, size_part, place_part, IsBefore, Fault as MeaningFault}
+use Rattle.cxx_program.specs.declared.program.TypedProgram.{TypedProgram}
+use Rattle.cxx_resolve.specs.Programs.{program_of}
 use Rattle.abi_sound.specs.declared.class_layout.ClassLayout.{ClassLayout}
 use Rattle.abi_sound.specs.Places.{places_of}
 use Rattle.abi_count.specs.Counts.{all_words, most_words}
@@ -73,16 +75,20 @@ pub record HasFewWords (h : Classes) : Type 0 where
   pub laid : IsLaid h rows
   pub few : all_words h (places_of h rows) ≤ most_words
 
--- what is said of a source: where it stops, or that it is accepted, with its classes
+-- what is said of a source: where it stops, or that it is accepted, with its classes and what its globals and bodies resolve to
 pub data Judgement : Type 0 where
   Stops : Stop → Judgement
-  Accepts : SourceText → Classes → Judgement
+  Accepts : SourceText → Classes → TypedProgram → Judgement
 
--- the passes in their order: the text, the class records, the classes with their counts, meanings, sizes and places, and the
--- words of their tables
+-- the passes in their order: the text, the class records, the classes with their counts, meanings, sizes and places, the globals
+-- and bodies, and the words of the tables
 pub data Verdict (text : List ℕ) : Judgement → Type 0 where
   by_text : (stop : Stop) → StopsText text stop → Verdict text (Stops stop)
   by_records : (source : SourceText) (stop : Stop) → IsSource text source → first_of (faults_of source.records) ≡ Some stop → Verdict text (Stops stop)
   by_classes : (source : SourceText) (stop : Stop) → IsSource text source → faults_of source.records ≡ [] → IsFirstFault (resolved source.records) stop → Verdict text (Stops stop)
-  by_words : (source : SourceText) → IsSource text source → faults_of source.records ≡ [] → HasNoFault (resolved source.records) → HasManyWords (resolved source.records) → Verdict text (Stops (Limit L7))
-  accepted : (source : SourceText) → IsSource text source → faults_of source.records ≡ [] → HasNoFault (resolved source.records) → HasFewWords (resolved source.records) → Verdict text (Accepts source (resolved source.records))
+  by_bodies : (source : SourceText) (stop : Stop) → IsSource text source → faults_of source.records ≡ [] → HasNoFault (resolved source.records) →
+      program_of (resolved source.records) source ≡ Err stop → Verdict text (Stops stop)
+  by_words : (source : SourceText) (program : TypedProgram) → IsSource text source → faults_of source.records ≡ [] → HasNoFault (resolved source.records) →
+      program_of (resolved source.records) source ≡ Ok program → HasManyWords (resolved source.records) → Verdict text (Stops (Limit L7))
+  accepted : (source : SourceText) (program : TypedProgram) → IsSource text source → faults_of source.records ≡ [] → HasNoFault (resolved source.records) →
+      program_of (resolved source.records) source ≡ Ok program → HasFewWords (resolved source.records) → Verdict text (Accepts source (resolved source.records) program)

@@ -3,10 +3,10 @@
 ghost use Rattle.std.specs.Prelude.{◌≡◌, ◌≤◌, ℕ, Some, None, List, IfOk, MatchOption, length};
 ghost use Rattle.std.specs.Option.{option_map};
 ghost use Rattle.cxx_hierarchy.specs.declared.stop.Stop.{Stop};
-ghost use Rattle.cxx_resolve.specs.declared.program.SimpleProgram.{SimpleProgram};
-ghost use Rattle.cxx_resolve.specs.Typed.{IsTypedProgram};
-ghost use Rattle.path_model.specs.Rules.{undefined_no};
-ghost use Rattle.path_model.specs.declared.Undefined.{Undefined};
+ghost use Rattle.cxx_simple.specs.declared.program.SimpleProgram.{SimpleProgram};
+ghost use Rattle.cxx_simple.specs.Typed.{IsTypedProgram};
+ghost use Rattle.path_rules.specs.Rules.{undefined_no};
+ghost use Rattle.path_rules.specs.declared.Undefined.{Undefined};
 ghost use Rattle.abi_sound.specs.declared.class_layout.ClassLayout.{ClassLayout};
 ghost use Rattle.abi_layout.specs.AbiLayouts.{IsAbiLayout};
 ghost use Rattle.abi_layout.specs.Layouts.{IsLaid};
@@ -25,10 +25,10 @@ use crate::verdict::Accepted;
 use abi_layout::AbiLayout;
 use abi_refine::{End, Execution, execute};
 use cxx_hierarchy::{Hierarchy, Rule, Stop};
-use cxx_resolve::{SimpleProgram, resolve_main};
+use cxx_simple::{SimpleProgram, resolve_main};
 use cxx_syntax::SourceText;
 use foundation::NoMemory;
-use path_model::Undefined;
+use path_rules::Undefined;
 use std::alloc::Global;
 
 // The number of a rule.
@@ -121,7 +121,7 @@ fn program_of(
 // What is answered to `run`.
 fn run_main(alloc: Global, size: u32, accepted: &Accepted) -> Result<Reply, NoMemory>
     requires { IsReady accepted.now }
-    ensures yields { IfOk result (λ reply. Yields size accepted.now.source accepted.now.hierarchy Command.Run (answer_of reply)) }
+    ensures yields { IfOk result (λ reply. Yields size accepted.now.source accepted.now.hierarchy accepted.now.program Command.Run (answer_of reply)) }
     ensures machine { IfOk result (λ reply. HandsBy Command.Run accepted.now.source accepted.now.hierarchy (machine_of reply)) }
 {
     accepted.hierarchy.keeps();
@@ -142,7 +142,7 @@ pub(crate) fn answer(
     accepted: &Accepted,
 ) -> Result<Reply, NoMemory>
     requires { IsReady accepted.now }
-    ensures yields { IfOk result (λ reply. Yields size accepted.now.source accepted.now.hierarchy command.now (answer_of reply)) }
+    ensures yields { IfOk result (λ reply. Yields size accepted.now.source accepted.now.hierarchy accepted.now.program command.now (answer_of reply)) }
     ensures machine { IfOk result (λ reply. HandsBy command.now accepted.now.source accepted.now.hierarchy (machine_of reply)) }
 {
     match command {

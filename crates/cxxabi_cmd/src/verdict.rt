@@ -16,15 +16,19 @@ use abi_slots::Slots;
 use cxx_decl_parser::parse_source;
 use cxx_hierarchy::{Hierarchy, LimitNo, Stop, build};
 use cxx_overrider::{ClassStop, Overriders, check_by_class};
+use cxx_program::TypedProgram;
+use cxx_resolve::resolve;
 use cxx_syntax::SourceText;
 use cxx_text::tokens;
 use std::alloc::Global;
 
-// A source that is accepted, its classes, their final overriders, their layout, and what they list for their tables.
+// A source that is accepted, its classes, what its globals and bodies resolve to, the final overriders and the layout of the
+// classes, and what they list for their tables.
 #[derive(Drop)]
 pub(crate) struct Accepted {
     pub(crate) source: SourceText,
     pub(crate) hierarchy: Hierarchy,
+    pub(crate) program: TypedProgram,
     pub(crate) overriders: Overriders,
     pub(crate) layout: AbiLayout,
     pub(crate) slots: Slots,
@@ -95,7 +99,7 @@ fn check_tables(
 // Errors: the first refusal or limit that they meet, or want of memory.
 pub(crate) fn judge(alloc: Global, bytes: &[u8]) -> Result<Accepted, Stop>
     requires { length bytes.now ≤ source_limit }
-    ensures ok { IfOk result (λ accepted. Verdict bytes.now (Accepts accepted.source accepted.hierarchy)) }
+    ensures ok { IfOk result (λ accepted. Verdict bytes.now (Accepts accepted.source accepted.hierarchy accepted.program)) }
     ensures ready { IfOk result (λ accepted. IsReady accepted) }
     ensures err { IfErr result (λ stop. (stop ≡ Stop.NoMemory) ⊎ Verdict bytes.now (Stops stop)) }
 {
@@ -103,10 +107,12 @@ pub(crate) fn judge(alloc: Global, bytes: &[u8]) -> Result<Accepted, Stop>
     let source = parse_source(alloc, bytes, &list)?;
     let hierarchy = build(alloc, &source.records)?;
     let (overriders, layout) = check_classes(alloc, &hierarchy)?;
+    let program = resolve(alloc, &hierarchy, &overriders, &source)?;
     match check_tables(alloc, &hierarchy, &overriders, &layout) {
         Ok(slots) => Ok(Accepted {
             source,
             hierarchy,
+            program,
             overriders,
             layout,
             slots,

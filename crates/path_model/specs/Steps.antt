@@ -1,131 +1,171 @@
--- One step of a run.
-use Rattle.std.specs.Prelude.{ℕ, ℤ, ◌+◌, ◌*◌, ◌/◌, Bool, nat_lt, nat_eq, ◌&&◌, if◌then◌else◌, pos, Option, Some, None, List, [], ◌∷◌, ◌++◌, length, slice_get, slice_set, sum_by}
+-- One step of a run: a statement, a condition, an event of a plan, or the end of a body.
+use Rattle.std.specs.Prelude.{ℕ, Bool, true, false, if◌then◌else◌, Option, Some, None, List, [], ◌∷◌, slice_get}
 use Rattle.cxx_hierarchy.specs.declared.records.ClassId.{ClassId}
-use Rattle.cxx_hierarchy.specs.declared.records.ValueType.{ValueType}
-use Rattle.cxx_hierarchy.specs.declared.records.ValueType.TheVariants.{Number as NumberType, Pointer as PointerType}
-use Rattle.cxx_hierarchy.specs.declared.stop.LimitNo.{LimitNo}
-use Rattle.cxx_hierarchy.specs.declared.stop.LimitNo.TheVariants.{L8}
-use Rattle.cxx_hierarchy.specs.Scalars.{stored_as}
-use Rattle.cxx_hierarchy.specs.Classes.{Classes, leaf_type}
-use Rattle.cxx_subobject.specs.declared.Subobject.{Subobject}
-use Rattle.cxx_subobject.specs.Subobjects.{join, whole_of, class_of, same_subobject}
-use Rattle.cxx_resolve.specs.declared.program.MemberPlace.{MemberPlace}
-use Rattle.cxx_resolve.specs.declared.program.Converted.{Converted}
-use Rattle.cxx_resolve.specs.declared.program.Statement.{Statement}
-use Rattle.cxx_resolve.specs.declared.program.Statement.TheVariants.{New, Write, Read, Convert, Equal, Print}
-use Rattle.cxx_resolve.specs.declared.program.TypedLine.{TypedLine}
-use Rattle.cxx_resolve.specs.declared.program.SimpleProgram.{SimpleProgram}
-use Rattle.path_model.specs.declared.Undefined.{Undefined}
-use Rattle.path_model.specs.declared.Undefined.TheVariants.{Unset as UnsetRule}
-use Rattle.path_model.specs.Values.{Value, Unset, Number, Pointer, State, Leaves, variable_at, with_leaf}
+use Rattle.cxx_hierarchy.specs.Classes.{Classes}
+use Rattle.cxx_subobject.specs.Subobjects.{class_of}
+use Rattle.cxx_subobject.specs.Locations.{ObjectPart}
+use Rattle.cxx_overrider.specs.declared.FunctionId.{FunctionId}
+use Rattle.cxx_program.specs.declared.operand.TypedOperand.{TypedOperand}
+use Rattle.cxx_program.specs.declared.operand.TypedOperand.TheVariants.{Variable as VariableOperand, This, Number as NumberOperand}
+use Rattle.cxx_program.specs.declared.operand.Conversion.TheVariants.{Same as ToSame}
+use Rattle.cxx_program.specs.declared.statement.TypedKind.{TypedKind}
+use Rattle.cxx_program.specs.declared.statement.TypedKind.TheVariants.{Declare}
+use Rattle.cxx_program.specs.declared.statement.TypedStatement.{TypedStatement}
+use Rattle.cxx_program.specs.declared.program.Owner.{Owner}
+use Rattle.cxx_program.specs.declared.program.Owner.TheVariants.{Main, Function, Constructor, Destructor}
+use Rattle.cxx_program.specs.declared.program.TypedInit.{TypedInit}
+use Rattle.cxx_program.specs.declared.program.TypedBody.{TypedBody}
+use Rattle.cxx_program.specs.declared.program.TypedProgram.{TypedProgram}
+use Rattle.path_rules.specs.declared.Undefined.{Undefined}
+use Rattle.path_plan.specs.Places.{same_part}
+use Rattle.path_plan.specs.Phases.{Event, Begin, Ready, Init, Body, Done, Ending, Bases, End, after}
+use Rattle.path_plan.specs.Whole.{whole_part}
+use Rattle.path_model.specs.declared.outs.Out.{Out}
+use Rattle.path_model.specs.declared.outs.Out.TheVariants.{Built as BuiltOut, Ending as EndingOut}
+use Rattle.path_model.specs.Values.{Value, Unset, Number, Pointer, Leaf, Objects, converted}
+use Rattle.path_model.specs.Places.{leaf}
+use Rattle.path_model.specs.Rules.{refusal, closing_refusal}
+use Rattle.path_model.specs.States.{Running, Planned, Frame, InBody, InPlan, State, body_of, init_of, with_objects, with_frames, with_local, entered, sight, wanted}
+use Rattle.path_model.specs.Outs.{object_class, class_or_first, location_of}
+use Rattle.path_model.specs.Effects.{Next, Goes, Refuses, Ends, Wrong, with_leaf, effect, given}
 
--- what a run tells: a number that is printed, or a pointer, which names a subobject of an object of a class
-pub data Out : Type 0 where
-  NumberOut : ℤ → Out
-  PointerOut : (object : ℕ) (class : ClassId) (at : Subobject) → Out
+-- events
 
--- where a step leads: to a state, with what it tells; or to a refusal with its line, to a limit, or to the end
-pub data Move : Type 0 where
-  Goes : State → List Out → Move
-  Refuses : Undefined → (line : ℕ) → Move
-  Limits : LimitNo → Move
-  Ends : Move
+-- an initializer is a number
+abbrev pub constant : TypedOperand → Value
+constant (VariableOperand x) = Unset
+constant This = Unset
+constant (NumberOperand z) = Number z
 
--- the next state, with these objects, leaves and variables
-abbrev pub onward : State → List ClassId → Leaves → List Value → List Out → Move
-onward s classes leaf variables outs = Goes (record { classes = classes; leaf = leaf; variables = variables; next = s.next + 1 }) outs
+-- the value that an initializer gives (ISO C++03 12.6.2)
+abbrev pub init_value : Option TypedInit → Value
+init_value None = Unset
+init_value (Some init) = converted (constant init.operand) init.conversion
 
--- an object's size in the heap: the next multiple of 16
-abbrev pub rounded : ℕ → ℕ
-rounded size = (size + 15) / 16 * 16
+-- the class of a part
+abbrev pub class_of_part : ObjectPart → ClassId
+class_of_part p = class_or_first (class_of p.at)
 
--- the sum of the sizes of all objects made, each rounded up to 16
-abbrev pub heap_total : (ClassId → ℕ) → List ClassId → ℕ
-heap_total sizes classes = sum_by (λ c. rounded (sizes c)) classes
+-- the leaves after an event: an initializer sets one
+abbrev pub leaves_after : TypedProgram → (Leaf → Value) → Event → Leaf → Value
+leaves_after program values (Begin p) = values
+leaves_after program values (Ready p) = values
+leaves_after program values (Init p m) = with_leaf values (leaf p m 0) (init_value (init_of program (class_of_part p) m))
+leaves_after program values (Body p) = values
+leaves_after program values (Done p) = values
+leaves_after program values (Ending p) = values
+leaves_after program values (Bases p) = values
+leaves_after program values (End p) = values
 
--- `C* v = new C;`: one more object, whose leaves are unset, and a pointer to its whole
-abbrev pub made : (ClassId → ℕ) → State → ℕ → ClassId → Move
-made sizes s v c =
-    if nat_lt 67108864 (heap_total sizes s.classes + rounded (sizes c)) then Limits L8
-    else onward s (s.classes ++ c ∷ []) s.leaf (slice_set s.variables v (Pointer (length s.classes) (whole_of c))) []
+-- a heap object is closed by the end of its whole
+abbrev pub ends_object : Objects → Event → ℕ → Bool
+ends_object s (Begin p) k = false
+ends_object s (Ready p) k = false
+ends_object s (Init p m) k = false
+ends_object s (Body p) k = false
+ends_object s (Done p) k = false
+ends_object s (Ending p) k = false
+ends_object s (Bases p) k = false
+ends_object s (End p) k = same_part p (whole_part k (object_class s k))
 
-abbrev pub value_of_type : Option (ValueType ClassId) → ℤ → Value
-value_of_type None z = Unset
-value_of_type (Some (NumberType t)) z = Number (stored_as t z)
-value_of_type (Some (PointerType c)) z = Unset
+-- the objects after an event
+abbrev pub objects_after : TypedProgram → Objects → Event → Objects
+objects_after program s e = record {
+  classes = s.classes;
+  is_closed = λ k. if ends_object s e k then true else s.is_closed k;
+  phases = after s.phases e;
+  leaf = leaves_after program s.leaf e;
+}
 
-abbrev pub type_of_leaf : Classes → Option ClassId → ℕ → Option (ValueType ClassId)
-type_of_leaf h None m = None
-type_of_leaf h (Some d) m = leaf_type h d m
+-- what an event tells
+abbrev pub event_outs : Objects → Event → List Out
+event_outs s (Begin p) = []
+event_outs s (Ready p) = []
+event_outs s (Init p m) = []
+event_outs s (Body p) = []
+event_outs s (Done p) = BuiltOut (class_of_part p) (location_of s p) ∷ []
+event_outs s (Ending p) = EndingOut (class_of_part p) (location_of s p) ∷ []
+event_outs s (Bases p) = []
+event_outs s (End p) = []
 
--- what a member keeps of a number: what its type has room for
-abbrev pub kept_by : Classes → MemberPlace → ℤ → Value
-kept_by h place z = value_of_type (type_of_leaf h (class_of place.base) place.member) z
+-- whose body a plan runs
+abbrev pub body_owner : Bool → ClassId → Owner
+body_owner is_building c = if is_building then Constructor c else Destructor c
 
--- `p->m = z;`
-abbrev pub written : Classes → ℕ → State → Value → MemberPlace → ℤ → Move
-written h line s Unset place z = Refuses UnsetRule line
-written h line s (Number n) place z = Ends
-written h line s (Pointer k at) place z = onward s s.classes (with_leaf s.leaf k (join at place.base) place.member (kept_by h place z)) s.variables []
+-- the body of a constructor or destructor, on top of its plan
+abbrev pub body_opened : State → ObjectPart → List Out → List Frame → Option TypedBody → Next
+body_opened s p outs frames None = Wrong
+body_opened s p outs frames (Some body) = Goes (with_frames s (InBody (entered body (Pointer p) [] ToSame None) ∷ frames)) outs
 
--- a variable takes a value
-abbrev pub set_to : ℕ → State → ℕ → Value → Move
-set_to line s v Unset = Refuses UnsetRule line
-set_to line s v (Number n) = onward s s.classes s.leaf (slice_set s.variables v (Number n)) []
-set_to line s v (Pointer k at) = onward s s.classes s.leaf (slice_set s.variables v (Pointer k at)) []
+-- the plan with these events left
+abbrev pub plan_left : Planned → List Event → Frame
+plan_left f events = InPlan (record { object = f.object; is_building = f.is_building; events = events; target = f.target })
 
--- `int v = p->m;`
-abbrev pub fetched : ℕ → State → ℕ → Value → MemberPlace → Move
-fetched line s v Unset place = Refuses UnsetRule line
-fetched line s v (Number n) place = Ends
-fetched line s v (Pointer k at) place = set_to line s v (s.leaf k (join at place.base) place.member)
+-- the plan goes on with these events: a body is entered in the step of the event before it, and with the last event the pointer
+-- to the object is given to who waits for it
+abbrev pub resumed : TypedProgram → State → Planned → List Frame → List Out → List Event → Next
+resumed program s f below outs [] = Goes (given (with_frames s below) (Pointer (whole_part f.object (object_class s.objects f.object))) f.target) outs
+resumed program s f below outs (Body p ∷ events) = body_opened s p outs (plan_left f events ∷ below) (body_of program (body_owner f.is_building (class_of_part p)))
+resumed program s f below outs (e ∷ events) = Goes (with_frames s (plan_left f (e ∷ events) ∷ below)) outs
 
--- a pointer, converted to a base of its class: it names the base's subobject in the same object (ISO C++03 4.10)
-abbrev pub converted : Subobject → Value → Value
-converted base Unset = Unset
-converted base (Number n) = Number n
-converted base (Pointer k at) = Pointer k (join at base)
+-- the next event of a plan
+abbrev pub event_step : TypedProgram → State → Planned → List Frame → List Event → Next
+event_step program s f below [] = Wrong
+event_step program s f below (Body p ∷ events) = Wrong
+event_step program s f below (e ∷ events) = resumed program (with_objects s (objects_after program s.objects e)) f below (event_outs s.objects e) events
 
--- what a converted pointer variable has
-abbrev pub converted_at : State → Converted → Value
-converted_at s from = converted from.base (variable_at s from.pointer)
+-- a step that a rule refuses is not taken
+abbrev pub unless : Option Undefined → ℕ → Next → Next
+unless None line next = next
+unless (Some rule) line next = Refuses rule line
 
--- the value of a `bool`
-abbrev pub truth : Bool → Value
-truth test = Number (if test then pos 1 else pos 0)
+-- the end of a body
 
--- `bool v = p == q;` of pointers of one class: whether they name one subobject of one object (ISO C++03 5.10)
-abbrev pub compared : ℕ → State → ℕ → Value → Value → Move
-compared line s v Unset right = Refuses UnsetRule line
-compared line s v (Number n) right = Ends
-compared line s v (Pointer k at) Unset = Refuses UnsetRule line
-compared line s v (Pointer k at) (Number n) = Ends
-compared line s v (Pointer k at) (Pointer k' at') = onward s s.classes s.leaf (slice_set s.variables v (truth (nat_eq k k' && same_subobject at at'))) []
+-- the end of a function without a result (ISO C++03 6.6.3 p2)
+abbrev pub function_closed : Classes → State → FunctionId → ℕ → List Frame → Next
+function_closed h s g line below = unless (closing_refusal h s.objects g) line (Goes (with_frames s below) [])
 
--- a pointer to a part of an object of the class
-abbrev pub pointer_printed : State → ℕ → Subobject → Option ClassId → Move
-pointer_printed s k at None = Ends
-pointer_printed s k at (Some c) = onward s s.classes s.leaf s.variables (PointerOut k c at ∷ [])
+-- the closing step of a constructor's body is its event
+abbrev pub constructor_closed : TypedProgram → State → List Frame → Next
+constructor_closed program s [] = Wrong
+constructor_closed program s (InBody f ∷ below) = Wrong
+constructor_closed program s (InPlan f ∷ below) = event_step program s f below f.events
 
--- `print(v);`
-abbrev pub printed : ℕ → State → Value → Move
-printed line s Unset = Refuses UnsetRule line
-printed line s (Number n) = onward s s.classes s.leaf s.variables (NumberOut n ∷ [])
-printed line s (Pointer k at) = pointer_printed s k at (slice_get s.classes k)
+-- the closing step of a body
+abbrev pub closed : Classes → TypedProgram → State → Owner → ℕ → List Frame → Next
+closed h program s Main line below = Ends
+closed h program s (Function g) line below = function_closed h s g line below
+closed h program s (Constructor c) line below = constructor_closed program s below
+closed h program s (Destructor c) line below = Goes (with_frames s below) []
 
--- one statement of a line; a variable or a leaf that is read has to be set
-abbrev pub move_of : Classes → (ClassId → ℕ) → ℕ → Statement → State → Move
-move_of h sizes line (New v c) s = made sizes s v c
-move_of h sizes line (Write p place z) s = written h line s (variable_at s p) place z
-move_of h sizes line (Read v p place) s = fetched line s v (variable_at s p) place
-move_of h sizes line (Convert v from) s = set_to line s v (converted_at s from)
-move_of h sizes line (Equal v left right) s = compared line s v (converted_at s left) (converted_at s right)
-move_of h sizes line (Print v) s = printed line s (variable_at s v)
+-- statements
 
-abbrev pub move_in : Classes → (ClassId → ℕ) → Option TypedLine → State → Move
-move_in h sizes None s = Ends
-move_in h sizes (Some line) s = move_of h sizes line.line line.what s
+-- a declaration makes its variable unset before its right side is read (ISO C++03 3.3.1)
+abbrev pub before_kind : Running → TypedKind → Running
+before_kind f (Declare n x) = with_local f n Unset
+before_kind f other = f
 
--- one step of a program: its next statement, or its end
-abbrev pub step : Classes → (ClassId → ℕ) → SimpleProgram → State → Move
-step h sizes program s = move_in h sizes (slice_get program.lines s.next) s
+-- a statement: refused, or with its effect
+abbrev pub statement_step : Classes → TypedProgram → State → Running → List Frame → ℕ → TypedStatement → Next
+statement_step h program s f below n statement =
+    unless (refusal h (sight s f) (wanted f) statement.kind) statement.line (effect h program (with_frames s (InBody f ∷ below)) f below n statement)
+
+-- the next statement of a body, or its end
+abbrev pub in_body : Classes → TypedProgram → State → Running → List Frame → TypedBody → Option TypedStatement → Next
+in_body h program s f below body None = closed h program s f.owner body.close_line below
+in_body h program s f below body (Some statement) = statement_step h program s (before_kind f statement.kind) below f.next statement
+
+-- the step of a body that is there
+abbrev pub body_step : Classes → TypedProgram → State → Running → List Frame → Option TypedBody → Next
+body_step h program s f below None = Wrong
+body_step h program s f below (Some body) = in_body h program s f below body (slice_get body.statements f.next)
+
+-- the step of the innermost frame
+abbrev pub frame_step : Classes → TypedProgram → State → List Frame → Next
+frame_step h program s [] = Wrong
+frame_step h program s (InBody f ∷ below) = body_step h program s f below (body_of program f.owner)
+frame_step h program s (InPlan f ∷ below) = event_step program s f below f.events
+
+-- the step from a state
+abbrev pub step : Classes → TypedProgram → State → Next
+step h program s = frame_step h program s s.frames

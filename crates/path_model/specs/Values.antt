@@ -1,34 +1,88 @@
--- Values, and the state of a run.
-use Rattle.std.specs.Prelude.{ℕ, ℤ, ◌&&◌, nat_eq, if◌then◌else◌, Option, Some, None, List, slice_get}
+-- Values, the objects of a run, and what a statement sees of them.
+use Rattle.std.specs.Prelude.{ℕ, ℤ, Bool, Option, Some, None, List, slice_get}
 use Rattle.cxx_hierarchy.specs.declared.records.ClassId.{ClassId}
+use Rattle.cxx_hierarchy.specs.Scalars.{stored_as}
 use Rattle.cxx_subobject.specs.declared.Subobject.{Subobject}
-use Rattle.cxx_subobject.specs.Subobjects.{same_subobject}
+use Rattle.cxx_subobject.specs.Subobjects.{join}
+use Rattle.cxx_subobject.specs.Locations.{ObjectPart}
+use Rattle.cxx_program.specs.declared.operand.Variable.{Variable}
+use Rattle.cxx_program.specs.declared.operand.Variable.TheVariants.{Global, Local}
+use Rattle.cxx_program.specs.declared.operand.TypedOperand.{TypedOperand}
+use Rattle.cxx_program.specs.declared.operand.TypedOperand.TheVariants.{Variable as VariableOperand, This, Number as NumberOperand}
+use Rattle.cxx_program.specs.declared.operand.Conversion.{Conversion}
+use Rattle.cxx_program.specs.declared.operand.Conversion.TheVariants.{Number as ToNumber, Null as ToNull, Same as ToSame, Base as ToBase}
+use Rattle.cxx_program.specs.declared.operand.Argument.{Argument}
+use Rattle.path_plan.specs.Places.{part}
+use Rattle.path_plan.specs.Phases.{Phases}
 
--- a value: none yet, a number, or a pointer that names a subobject of an object
+-- none yet, a number, a null pointer, or a pointer that names a class subobject
 pub data Value : Type 0 where
   Unset : Value
   Number : ℤ → Value
-  Pointer : (object : ℕ) (at : Subobject) → Value
+  Null : Value
+  Pointer : ObjectPart → Value
 
--- the value of each leaf: of an object, in a subobject of it, the member that the subobject's class declares
-abbrev pub Leaves : Type 0
-Leaves = ℕ → Subobject → ℕ → Value
+-- an element of a member that is a number or a pointer
+pub record Leaf : Type 0 where
+  pub part : ObjectPart
+  pub member : ℕ
+  pub index : ℕ
 
--- a state of a run: the class of each object made, the leaves, the variables, and the number of the next statement
-pub record State : Type 0 where
+-- the heap objects made so far: the class of each, which are closed, the phases of their parts, and the values of their leaves
+pub record Objects : Type 0 where
   pub classes : List ClassId
-  pub leaf : Leaves
-  pub variables : List Value
-  pub next : ℕ
+  pub is_closed : ℕ → Bool
+  pub phases : Phases
+  pub leaf : Leaf → Value
 
-abbrev pub value_in : Option Value → Value
-value_in None = Unset
-value_in (Some value) = value
+-- what a statement sees: the objects, the globals, and of its own frame `this` and the locals
+pub record Sight : Type 0 where
+  pub objects : Objects
+  pub globals : List Value
+  pub this : Value
+  pub locals : List Value
+
+-- a variable that is not there has no value
+abbrev pub or_unset : Option Value → Value
+or_unset None = Unset
+or_unset (Some v) = v
 
 -- the value of a variable
-abbrev pub variable_at : State → ℕ → Value
-variable_at s v = value_in (slice_get s.variables v)
+abbrev pub variable_value : Sight → Variable → Value
+variable_value s (Global n) = or_unset (slice_get s.globals n)
+variable_value s (Local n) = or_unset (slice_get s.locals n)
 
--- the leaves, but one
-abbrev pub with_leaf : Leaves → ℕ → Subobject → ℕ → Value → Leaves
-with_leaf leaf k at m value k' at' m' = if nat_eq k k' && (same_subobject at at' && nat_eq m m') then value else leaf k' at' m'
+-- the value of an operand
+abbrev pub value : Sight → TypedOperand → Value
+value s (VariableOperand x) = variable_value s x
+value s This = s.this
+value s (NumberOperand z) = Number z
+
+-- a subobject of the part's class, as a part
+abbrev pub inner_part : ObjectPart → Subobject → ObjectPart
+inner_part p i = part p.object p.owner (join p.at i)
+
+-- a pointer, moved to a base of its class (ISO C++03 4.10)
+abbrev pub to_base : Subobject → Value → Value
+to_base i Unset = Unset
+to_base i (Number z) = Number z
+to_base i Null = Null
+to_base i (Pointer p) = Pointer (inner_part p i)
+
+-- a number, converted
+abbrev pub to_number : (ℤ → ℤ) → Value → Value
+to_number f Unset = Unset
+to_number f (Number z) = Number (f z)
+to_number f Null = Null
+to_number f (Pointer p) = Pointer p
+
+-- a value, converted
+abbrev pub converted : Value → Conversion → Value
+converted v (ToNumber t) = to_number (stored_as t) v
+converted v ToNull = Null
+converted v ToSame = v
+converted v (ToBase i) = to_base i v
+
+-- the value of an operand, converted
+abbrev pub argument_value : Sight → Argument → Value
+argument_value s a = converted (value s a.operand) a.conversion

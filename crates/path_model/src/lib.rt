@@ -1,26 +1,34 @@
 //! What a run means, over objects and their subobjects.
 //!
-//! A state holds the objects made so far, the value of each leaf and of each variable. A leaf is named by an
-//! object's number, the inheritance subobject that declares the member, and the member's number there; a pointer
-//! names a subobject of an object, and two pointers are equal where both are the same. No address, offset, table
-//! or thunk occurs here; of a layout a step uses the size of a class alone, for the limit on the sum of all sizes. This crate owns the definitions of a value, of a state, of
-//! one step of a run, of the condition that refuses a step, and of a whole run with its end. It has no call:
-//! the crates above prove that their machines do these steps.
+//! A state holds the heap objects made so far, the phase of each of their class subobjects, the value of each leaf, the
+//! globals, and a frame for each body and each plan of an object that has begun. A pointer names a subobject of an object by
+//! its path. No address, offset, table or thunk occurs here. This crate owns the definitions of a value and of a state, of the
+//! uses that a statement makes, of the rules that refuse it (`refusal`), of one step (`step`), which is a function, of the
+//! limits outside the step, and of a whole run with what it tells (`run_of`).
+//!
+//! The layers above may rely on the laws: a refusal is the least rule that a use of the statement breaks, and the tests in the
+//! order in which a machine can ask them (`staged`) answer it; the rules are what the standard says of subobjects, views and final
+//! overriders; a run goes on from the state behind its first steps, and its classes' sizes decide only whether the heap is full.
+//! In each state of a run the plans fit and go on, an object stands, is gone or has one plan at work on it, and at each statement
+//! all objects are settled. A run of a typed program stays typed and never goes wrong. The crate has no call: the machines above
+//! are proved to do these steps.
 #![tactic(auto)]
 
-/// Why a step is refused. The numbers are those of the printed text, `undefined U<no> <Name> line <n>`.
-#[derive(Clone, Copy, Debug, PartialEq, Eq)]
-pub enum Undefined {
-    NullUse,
-    Dangling,
-    NotReady,
-    OutsideView,
-    Unset,
-    PureCall,
-    BadDowncast,
-    NonVirtualDelete,
-    NotHeapObject,
-    NotComplete,
-    MissingReturn,
-    Overflow,
-}
+pub mod laws;
+pub mod laws_of_rules;
+pub mod laws_of_runs;
+pub mod laws_of_states;
+pub mod laws_of_types;
+pub mod outs;
+
+pub use crate::laws::{refusal_is_least, stages_follow, tests_are_enough, tests_refuse};
+pub use crate::laws_of_rules::{
+    deletes_end_objects, downcasts_have_targets, results_are_in_range, views_decide,
+};
+pub use crate::laws_of_runs::{runs_go_on, sizes_decide_the_heap_alone, steps_are_counted};
+pub use crate::laws_of_states::{
+    bodies_stand_on_plans, objects_stand_or_are_gone, plans_fit, plans_go_on,
+    statements_are_settled,
+};
+pub use crate::laws_of_types::runs_are_typed;
+pub use crate::outs::{DumpLeaf, LeafList, Out, OutList, Turn, Value};

@@ -10,7 +10,7 @@ use byte_machine::Machine;
 use byte_memory::{FlatMemory, Memory, MemoryFault};
 use cxx_decl_parser::parse_source;
 use cxx_hierarchy::{Stop, build};
-use cxx_resolve::resolve_main;
+use cxx_simple::resolve_main;
 use cxx_text::tokens;
 use foundation::Sequence;
 use std::alloc::Global;

@@ -15,7 +15,7 @@ use Rattle.abi_sound.specs.Places.{Places}
 use Rattle.abi_slots.specs.declared.words.EntryKey.{EntryKey}
 use Rattle.abi_slots.specs.declared.words.Offset.{Offset}
 use Rattle.abi_slots.specs.declared.words.Offset.TheVariants.{ToBase, ToOverrider}
-use Rattle.abi_slots.specs.Virtuals.{same_name, own}
+use Rattle.cxx_overrider.specs.Virtuals.{same_name, own}
 use Rattle.abi_slots.specs.Listing.{is_name, entries, offsets}
 use Rattle.abi_slots.specs.Slots.{IsVirtualBase}
 use Rattle.abi_slots.specs.Views.{View, next, walk}

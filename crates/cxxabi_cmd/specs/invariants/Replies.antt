@@ -3,7 +3,7 @@ use Rattle.std.specs.Prelude.{◌≡◌, Option, Some, None, List}
 use Rattle.std.specs.Option.{option_map}
 use Rattle.cxx_hierarchy.specs.Classes.{Classes}
 use Rattle.cxx_syntax.specs.declared.source_text.SourceText.{SourceText}
-use Rattle.cxx_resolve.specs.declared.program.SimpleProgram.{SimpleProgram}
+use Rattle.cxx_simple.specs.declared.program.SimpleProgram.{SimpleProgram}
 use Rattle.abi_sound.specs.declared.class_layout.ClassLayout.{ClassLayout}
 use Rattle.abi_layout.specs.Layouts.{IsLaid}
 use Rattle.cxxabi_cmd.specs.declared.reply.Reply.{Reply}

@@ -1,5 +1,5 @@
 use Rattle.std.proofs.Common.{refl}
-use Rattle.path_model.specs.Runs.{state_at}
+use Rattle.simple_model.specs.Runs.{state_at}
 use Rattle.byte_machine.specs.MachineState.{code_of, state_of}
 use Rattle.abi_sound.specs.Places.{places_of}
 use Rattle.abi_lower.specs.Blocks.{setup}

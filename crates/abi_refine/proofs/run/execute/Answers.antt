@@ -1,5 +1,5 @@
 use Rattle.std.proofs.Common.{Some, refl, ap, ◌∙◌}
-use Rattle.path_model.specs.Runs.{run_of}
+use Rattle.simple_model.specs.Runs.{run_of}
 use Rattle.byte_machine.specs.declared.turn.MachineTurn.{MachineTurn}
 use Rattle.byte_machine.specs.Turn.{State}
 use Rattle.abi_sound.specs.Places.{places_of}

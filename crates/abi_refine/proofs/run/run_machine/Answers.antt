@@ -1,6 +1,6 @@
 use Rattle.std.proofs.Common.{◌≢◌, ◌+◌, Some, refl, sym, ap, ◌∙◌}
 use Rattle.byte_machine.specs.declared.turn.MachineTurn.TheVariants.{Went}
-use Rattle.path_model.specs.Runs.{run_of}
+use Rattle.simple_model.specs.Runs.{run_of}
 use Rattle.byte_machine.specs.MachineState.{code_of, state_of}
 use Rattle.abi_sound.specs.Places.{places_of}
 use Rattle.abi_lower.specs.Blocks.{setup}

@@ -1,5 +1,5 @@
 use Rattle.std.proofs.Common.{◌≡◌, false}
-use Rattle.path_model.specs.Runs.{run_of}
+use Rattle.simple_model.specs.Runs.{run_of}
 use Rattle.byte_machine.specs.MachineState.{code_of, image_of, state_of, has_failed}
 use Rattle.abi_sound.specs.Places.{places_of}
 use Rattle.abi_lower.specs.Blocks.{setup}

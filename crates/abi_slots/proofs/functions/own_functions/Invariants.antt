@@ -1,6 +1,6 @@
 use Rattle.std.proofs.Common.{◌≡◌, ◌++◌, drop}
 use Rattle.std.specs.List.{filter}
-use Rattle.abi_slots.specs.Virtuals.{is_virtual}
+use Rattle.cxx_overrider.specs.Virtuals.{is_virtual}
 use Rattle.abi_slots.proofs.functions.own_functions.Given as goal
 
 abbrev pub invariant-loop-f : goal.invariant-loop-f

@@ -1,7 +1,7 @@
 use Rattle.std.proofs.Common.{◌≡◌, ◌++◌, map, drop}
 use Rattle.std.specs.List.{filter_map}
 use Rattle.cxx_hierarchy.specs.declared.records.PartAt.{PartAt}
-use Rattle.abi_slots.specs.Virtuals.{function_at, index_of}
+use Rattle.cxx_overrider.specs.Virtuals.{function_at, index_of}
 use Rattle.abi_slots.proofs.functions.push_parts.Given as goal
 
 abbrev pub invariant-loop-part : goal.invariant-loop-part

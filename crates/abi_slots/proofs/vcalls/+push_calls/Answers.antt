@@ -4,7 +4,7 @@ use Rattle.std.proofs.lemmas.Option.{slice_get_read}
 use Rattle.cxx_hierarchy.specs.Classes.{bases_in}
 use Rattle.abi_sound.specs.Places.{places_of, primary_in}
 use Rattle.abi_slots.specs.Limits.{most_offsets}
-use Rattle.abi_slots.specs.Virtuals.{own}
+use Rattle.cxx_overrider.specs.Virtuals.{own}
 use Rattle.abi_slots.specs.Listing.{push_all, calls_in}
 use Rattle.abi_slots.specs.Rows.{is_chosen, class_of_base, below}
 use Rattle.abi_slots.proofs.CallSteps.{below_step, below_end, chosen_before, calls_are}

@@ -10,12 +10,12 @@ group-requires-clause-complete g c = name_known c.args.h.now c.args.c c.view-ite
 pub group-requires-clause-view : goal.group-requires-clause-view
 group-requires-clause-view g c =
     name_valid c.args.h.now c.args.c c.view-item.result c.in_ok-name.name c.in_ok-name.ensures
-    (view_there c.args.h.now c.keeps.ensures c.args.c c.as_slice-view-items.result.now c.in_ok-list.list c.loop-view.view-index c.view-item.result c.as_slice-view-items.ensures c.in_ok-list.ensures c.loop-view-test.true c.view-item.is)
+    (view_there c.args.h.now c.keeps.ensures c.args.c c.as_slice-view-items.result.now c.in_ok-list.list c.loop-view.view-index c.view-item.result c.as_slice-view-items.ensures c.in_ok-list.ensures.list c.loop-view-test.true c.view-item.is)
 
 pub group-requires-clause-dynamic : goal.group-requires-clause-dynamic
 group-requires-clause-dynamic g c =
     name_dynamic c.args.h.now c.args.c c.view-item.result c.in_ok-name.name c.in_ok-name.ensures
-    (view_there c.args.h.now c.keeps.ensures c.args.c c.as_slice-view-items.result.now c.in_ok-list.list c.loop-view.view-index c.view-item.result c.as_slice-view-items.ensures c.in_ok-list.ensures c.loop-view-test.true c.view-item.is)
+    (view_there c.args.h.now c.keeps.ensures c.args.c c.as_slice-view-items.result.now c.in_ok-list.list c.loop-view.view-index c.view-item.result c.as_slice-view-items.ensures c.in_ok-list.ensures.list c.loop-view-test.true c.view-item.is)
 
 pub loop-view-init : goal.loop-view-init
 loop-view-init g c = grows_none (IsNamed c.args.h.now (places_of c.args.h.now (g.L.SoundLayout.rows c.args.layout.now))) c.args.groups.now
@@ -31,5 +31,5 @@ pub returns : goal.returns
 returns g c =
     let h = c.args.h.now in
     let l = places_of h (g.L.SoundLayout.rows c.args.layout.now) in
-    groups_done h l c.args.c c.as_slice-view-items.result.now c.in_ok-list.list c.args.groups.now c.loop-view.groups c.as_slice-view-items.ensures c.in_ok-list.ensures
+    groups_done h l c.args.c c.as_slice-view-items.result.now c.in_ok-list.list c.args.groups.now c.loop-view.groups c.as_slice-view-items.ensures c.in_ok-list.ensures.list
     (grows_all (IsNamed h l) (group_name c.args.c) c.as_slice-view-items.result.now c.loop-view.view-index c.args.groups.now c.loop-view.groups c.loop-view-test.false c.loop-view.invariant)

@@ -1,5 +1,5 @@
-use Rattle.cxx_resolve.proofs.MainDecisions.{some_program}
+use Rattle.cxx_resolve.proofs.SomeProgram.{some_program}
 use Rattle.cxx_resolve.proofs.laws.some_program.Goals as goal
 
 pub returns : goal.returns
-returns c = λ h tree keeps. some_program h keeps tree
+returns c = some_program c.answered.ensures

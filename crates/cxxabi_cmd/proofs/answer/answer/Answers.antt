@@ -11,37 +11,41 @@ use Rattle.cxxabi_cmd.proofs.answer.answer.Goals as goal
 
 pub returns-in-Check-clause-yields : goal.returns-in-Check-clause-yields
 returns-in-Check-clause-yields c =
-    yields c.class_count.result c.args.size c.args.accepted.now.source c.args.accepted.now.hierarchy c.args.command.now (count_answer c.args.accepted.now.hierarchy) c.class_count.ensures.answer
-    (subst (λ (d : Command). Yields c.args.size c.args.accepted.now.source c.args.accepted.now.hierarchy d (count_answer c.args.accepted.now.hierarchy)) (sym c.in-Check.is) counted)
+    yields c.class_count.result c.args.size c.args.accepted.now.source c.args.accepted.now.hierarchy c.args.accepted.now.program c.args.command.now (count_answer c.args.accepted.now.hierarchy) c.class_count.ensures.answer
+    (subst (λ (d : Command). Yields c.args.size c.args.accepted.now.source c.args.accepted.now.hierarchy c.args.accepted.now.program d (count_answer c.args.accepted.now.hierarchy)) (sym c.in-Check.is) counted)
 
 pub returns-in-Layout-clause-yields : goal.returns-in-Layout-clause-yields
 returns-in-Layout-clause-yields c =
     let h = c.args.accepted.now.hierarchy in
     let source = c.args.accepted.now.source in
-    subst (λ (d : Command). IfOk c.list_all.result (λ reply. Yields c.args.size source h d (answer_of reply))) (sym c.in-Layout.is)
-    (yields_all c.list_all.result c.args.size source h Layout OfLayout (first_classes (length h)) all_layouts c.list_all.ensures.lists)
+    let typed = c.args.accepted.now.program in
+    subst (λ (d : Command). IfOk c.list_all.result (λ reply. Yields c.args.size source h typed d (answer_of reply))) (sym c.in-Layout.is)
+    (yields_all c.list_all.result c.args.size source h typed Layout OfLayout (first_classes (length h)) all_layouts c.list_all.ensures.lists)
 
 pub returns-in-LayoutOf-clause-yields : goal.returns-in-LayoutOf-clause-yields
 returns-in-LayoutOf-clause-yields c =
     let h = c.args.accepted.now.hierarchy in
     let source = c.args.accepted.now.source in
+    let typed = c.args.accepted.now.program in
     let name = c.as_slice.result.now in
-    subst (λ (d : Command). IfOk c.list_one.result (λ reply. Yields c.args.size source h d (answer_of reply))) (sym c.in-LayoutOf.is)
-    (subst (λ (n : List ℕ). IfOk c.list_one.result (λ reply. Yields c.args.size source h (LayoutOf n) (answer_of reply))) c.as_slice.ensures
-    (yields_one c.list_one.result c.args.size source h (LayoutOf name) OfLayout name (named_layout name) (one_layout name) c.list_one.ensures.lists))
+    subst (λ (d : Command). IfOk c.list_one.result (λ reply. Yields c.args.size source h typed d (answer_of reply))) (sym c.in-LayoutOf.is)
+    (subst (λ (n : List ℕ). IfOk c.list_one.result (λ reply. Yields c.args.size source h typed (LayoutOf n) (answer_of reply))) c.as_slice.ensures
+    (yields_one c.list_one.result c.args.size source h typed (LayoutOf name) OfLayout name (named_layout name) (one_layout name) c.list_one.ensures.lists))
 
 pub returns-in-Tables-clause-yields : goal.returns-in-Tables-clause-yields
 returns-in-Tables-clause-yields c =
     let h = c.args.accepted.now.hierarchy in
     let source = c.args.accepted.now.source in
-    subst (λ (d : Command). IfOk c.list_all-in-Tables.result (λ reply. Yields c.args.size source h d (answer_of reply))) (sym c.in-Tables.is)
-    (yields_all c.list_all-in-Tables.result c.args.size source h Tables OfTables (first_classes (length h)) all_tables c.list_all-in-Tables.ensures.lists)
+    let typed = c.args.accepted.now.program in
+    subst (λ (d : Command). IfOk c.list_all-in-Tables.result (λ reply. Yields c.args.size source h typed d (answer_of reply))) (sym c.in-Tables.is)
+    (yields_all c.list_all-in-Tables.result c.args.size source h typed Tables OfTables (first_classes (length h)) all_tables c.list_all-in-Tables.ensures.lists)
 
 pub returns-in-TablesOf-clause-yields : goal.returns-in-TablesOf-clause-yields
 returns-in-TablesOf-clause-yields c =
     let h = c.args.accepted.now.hierarchy in
     let source = c.args.accepted.now.source in
+    let typed = c.args.accepted.now.program in
     let name = c.as_slice-in-TablesOf.result.now in
-    subst (λ (d : Command). IfOk c.list_one-in-TablesOf.result (λ reply. Yields c.args.size source h d (answer_of reply))) (sym c.in-TablesOf.is)
-    (subst (λ (n : List ℕ). IfOk c.list_one-in-TablesOf.result (λ reply. Yields c.args.size source h (TablesOf n) (answer_of reply))) c.as_slice-in-TablesOf.ensures
-    (yields_one c.list_one-in-TablesOf.result c.args.size source h (TablesOf name) OfTables name (named_tables name) (one_tables name) c.list_one-in-TablesOf.ensures.lists))
+    subst (λ (d : Command). IfOk c.list_one-in-TablesOf.result (λ reply. Yields c.args.size source h typed d (answer_of reply))) (sym c.in-TablesOf.is)
+    (subst (λ (n : List ℕ). IfOk c.list_one-in-TablesOf.result (λ reply. Yields c.args.size source h typed (TablesOf n) (answer_of reply))) c.as_slice-in-TablesOf.ensures
+    (yields_one c.list_one-in-TablesOf.result c.args.size source h typed (TablesOf name) OfTables name (named_tables name) (one_tables name) c.list_one-in-TablesOf.ensures.lists))

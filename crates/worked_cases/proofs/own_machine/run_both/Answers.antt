@@ -1,6 +1,6 @@
 -- What the calls below the program ask of a program that was resolved.
 use Rattle.std.proofs.Common.{refl, arith}
-use Rattle.cxx_resolve.proofs.Whole.{typed_main}
+use Rattle.cxx_simple.proofs.Whole.{typed_main}
 use Rattle.abi_sound.specs.Places.{places_of}
 use Rattle.abi_lower.specs.Blocks.{setup}
 use Rattle.abi_refine.proofs.Running.{stands_at_start}

@@ -1,0 +1,5 @@
+use Rattle.cxx_expression.proofs.Knowing.{base_kept}
+use Rattle.cxx_expression.proofs.known.Known.keep_base.Goals as goal
+
+pub returns : goal.returns
+returns c = λ h means knows. base_kept h c.args.self.now c.put_base.new.self c.key_of.result c.args.c c.args.d c.args.based c.key_of.ensures c.in_ok-put_base.ensures.put c.in_ok-put_base.ensures.names c.in_ok-put_base.ensures.polymorphic means knows

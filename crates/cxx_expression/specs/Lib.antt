@@ -1,0 +1,12 @@
+pub mod Checked
+pub mod Faults
+pub mod Scenes
+pub mod Lookups
+pub mod Values
+pub mod Places
+pub mod Calls
+pub mod Operators
+pub mod Casts
+pub mod Rights
+pub mod Laws
+pub mod invariants

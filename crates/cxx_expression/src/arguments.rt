@@ -1,0 +1,109 @@
+//! The arguments of a call.
+
+ghost use Rattle.std.specs.Prelude.{◌≡◌, IfOk, OnOk, slice_get};
+ghost use Rattle.cxx_expression.specs.Checked.{Answers};
+ghost use Rattle.cxx_expression.specs.Calls.{plain_operand, argument_of, arguments_of};
+ghost use Rattle.cxx_expression.specs.invariants.Known.{Knows};
+ghost use Rattle.cxx_expression.specs.invariants.Arguments.{joined};
+
+use crate::conversions::converted_operand;
+use crate::copies::copy_type;
+use crate::faults::FaultList;
+use crate::known::Known;
+use crate::scene::{Scene, Setting};
+use crate::values::operand_of;
+use cxx_hierarchy::{ClassId, Hierarchy, ValueType};
+use cxx_program::{Argument, ArgumentList, Conversion};
+use cxx_syntax::Operand;
+use foundation::{NoMemory, Sequence};
+
+/// An operand as it is.
+#[tactic(auto, unfolding(crate::specs::Calls::plain_operand))]
+fn plain_operand(
+    setting: &Setting,
+    scene: &Scene,
+    at: u32,
+    faults: &mut FaultList,
+    operand: &Operand,
+) -> Result<Option<Argument>, NoMemory>
+    ensures { Answers result faults.old faults.new (plain_operand setting.now scene.now at operand.now) }
+{
+    let Some(value) = operand_of(setting, scene, at, faults, operand)? else {
+        return Ok(None);
+    };
+    Ok(Some(Argument {
+        operand: value.operand,
+        conversion: Conversion::Same,
+    }))
+}
+
+/// An argument, and the type of its parameter, where it has one.
+#[tactic(auto, unfolding(crate::specs::Calls::argument_of))]
+fn argument_of(
+    h: &Hierarchy,
+    known: &mut Known,
+    setting: &Setting,
+    scene: &Scene,
+    at: u32,
+    faults: &mut FaultList,
+    parameter: Option<ValueType<ClassId>>,
+    operand: &Operand,
+) -> Result<Option<Argument>, NoMemory>
+    requires knows { Knows h.now known.old }
+    ensures answers { Answers result faults.old faults.new (argument_of h.now setting.now scene.now at parameter operand.now) }
+    ensures knows { OnOk result (Knows h.now known.new) }
+{
+    match parameter {
+        None => plain_operand(setting, scene, at, faults, operand),
+        Some(ty) => converted_operand(h, known, setting, scene, at, faults, &ty, operand),
+    }
+}
+
+/// Puts an argument behind those so far, where each of them is one.
+fn joined(
+    so_far: Option<ArgumentList>,
+    next: Option<Argument>,
+) -> Result<Option<ArgumentList>, NoMemory>
+    ensures { IfOk result (λ both. both ≡ joined so_far next) }
+{
+    let (Some(mut list), Some(argument)) = (so_far, next) else {
+        return Ok(None);
+    };
+    list.push(argument)?;
+    Ok(Some(list))
+}
+
+/// The parameter of a number.
+fn nth(parameters: &[ValueType<ClassId>], n: usize) -> Option<ValueType<ClassId>>
+    ensures { result ≡ slice_get parameters.now n }
+{
+    match parameters.get(n) {
+        None => None,
+        Some(ty) => Some(copy_type(ty)),
+    }
+}
+
+/// The arguments of a call, by the types of the parameters.
+#[tactic(auto, unfolding(crate::specs::Calls::arguments_of))]
+pub(crate) fn arguments_of(
+    h: &Hierarchy,
+    known: &mut Known,
+    setting: &Setting,
+    scene: &Scene,
+    at: u32,
+    faults: &mut FaultList,
+    parameters: &[ValueType<ClassId>],
+    operands: &[Operand],
+) -> Result<Option<ArgumentList>, NoMemory>
+    requires knows { Knows h.now known.old }
+    ensures answers { Answers result faults.old faults.new (arguments_of h.now setting.now scene.now at parameters.now 0 operands.now) }
+    ensures knows { OnOk result (Knows h.now known.new) }
+{
+    let mut list = Some(Sequence::new(known.alloc));
+    for (n, operand) in operands.iter().enumerate() {
+        let parameter = nth(parameters, n);
+        let argument = argument_of(h, known, setting, scene, at, faults, parameter, operand)?;
+        list = joined(list, argument)?;
+    }
+    Ok(list)
+}

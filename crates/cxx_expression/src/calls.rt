@@ -1,0 +1,225 @@
+//! Calls without a class before `::`, and calls of either kind.
+
+ghost use Rattle.std.specs.Prelude.{◌≡◌, OnOk, IfOk, map};
+ghost use Rattle.cxx_hierarchy.specs.declared.records.ClassId.{ClassId};
+ghost use Rattle.cxx_hierarchy.specs.declared.records.Param.{Param};
+ghost use Rattle.cxx_subobject.specs.Subobjects.{class_of as class_of_subobject};
+ghost use Rattle.cxx_overrider.specs.Overriders.{AreOverriders};
+ghost use Rattle.cxx_overrider.specs.Virtuals.{function_at, is_virtual};
+ghost use Rattle.cxx_expression.specs.Checked.{Answers};
+ghost use Rattle.cxx_expression.specs.Calls.{types_of, function_in, function_of, target_of, parameters_in, dispatched, plain_call, call_of};
+ghost use Rattle.cxx_expression.specs.invariants.Known.{Knows};
+
+use crate::arguments::arguments_of;
+use crate::copies::{copy_return, copy_type};
+use crate::faults::{FaultList, note};
+use crate::known::Known;
+use crate::look_up::{Looked, function_record, looked_up};
+use crate::qualified::qualified_call;
+use crate::scene::{Scene, Setting};
+use crate::typed::{CallValue, FoundFunction, Target};
+use crate::values::pointer_of;
+use cxx_hierarchy::{ClassId, Hierarchy, Param, Rule, ValueType};
+use cxx_overrider::{FunctionId, Overriders};
+use cxx_program::{ArgumentList, TypeList, TypedCall};
+use cxx_search::names_are_signatures;
+use cxx_subobject::{Subobject, class_of};
+use cxx_syntax::{CallText, Spot};
+use foundation::{NoMemory, Sequence};
+use std::alloc::Global;
+
+/// The types of parameters.
+fn types_of(alloc: Global, params: &[Param<ClassId>]) -> Result<TypeList, NoMemory>
+    ensures { IfOk result (λ types. types ≡ types_of params.now) }
+{
+    let mut types = Sequence::new(alloc);
+    for param in params {
+        types.push(copy_type(&param.ty))?;
+    }
+    Ok(types)
+}
+
+/// The function of a number in the class of a subobject.
+#[tactic(auto, unfolding(crate::specs::Calls::function_in))]
+fn function_in(
+    alloc: Global,
+    h: &Hierarchy,
+    name_at: u32,
+    faults: &mut FaultList,
+    s: Subobject,
+    number: u32,
+) -> Result<Option<FoundFunction>, NoMemory>
+    ensures { Answers result faults.old faults.new (function_in h.now name_at s number (class_of_subobject s)) }
+{
+    let Some(class) = class_of(&s) else {
+        note(faults, Rule::NoSuchMember, name_at)?;
+        return Ok(None);
+    };
+    let Some(function) = function_record(h, class, number) else {
+        note(faults, Rule::NoSuchMember, name_at)?;
+        return Ok(None);
+    };
+    let parameters = types_of(alloc, function.params.as_slice())?;
+    Ok(Some(FoundFunction {
+        base: s,
+        function: FunctionId {
+            class,
+            index: number,
+        },
+        parameters,
+        returns: copy_return(&function.ret),
+        is_pure: function.is_pure,
+    }))
+}
+
+/// The function that a name means in a class.
+#[tactic(auto, unfolding(crate::specs::Calls::function_of))]
+pub(crate) fn function_of(
+    h: &Hierarchy,
+    known: &mut Known,
+    at: u32,
+    faults: &mut FaultList,
+    c: ClassId,
+    x: &Spot,
+) -> Result<Option<FoundFunction>, NoMemory>
+    requires knows { Knows h.now known.old }
+    ensures answers { Answers result faults.old faults.new (function_of h.now at c x.now) }
+    ensures knows { OnOk result (Knows h.now known.new) }
+{
+    match looked_up(h, known, c, x.name.as_slice())? {
+        Looked::Missing => {
+            note(faults, Rule::NoSuchMember, x.at)?;
+            Ok(None)
+        }
+        Looked::Ambiguous => {
+            note(faults, Rule::AmbiguousName, x.at)?;
+            Ok(None)
+        }
+        Looked::Function(s, number) => function_in(known.alloc, h, x.at, faults, s, number),
+        Looked::Member(_, _) => {
+            note(faults, Rule::TypeMismatch, at)?;
+            Ok(None)
+        }
+    }
+}
+
+/// The pointer and the function of a call.
+#[tactic(auto, unfolding(crate::specs::Calls::target_of))]
+fn target_of(
+    h: &Hierarchy,
+    known: &mut Known,
+    setting: &Setting,
+    scene: &Scene,
+    at: u32,
+    faults: &mut FaultList,
+    call: &CallText,
+) -> Result<Option<Target>, NoMemory>
+    requires knows { Knows h.now known.old }
+    ensures answers { Answers result faults.old faults.new (target_of h.now setting.now scene.now at call.now) }
+    ensures knows { OnOk result (Knows h.now known.new) }
+{
+    let Some(pointer) = pointer_of(setting, scene, at, faults, &call.pointer)? else {
+        return Ok(None);
+    };
+    let Some(found) = function_of(h, known, at, faults, pointer.class, &call.name)? else {
+        return Ok(None);
+    };
+    if call.arguments.len() != found.parameters.len() {
+        note(faults, Rule::TypeMismatch, at)?;
+    }
+    Ok(Some(Target { pointer, found }))
+}
+
+/// The types of the parameters of a call's function.
+fn parameters_in(target: &Option<Target>) -> &[ValueType<ClassId>]
+    ensures { result.now ≡ parameters_in target.now }
+{
+    match target {
+        None => &[],
+        Some(target) => target.found.parameters.as_slice(),
+    }
+}
+
+fn dispatched(target: Target, is_dispatched: bool, arguments: ArgumentList) -> CallValue
+    ensures { result ≡ dispatched target is_dispatched arguments }
+{
+    let Target { pointer, found } = target;
+    let FoundFunction {
+        base,
+        function,
+        returns,
+        ..
+    } = found;
+    let call = TypedCall {
+        pointer: pointer.operand,
+        class: pointer.class,
+        qualifier: None,
+        base,
+        function,
+        is_dispatched,
+        arguments,
+    };
+    CallValue { call, returns }
+}
+
+/// Whether a function is virtual.
+fn is_virtual(h: &Hierarchy, o: &Overriders, f: FunctionId) -> bool
+    requires made { AreOverriders h.now o.now }
+    ensures { result ≡ is_virtual h.now f }
+{
+    h.keeps();
+    names_are_signatures();
+    o.is_virtual(f)
+}
+
+/// A call of the function that the pointer's class means.
+#[tactic(auto, unfolding(crate::specs::Calls::plain_call))]
+fn plain_call(
+    h: &Hierarchy,
+    o: &Overriders,
+    known: &mut Known,
+    setting: &Setting,
+    scene: &Scene,
+    at: u32,
+    faults: &mut FaultList,
+    call: &CallText,
+) -> Result<Option<CallValue>, NoMemory>
+    requires made { AreOverriders h.now o.now }
+    requires knows { Knows h.now known.old }
+    ensures answers { Answers result faults.old faults.new (plain_call h.now setting.now scene.now at call.now) }
+    ensures knows { OnOk result (Knows h.now known.new) }
+{
+    let target = target_of(h, known, setting, scene, at, faults, call)?;
+    let parameters = parameters_in(&target);
+    let operands = call.arguments.as_slice();
+    let list = arguments_of(h, known, setting, scene, at, faults, parameters, operands)?;
+    let (Some(target), Some(arguments)) = (target, list) else {
+        return Ok(None);
+    };
+    let is_dispatched = is_virtual(h, o, target.found.function);
+    Ok(Some(dispatched(target, is_dispatched, arguments)))
+}
+
+/// A call, and what it returns; `at` is the place of the statement's first token. Faults: E3, E9, E10, E14, E15, E16, E19,
+/// E22, and those of the arguments.
+#[tactic(auto, unfolding(crate::specs::Calls::call_of))]
+pub fn call_of(
+    h: &Hierarchy,
+    o: &Overriders,
+    known: &mut Known,
+    setting: &Setting,
+    scene: &Scene,
+    at: u32,
+    faults: &mut FaultList,
+    call: &CallText,
+) -> Result<Option<CallValue>, NoMemory>
+    requires made { AreOverriders h.now o.now }
+    requires knows { Knows h.now known.old }
+    ensures answers { Answers result faults.old faults.new (call_of h.now setting.now scene.now at call.now) }
+    ensures knows { OnOk result (Knows h.now known.new) }
+{
+    match &call.class {
+        None => plain_call(h, o, known, setting, scene, at, faults, call),
+        Some(x) => qualified_call(h, known, setting, scene, at, faults, call, x),
+    }
+}

@@ -1,0 +1,218 @@
+//! Casts and type identification.
+
+ghost use Rattle.std.specs.Prelude.{◌≡◌, OnOk};
+ghost use Rattle.cxx_expression.specs.Checked.{Answers};
+ghost use Rattle.cxx_expression.specs.Casts.{down_to, up_or_down, static_cast, if_polymorphic, up_or_dynamic, dynamic_cast, cast_of, cast_right, polymorphic_pointer, type_right};
+ghost use Rattle.cxx_expression.specs.invariants.Known.{Knows};
+
+use crate::classes::class_of;
+use crate::faults::{FaultList, note};
+use crate::known::Known;
+use crate::look_up::{Based, base_up, is_polymorphic};
+use crate::operators::truth_value;
+use crate::scene::{Scene, Setting};
+use crate::typed::{Pointer, RightValue};
+use crate::values::pointer_of;
+use cxx_hierarchy::{ClassId, Hierarchy, Rule, ValueType};
+use cxx_program::{TypedCast, TypedRight};
+use cxx_subobject::{Root, Subobject};
+use cxx_syntax::{CastKind, CastText, PointerText, Spot};
+use foundation::NoMemory;
+
+/// A cast down to a class, whose subobject the pointer names.
+fn down_to(
+    at: u32,
+    faults: &mut FaultList,
+    d: ClassId,
+    s: Subobject,
+) -> Result<Option<TypedCast>, NoMemory>
+    ensures { Answers result faults.old faults.new (down_to at d s s.root) }
+{
+    match s.root {
+        Root::Whole => Ok(Some(TypedCast::Down(d, s))),
+        Root::Shared(_) => {
+            note(faults, Rule::DowncastVirtual, at)?;
+            Ok(None)
+        }
+    }
+}
+
+/// A cast to a class, by what each class is as a base of the other.
+fn up_or_down(
+    at: u32,
+    faults: &mut FaultList,
+    d: ClassId,
+    up: Based,
+    down: Based,
+) -> Result<Option<TypedCast>, NoMemory>
+    ensures { Answers result faults.old faults.new (up_or_down at d up down) }
+{
+    match (up, down) {
+        (Based::Base(s), _) => Ok(Some(TypedCast::Up(s))),
+        (Based::NotBase, Based::Base(s)) => down_to(at, faults, d, s),
+        (Based::TwoBases, _) | (Based::NotBase, Based::TwoBases) => {
+            note(faults, Rule::AmbiguousBase, at)?;
+            Ok(None)
+        }
+        (Based::NotBase, Based::NotBase) => {
+            note(faults, Rule::NotBase, at)?;
+            Ok(None)
+        }
+    }
+}
+
+/// A static cast.
+#[tactic(auto, unfolding(crate::specs::Casts::static_cast))]
+fn static_cast(
+    h: &Hierarchy,
+    known: &mut Known,
+    at: u32,
+    faults: &mut FaultList,
+    c: ClassId,
+    d: ClassId,
+) -> Result<Option<TypedCast>, NoMemory>
+    requires knows { Knows h.now known.old }
+    ensures answers { Answers result faults.old faults.new (static_cast h.now at c d) }
+    ensures knows { OnOk result (Knows h.now known.new) }
+{
+    if c.0 == d.0 {
+        return Ok(Some(TypedCast::Same));
+    }
+    let up = base_up(h, known, c, d)?;
+    let down = base_up(h, known, d, c)?;
+    up_or_down(at, faults, d, up, down)
+}
+
+/// A dynamic cast.
+#[tactic(auto, unfolding(crate::specs::Casts::dynamic_cast))]
+fn dynamic_cast(
+    h: &Hierarchy,
+    known: &mut Known,
+    at: u32,
+    faults: &mut FaultList,
+    c: ClassId,
+    d: ClassId,
+) -> Result<Option<TypedCast>, NoMemory>
+    requires knows { Knows h.now known.old }
+    ensures answers { Answers result faults.old faults.new (dynamic_cast h.now at c d) }
+    ensures knows { OnOk result (Knows h.now known.new) }
+{
+    if c.0 == d.0 {
+        return Ok(Some(TypedCast::Same));
+    }
+    match base_up(h, known, c, d)? {
+        Based::Base(s) => Ok(Some(TypedCast::Up(s))),
+        Based::TwoBases => {
+            note(faults, Rule::AmbiguousBase, at)?;
+            Ok(None)
+        }
+        Based::NotBase => {
+            if is_polymorphic(h, known, c)? {
+                return Ok(Some(TypedCast::Dynamic(d)));
+            }
+            note(faults, Rule::NotPolymorphic, at)?;
+            Ok(None)
+        }
+    }
+}
+
+/// A cast from a class to another.
+#[tactic(auto, unfolding(crate::specs::Casts::cast_of))]
+fn cast_of(
+    h: &Hierarchy,
+    known: &mut Known,
+    at: u32,
+    faults: &mut FaultList,
+    kind: CastKind,
+    c: ClassId,
+    d: ClassId,
+) -> Result<Option<TypedCast>, NoMemory>
+    requires knows { Knows h.now known.old }
+    ensures answers { Answers result faults.old faults.new (cast_of h.now at kind c d) }
+    ensures knows { OnOk result (Knows h.now known.new) }
+{
+    match kind {
+        CastKind::Static | CastKind::Plain => static_cast(h, known, at, faults, c, d),
+        CastKind::Dynamic => dynamic_cast(h, known, at, faults, c, d),
+    }
+}
+
+/// A cast as a right side.
+#[tactic(auto, unfolding(crate::specs::Casts::cast_right))]
+pub(crate) fn cast_right(
+    h: &Hierarchy,
+    known: &mut Known,
+    setting: &Setting,
+    scene: &Scene,
+    at: u32,
+    faults: &mut FaultList,
+    text: &CastText,
+) -> Result<Option<RightValue>, NoMemory>
+    requires knows { Knows h.now known.old }
+    ensures answers { Answers result faults.old faults.new (cast_right h.now setting.now scene.now at text.now) }
+    ensures knows { OnOk result (Knows h.now known.new) }
+{
+    let target = class_of(h, faults, &text.target)?;
+    let pointer = pointer_of(setting, scene, at, faults, &text.pointer)?;
+    let (Some(target), Some(pointer)) = (target, pointer) else {
+        return Ok(None);
+    };
+    let Some(cast) = cast_of(h, known, at, faults, text.kind, pointer.class, target)? else {
+        return Ok(None);
+    };
+    Ok(Some(RightValue {
+        right: TypedRight::Cast(cast, pointer.operand),
+        ty: ValueType::Pointer(target),
+        is_null: false,
+    }))
+}
+
+/// A pointer to a class with virtual functions, as typeid and `dynamic_cast<void*>` want it; `at` is the place of the
+/// statement's first token. Faults: E18, E19, E22.
+#[tactic(auto, unfolding(crate::specs::Casts::polymorphic_pointer))]
+pub fn polymorphic_pointer(
+    h: &Hierarchy,
+    known: &mut Known,
+    setting: &Setting,
+    scene: &Scene,
+    at: u32,
+    faults: &mut FaultList,
+    pointer: &PointerText,
+) -> Result<Option<Pointer>, NoMemory>
+    requires knows { Knows h.now known.old }
+    ensures answers { Answers result faults.old faults.new (polymorphic_pointer h.now setting.now scene.now at pointer.now) }
+    ensures knows { OnOk result (Knows h.now known.new) }
+{
+    let Some(pointer) = pointer_of(setting, scene, at, faults, pointer)? else {
+        return Ok(None);
+    };
+    if !is_polymorphic(h, known, pointer.class)? {
+        note(faults, Rule::NotPolymorphic, at)?;
+        return Ok(None);
+    }
+    Ok(Some(pointer))
+}
+
+/// `typeid(*pointer) == typeid(class)`.
+#[tactic(auto, unfolding(crate::specs::Casts::type_right))]
+pub(crate) fn type_right(
+    h: &Hierarchy,
+    known: &mut Known,
+    setting: &Setting,
+    scene: &Scene,
+    at: u32,
+    faults: &mut FaultList,
+    pointer: &PointerText,
+    name: &Spot,
+) -> Result<Option<RightValue>, NoMemory>
+    requires knows { Knows h.now known.old }
+    ensures answers { Answers result faults.old faults.new (type_right h.now setting.now scene.now at pointer.now name.now) }
+    ensures knows { OnOk result (Knows h.now known.new) }
+{
+    let pointer = polymorphic_pointer(h, known, setting, scene, at, faults, pointer)?;
+    let class = class_of(h, faults, name)?;
+    let (Some(pointer), Some(class)) = (pointer, class) else {
+        return Ok(None);
+    };
+    Ok(Some(truth_value(TypedRight::TypeEqual(pointer.operand, class))))
+}

@@ -1,0 +1,70 @@
+//! The classes of names.
+
+ghost use Rattle.std.specs.Prelude.{◌≡◌};
+ghost use Rattle.cxx_expression.specs.Checked.{Answers};
+ghost use Rattle.cxx_expression.specs.Lookups.{find_class};
+ghost use Rattle.cxx_expression.specs.Values.{class_named, class_of, type_of};
+
+use crate::faults::{FaultList, note};
+use cxx_hierarchy::{ClassId, Hierarchy, Name, Rule, ValueType};
+use cxx_syntax::Spot;
+use foundation::NoMemory;
+
+/// The class of a name.
+#[tactic(auto, using(crate::proofs::Finding::class_is))]
+pub fn find_class(h: &Hierarchy, name: &[u8]) -> Option<ClassId>
+    ensures { result ≡ find_class h.now name.now }
+{
+    h.keeps();
+    h.find(name)
+}
+
+/// The class of a name that stands at a place in bytes. Faults: E3.
+#[tactic(auto, unfolding(crate::specs::Values::class_named))]
+pub fn class_named(
+    h: &Hierarchy,
+    faults: &mut FaultList,
+    name: &Name,
+    at: u32,
+) -> Result<Option<ClassId>, NoMemory>
+    ensures { Answers result faults.old faults.new (class_named h.now name.now at) }
+{
+    let Some(class) = find_class(h, name.as_slice()) else {
+        note(faults, Rule::UnknownClass, at)?;
+        return Ok(None);
+    };
+    Ok(Some(class))
+}
+
+/// The class of a name. Faults: E3.
+#[tactic(auto, unfolding(crate::specs::Values::class_of))]
+pub fn class_of(
+    h: &Hierarchy,
+    faults: &mut FaultList,
+    x: &Spot,
+) -> Result<Option<ClassId>, NoMemory>
+    ensures { Answers result faults.old faults.new (class_of h.now x.now) }
+{
+    class_named(h, faults, &x.name, x.at)
+}
+
+/// The type of a declaration; `at` is the place of its first token. Faults: E3.
+#[tactic(auto, unfolding(crate::specs::Values::type_of))]
+pub fn type_of(
+    h: &Hierarchy,
+    faults: &mut FaultList,
+    ty: &ValueType<Name>,
+    at: u32,
+) -> Result<Option<ValueType<ClassId>>, NoMemory>
+    ensures { Answers result faults.old faults.new (type_of h.now ty.now at) }
+{
+    match ty {
+        ValueType::Number(scalar) => Ok(Some(ValueType::Number(*scalar))),
+        ValueType::Pointer(name) => {
+            let Some(class) = class_named(h, faults, name, at)? else {
+                return Ok(None);
+            };
+            Ok(Some(ValueType::Pointer(class)))
+        }
+    }
+}

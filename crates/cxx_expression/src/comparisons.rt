@@ -1,0 +1,198 @@
+//! `==` and `!=`.
+
+ghost use Rattle.std.specs.Prelude.{◌≡◌, OnOk};
+ghost use Rattle.cxx_expression.specs.Checked.{Answers};
+ghost use Rattle.cxx_expression.specs.Operators.{same_pointer, one_converted, to_one_class, if_null, equality, pointers_right, null_right, compared, equal_right};
+ghost use Rattle.cxx_expression.specs.invariants.Known.{Knows};
+
+use crate::faults::{FaultList, note};
+use crate::known::Known;
+use crate::look_up::{Based, base_up};
+use crate::operators::{calculated, truth_value};
+use crate::scene::{Scene, Setting};
+use crate::typed::{RightValue, Value};
+use crate::values::operand_of;
+use cxx_hierarchy::{ClassId, Hierarchy, Rule, ValueType};
+use cxx_program::{Argument, Arithmetic, Conversion, TypedOperand, TypedRight};
+use cxx_syntax::Operand;
+use foundation::NoMemory;
+
+/// Whether two pointers are the same, or differ, by their conversions.
+fn same_pointer(
+    differ: bool,
+    a: TypedOperand,
+    b: TypedOperand,
+    conversions: (Conversion, Conversion),
+) -> RightValue
+    ensures { result ≡ same_pointer differ a b conversions }
+{
+    let (left, right) = conversions;
+    truth_value(TypedRight::SamePointer(
+        differ,
+        Argument {
+            operand: a,
+            conversion: left,
+        },
+        Argument {
+            operand: b,
+            conversion: right,
+        },
+    ))
+}
+
+/// The conversions of two pointers to different classes, by what each class is as a base of the other.
+fn one_converted(
+    at: u32,
+    faults: &mut FaultList,
+    up: Based,
+    down: Based,
+) -> Result<Option<(Conversion, Conversion)>, NoMemory>
+    ensures { Answers result faults.old faults.new (one_converted at up down) }
+{
+    match (up, down) {
+        (Based::Base(s), _) => Ok(Some((Conversion::Base(s), Conversion::Same))),
+        (Based::NotBase, Based::Base(s)) => Ok(Some((Conversion::Same, Conversion::Base(s)))),
+        (Based::TwoBases, _) | (Based::NotBase, Based::TwoBases) => {
+            note(faults, Rule::AmbiguousBase, at)?;
+            Ok(None)
+        }
+        (Based::NotBase, Based::NotBase) => {
+            note(faults, Rule::NotBase, at)?;
+            Ok(None)
+        }
+    }
+}
+
+/// How pointers to two classes become pointers to one.
+#[tactic(auto, unfolding(crate::specs::Operators::to_one_class))]
+fn to_one_class(
+    h: &Hierarchy,
+    known: &mut Known,
+    at: u32,
+    faults: &mut FaultList,
+    c: ClassId,
+    d: ClassId,
+) -> Result<Option<(Conversion, Conversion)>, NoMemory>
+    requires knows { Knows h.now known.old }
+    ensures answers { Answers result faults.old faults.new (to_one_class h.now at c d) }
+    ensures knows { OnOk result (Knows h.now known.new) }
+{
+    if c.0 == d.0 {
+        return Ok(Some((Conversion::Same, Conversion::Same)));
+    }
+    let up = base_up(h, known, c, d)?;
+    let down = base_up(h, known, d, c)?;
+    one_converted(at, faults, up, down)
+}
+
+fn equality(differ: bool) -> Arithmetic
+    ensures { result ≡ equality differ }
+{
+    if differ {
+        Arithmetic::NotEqual
+    } else {
+        Arithmetic::Equal
+    }
+}
+
+/// Two pointers.
+#[tactic(auto, unfolding(crate::specs::Operators::pointers_right))]
+fn pointers_right(
+    h: &Hierarchy,
+    known: &mut Known,
+    at: u32,
+    faults: &mut FaultList,
+    differ: bool,
+    a: TypedOperand,
+    c: ClassId,
+    b: TypedOperand,
+    d: ClassId,
+) -> Result<Option<RightValue>, NoMemory>
+    requires knows { Knows h.now known.old }
+    ensures answers { Answers result faults.old faults.new (pointers_right h.now at differ a c b d) }
+    ensures knows { OnOk result (Knows h.now known.new) }
+{
+    let Some(conversions) = to_one_class(h, known, at, faults, c, d)? else {
+        return Ok(None);
+    };
+    Ok(Some(same_pointer(differ, a, b, conversions)))
+}
+
+/// A pointer, and a number that must be a null pointer constant.
+#[tactic(auto, unfolding(crate::specs::Operators::null_right))]
+fn null_right(
+    at: u32,
+    faults: &mut FaultList,
+    is_null: bool,
+    differ: bool,
+    a: TypedOperand,
+    b: TypedOperand,
+    conversions: (Conversion, Conversion),
+) -> Result<Option<RightValue>, NoMemory>
+    ensures { Answers result faults.old faults.new (null_right at is_null differ a b conversions) }
+{
+    if !is_null {
+        note(faults, Rule::TypeMismatch, at)?;
+        return Ok(None);
+    }
+    Ok(Some(same_pointer(differ, a, b, conversions)))
+}
+
+/// Two numbers, two pointers, or a pointer and a null pointer constant.
+#[tactic(auto, unfolding(crate::specs::Operators::compared))]
+fn compared(
+    h: &Hierarchy,
+    known: &mut Known,
+    at: u32,
+    faults: &mut FaultList,
+    differ: bool,
+    a: &Value,
+    b: &Value,
+) -> Result<Option<RightValue>, NoMemory>
+    requires knows { Knows h.now known.old }
+    ensures answers { Answers result faults.old faults.new (compared h.now at differ a.now.operand a.now.ty a.now.is_null b.now.operand b.now.ty b.now.is_null) }
+    ensures knows { OnOk result (Knows h.now known.new) }
+{
+    let (x, y) = (a.operand, b.operand);
+    match (&a.ty, &b.ty) {
+        (ValueType::Number(s), ValueType::Number(t)) => {
+            Ok(Some(calculated(equality(differ), x, *s, y, *t)))
+        }
+        (ValueType::Number(_), ValueType::Pointer(_)) => {
+            let conversions = (Conversion::Null, Conversion::Same);
+            null_right(at, faults, a.is_null, differ, x, y, conversions)
+        }
+        (ValueType::Pointer(_), ValueType::Number(_)) => {
+            let conversions = (Conversion::Same, Conversion::Null);
+            null_right(at, faults, b.is_null, differ, x, y, conversions)
+        }
+        (ValueType::Pointer(c), ValueType::Pointer(d)) => {
+            pointers_right(h, known, at, faults, differ, x, *c, y, *d)
+        }
+    }
+}
+
+/// `==`, or `!=` where the operands are to differ.
+#[tactic(auto, unfolding(crate::specs::Operators::equal_right))]
+pub(crate) fn equal_right(
+    h: &Hierarchy,
+    known: &mut Known,
+    setting: &Setting,
+    scene: &Scene,
+    at: u32,
+    faults: &mut FaultList,
+    differ: bool,
+    x: &Operand,
+    y: &Operand,
+) -> Result<Option<RightValue>, NoMemory>
+    requires knows { Knows h.now known.old }
+    ensures answers { Answers result faults.old faults.new (equal_right h.now setting.now scene.now at differ x.now y.now) }
+    ensures knows { OnOk result (Knows h.now known.new) }
+{
+    let left = operand_of(setting, scene, at, faults, x)?;
+    let right = operand_of(setting, scene, at, faults, y)?;
+    let (Some(a), Some(b)) = (left, right) else {
+        return Ok(None);
+    };
+    compared(h, known, at, faults, differ, &a, &b)
+}

@@ -1,0 +1,139 @@
+//! Conversions of numbers and pointers.
+
+ghost use Rattle.std.specs.Prelude.{◌≡◌, OnOk};
+ghost use Rattle.cxx_expression.specs.Checked.{Answers};
+ghost use Rattle.cxx_expression.specs.Values.{path_to, conversion_by, class_conversion, conversion_of, converted_operand};
+ghost use Rattle.cxx_expression.specs.invariants.Known.{Knows};
+
+use crate::faults::{FaultList, note};
+use crate::known::Known;
+use crate::look_up::{Based, base_up};
+use crate::scene::{Scene, Setting};
+use crate::values::operand_of;
+use cxx_hierarchy::{ClassId, Hierarchy, Rule, ValueType};
+use cxx_program::{Argument, Conversion};
+use cxx_subobject::Subobject;
+use cxx_syntax::Operand;
+use foundation::NoMemory;
+
+/// A class as a proper base of another, or none where they are one class.
+#[tactic(auto, unfolding(crate::specs::Values::path_to))]
+pub(crate) fn path_to(
+    h: &Hierarchy,
+    known: &mut Known,
+    at: u32,
+    faults: &mut FaultList,
+    from: ClassId,
+    to: ClassId,
+) -> Result<Option<Option<Subobject>>, NoMemory>
+    requires knows { Knows h.now known.old }
+    ensures answers { Answers result faults.old faults.new (path_to h.now at from to) }
+    ensures knows { OnOk result (Knows h.now known.new) }
+{
+    if from.0 == to.0 {
+        return Ok(Some(None));
+    }
+    match base_up(h, known, from, to)? {
+        Based::Base(s) => Ok(Some(Some(s))),
+        Based::TwoBases => {
+            note(faults, Rule::AmbiguousBase, at)?;
+            Ok(None)
+        }
+        Based::NotBase => {
+            note(faults, Rule::NotBase, at)?;
+            Ok(None)
+        }
+    }
+}
+
+fn conversion_by(path: Option<Subobject>) -> Conversion
+    ensures { result ≡ conversion_by path }
+{
+    match path {
+        None => Conversion::Same,
+        Some(s) => Conversion::Base(s),
+    }
+}
+
+/// How a pointer to a class becomes one to another; `at` is the place of the statement's first token. Faults: E15, E16.
+#[tactic(auto, unfolding(crate::specs::Values::class_conversion))]
+pub fn class_conversion(
+    h: &Hierarchy,
+    known: &mut Known,
+    at: u32,
+    faults: &mut FaultList,
+    from: ClassId,
+    to: ClassId,
+) -> Result<Option<Conversion>, NoMemory>
+    requires knows { Knows h.now known.old }
+    ensures answers { Answers result faults.old faults.new (class_conversion h.now at from to) }
+    ensures knows { OnOk result (Knows h.now known.new) }
+{
+    let Some(path) = path_to(h, known, at, faults, from, to)? else {
+        return Ok(None);
+    };
+    Ok(Some(conversion_by(path)))
+}
+
+/// How a value becomes one of a type; `at` is the place of the statement's first token. Faults: E15, E16, E19.
+#[tactic(auto, unfolding(crate::specs::Values::conversion_of))]
+pub fn conversion_of(
+    h: &Hierarchy,
+    known: &mut Known,
+    at: u32,
+    faults: &mut FaultList,
+    from: &ValueType<ClassId>,
+    is_null: bool,
+    to: &ValueType<ClassId>,
+) -> Result<Option<Conversion>, NoMemory>
+    requires knows { Knows h.now known.old }
+    ensures answers { Answers result faults.old faults.new (conversion_of h.now at from.now is_null to.now) }
+    ensures knows { OnOk result (Knows h.now known.new) }
+{
+    match (from, to) {
+        (ValueType::Number(_), ValueType::Number(scalar)) => Ok(Some(Conversion::Number(*scalar))),
+        (ValueType::Number(_), ValueType::Pointer(_)) => {
+            if is_null {
+                return Ok(Some(Conversion::Null));
+            }
+            note(faults, Rule::TypeMismatch, at)?;
+            Ok(None)
+        }
+        (ValueType::Pointer(_), ValueType::Number(_)) => {
+            note(faults, Rule::TypeMismatch, at)?;
+            Ok(None)
+        }
+        (ValueType::Pointer(c), ValueType::Pointer(d)) => {
+            class_conversion(h, known, at, faults, *c, *d)
+        }
+    }
+}
+
+/// An operand that becomes a value of a type; `at` is the place of the statement's first token. Faults: those of the operand
+/// and of its conversion.
+#[tactic(auto, unfolding(crate::specs::Values::converted_operand))]
+pub fn converted_operand(
+    h: &Hierarchy,
+    known: &mut Known,
+    setting: &Setting,
+    scene: &Scene,
+    at: u32,
+    faults: &mut FaultList,
+    ty: &ValueType<ClassId>,
+    operand: &Operand,
+) -> Result<Option<Argument>, NoMemory>
+    requires knows { Knows h.now known.old }
+    ensures answers { Answers result faults.old faults.new (converted_operand h.now setting.now scene.now at ty.now operand.now) }
+    ensures knows { OnOk result (Knows h.now known.new) }
+{
+    let Some(value) = operand_of(setting, scene, at, faults, operand)? else {
+        return Ok(None);
+    };
+    let Some(conversion) = conversion_of(h, known, at, faults, &value.ty, value.is_null, ty)? else {
+        return Ok(None);
+    };
+    Ok(Some(Argument {
+        operand: value.operand,
+        conversion,
+    }))
+}

@@ -1,0 +1,321 @@
+//! Places: members of what a pointer names, and members inside them.
+
+ghost use Rattle.std.specs.Prelude.{◌≡◌, OnOk, IfOk};
+ghost use Rattle.cxx_subobject.specs.Subobjects.{class_of};
+ghost use Rattle.cxx_expression.specs.Checked.{Answers};
+ghost use Rattle.cxx_expression.specs.Places.{member_in, member_of, index_of, object_of, step_of, further, begun, steps_of, with_last, place_of, leaf_of, object_place_of};
+ghost use Rattle.cxx_expression.specs.invariants.Known.{Knows};
+
+use crate::copies::copy_field;
+use crate::faults::{FaultList, note};
+use crate::known::Known;
+use crate::look_up::{Looked, looked_up, member_record};
+use crate::scene::{Scene, Setting};
+use crate::typed::{FieldPlace, FoundMember, LeafPlace, ObjectPlace, PlaceStep, Pointer, Reached};
+use crate::values::pointer_of;
+use cxx_hierarchy::{ClassId, FieldType, Hierarchy, Rule};
+use cxx_program::{PassedMember, TypedPlace};
+use cxx_subobject::{Subobject, class_of};
+use cxx_syntax::{PlacePart, PlaceText, Spot};
+use foundation::{NoMemory, Sequence};
+use std::alloc::Global;
+
+/// The member of a number in the class of a subobject.
+#[tactic(auto, unfolding(crate::specs::Places::member_in))]
+fn member_in(
+    h: &Hierarchy,
+    name_at: u32,
+    faults: &mut FaultList,
+    s: Subobject,
+    number: u32,
+) -> Result<Option<FoundMember>, NoMemory>
+    ensures { Answers result faults.old faults.new (member_in h.now name_at s number (class_of s)) }
+{
+    let Some(class) = class_of(&s) else {
+        note(faults, Rule::NoSuchMember, name_at)?;
+        return Ok(None);
+    };
+    let Some(member) = member_record(h, class, number) else {
+        note(faults, Rule::NoSuchMember, name_at)?;
+        return Ok(None);
+    };
+    Ok(Some(FoundMember {
+        base: s,
+        number,
+        ty: copy_field(&member.ty),
+        count: member.count,
+    }))
+}
+
+/// The data member that a name means in a class.
+#[tactic(auto, unfolding(crate::specs::Places::member_of))]
+fn member_of(
+    h: &Hierarchy,
+    known: &mut Known,
+    at: u32,
+    faults: &mut FaultList,
+    c: ClassId,
+    x: &Spot,
+) -> Result<Option<FoundMember>, NoMemory>
+    requires knows { Knows h.now known.old }
+    ensures answers { Answers result faults.old faults.new (member_of h.now at c x.now) }
+    ensures knows { OnOk result (Knows h.now known.new) }
+{
+    match looked_up(h, known, c, x.name.as_slice())? {
+        Looked::Missing => {
+            note(faults, Rule::NoSuchMember, x.at)?;
+            Ok(None)
+        }
+        Looked::Ambiguous => {
+            note(faults, Rule::AmbiguousName, x.at)?;
+            Ok(None)
+        }
+        Looked::Member(s, number) => member_in(h, x.at, faults, s, number),
+        Looked::Function(_, _) => {
+            note(faults, Rule::TypeMismatch, at)?;
+            Ok(None)
+        }
+    }
+}
+
+/// The index of an element of an array of a length.
+#[tactic(auto, unfolding(crate::specs::Places::index_of))]
+fn index_of(
+    at: u32,
+    faults: &mut FaultList,
+    count: Option<u32>,
+    index: Option<(u64, u32)>,
+) -> Result<Option<u32>, NoMemory>
+    ensures { Answers result faults.old faults.new (index_of at count index) }
+{
+    match (count, index) {
+        (None, None) => Ok(Some(0)),
+        (Some(length), Some((number, place))) => {
+            if number < length as u64 {
+                return Ok(Some(number as u32));
+            }
+            note(faults, Rule::Index, place)?;
+            Ok(Some(0))
+        }
+        (None, Some(_)) | (Some(_), None) => {
+            note(faults, Rule::TypeMismatch, at)?;
+            Ok(None)
+        }
+    }
+}
+
+/// The class of an object.
+#[tactic(auto, unfolding(crate::specs::Places::object_of))]
+fn object_of(
+    at: u32,
+    faults: &mut FaultList,
+    ty: &FieldType<ClassId>,
+) -> Result<Option<ClassId>, NoMemory>
+    ensures { Answers result faults.old faults.new (object_of at ty.now) }
+{
+    match ty {
+        FieldType::Object(class) => Ok(Some(*class)),
+        FieldType::Value(_) => {
+            note(faults, Rule::TypeMismatch, at)?;
+            Ok(None)
+        }
+    }
+}
+
+/// One name of a place, in an object of a class.
+#[tactic(auto, unfolding(crate::specs::Places::step_of))]
+fn step_of(
+    h: &Hierarchy,
+    known: &mut Known,
+    at: u32,
+    faults: &mut FaultList,
+    c: ClassId,
+    part: &PlacePart,
+) -> Result<Option<PlaceStep>, NoMemory>
+    requires knows { Knows h.now known.old }
+    ensures answers { Answers result faults.old faults.new (step_of h.now at c part.now) }
+    ensures knows { OnOk result (Knows h.now known.new) }
+{
+    let Some(found) = member_of(h, known, at, faults, c, &part.name)? else {
+        return Ok(None);
+    };
+    let Some(index) = index_of(at, faults, found.count, part.index)? else {
+        return Ok(None);
+    };
+    Ok(Some(PlaceStep {
+        base: found.base,
+        member: found.number,
+        index,
+        ty: found.ty,
+    }))
+}
+
+/// Nothing of an object of a class is reached yet.
+fn begun(alloc: Global, class: ClassId) -> Reached
+    ensures { result ≡ begun class }
+{
+    Reached {
+        passed: Sequence::new(alloc),
+        last: None,
+        ty: FieldType::Object(class),
+    }
+}
+
+/// One step more, in an object of a class.
+fn further(reached: Reached, class: ClassId, step: PlaceStep) -> Result<Reached, NoMemory>
+    ensures { IfOk result (λ next. next ≡ further reached class step) }
+{
+    let Reached {
+        mut passed,
+        last,
+        ..
+    } = reached;
+    if let Some(last) = last {
+        passed.push(PassedMember {
+            base: last.base,
+            member: last.member,
+            index: last.index,
+            class,
+        })?;
+    }
+    let ty = copy_field(&step.ty);
+    Ok(Reached {
+        passed,
+        last: Some(step),
+        ty,
+    })
+}
+
+/// What the names of a place reach in an object of a class.
+#[tactic(auto, unfolding(crate::specs::Places::steps_of))]
+fn steps_of(
+    h: &Hierarchy,
+    known: &mut Known,
+    at: u32,
+    faults: &mut FaultList,
+    class: ClassId,
+    parts: &[PlacePart],
+) -> Result<Option<Reached>, NoMemory>
+    requires knows { Knows h.now known.old }
+    ensures answers { Answers result faults.old faults.new (steps_of h.now at (begun class) parts.now) }
+    ensures knows { OnOk result (Knows h.now known.new) }
+{
+    let mut reached = begun(known.alloc, class);
+    for part in parts {
+        let Some(inside) = object_of(at, faults, &reached.ty)? else {
+            return Ok(None);
+        };
+        let Some(step) = step_of(h, known, at, faults, inside, part)? else {
+            return Ok(None);
+        };
+        reached = further(reached, inside, step)?;
+    }
+    Ok(Some(reached))
+}
+
+/// The place that is reached, where it has a name.
+fn with_last(pointer: Pointer, reached: Reached) -> Option<FieldPlace>
+    ensures { result ≡ with_last pointer reached.passed reached.last }
+{
+    let Reached { passed, last, .. } = reached;
+    let PlaceStep {
+        base,
+        member,
+        index,
+        ty,
+    } = last?;
+    let place = TypedPlace {
+        pointer: pointer.operand,
+        class: pointer.class,
+        passed,
+        base,
+        member,
+        index,
+    };
+    Some(FieldPlace { place, ty })
+}
+
+/// A place and its type.
+#[tactic(auto, unfolding(crate::specs::Places::place_of))]
+fn place_of(
+    h: &Hierarchy,
+    known: &mut Known,
+    setting: &Setting,
+    scene: &Scene,
+    at: u32,
+    faults: &mut FaultList,
+    text: &PlaceText,
+) -> Result<Option<FieldPlace>, NoMemory>
+    requires knows { Knows h.now known.old }
+    ensures answers { Answers result faults.old faults.new (place_of h.now setting.now scene.now at text.now) }
+    ensures knows { OnOk result (Knows h.now known.new) }
+{
+    let Some(pointer) = pointer_of(setting, scene, at, faults, &text.pointer)? else {
+        return Ok(None);
+    };
+    let parts = text.parts.as_slice();
+    let Some(reached) = steps_of(h, known, at, faults, pointer.class, parts)? else {
+        return Ok(None);
+    };
+    let Some(place) = with_last(pointer, reached) else {
+        note(faults, Rule::TypeMismatch, at)?;
+        return Ok(None);
+    };
+    Ok(Some(place))
+}
+
+/// A place of a number or a pointer; `at` is the place of the statement's first token. Faults: E9, E10, E19, E20, E22.
+#[tactic(auto, unfolding(crate::specs::Places::leaf_of))]
+pub fn leaf_of(
+    h: &Hierarchy,
+    known: &mut Known,
+    setting: &Setting,
+    scene: &Scene,
+    at: u32,
+    faults: &mut FaultList,
+    text: &PlaceText,
+) -> Result<Option<LeafPlace>, NoMemory>
+    requires knows { Knows h.now known.old }
+    ensures answers { Answers result faults.old faults.new (leaf_of h.now setting.now scene.now at text.now) }
+    ensures knows { OnOk result (Knows h.now known.new) }
+{
+    let Some(found) = place_of(h, known, setting, scene, at, faults, text)? else {
+        return Ok(None);
+    };
+    let FieldPlace { place, ty } = found;
+    match ty {
+        FieldType::Value(ty) => Ok(Some(LeafPlace { place, ty })),
+        FieldType::Object(_) => {
+            note(faults, Rule::TypeMismatch, at)?;
+            Ok(None)
+        }
+    }
+}
+
+/// A place of an object.
+#[tactic(auto, unfolding(crate::specs::Places::object_place_of))]
+pub(crate) fn object_place_of(
+    h: &Hierarchy,
+    known: &mut Known,
+    setting: &Setting,
+    scene: &Scene,
+    at: u32,
+    faults: &mut FaultList,
+    text: &PlaceText,
+) -> Result<Option<ObjectPlace>, NoMemory>
+    requires knows { Knows h.now known.old }
+    ensures answers { Answers result faults.old faults.new (object_place_of h.now setting.now scene.now at text.now) }
+    ensures knows { OnOk result (Knows h.now known.new) }
+{
+    let Some(found) = place_of(h, known, setting, scene, at, faults, text)? else {
+        return Ok(None);
+    };
+    let FieldPlace { place, ty } = found;
+    match ty {
+        FieldType::Object(class) => Ok(Some(ObjectPlace { place, class })),
+        FieldType::Value(_) => {
+            note(faults, Rule::TypeMismatch, at)?;
+            Ok(None)
+        }
+    }
+}

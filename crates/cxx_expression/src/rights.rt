@@ -1,0 +1,230 @@
+//! What stands to the right of `=`.
+
+ghost use Rattle.std.specs.Prelude.{◌≡◌, ◌<◌, OnOk, length};
+ghost use Rattle.cxx_overrider.specs.Overriders.{AreOverriders};
+ghost use Rattle.cxx_search.specs.Searches.{is_abstract};
+ghost use Rattle.cxx_expression.specs.Checked.{Answers};
+ghost use Rattle.cxx_expression.specs.Rights.{operand_right, place_right, address_right, as_result, call_right, new_right, right_of, converted_right};
+ghost use Rattle.cxx_expression.specs.invariants.Known.{Knows};
+
+use crate::calls::call_of;
+use crate::casts::{cast_right, type_right};
+use crate::classes::class_of;
+use crate::conversions::conversion_of;
+use crate::faults::{FaultList, note};
+use crate::known::Known;
+use crate::operators::{binary_right, not_right};
+use crate::places::{leaf_of, object_place_of};
+use crate::scene::{Scene, Setting};
+use crate::typed::{CallValue, RightValue};
+use crate::values::operand_of;
+use cxx_hierarchy::{ClassId, Hierarchy, ReturnType, Rule, ValueType};
+use cxx_overrider::Overriders;
+use cxx_program::{Converted, TypedRight};
+use cxx_search::abstract_is_found;
+use cxx_syntax::{CallText, Operand, PlaceText, Right, Spot};
+use foundation::NoMemory;
+
+/// An operand.
+#[tactic(auto, unfolding(crate::specs::Rights::operand_right))]
+fn operand_right(
+    setting: &Setting,
+    scene: &Scene,
+    at: u32,
+    faults: &mut FaultList,
+    operand: &Operand,
+) -> Result<Option<RightValue>, NoMemory>
+    ensures { Answers result faults.old faults.new (operand_right setting.now scene.now at operand.now) }
+{
+    let Some(value) = operand_of(setting, scene, at, faults, operand)? else {
+        return Ok(None);
+    };
+    Ok(Some(RightValue {
+        right: TypedRight::Operand(value.operand),
+        ty: value.ty,
+        is_null: value.is_null,
+    }))
+}
+
+/// A place that is read.
+#[tactic(auto, unfolding(crate::specs::Rights::place_right))]
+fn place_right(
+    h: &Hierarchy,
+    known: &mut Known,
+    setting: &Setting,
+    scene: &Scene,
+    at: u32,
+    faults: &mut FaultList,
+    text: &PlaceText,
+) -> Result<Option<RightValue>, NoMemory>
+    requires knows { Knows h.now known.old }
+    ensures answers { Answers result faults.old faults.new (place_right h.now setting.now scene.now at text.now) }
+    ensures knows { OnOk result (Knows h.now known.new) }
+{
+    let Some(leaf) = leaf_of(h, known, setting, scene, at, faults, text)? else {
+        return Ok(None);
+    };
+    Ok(Some(RightValue {
+        right: TypedRight::Read(leaf.place),
+        ty: leaf.ty,
+        is_null: false,
+    }))
+}
+
+/// The address of an object.
+#[tactic(auto, unfolding(crate::specs::Rights::address_right))]
+fn address_right(
+    h: &Hierarchy,
+    known: &mut Known,
+    setting: &Setting,
+    scene: &Scene,
+    at: u32,
+    faults: &mut FaultList,
+    text: &PlaceText,
+) -> Result<Option<RightValue>, NoMemory>
+    requires knows { Knows h.now known.old }
+    ensures answers { Answers result faults.old faults.new (address_right h.now setting.now scene.now at text.now) }
+    ensures knows { OnOk result (Knows h.now known.new) }
+{
+    let Some(object) = object_place_of(h, known, setting, scene, at, faults, text)? else {
+        return Ok(None);
+    };
+    Ok(Some(RightValue {
+        right: TypedRight::Address(object.place, object.class),
+        ty: ValueType::Pointer(object.class),
+        is_null: false,
+    }))
+}
+
+/// A call whose result is used.
+#[tactic(auto, unfolding(crate::specs::Rights::call_right))]
+fn call_right(
+    h: &Hierarchy,
+    o: &Overriders,
+    known: &mut Known,
+    setting: &Setting,
+    scene: &Scene,
+    at: u32,
+    faults: &mut FaultList,
+    text: &CallText,
+) -> Result<Option<RightValue>, NoMemory>
+    requires made { AreOverriders h.now o.now }
+    requires knows { Knows h.now known.old }
+    ensures answers { Answers result faults.old faults.new (call_right h.now setting.now scene.now at text.now) }
+    ensures knows { OnOk result (Knows h.now known.new) }
+{
+    let Some(value) = call_of(h, o, known, setting, scene, at, faults, text)? else {
+        return Ok(None);
+    };
+    let CallValue { call, returns } = value;
+    match returns {
+        ReturnType::Void => {
+            note(faults, Rule::TypeMismatch, at)?;
+            Ok(None)
+        }
+        ReturnType::Value(ty) => Ok(Some(RightValue {
+            right: TypedRight::Call(call),
+            ty,
+            is_null: false,
+        })),
+    }
+}
+
+/// Whether a class is abstract.
+fn is_abstract(h: &Hierarchy, o: &Overriders, c: ClassId) -> bool
+    requires made { AreOverriders h.now o.now }
+    ensures { result ≡ is_abstract h.now c }
+{
+    if c.0 >= h.len() {
+        return false;
+    }
+    h.keeps();
+    abstract_is_found();
+    o.is_abstract(c)
+}
+
+/// A `new`.
+#[tactic(auto, unfolding(crate::specs::Rights::new_right))]
+fn new_right(
+    h: &Hierarchy,
+    o: &Overriders,
+    faults: &mut FaultList,
+    x: &Spot,
+) -> Result<Option<RightValue>, NoMemory>
+    requires made { AreOverriders h.now o.now }
+    ensures { Answers result faults.old faults.new (new_right h.now x.now) }
+{
+    let Some(class) = class_of(h, faults, x)? else {
+        return Ok(None);
+    };
+    if is_abstract(h, o, class) {
+        note(faults, Rule::Abstract, x.at)?;
+        return Ok(None);
+    }
+    Ok(Some(RightValue {
+        right: TypedRight::New(class),
+        ty: ValueType::Pointer(class),
+        is_null: false,
+    }))
+}
+
+/// A right side and its type; `at` is the place of the statement's first token. Faults: those of the right side.
+#[tactic(auto, unfolding(crate::specs::Rights::right_of))]
+pub fn right_of(
+    h: &Hierarchy,
+    o: &Overriders,
+    known: &mut Known,
+    setting: &Setting,
+    scene: &Scene,
+    at: u32,
+    faults: &mut FaultList,
+    right: &Right,
+) -> Result<Option<RightValue>, NoMemory>
+    requires made { AreOverriders h.now o.now }
+    requires knows { Knows h.now known.old }
+    ensures answers { Answers result faults.old faults.new (right_of h.now setting.now scene.now at right.now) }
+    ensures knows { OnOk result (Knows h.now known.new) }
+{
+    match right {
+        Right::Operand(x) => operand_right(setting, scene, at, faults, x),
+        Right::Binary(x, op, y) => { binary_right(h, known, setting, scene, at, faults, x, *op, y) }
+        Right::Not(x) => not_right(setting, scene, at, faults, x),
+        Right::Place(text) => place_right(h, known, setting, scene, at, faults, text),
+        Right::Address(text) => address_right(h, known, setting, scene, at, faults, text),
+        Right::Call(text) => call_right(h, o, known, setting, scene, at, faults, text),
+        Right::New(x) => new_right(h, o, faults, x),
+        Right::Cast(text) => cast_right(h, known, setting, scene, at, faults, text),
+        Right::TypeEqual(x, name) => { type_right(h, known, setting, scene, at, faults, x, name) }
+    }
+}
+
+/// A right side that becomes a value of a type; `at` is the place of the statement's first token. Faults: those of the
+/// right side and of its conversion.
+#[tactic(auto, unfolding(crate::specs::Rights::converted_right))]
+pub fn converted_right(
+    h: &Hierarchy,
+    o: &Overriders,
+    known: &mut Known,
+    setting: &Setting,
+    scene: &Scene,
+    at: u32,
+    faults: &mut FaultList,
+    ty: &ValueType<ClassId>,
+    right: &Right,
+) -> Result<Option<Converted>, NoMemory>
+    requires made { AreOverriders h.now o.now }
+    requires knows { Knows h.now known.old }
+    ensures answers { Answers result faults.old faults.new (converted_right h.now setting.now scene.now at ty.now right.now) }
+    ensures knows { OnOk result (Knows h.now known.new) }
+{
+    let Some(value) = right_of(h, o, known, setting, scene, at, faults, right)? else {
+        return Ok(None);
+    };
+    let Some(conversion) = conversion_of(h, known, at, faults, &value.ty, value.is_null, ty)? else {
+        return Ok(None);
+    };
+    Ok(Some(Converted {
+        right: value.right,
+        conversion,
+    }))
+}

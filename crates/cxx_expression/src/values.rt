@@ -1,0 +1,234 @@
+//! Operands and pointers.
+
+ghost use Rattle.std.specs.Prelude.{◌≡◌};
+ghost use Rattle.cxx_expression.specs.Checked.{Answers};
+ghost use Rattle.cxx_expression.specs.Values.{variable_of, named_value, this_of, within_long, spelled, truth, constant_of, operand_of, pointer_value, as_pointer, as_number, pointer_of, number_of};
+
+use crate::copies::copy_type;
+use crate::faults::{FaultList, note};
+use crate::scene::{Scene, Setting, last_of};
+use crate::typed::{Number, Pointer, Value};
+use cxx_hierarchy::{ClassId, Rule, Scalar, ValueType};
+use cxx_program::{TypedOperand, Variable};
+use cxx_syntax::{Constant, Operand, PointerText, Spot};
+use foundation::NoMemory;
+
+/// The largest `int`.
+const LARGEST_INT: u64 = 2147483647;
+
+/// The largest number that a source has, which is the largest `long`.
+const LARGEST: u64 = 9223372036854775807;
+
+/// The variable of a name, and its type. Faults: E22.
+#[tactic(auto, unfolding(crate::specs::Values::variable_of))]
+pub fn variable_of(
+    setting: &Setting,
+    scene: &Scene,
+    faults: &mut FaultList,
+    x: &Spot,
+) -> Result<Option<(Variable, ValueType<ClassId>)>, NoMemory>
+    ensures { Answers result faults.old faults.new (variable_of setting.now scene.now x.now) }
+{
+    if let Some(entry) = last_of(scene.entries.as_slice(), x.name.as_slice()) {
+        return Ok(Some((Variable::Local(entry.number), copy_type(&entry.ty))));
+    }
+    if let Some(entry) = last_of(setting.globals.as_slice(), x.name.as_slice()) {
+        return Ok(Some((Variable::Global(entry.number), copy_type(&entry.ty))));
+    }
+    note(faults, Rule::UnknownName, x.at)?;
+    Ok(None)
+}
+
+/// The value of the variable of a name.
+#[tactic(auto, unfolding(crate::specs::Values::named_value))]
+fn named_value(
+    setting: &Setting,
+    scene: &Scene,
+    faults: &mut FaultList,
+    x: &Spot,
+) -> Result<Option<Value>, NoMemory>
+    ensures { Answers result faults.old faults.new (named_value setting.now scene.now x.now) }
+{
+    let Some((variable, ty)) = variable_of(setting, scene, faults, x)? else {
+        return Ok(None);
+    };
+    Ok(Some(Value {
+        operand: TypedOperand::Variable(variable),
+        ty,
+        is_null: false,
+    }))
+}
+
+/// `this`, of the class, where there is one.
+fn this_of(
+    at: u32,
+    faults: &mut FaultList,
+    class: Option<ClassId>,
+) -> Result<Option<Value>, NoMemory>
+    ensures { Answers result faults.old faults.new (this_of at class) }
+{
+    let Some(class) = class else {
+        note(faults, Rule::TypeMismatch, at)?;
+        return Ok(None);
+    };
+    Ok(Some(Value {
+        operand: TypedOperand::This,
+        ty: ValueType::Pointer(class),
+        is_null: false,
+    }))
+}
+
+/// The number, or the largest one.
+fn within_long(number: u64) -> u64
+    ensures { result ≡ within_long number }
+{
+    if number <= LARGEST { number } else { LARGEST }
+}
+
+/// The number that is written.
+fn spelled(negative: bool, number: u64) -> i64
+    ensures { result ≡ spelled negative number }
+{
+    let value = within_long(number) as i64;
+    if negative { -value } else { value }
+}
+
+/// `false` is 0 and `true` is 1.
+fn truth(flag: bool) -> i64
+    ensures { result ≡ truth flag }
+{
+    if flag { 1 } else { 0 }
+}
+
+/// A constant and its type.
+pub fn constant_of(constant: &Constant) -> Value
+    ensures { result ≡ constant_of constant.now }
+{
+    match constant {
+        Constant::Number(negative, number, _) => Value {
+            operand: TypedOperand::Number(spelled(*negative, *number)),
+            ty: ValueType::Number(if *number <= LARGEST_INT {
+                Scalar::Int
+            } else {
+                Scalar::Long
+            }),
+            is_null: *number == 0 && !*negative,
+        },
+        Constant::Truth(b, _) => Value {
+            operand: TypedOperand::Number(truth(*b)),
+            ty: ValueType::Number(Scalar::Bool),
+            is_null: false,
+        },
+    }
+}
+
+/// An operand and its type; `at` is the place of the statement's first token. Faults: E22, and E19 at `this` in `main`.
+#[tactic(auto, unfolding(crate::specs::Values::operand_of))]
+pub fn operand_of(
+    setting: &Setting,
+    scene: &Scene,
+    at: u32,
+    faults: &mut FaultList,
+    operand: &Operand,
+) -> Result<Option<Value>, NoMemory>
+    ensures { Answers result faults.old faults.new (operand_of setting.now scene.now at operand.now) }
+{
+    match operand {
+        Operand::Name(x) => named_value(setting, scene, faults, x),
+        Operand::This(_) => this_of(at, faults, setting.this_class),
+        Operand::Constant(constant) => Ok(Some(constant_of(constant))),
+    }
+}
+
+/// A variable or `this`, and its type.
+#[tactic(auto, unfolding(crate::specs::Values::pointer_value))]
+fn pointer_value(
+    setting: &Setting,
+    scene: &Scene,
+    at: u32,
+    faults: &mut FaultList,
+    pointer: &PointerText,
+) -> Result<Option<Value>, NoMemory>
+    ensures { Answers result faults.old faults.new (pointer_value setting.now scene.now at pointer.now) }
+{
+    match pointer {
+        PointerText::Name(x) => named_value(setting, scene, faults, x),
+        PointerText::This(_) => this_of(at, faults, setting.this_class),
+    }
+}
+
+/// A value that must be a pointer.
+fn as_pointer(
+    at: u32,
+    faults: &mut FaultList,
+    operand: TypedOperand,
+    ty: &ValueType<ClassId>,
+) -> Result<Option<Pointer>, NoMemory>
+    ensures { Answers result faults.old faults.new (as_pointer at operand ty.now) }
+{
+    match ty {
+        ValueType::Pointer(class) => Ok(Some(Pointer {
+            operand,
+            class: *class,
+        })),
+        ValueType::Number(_) => {
+            note(faults, Rule::TypeMismatch, at)?;
+            Ok(None)
+        }
+    }
+}
+
+/// A variable or `this`, which must be a pointer; `at` is the place of the statement's first token. Faults: E22, E19.
+#[tactic(auto, unfolding(crate::specs::Values::pointer_of))]
+pub fn pointer_of(
+    setting: &Setting,
+    scene: &Scene,
+    at: u32,
+    faults: &mut FaultList,
+    pointer: &PointerText,
+) -> Result<Option<Pointer>, NoMemory>
+    ensures { Answers result faults.old faults.new (pointer_of setting.now scene.now at pointer.now) }
+{
+    let Some(value) = pointer_value(setting, scene, at, faults, pointer)? else {
+        return Ok(None);
+    };
+    as_pointer(at, faults, value.operand, &value.ty)
+}
+
+/// A value that must be a number.
+fn as_number(
+    at: u32,
+    faults: &mut FaultList,
+    operand: TypedOperand,
+    ty: &ValueType<ClassId>,
+) -> Result<Option<Number>, NoMemory>
+    ensures { Answers result faults.old faults.new (as_number at operand ty.now) }
+{
+    match ty {
+        ValueType::Number(scalar) => Ok(Some(Number {
+            operand,
+            scalar: *scalar,
+        })),
+        ValueType::Pointer(_) => {
+            note(faults, Rule::TypeMismatch, at)?;
+            Ok(None)
+        }
+    }
+}
+
+/// An operand that must be a number; `at` is the place of the statement's first token. Faults: E22, E19.
+#[tactic(auto, unfolding(crate::specs::Values::number_of))]
+pub fn number_of(
+    setting: &Setting,
+    scene: &Scene,
+    at: u32,
+    faults: &mut FaultList,
+    operand: &Operand,
+) -> Result<Option<Number>, NoMemory>
+    ensures { Answers result faults.old faults.new (number_of setting.now scene.now at operand.now) }
+{
+    let Some(value) = operand_of(setting, scene, at, faults, operand)? else {
+        return Ok(None);
+    };
+    as_number(at, faults, value.operand, &value.ty)
+}

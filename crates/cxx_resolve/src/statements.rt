@@ -1,0 +1,319 @@
+//! Statements without a block in them.
+
+ghost use Rattle.std.specs.Prelude.{◌≡◌, OnOk};
+ghost use Rattle.cxx_overrider.specs.Overriders.{AreOverriders};
+ghost use Rattle.cxx_expression.specs.Checked.{Answers};
+ghost use Rattle.cxx_expression.specs.invariants.Known.{Knows};
+ghost use Rattle.cxx_resolve.specs.Statements.{assign_of, write_of, copy_of, call_statement, delete_of, value_return, return_of, print_of, print_type_of, print_view_of, dump_of, plain_of};
+
+use cxx_expression::{
+    FaultList, Known, Returns, Scene, Setting, call_of, conversion_of, converted_operand, leaf_of,
+    note, operand_of, pointer_of, polymorphic_pointer, right_of, variable_of,
+};
+use cxx_hierarchy::{ClassId, Hierarchy, Rule, ValueType};
+use cxx_overrider::Overriders;
+use cxx_program::{Argument, Converted, TypedKind};
+use cxx_syntax::{CallText, Operand, PlaceText, PointerText, Right, Spot, StatementKind};
+use foundation::NoMemory;
+
+/// An assignment to a variable.
+#[tactic(auto, unfolding(crate::specs::Statements::assign_of))]
+fn assign_of(
+    h: &Hierarchy,
+    o: &Overriders,
+    known: &mut Known,
+    setting: &Setting,
+    scene: &Scene,
+    at: u32,
+    faults: &mut FaultList,
+    x: &Spot,
+    right: &Right,
+) -> Result<Option<TypedKind>, NoMemory>
+    requires made { AreOverriders h.now o.now }
+    requires knows { Knows h.now known.old }
+    ensures answers { Answers result faults.old faults.new (assign_of h.now setting.now scene.now at x.now right.now) }
+    ensures knows { OnOk result (Knows h.now known.new) }
+{
+    let variable = variable_of(setting, scene, faults, x)?;
+    let value = right_of(h, o, known, setting, scene, at, faults, right)?;
+    let Some((variable, ty)) = variable else {
+        return Ok(None);
+    };
+    let Some(value) = value else {
+        return Ok(None);
+    };
+    let conversion = conversion_of(h, known, at, faults, &value.ty, value.is_null, &ty)?;
+    let Some(conversion) = conversion else {
+        return Ok(None);
+    };
+    let right = value.right;
+    Ok(Some(TypedKind::Assign(variable, Converted { right, conversion })))
+}
+
+/// A value that is written to a member.
+#[tactic(auto, unfolding(crate::specs::Statements::write_of))]
+fn write_of(
+    h: &Hierarchy,
+    known: &mut Known,
+    setting: &Setting,
+    scene: &Scene,
+    at: u32,
+    faults: &mut FaultList,
+    place: &PlaceText,
+    operand: &Operand,
+) -> Result<Option<TypedKind>, NoMemory>
+    requires knows { Knows h.now known.old }
+    ensures answers { Answers result faults.old faults.new (write_of h.now setting.now scene.now at place.now operand.now) }
+    ensures knows { OnOk result (Knows h.now known.new) }
+{
+    let leaf = leaf_of(h, known, setting, scene, at, faults, place)?;
+    let value = operand_of(setting, scene, at, faults, operand)?;
+    let (Some(leaf), Some(value)) = (leaf, value) else {
+        return Ok(None);
+    };
+    let conversion = conversion_of(h, known, at, faults, &value.ty, value.is_null, &leaf.ty)?;
+    let Some(conversion) = conversion else {
+        return Ok(None);
+    };
+    let operand = value.operand;
+    Ok(Some(TypedKind::Write(
+        leaf.place,
+        Argument {
+            operand,
+            conversion,
+        },
+    )))
+}
+
+/// A copy of an object into another.
+#[tactic(auto, unfolding(crate::specs::Statements::copy_of))]
+fn copy_of(
+    setting: &Setting,
+    scene: &Scene,
+    at: u32,
+    faults: &mut FaultList,
+    to: &PointerText,
+    source: &PointerText,
+) -> Result<Option<TypedKind>, NoMemory>
+    ensures { Answers result faults.old faults.new (copy_of setting.now scene.now at to.now source.now) }
+{
+    let to = pointer_of(setting, scene, at, faults, to)?;
+    let source = pointer_of(setting, scene, at, faults, source)?;
+    let (Some(to), Some(source)) = (to, source) else {
+        return Ok(None);
+    };
+    if to.class.0 != source.class.0 {
+        note(faults, Rule::TypeMismatch, at)?;
+        return Ok(None);
+    }
+    Ok(Some(TypedKind::Copy(to.operand, source.operand, to.class)))
+}
+
+/// A call whose result is not used.
+#[tactic(auto, unfolding(crate::specs::Statements::call_statement))]
+fn call_statement(
+    h: &Hierarchy,
+    o: &Overriders,
+    known: &mut Known,
+    setting: &Setting,
+    scene: &Scene,
+    at: u32,
+    faults: &mut FaultList,
+    text: &CallText,
+) -> Result<Option<TypedKind>, NoMemory>
+    requires made { AreOverriders h.now o.now }
+    requires knows { Knows h.now known.old }
+    ensures answers { Answers result faults.old faults.new (call_statement h.now setting.now scene.now at text.now) }
+    ensures knows { OnOk result (Knows h.now known.new) }
+{
+    let Some(value) = call_of(h, o, known, setting, scene, at, faults, text)? else {
+        return Ok(None);
+    };
+    Ok(Some(TypedKind::Call(value.call)))
+}
+
+/// A `delete`.
+#[tactic(auto, unfolding(crate::specs::Statements::delete_of))]
+fn delete_of(
+    setting: &Setting,
+    scene: &Scene,
+    at: u32,
+    faults: &mut FaultList,
+    pointer: &PointerText,
+) -> Result<Option<TypedKind>, NoMemory>
+    ensures { Answers result faults.old faults.new (delete_of setting.now scene.now at pointer.now) }
+{
+    let Some(pointer) = pointer_of(setting, scene, at, faults, pointer)? else {
+        return Ok(None);
+    };
+    Ok(Some(TypedKind::Delete(pointer.operand, pointer.class)))
+}
+
+/// A `return` of a value.
+#[tactic(auto, unfolding(crate::specs::Statements::value_return))]
+fn value_return(
+    h: &Hierarchy,
+    known: &mut Known,
+    setting: &Setting,
+    scene: &Scene,
+    at: u32,
+    faults: &mut FaultList,
+    ty: &ValueType<ClassId>,
+    operand: &Operand,
+) -> Result<Option<TypedKind>, NoMemory>
+    requires knows { Knows h.now known.old }
+    ensures answers { Answers result faults.old faults.new (value_return h.now setting.now scene.now at ty.now operand.now) }
+    ensures knows { OnOk result (Knows h.now known.new) }
+{
+    let value = converted_operand(h, known, setting, scene, at, faults, ty, operand)?;
+    let Some(value) = value else {
+        return Ok(None);
+    };
+    Ok(Some(TypedKind::Return(Some(value))))
+}
+
+/// A `return`.
+#[tactic(auto, unfolding(crate::specs::Statements::return_of))]
+fn return_of(
+    h: &Hierarchy,
+    known: &mut Known,
+    setting: &Setting,
+    scene: &Scene,
+    at: u32,
+    faults: &mut FaultList,
+    operand: &Option<Operand>,
+) -> Result<Option<TypedKind>, NoMemory>
+    requires knows { Knows h.now known.old }
+    ensures answers { Answers result faults.old faults.new (return_of h.now setting.now scene.now at operand.now) }
+    ensures knows { OnOk result (Knows h.now known.new) }
+{
+    match (&setting.returns, operand) {
+        (Returns::Nothing, None) => Ok(Some(TypedKind::Return(None))),
+        (Returns::Value(ty), Some(operand)) => {
+            value_return(h, known, setting, scene, at, faults, ty, operand)
+        }
+        (Returns::Nowhere, _) | (Returns::Nothing, Some(_)) | (Returns::Value(_), None) => {
+            note(faults, Rule::TypeMismatch, at)?;
+            Ok(None)
+        }
+    }
+}
+
+/// A value that is printed.
+#[tactic(auto, unfolding(crate::specs::Statements::print_of))]
+fn print_of(
+    setting: &Setting,
+    scene: &Scene,
+    at: u32,
+    faults: &mut FaultList,
+    operand: &Operand,
+) -> Result<Option<TypedKind>, NoMemory>
+    ensures { Answers result faults.old faults.new (print_of setting.now scene.now at operand.now) }
+{
+    let Some(value) = operand_of(setting, scene, at, faults, operand)? else {
+        return Ok(None);
+    };
+    Ok(Some(TypedKind::Print(value.operand)))
+}
+
+/// A `print` of a class's name.
+#[tactic(auto, unfolding(crate::specs::Statements::print_type_of))]
+fn print_type_of(
+    h: &Hierarchy,
+    known: &mut Known,
+    setting: &Setting,
+    scene: &Scene,
+    at: u32,
+    faults: &mut FaultList,
+    pointer: &PointerText,
+) -> Result<Option<TypedKind>, NoMemory>
+    requires knows { Knows h.now known.old }
+    ensures answers { Answers result faults.old faults.new (print_type_of h.now setting.now scene.now at pointer.now) }
+    ensures knows { OnOk result (Knows h.now known.new) }
+{
+    let pointer = polymorphic_pointer(h, known, setting, scene, at, faults, pointer)?;
+    let Some(pointer) = pointer else {
+        return Ok(None);
+    };
+    Ok(Some(TypedKind::PrintType(pointer.operand, pointer.class)))
+}
+
+/// A `print` of the place of a whole object.
+#[tactic(auto, unfolding(crate::specs::Statements::print_view_of))]
+fn print_view_of(
+    h: &Hierarchy,
+    known: &mut Known,
+    setting: &Setting,
+    scene: &Scene,
+    at: u32,
+    faults: &mut FaultList,
+    pointer: &PointerText,
+) -> Result<Option<TypedKind>, NoMemory>
+    requires knows { Knows h.now known.old }
+    ensures answers { Answers result faults.old faults.new (print_view_of h.now setting.now scene.now at pointer.now) }
+    ensures knows { OnOk result (Knows h.now known.new) }
+{
+    let pointer = polymorphic_pointer(h, known, setting, scene, at, faults, pointer)?;
+    let Some(pointer) = pointer else {
+        return Ok(None);
+    };
+    Ok(Some(TypedKind::PrintView(pointer.operand, pointer.class)))
+}
+
+/// A `dump`.
+#[tactic(auto, unfolding(crate::specs::Statements::dump_of))]
+fn dump_of(
+    setting: &Setting,
+    scene: &Scene,
+    at: u32,
+    faults: &mut FaultList,
+    pointer: &PointerText,
+) -> Result<Option<TypedKind>, NoMemory>
+    ensures { Answers result faults.old faults.new (dump_of setting.now scene.now at pointer.now) }
+{
+    let Some(pointer) = pointer_of(setting, scene, at, faults, pointer)? else {
+        return Ok(None);
+    };
+    Ok(Some(TypedKind::Dump(pointer.operand, pointer.class)))
+}
+
+/// A statement that declares nothing and has no block in it.
+#[tactic(auto, unfolding(crate::specs::Statements::plain_of))]
+pub(crate) fn plain_of(
+    h: &Hierarchy,
+    o: &Overriders,
+    known: &mut Known,
+    setting: &Setting,
+    scene: &Scene,
+    at: u32,
+    faults: &mut FaultList,
+    kind: &StatementKind,
+) -> Result<Option<TypedKind>, NoMemory>
+    requires made { AreOverriders h.now o.now }
+    requires knows { Knows h.now known.old }
+    ensures answers { Answers result faults.old faults.new (plain_of h.now setting.now scene.now at kind.now) }
+    ensures knows { OnOk result (Knows h.now known.new) }
+{
+    match kind {
+        StatementKind::Assign(x, right) => {
+            assign_of(h, o, known, setting, scene, at, faults, x, right)
+        }
+        StatementKind::Write(place, x) => {
+            write_of(h, known, setting, scene, at, faults, place, x)
+        }
+        StatementKind::Copy(to, source) => copy_of(setting, scene, at, faults, to, source),
+        StatementKind::Call(text) => {
+            call_statement(h, o, known, setting, scene, at, faults, text)
+        }
+        StatementKind::Delete(x) => delete_of(setting, scene, at, faults, x),
+        StatementKind::Return(x) => return_of(h, known, setting, scene, at, faults, x),
+        StatementKind::Print(x) => print_of(setting, scene, at, faults, x),
+        StatementKind::PrintType(x) => print_type_of(h, known, setting, scene, at, faults, x),
+        StatementKind::PrintView(x) => print_view_of(h, known, setting, scene, at, faults, x),
+        StatementKind::Dump(x) => dump_of(setting, scene, at, faults, x),
+        StatementKind::Declare(..) | StatementKind::If(..) | StatementKind::While(..) => {
+            note(faults, Rule::TypeMismatch, at)?;
+            Ok(None)
+        }
+    }
+}

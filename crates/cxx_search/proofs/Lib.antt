@@ -1,0 +1,11 @@
+pub mod Once
+pub mod Finding
+pub mod Within
+pub mod Walks
+pub mod Names
+pub mod Declares
+pub mod Virtuals
+pub mod Bases
+pub mod Finals
+pub mod Abstract
+pub mod Casts

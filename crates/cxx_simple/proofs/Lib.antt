@@ -1,0 +1,15 @@
+pub mod Bases
+pub mod ClassTests
+pub mod NoItems
+pub mod FewParts
+pub mod FormCases
+pub mod FormLines
+pub mod Found
+pub mod Knowing
+pub mod Lines
+pub mod Programs
+pub mod Reached
+pub mod SoFar
+pub mod Whole
+pub mod LineDecisions
+pub mod MainDecisions

@@ -1,0 +1,17 @@
+pub mod Intervals
+pub mod Naming
+pub mod Ways
+pub mod Leaves
+pub mod Heap
+pub mod Owners
+pub mod Wholes
+pub mod Sized
+pub mod Meeting
+pub mod Counting
+pub mod Lining
+pub mod Shares
+pub mod Rooms
+pub mod Placed
+pub mod Rows
+pub mod Paths
+pub mod Within

@@ -1,0 +1,9 @@
+pub mod Places
+pub mod Phases
+pub mod Plans
+pub mod Mirrors
+pub mod Views
+pub mod Whole
+pub mod Runs
+pub mod Pieces
+pub mod Worked
