@@ -1,0 +1,11 @@
+pub mod Sets
+pub mod Asking
+pub mod Seeing
+pub mod Viewing
+pub mod Marking
+pub mod Leaving
+pub mod Storing
+pub mod Growing
+pub mod Adding
+pub mod Reaching
+pub mod Naming

@@ -1,0 +1,132 @@
+-- An event: the part takes a phase, the stack of its complete object changes, and nothing else does.
+use Rattle.std.proofs.Common.{◌≡◌, ℕ, ◌<◌, ⊎_elim, Bool, true, false, Option, Some, List, length, refl, ap, subst, sym, ◌∙◌}
+use Rattle.std.specs.Prelude.{slice_get, slice_set}
+use Rattle.std.proofs.lemmas.List.{length-set}
+use Rattle.std.proofs.lemmas.Option.{slice_get_within}
+use Rattle.foundation.proofs.Deciding.{decide_number}
+use Rattle.cxx_hierarchy.specs.declared.records.ClassId.{ClassId}
+use Rattle.cxx_hierarchy.specs.Classes.{Classes}
+use Rattle.cxx_subobject.specs.declared.Subobject.{Subobject}
+use Rattle.path_plan.specs.Places.{Step, ObjectPart}
+use Rattle.path_plan.specs.Phases.{Phases, Event, Begin, Ready, Done, Ending, Bases, End, put, pushed, popped}
+use Rattle.path_plan.specs.Phases as Plan
+use Rattle.path_plan.specs.Plans.{InFull}
+use Rattle.path_plan.proofs.Same.{put_same, put_other}
+use Rattle.path_numbers.specs.Sizes.{sizes_of, total}
+use Rattle.path_numbers.specs.Nodes.{Node}
+use Rattle.path_numbers.specs.Heap.{IsAt}
+use Rattle.path_numbers.proofs.Sized.{sizes_are}
+use Rattle.path_numbers.proofs.Heap.{heap_part, heap_number}
+use Rattle.path_model.specs.Values.{Objects}
+use Rattle.path_heap.specs.declared.state.Phase.{Phase}
+use Rattle.path_heap.specs.declared.state.Cell.{Cell}
+use Rattle.path_heap.specs.declared.state.ObjectRow.{ObjectRow}
+use Rattle.path_heap.specs.declared.state.Part.{Part}
+use Rattle.path_heap.specs.declared.heap.Heap.{Heap}
+use Rattle.path_heap.specs.Points.{IsPart, IsOwner}
+use Rattle.path_heap.specs.Running.{is_running, entry_at, ViewsStand}
+use Rattle.path_heap.specs.Stands.{phase_of, CellStands, ObjectStands, HeapStands}
+use Rattle.path_heap.specs.invariants.Columns.{cell_or, cell_at, marked_cell, Marked, Entered}
+use Rattle.path_heap.proofs.Sets.{set_same, set_other}
+use Rattle.path_heap.proofs.Asking.{object_told}
+use Rattle.path_heap.proofs.Viewing.{points_of, at_less, begins_stand, stays_stand}
+
+-- the objects with one part in another phase
+abbrev pub turned : Objects → ObjectPart → Plan.Phase → (ℕ → List Step → List Subobject) → (ℕ → Bool) → Objects
+turned s p x running closed = record { classes = s.classes; is_closed = closed; phases = record { phase = put s.phases.phase p x; running = running }; leaf = s.leaf }
+
+-- the column of cells
+cell_marked : (h : Classes) (heap : Heap) (s : Objects) → HeapStands h heap s → (code : Part) (p : ObjectPart) → IsPart h s.classes code p → (x : Phase) (running : ℕ → List Step → List Subobject) (closed : ℕ → Bool) (z : Node) → IsAt h (sizes_of h) s.classes z
+    → CellStands h (turned s p (phase_of x) running closed) (slice_set heap.cells.items code.number (marked_cell x code (cell_at heap code.number))) z
+cell_marked h heap s stands code p r x running closed z z_at =
+    let old = stands.cells r.node r.at in
+    let here : slice_get heap.cells.items code.number ≡ Some old.cell = subst (λ n. slice_get heap.cells.items n ≡ Some old.cell) r.is_number old.listed in
+    let lt = slice_get_within heap.cells.items code.number old.cell here in
+    ⊎_elim
+    (λ e.
+    let same : r.node ≡ z = heap_part h (sizes_of h) (sizes_are h stands.hierarchy) s.classes r.node z r.at z_at (r.is_number ∙ e) in
+    let place : z.part ≡ p = ap (λ (t : Node). t.part) (sym same) ∙ r.is_part in
+    record {
+      cell = marked_cell x code (cell_at heap code.number);
+      listed = ap (slice_get (slice_set heap.cells.items code.number (marked_cell x code (cell_at heap code.number)))) (sym e) ∙ set_same heap.cells.items code.number (marked_cell x code (cell_at heap code.number)) lt;
+      object = sym (object_told h heap s stands code.number p (points_of h s.classes code p r) (cell_at heap code.number) refl) ∙ ap (λ (t : ObjectPart). t.object) (sym place);
+      phase = sym (ap (put s.phases.phase p (phase_of x)) place ∙ put_same s.phases.phase p (phase_of x));
+      class = λ _. sym r.is_class ∙ ap (λ (t : Node). t.class) same;
+      owner = λ _. subst (λ (t : Node). IsOwner h s.classes t code.whole code.owner) same r.owned;
+    })
+    (λ differ.
+    let d = stands.cells z z_at in
+    let apart : p ≡ z.part → ⊥ = λ e. differ (sym r.is_number ∙ ap (λ (t : Node). t.number) (heap_number h (sizes_of h) stands.hierarchy s.classes r.node z r.at z_at (r.is_part ∙ e))) in
+    let as_before : put s.phases.phase p (phase_of x) z.part ≡ s.phases.phase z.part = put_other s.phases.phase p (phase_of x) z.part apart in
+    record {
+      cell = d.cell;
+      listed = set_other heap.cells.items code.number z.number (marked_cell x code (cell_at heap code.number)) differ ∙ d.listed;
+      object = d.object;
+      phase = d.phase ∙ sym as_before;
+      class = λ begun. d.class (λ raw. begun (as_before ∙ raw));
+      owner = λ begun. d.owner (λ raw. begun (as_before ∙ raw));
+    })
+    (decide_number code.number z.number)
+
+-- what holds of the columns of objects and views makes the whole
+pub turned_stands : (h : Classes) (heap new : Heap) (s : Objects) → HeapStands h heap s → (code : Part) (p : ObjectPart) → IsPart h s.classes code p → (x : Phase) (running : ℕ → List Step → List Subobject) (closed : ℕ → Bool)
+    → new.cells.items ≡ slice_set heap.cells.items code.number (marked_cell x code (cell_at heap code.number)) → new.leaves.items ≡ heap.leaves.items
+    → ((k : ℕ) (c : ClassId) → slice_get s.classes k ≡ Some c → ObjectStands h (turned s p (phase_of x) running closed) new.objects.items k c) → length new.objects.items ≡ length heap.objects.items
+    → ViewsStand h s.classes (record { phase = put s.phases.phase p (phase_of x); running = running }) new.tops.items new.around.items → length new.tops.items ≡ length heap.tops.items → length new.around.items ≡ length heap.around.items
+    → HeapStands h new (turned s p (phase_of x) running closed)
+turned_stands h heap new s stands code p r x running closed cells leaves objects objects_size views tops around = record {
+  hierarchy = stands.hierarchy;
+  cells = λ z at. subst (λ (t : List Cell). CellStands h (turned s p (phase_of x) running closed) t z) (sym cells) (cell_marked h heap s stands code p r x running closed z at);
+  leaves = λ n l q. let old = stands.leaves n l q in record { value = old.value; listed = ap (λ t. slice_get t n) leaves ∙ old.listed; means = old.means };
+  objects = objects;
+  views = views;
+  counts = record {
+    objects = objects_size ∙ stands.counts.objects;
+    cells = ap length cells ∙ (length-set heap.cells.items code.number (marked_cell x code (cell_at heap code.number)) ∙ stands.counts.cells);
+    leaves = ap length leaves ∙ stands.counts.leaves;
+    tops = tops ∙ stands.counts.tops;
+    around = around ∙ stands.counts.around;
+    few = stands.counts.few;
+  };
+}
+
+-- the rows of objects, none of which was closed
+pub same_rows : (h : Classes) (heap : Heap) (s : Objects) → HeapStands h heap s → (p : ObjectPart) (x : Plan.Phase) (running : ℕ → List Step → List Subobject) (rows : List ObjectRow) → rows ≡ heap.objects.items → (k : ℕ) (c : ClassId) → slice_get s.classes k ≡ Some c
+    → ObjectStands h (turned s p x running s.is_closed) rows k c
+same_rows h heap s stands p x running rows e k c at = let o = stands.objects k c at in record { row = o.row; listed = ap (λ t. slice_get t k) e ∙ o.listed; class = o.class; start = o.start; closed = o.closed }
+
+pub whole_less : (h : Classes) (heap : Heap) (s : Objects) → HeapStands h heap s → (code : Part) (p : ObjectPart) → IsPart h s.classes code p → code.whole < length heap.tops.items
+whole_less h heap s stands code p r =
+    subst (λ n. code.whole < n) (sym stands.counts.tops) (subst (λ n. n < total (sizes_of h InFull) s.classes) r.owned.is_number (at_less h stands.hierarchy s.classes r.owned.node r.owned.at))
+
+number_less : (h : Classes) (heap : Heap) (s : Objects) → HeapStands h heap s → (code : Part) (p : ObjectPart) → IsPart h s.classes code p → code.number < length heap.around.items
+number_less h heap s stands code p r =
+    subst (λ n. code.number < n) (sym stands.counts.around) (subst (λ n. n < total (sizes_of h InFull) s.classes) r.is_number (at_less h stands.hierarchy s.classes r.node r.at))
+
+-- a constructor or destructor begins
+pub enters : (h : Classes) (heap mid new : Heap) (s : Objects) → HeapStands h heap s → (code : Part) (p : ObjectPart) → IsPart h s.classes code p → (x : Phase) → is_running (s.phases.phase p) ≡ false → is_running (phase_of x) ≡ true
+    → Entered heap mid code → Marked mid new code x → HeapStands h new (turned s p (phase_of x) (pushed s.phases.running p) s.is_closed)
+enters h heap mid new s stands code p r x idle runs did marked =
+    let e : cell_at mid code.number ≡ cell_at heap code.number = ap (λ t. cell_or (slice_get t code.number)) did.cells in
+    let tops = marked.tops ∙ did.tops in
+    let around = marked.around ∙ did.around in
+    turned_stands h heap new s stands code p r x (pushed s.phases.running p) s.is_closed
+    (marked.cells ∙ (ap (λ t. slice_set t code.number (marked_cell x code (cell_at mid code.number))) did.cells ∙ ap (λ (t : Cell). slice_set heap.cells.items code.number (marked_cell x code t)) e))
+    (marked.leaves ∙ did.leaves)
+    (same_rows h heap s stands p (phase_of x) (pushed s.phases.running p) new.objects.items (marked.objects ∙ did.objects)) (ap length (marked.objects ∙ did.objects))
+    (subst (λ (t : List (Option ℕ)). ViewsStand h s.classes (record { phase = put s.phases.phase p (phase_of x); running = pushed s.phases.running p }) t new.around.items) (sym tops)
+    (subst (λ (t : List (Option ℕ)). ViewsStand h s.classes (record { phase = put s.phases.phase p (phase_of x); running = pushed s.phases.running p }) (slice_set heap.tops.items code.whole (Some code.number)) t) (sym around)
+    (begins_stand h stands.hierarchy s.classes s.phases heap.tops.items heap.around.items stands.views code p r idle (phase_of x) runs (whole_less h heap s stands code p r) (number_less h heap s stands code p r))))
+    (ap length tops ∙ length-set heap.tops.items code.whole (Some code.number))
+    (ap length around ∙ length-set heap.around.items code.number (entry_at heap.tops.items code.whole))
+
+-- it goes on
+pub stays : (h : Classes) (heap new : Heap) (s : Objects) → HeapStands h heap s → (code : Part) (p : ObjectPart) → IsPart h s.classes code p → (x : Phase) → is_running (phase_of x) ≡ true
+    → Marked heap new code x → HeapStands h new (turned s p (phase_of x) s.phases.running s.is_closed)
+stays h heap new s stands code p r x runs marked =
+    turned_stands h heap new s stands code p r x s.phases.running s.is_closed marked.cells marked.leaves
+    (same_rows h heap s stands p (phase_of x) s.phases.running new.objects.items marked.objects) (ap length marked.objects)
+    (subst (λ (t : List (Option ℕ)). ViewsStand h s.classes (record { phase = put s.phases.phase p (phase_of x); running = s.phases.running }) t new.around.items) (sym marked.tops)
+    (subst (λ (t : List (Option ℕ)). ViewsStand h s.classes (record { phase = put s.phases.phase p (phase_of x); running = s.phases.running }) heap.tops.items t) (sym marked.around)
+    (stays_stand h s.classes s.phases heap.tops.items heap.around.items stands.views p (phase_of x) runs)))
+    (ap length marked.tops) (ap length marked.around)

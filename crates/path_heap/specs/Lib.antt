@@ -1,0 +1,4 @@
+pub mod Points
+pub mod Running
+pub mod Stands
+pub mod invariants

@@ -1,0 +1,48 @@
+-- The parts of each complete object whose constructors or destructors run, as numbers.
+use Rattle.std.specs.Prelude.{◌≡◌, ℕ, Bool, true, false, Option, Some, None, List, [], ◌∷◌, Contains, slice_get}
+use Rattle.cxx_hierarchy.specs.declared.records.ClassId.{ClassId}
+use Rattle.cxx_hierarchy.specs.Classes.{Classes}
+use Rattle.cxx_subobject.specs.declared.Subobject.{Subobject}
+use Rattle.path_plan.specs.Places.{Step, ObjectPart, part}
+use Rattle.path_plan.specs.Phases.{Phase, Raw, InBases, ReadyBuilding, Complete, ReadyEnding, EndingBases, Ended, Phases}
+use Rattle.path_plan.specs.Plans.{InFull}
+use Rattle.path_numbers.specs.Sizes.{sizes_of}
+use Rattle.path_numbers.specs.Nodes.{Node}
+use Rattle.path_numbers.specs.Heap.{IsAt}
+use Rattle.path_heap.specs.Points.{Points}
+
+-- its constructor or destructor runs
+abbrev pub is_running : Phase → Bool
+is_running Raw = false
+is_running InBases = true
+is_running ReadyBuilding = true
+is_running Complete = false
+is_running ReadyEnding = true
+is_running EndingBases = true
+is_running Ended = false
+
+-- the entry at a place, and none past the end
+abbrev pub entry_in : Option (Option ℕ) → Option ℕ
+entry_in None = None
+entry_in (Some entry) = entry
+
+abbrev pub entry_at : List (Option ℕ) → ℕ → Option ℕ
+entry_at entries n = entry_in (slice_get entries n)
+
+-- the subobjects of the complete object to which the steps lead, each running and standing once
+abbrev pub AreRunning : (ObjectPart → Phase) → ℕ → List Step → List Subobject → Type 0
+AreRunning phase k o [] = Unit {0}
+AreRunning phase k o (x ∷ xs) = (is_running (phase (part k o x)) ≡ true) × (Contains xs x → ⊥) × AreRunning phase k o xs
+
+-- the first number is that of the innermost one, and each has the one around it
+abbrev pub StackStands : Classes → List ClassId → List (Option ℕ) → ℕ → List Step → Option ℕ → List Subobject → Type 0
+StackStands h classes around k o None [] = Unit {0}
+StackStands h classes around k o None (x ∷ xs) = ⊥
+StackStands h classes around k o (Some n) [] = ⊥
+StackStands h classes around k o (Some n) (x ∷ xs) = Points h classes n (part k o x) × StackStands h classes around k o (entry_at around n) xs
+
+-- the innermost running part by the number of its complete object, and around each running part the one that ran when it began
+pub record ViewsStand (h : Classes) (classes : List ClassId) (phases : Phases) (tops around : List (Option ℕ)) : Type 0 where
+  pub running : (k : ℕ) (o : List Step) → AreRunning phases.phase k o (phases.running k o)
+  pub stacks : (w : Node) → IsAt h (sizes_of h) classes w → w.form ≡ InFull
+      → StackStands h classes around w.part.object w.part.owner (entry_at tops w.number) (phases.running w.part.object w.part.owner)

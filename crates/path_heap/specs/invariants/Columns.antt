@@ -1,0 +1,108 @@
+-- What a call changes in the columns of the heap, over numbers alone.
+use Rattle.std.specs.Prelude.{◌≡◌, ◌≤◌, ◌^◌, ◌+◌, ℕ, true, false, nat_eq, if◌then◌else◌, Option, Some, None, [], ◌∷◌, ◌++◌, length, replicate, slice_get, slice_set}
+use Rattle.cxx_hierarchy.specs.declared.records.ClassId.{ClassId}
+use Rattle.path_heap.specs.declared.state.Phase.{Phase}
+use Rattle.path_heap.specs.declared.state.Phase.TheVariants.{Raw, InBases, ReadyBuilding, Complete, ReadyEnding, EndingBases, Ended}
+use Rattle.path_heap.specs.declared.state.Value.{Value}
+use Rattle.path_heap.specs.declared.state.Value.TheVariants.{Unset}
+use Rattle.path_heap.specs.declared.state.Cell.{Cell}
+use Rattle.path_heap.specs.declared.state.ObjectRow.{ObjectRow}
+use Rattle.path_heap.specs.declared.state.Part.{Part}
+use Rattle.path_heap.specs.declared.heap.Heap.{Heap}
+use Rattle.path_heap.specs.Running.{entry_at}
+
+-- the cell of a part past the end: nothing was begun
+abbrev pub no_cell : Cell
+no_cell = record { object = 0; phase = Raw; class = record { 0 = 0 }; whole = 0; owner = record { 0 = 0 } }
+
+abbrev pub cell_or : Option Cell → Cell
+cell_or None = no_cell
+cell_or (Some cell) = cell
+
+-- the cell of a number
+abbrev pub cell_at : Heap → ℕ → Cell
+cell_at heap n = cell_or (slice_get heap.cells.items n)
+
+abbrev pub row_or : Option ObjectRow → ObjectRow
+row_or None = record { class = record { 0 = 0 }; start = 0; is_closed = true }
+row_or (Some row) = row
+
+-- the row of a heap object
+abbrev pub row_at : Heap → ℕ → ObjectRow
+row_at heap k = row_or (slice_get heap.objects.items k)
+
+abbrev pub value_or_unset : Option Value → Value
+value_or_unset None = Unset
+value_or_unset (Some v) = v
+
+-- the number of the view of a complete object: itself while it is complete, else the innermost part that runs
+abbrev pub view_number : Phase → ℕ → Option ℕ → Option ℕ
+view_number Raw whole top = top
+view_number InBases whole top = top
+view_number ReadyBuilding whole top = top
+view_number Complete whole top = Some whole
+view_number ReadyEnding whole top = top
+view_number EndingBases whole top = top
+view_number Ended whole top = top
+
+-- the part's cell in another phase
+abbrev pub marked_cell : Phase → Part → Cell → Cell
+marked_cell phase part cell = record { object = cell.object; phase = phase; class = part.class; whole = part.whole; owner = part.owner }
+
+-- one cell is in another phase, and nothing else has changed
+pub record Marked (old new : Heap) (part : Part) (phase : Phase) : Type 0 where
+  pub cells : new.cells.items ≡ slice_set old.cells.items part.number (marked_cell phase part (cell_at old part.number))
+  pub leaves : new.leaves.items ≡ old.leaves.items
+  pub objects : new.objects.items ≡ old.objects.items
+  pub tops : new.tops.items ≡ old.tops.items
+  pub around : new.around.items ≡ old.around.items
+
+-- the part is the innermost one of its complete object
+pub record Entered (old new : Heap) (part : Part) : Type 0 where
+  pub cells : new.cells.items ≡ old.cells.items
+  pub leaves : new.leaves.items ≡ old.leaves.items
+  pub objects : new.objects.items ≡ old.objects.items
+  pub tops : new.tops.items ≡ slice_set old.tops.items part.whole (Some part.number)
+  pub around : new.around.items ≡ slice_set old.around.items part.number (entry_at old.tops.items part.whole)
+
+-- the one around it is
+pub record Left (old new : Heap) (part : Part) : Type 0 where
+  pub cells : new.cells.items ≡ old.cells.items
+  pub leaves : new.leaves.items ≡ old.leaves.items
+  pub objects : new.objects.items ≡ old.objects.items
+  pub tops : new.tops.items ≡ slice_set old.tops.items part.whole (entry_at old.around.items part.number)
+  pub around : new.around.items ≡ old.around.items
+
+-- one leaf has another value, and nothing else has changed
+pub record Stored (old new : Heap) (k : ℕ) (value : Value) : Type 0 where
+  pub cells : new.cells.items ≡ old.cells.items
+  pub leaves : new.leaves.items ≡ slice_set old.leaves.items k value
+  pub objects : new.objects.items ≡ old.objects.items
+  pub tops : new.tops.items ≡ old.tops.items
+  pub around : new.around.items ≡ old.around.items
+
+abbrev pub closed_row : ObjectRow → ObjectRow
+closed_row row = record { class = row.class; start = row.start; is_closed = true }
+
+-- an object is closed where the part is its whole, and nothing else has changed
+pub record Closed (old new : Heap) (part : Part) : Type 0 where
+  pub cells : new.cells.items ≡ old.cells.items
+  pub leaves : new.leaves.items ≡ old.leaves.items
+  pub objects : new.objects.items ≡ (if nat_eq (row_at old (cell_at old part.number).object).start part.number
+      then slice_set old.objects.items (cell_at old part.number).object (closed_row (row_at old (cell_at old part.number).object)) else old.objects.items)
+  pub tops : new.tops.items ≡ old.tops.items
+  pub around : new.around.items ≡ old.around.items
+
+-- a raw cell of heap object k
+abbrev pub raw_cell : ℕ → Cell
+raw_cell k = record { object = k; phase = Raw; class = record { 0 = 0 }; whole = 0; owner = record { 0 = 0 } }
+
+-- behind the others there are an object of class c, and for each of its numbers a cell and a leaf
+pub record Made (old new : Heap) (c : ClassId) (size start : ℕ) : Type 0 where
+  pub start_is : start ≡ length old.cells.items
+  pub fits : length old.cells.items + size ≤ 2 ^ 32
+  pub cells : new.cells.items ≡ old.cells.items ++ replicate size (raw_cell (length old.objects.items))
+  pub leaves : new.leaves.items ≡ old.leaves.items ++ replicate size Unset
+  pub objects : new.objects.items ≡ old.objects.items ++ record { class = c; start = start; is_closed = false } ∷ []
+  pub tops : new.tops.items ≡ old.tops.items ++ replicate size None
+  pub around : new.around.items ≡ old.around.items ++ replicate size None

@@ -1,0 +1,123 @@
+//! What the heap tells of a part.
+
+ghost use Rattle.std.specs.Prelude.{◌≡◌, Some, Option};
+ghost use Rattle.cxx_hierarchy.specs.Classes.{Classes};
+ghost use Rattle.cxx_subobject.specs.Subobjects.{class_of};
+ghost use Rattle.path_plan.specs.Places.{ObjectPart};
+ghost use Rattle.path_model.specs.Values.{Objects};
+ghost use Rattle.path_model.specs.Uses.{class_of_owner, view_of};
+ghost use Rattle.path_model.specs.Rules.{is_in_heap_object};
+ghost use Rattle.path_heap.specs.Points.{Points, PointsWhole, PointsView};
+ghost use Rattle.path_heap.specs.Stands.{HeapStands, HasBegun, phase_of};
+ghost use Rattle.path_heap.specs.invariants.Columns.{cell_at, row_at, view_number};
+ghost use Rattle.path_heap.specs.Running.{entry_at};
+
+use crate::heap::Heap;
+use crate::lists::entry;
+use crate::state::{Cell, ObjectRow, Phase};
+use cxx_hierarchy::ClassId;
+
+impl Heap {
+    /// The cell of a part.
+    pub(crate) fn cell(&self, n: u32) -> Cell
+        ensures { result ≡ cell_at self.now n }
+    {
+        match self.cells.get(n as usize) {
+            Some(cell) => *cell,
+            None => Cell {
+                object: 0,
+                phase: Phase::Raw,
+                class: ClassId(0),
+                whole: 0,
+                owner: ClassId(0),
+            },
+        }
+    }
+
+    /// The row of a heap object.
+    pub(crate) fn row(&self, k: u32) -> ObjectRow
+        ensures { result ≡ row_at self.now k }
+    {
+        match self.objects.get(k as usize) {
+            Some(row) => *row,
+            None => ObjectRow {
+                class: ClassId(0),
+                start: 0,
+                is_closed: true,
+            },
+        }
+    }
+
+    /// The number of the heap object of a part.
+    pub fn object(&self, n: u32) -> u32
+        ensures { (h : Classes) (s : Objects) (p : ObjectPart) → HeapStands h self.now s → Points h s.classes n p → p.object ≡ result }
+    {
+        self.cell(n).object
+    }
+
+    /// The phase of a part.
+    pub fn phase(&self, n: u32) -> Phase
+        ensures { (h : Classes) (s : Objects) (p : ObjectPart) → HeapStands h self.now s → Points h s.classes n p → s.phases.phase p ≡ phase_of result }
+    {
+        self.cell(n).phase
+    }
+
+    /// Whether the destruction of a part's heap object has ended.
+    pub fn is_closed(&self, n: u32) -> bool
+        ensures { (h : Classes) (s : Objects) (p : ObjectPart) → HeapStands h self.now s → Points h s.classes n p → s.is_closed p.object ≡ result }
+    {
+        self.row(self.cell(n).object).is_closed
+    }
+
+    /// The class of a part that has begun.
+    pub fn class(&self, n: u32) -> ClassId
+        ensures { (h : Classes) (s : Objects) (p : ObjectPart) → HeapStands h self.now s → Points h s.classes n p → HasBegun s p → class_of p.at ≡ Some result }
+    {
+        self.cell(n).class
+    }
+
+    /// The number of the complete object of a part that has begun.
+    pub fn whole(&self, n: u32) -> u32
+        ensures { (h : Classes) (s : Objects) (p : ObjectPart) → HeapStands h self.now s → Points h s.classes n p → HasBegun s p → PointsWhole h s.classes result p }
+    {
+        self.cell(n).whole
+    }
+
+    /// The class of the complete object of a part that has begun.
+    pub fn owner_class(&self, n: u32) -> ClassId
+        ensures { (h : Classes) (s : Objects) (p : ObjectPart) → HeapStands h self.now s → Points h s.classes n p → HasBegun s p → class_of_owner h s p ≡ Some result }
+    {
+        self.cell(n).owner
+    }
+
+    /// Whether the complete object of a part that has begun is the heap object itself, and no member.
+    pub fn is_in_heap_object(&self, n: u32) -> bool
+        ensures { (h : Classes) (s : Objects) (p : ObjectPart) → HeapStands h self.now s → Points h s.classes n p → HasBegun s p → is_in_heap_object p.owner ≡ result }
+    {
+        let cell = self.cell(n);
+        self.row(cell.object).start == cell.whole
+    }
+
+    /// The number of the view of the complete object of a part that has begun, and None where it has no view.
+    pub fn view(&self, n: u32) -> Option<u32>
+        ensures { (h : Classes) (s : Objects) (p : ObjectPart) → HeapStands h self.now s → Points h s.classes n p → HasBegun s p → PointsView h s.classes p result (view_of h s p) }
+    {
+        let whole = self.cell(n).whole;
+        view_of_whole(self.cell(whole).phase, whole, entry(&self.tops, whole))
+    }
+}
+
+/// The number of a view: of the whole while it is complete, else of the innermost part that runs.
+fn view_of_whole(phase: Phase, whole: u32, top: Option<u32>) -> Option<u32>
+    ensures { result ≡ view_number phase whole top }
+{
+    match phase {
+        Phase::Complete => Some(whole),
+        Phase::Raw
+        | Phase::InBases
+        | Phase::ReadyBuilding
+        | Phase::ReadyEnding
+        | Phase::EndingBases
+        | Phase::Ended => top,
+    }
+}

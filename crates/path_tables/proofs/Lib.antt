@@ -1,0 +1,4 @@
+pub mod Numbered
+pub mod Targets
+pub mod Within
+pub mod Answering

@@ -1,0 +1,41 @@
+-- The subobjects of a class by their numbers.
+use Rattle.std.specs.Prelude.{◌≡◌, ℕ, ◌<◌, Bool, Option, Some, None, List, length, map, find, slice_get}
+use Rattle.cxx_hierarchy.specs.declared.records.ClassId.{ClassId}
+use Rattle.cxx_hierarchy.specs.Classes.{Classes}
+use Rattle.cxx_subobject.specs.declared.Subobject.{Subobject}
+use Rattle.cxx_subobject.specs.Subobjects.{IsSubobject}
+use Rattle.cxx_subobject.specs.Preorder.{preorder}
+use Rattle.cxx_overrider.specs.declared.Overrider.{Overrider}
+use Rattle.path_numbers.specs.Numbers.{number_in}
+use Rattle.path_tables.specs.declared.parts.PartList.{PartList}
+use Rattle.path_tables.specs.declared.finals.FinalAt.{FinalAt}
+
+-- s is the subobject of c that has the number x within it
+pub record IsNumbered (h : Classes) (c : ClassId) (x : ℕ) (s : Subobject) : Type 0 where
+  pub valid : IsSubobject h c s
+  pub number : number_in h c s ≡ x
+
+-- x is the number of a subobject of c
+pub record HasNumber (h : Classes) (c : ClassId) (x : ℕ) : Type 0 where
+  pub part : Subobject
+  pub is : IsNumbered h c x part
+
+-- the subobjects of c in preorder, with their numbers
+pub record IsPartList (h : Classes) (c : ClassId) (list : PartList) : Type 0 where
+  pub parts : list.parts ≡ preorder h c
+  pub numbers : list.numbers.items ≡ map (number_in h c) (preorder h c)
+
+-- the place of the first item that a test takes; None: it takes none
+abbrev pub IsFirstOf : {X : Type 0} → (X → Bool) → List X → Option ℕ → Type 0
+IsFirstOf test xs None = find test xs ≡ None
+IsFirstOf test xs (Some i) = i < length xs × find test xs ≡ slice_get xs i
+
+-- the number of a subobject of c that was found, if one was
+abbrev pub number_of : Classes → ClassId → Option Subobject → Option ℕ
+number_of h c None = None
+number_of h c (Some s) = Some (number_in h c s)
+
+-- the number of the subobject where a function was found, and the function
+abbrev pub numbered : Classes → ClassId → Option Overrider → Option FinalAt
+numbered h c None = None
+numbered h c (Some o) = Some (record { at = number_in h c o.at; function = o.function })

@@ -1,0 +1,45 @@
+-- The target of a cast, by its place in a list.
+use Rattle.std.specs.Prelude.{◌≡◌, ℕ, Bool, true, false, nat_eq, Option, Some, None, List, slice_get}
+use Rattle.cxx_hierarchy.specs.declared.records.ClassId.{ClassId}
+use Rattle.cxx_hierarchy.specs.Classes.{Classes}
+use Rattle.cxx_subobject.specs.declared.Subobject.{Subobject}
+use Rattle.cxx_search.specs.Casts.{IsOnly, IsTarget, IsTargetOver, CastsDown, CastsAcross, IsCast}
+
+-- a target of the cast, and where this is asked one in which y lies
+abbrev pub IsWanted : Classes → ClassId → Subobject → Subobject → Bool → Subobject → Type 0
+IsWanted h target x y true t = IsTargetOver h target x y t
+IsWanted h target x y false t = IsTarget h target x t
+
+-- this place is passed over
+abbrev pub is_at : Option ℕ → ℕ → Bool
+is_at None i = false
+is_at (Some place) i = nat_eq place i
+
+-- P holds, at a place that is not passed over
+abbrev pub IsOther : (Subobject → Type 0) → Option ℕ → ℕ → Subobject → Type 0
+IsOther P skip i t = (is_at skip i ≡ false) × P t
+
+-- another one of which P holds stands there; None: there is none
+abbrev pub IsOtherAt : (Subobject → Type 0) → List Subobject → Option ℕ → Option ℕ → Type 0
+IsOtherAt P parts skip None = (j : ℕ) (t : Subobject) → slice_get parts j ≡ Some t → IsOther P skip j t → ⊥
+IsOtherAt P parts skip (Some i) = (t : Subobject) × (slice_get parts i ≡ Some t) × IsOther P skip i t
+
+-- the one that is wanted stands there; None: there is no such one
+abbrev pub IsOnlyAt : (Subobject → Type 0) → List Subobject → Option ℕ → Type 0
+IsOnlyAt P parts None = (t : Subobject) → IsOnly P t → ⊥
+IsOnlyAt P parts (Some i) = (t : Subobject) × (slice_get parts i ≡ Some t) × IsOnly P t
+
+-- the cast leads to what stands there; None: it leads nowhere
+abbrev pub IsCastTo : Classes → ClassId → Subobject → Subobject → List Subobject → Option ℕ → Type 0
+IsCastTo h target x y parts None = IsCast h target x y None
+IsCastTo h target x y parts (Some i) = (t : Subobject) × (slice_get parts i ≡ Some t) × IsCast h target x y (Some t)
+
+-- the cast leads down to what stands there; None: it does not lead down
+abbrev pub IsDownTo : Classes → ClassId → Subobject → Subobject → List Subobject → Option ℕ → Type 0
+IsDownTo h target x y parts None = (t : Subobject) → CastsDown h target x y t → ⊥
+IsDownTo h target x y parts (Some i) = (t : Subobject) × (slice_get parts i ≡ Some t) × CastsDown h target x y t
+
+-- the same across
+abbrev pub IsAcrossTo : Classes → ClassId → Subobject → Subobject → List Subobject → Option ℕ → Type 0
+IsAcrossTo h target x y parts None = (t : Subobject) → CastsAcross h target x y t → ⊥
+IsAcrossTo h target x y parts (Some i) = (t : Subobject) × (slice_get parts i ≡ Some t) × CastsAcross h target x y t

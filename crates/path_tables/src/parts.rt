@@ -1,0 +1,121 @@
+//! The subobjects of a class with their numbers.
+
+ghost use Rattle.std.specs.Prelude.{◌≡◌, ◌<◌, ℕ, Option, Some, None, All, Contains, IfOk, length, get_or, map, find, slice_get};
+ghost use Rattle.cxx_hierarchy.specs.declared.records.ClassId.{ClassId};
+ghost use Rattle.cxx_subobject.specs.declared.Subobject.{Subobject};
+ghost use Rattle.cxx_subobject.specs.Subobjects.{IsSubobject};
+ghost use Rattle.cxx_subobject.specs.Parts.{IsWithinLimits};
+ghost use Rattle.cxx_search.specs.Searches.{is_within, is_of_class};
+ghost use Rattle.path_numbers.specs.Numbers.{AreNumbers, number_in};
+ghost use Rattle.path_tables.specs.Parts.{IsNumbered, HasNumber, IsPartList, IsFirstOf};
+
+use cxx_hierarchy::{ClassId, Hierarchy};
+use cxx_subobject::{Subobject, SubobjectList, class_of, contains, list_subobjects};
+use foundation::NoMemory;
+use path_numbers::Numbers;
+use std::alloc::Global;
+
+/// The subobjects of a class in preorder, and the number of each within a complete object.
+#[derive(Drop)]
+pub struct PartList {
+    pub parts: SubobjectList,
+    pub numbers: Vec<u32>,
+}
+
+/// The numbers of some subobjects.
+fn numbers_of(
+    alloc: Global,
+    h: &Hierarchy,
+    numbers: &Numbers,
+    c: ClassId,
+    parts: &[Subobject],
+) -> Result<Vec<u32>, NoMemory>
+    requires known { c.0 < length h.now }
+    requires limits { (d : ClassId) → d.0 < length h.now → IsWithinLimits h.now d }
+    requires numbers { AreNumbers h.now numbers.now }
+    requires valid { (s : Subobject) → Contains parts.now s → IsSubobject h.now c s }
+    ensures { IfOk result (λ list. list.items ≡ map (number_in h.now c) parts.now) }
+{
+    let mut list = Vec::new(alloc);
+    for part in parts {
+        list.push(numbers.number_in(h, c, part))?;
+    }
+    Ok(list)
+}
+
+/// The subobjects of a class, with their numbers.
+///
+/// Errors: want of memory.
+pub fn list_parts(
+    alloc: Global,
+    h: &Hierarchy,
+    numbers: &Numbers,
+    c: ClassId,
+) -> Result<PartList, NoMemory>
+    requires known { c.0 < length h.now }
+    requires limits { (d : ClassId) → d.0 < length h.now → IsWithinLimits h.now d }
+    requires numbers { AreNumbers h.now numbers.now }
+    ensures { IfOk result (IsPartList h.now c) }
+{
+    h.keeps();
+    let parts = list_subobjects(alloc, h, c)?;
+    let numbers = numbers_of(alloc, h, numbers, c, parts.as_slice())?;
+    Ok(PartList { parts, numbers })
+}
+
+/// The place of a number in a list.
+fn place_of(numbers: &[u32], x: u32) -> usize
+    requires { Contains numbers.now x }
+    ensures within { result < length numbers.now }
+    ensures is { get_or numbers.now result 0 ≡ x }
+{
+    for (i, number) in numbers.iter().enumerate() {
+        if *number == x {
+            return i;
+        }
+    }
+    0
+}
+
+/// The subobject of a number.
+pub fn part_at<'a>(h: &Hierarchy, c: ClassId, list: &'a PartList, x: u32) -> &'a Subobject
+    requires list { IsPartList h.now c list.now }
+    requires x { HasNumber h.now c x }
+    ensures { IsNumbered h.now c x result.now }
+{
+    h.keeps();
+    let place = place_of(&list.numbers, x);
+    &list.parts.as_slice()[place]
+}
+
+/// Whether a subobject is of a class.
+pub fn is_of_class(s: &Subobject, d: ClassId) -> bool
+    ensures { result ≡ is_of_class d s.now }
+{
+    match class_of(s) {
+        Some(class) => d.0 == class.0,
+        None => false,
+    }
+}
+
+/// Whether one subobject of a class lies in another.
+pub fn is_within(h: &Hierarchy, c: ClassId, x: &Subobject, y: &Subobject) -> bool
+    requires x { IsSubobject h.now c x.now }
+    requires y { IsSubobject h.now c y.now }
+    ensures { result ≡ is_within h.now x.now y.now }
+{
+    h.keeps();
+    contains(h, c, x, y)
+}
+
+/// The place of the first subobject of a class.
+pub fn first_of_class(parts: &[Subobject], d: ClassId) -> Option<usize>
+    ensures { IsFirstOf (is_of_class d) parts.now result }
+{
+    for (i, part) in parts.iter().enumerate() {
+        if is_of_class(part, d) {
+            return Some(i);
+        }
+    }
+    None
+}
