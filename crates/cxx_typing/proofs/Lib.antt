@@ -1,0 +1,10 @@
+pub mod Steps
+pub mod PieceTypes
+pub mod Scopes
+pub mod Values
+pub mod Places
+pub mod Operators
+pub mod Casts
+pub mod Calls
+pub mod Rights
+pub mod Statements

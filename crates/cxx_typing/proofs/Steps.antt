@@ -1,0 +1,70 @@
+-- A piece that rests on others is typed where each of them is.
+use Rattle.std.proofs.Common.{◌≡◌, ◌⊎◌, ℕ, ◌≤◌, ◌<◌, Bool, true, false, Option, Some, None, Ok, List, [], ◌∷◌, length, inl, inr, refl, sym, ◌∙◌, ap, subst, arith}
+use Rattle.std.specs.Prelude.{if◌then◌else◌}
+use Rattle.cxx_expression.specs.declared.faults.Fault.{Fault}
+use Rattle.cxx_expression.specs.Checked.{Checked, then_typed, then_faults, ◌>>=◌, pair_of, with_second, along, both}
+use Rattle.cxx_expression.specs.Faults.{least, settled}
+use Rattle.cxx_resolve.specs.Settled.{settle}
+use Rattle.cxx_expression.specs.Laws.{IsComplete}
+
+-- the first piece is typed, and the second that rests on it
+pub then_both : {X Y : Type 0} (o : Option X) (next : X → Checked Y) (y : Y) → then_typed o next ≡ Some y → (x : X) × (o ≡ Some x) × ((next x).typed ≡ Some y)
+then_both None next y e = absurd (cc)
+then_both (Some x) next y e = (x, refl, e)
+
+-- two pieces of which none rests on the other
+pub pair_both : {X Y : Type 0} (o : Option X) (q : Option Y) (r : X × Y) → pair_of o q ≡ Some r → (o ≡ Some r.0) × (q ≡ Some r.1)
+pair_both None q r e = absurd (cc)
+pair_both (Some x) None r e = absurd (cc)
+pair_both {X = X} {Y = Y} (Some x) (Some y) r e = let f : (x, y) ≡ r = cc in (ap (λ (p : X × Y). Some p.0) f, ap (λ (p : X × Y). Some p.1) f)
+
+pub choice : {X : Type 0} (t : Bool) (p q : Checked X) (x : X) → (if t then p else q).typed ≡ Some x → ((t ≡ true) × (p.typed ≡ Some x)) ⊎ ((t ≡ false) × (q.typed ≡ Some x))
+choice true p q x e = inl (refl, e)
+choice false p q x e = inr (refl, e)
+
+-- the piece is typed, and adds no fault to those before it
+pub record IsClean {X : Type 0} (p : Checked X) (x : X) : Type 0 where
+  pub typed : p.typed ≡ Some x
+  pub before : List Fault
+  pub none : length (p.faults before) ≤ length before
+
+clean_first : {X Y : Type 0} (o : Option X) (next : X → Checked Y) (y : Y) (old new : List Fault) → ((x : X) → IsComplete (next x)) → length old ≤ length new →
+    then_typed o next ≡ Some y → length (then_faults o next new) ≤ length old → (x : X) × (o ≡ Some x) × IsClean (next x) y × (length new ≤ length old)
+clean_first None next y old new c grows e few = absurd (cc)
+clean_first (Some x) next y old new c grows e few =
+    let more = (c x).grows new in
+    let fewer : length ((next x).faults new) ≤ length new = omega arith in
+    (x, refl, record { typed = e; before = new; none = fewer }, omega arith)
+
+pub clean_both : {X Y : Type 0} (p : Checked X) (next : X → Checked Y) (y : Y) → IsComplete p → ((x : X) → IsComplete (next x)) → IsClean (p >>= next) y →
+    (x : X) × IsClean p x × IsClean (next x) y
+clean_both p next y h c i =
+    let r = clean_first p.typed next y i.before (p.faults i.before) c (h.grows i.before) i.typed i.none in
+    (r.0, record { typed = r.1; before = i.before; none = r.3 }, r.2)
+
+-- the second piece looks at the first
+pub clean_along : {X Y : Type 0} (p : Checked X) (next : Option X → Checked Y) (r : X × Y) → IsComplete p → ((o : Option X) → IsComplete (next o)) → IsClean (along p next) r →
+    IsClean p r.0 × IsClean (next (Some r.0)) r.1
+clean_along {X = X} {Y = Y} p next r h c i =
+    let b = pair_both p.typed (next p.typed).typed r i.typed in
+    let more = h.grows i.before in
+    let last = (c p.typed).grows (p.faults i.before) in
+    let few = i.none in
+    let first : length (p.faults i.before) ≤ length i.before = omega arith in
+    let second : length ((next p.typed).faults (p.faults i.before)) ≤ length (p.faults i.before) = omega arith in
+    (record { typed = b.0; before = i.before; none = first }, subst (λ (o : Option X). IsClean (next o) r.1) b.0 (record { typed = b.1; before = p.faults i.before; none = second }))
+
+pub clean_pair : {X Y : Type 0} (p : Checked X) (q : Checked Y) (r : X × Y) → IsComplete p → IsComplete q → IsClean (both p q) r → IsClean p r.0 × IsClean q r.1
+clean_pair p q r h g i = clean_along p (λ o. q) r h (λ o. g) i
+
+clean_by : {X : Type 0} (fs : List Fault) (o : Option X) (x : X) → settled (least fs) o ≡ Ok x → (o ≡ Some x) × (fs ≡ [])
+clean_by [] None x e = absurd (cc)
+clean_by [] (Some y) x e = (cc, refl)
+clean_by (f ∷ fs) o x e = absurd (cc)
+
+-- a piece that comes to a value is typed to it without a fault
+pub settled_clean : {X : Type 0} (p : Checked X) (x : X) → settle p ≡ Ok x → IsClean p x
+settled_clean p x e =
+    let r = clean_by (p.faults []) p.typed x e in
+    let none = ap (λ (fs : List Fault). length fs) r.1 in
+    record { typed = r.0; before = []; none = omega (arith, none) }
