@@ -1,5 +1,5 @@
 -- Calls are of the function that is found, with its arguments.
-use Rattle.std.proofs.Common.{◌≡◌, ◌⊎◌, ℕ, suc, ◌+◌, ◌≤◌, ◌<◌, Bool, true, false, Option, Some, None, List, [], ◌∷◌, ◌++◌, inl, inr, refl, sym, ◌∙◌, ap, subst, arith, length, map, drop, get_or}
+use Rattle.std.proofs.Common.{◌≡◌, ℕ, ◌+◌, ◌≤◌, ◌<◌, Bool, true, false, Option, Some, None, List, [], ◌∷◌, inr, refl, sym, ◌∙◌, ap, subst, arith, length, drop, get_or}
 use Rattle.std.specs.Prelude.{nat_eq, if◌then◌else◌, slice_get}
 use Rattle.std.specs.List.{AllZip}
 use Rattle.std.proofs.lemmas.Bool.{eqb-true}
@@ -9,12 +9,10 @@ use Rattle.foundation.proofs.Truth.{is_false, not_both}
 use Rattle.cxx_hierarchy.specs.declared.records.ClassId.{ClassId}
 use Rattle.cxx_hierarchy.specs.declared.records.ValueType.{ValueType}
 use Rattle.cxx_hierarchy.specs.declared.records.ValueType.TheVariants as type
-use Rattle.cxx_hierarchy.specs.declared.records.ReturnType.{ReturnType}
-use Rattle.cxx_hierarchy.specs.declared.records.Param.{Param}
 use Rattle.cxx_hierarchy.specs.declared.records.Function.{Function}
 use Rattle.cxx_hierarchy.specs.declared.stop.Rule.{Rule}
 use Rattle.cxx_hierarchy.specs.declared.stop.Rule.TheVariants as rule
-use Rattle.cxx_hierarchy.specs.Classes.{Class, Classes, class_at, functions_of}
+use Rattle.cxx_hierarchy.specs.Classes.{Classes, functions_of}
 use Rattle.cxx_hierarchy.specs.Hierarchies.{IsHierarchy}
 use Rattle.cxx_hierarchy.specs.NameTables.{Text}
 use Rattle.cxx_subobject.specs.declared.Subobject.{Subobject}
@@ -27,7 +25,6 @@ use Rattle.cxx_syntax.specs.declared.tree.Operand.{Operand}
 use Rattle.cxx_syntax.specs.declared.tree.CallText.{CallText}
 use Rattle.cxx_syntax.specs.declared.tree.PointerText.{PointerText}
 use Rattle.cxx_program.specs.declared.operand.Argument.{Argument}
-use Rattle.cxx_program.specs.declared.statement.TypedCall.{TypedCall}
 use Rattle.cxx_program.specs.Typed.{Scope, HasType, IsWay, IsArgument, IsCall, parameter_types}
 use Rattle.cxx_expression.specs.declared.faults.Fault.{Fault}
 use Rattle.cxx_expression.specs.declared.look_up.Looked.{Looked}
@@ -38,10 +35,10 @@ use Rattle.cxx_expression.specs.declared.scene.Scene.{Scene}
 use Rattle.cxx_expression.specs.declared.scene.Setting.{Setting}
 use Rattle.cxx_expression.specs.declared.typed.Pointer.{Pointer}
 use Rattle.cxx_expression.specs.declared.typed.CallValue.{CallValue}
-use Rattle.cxx_expression.specs.Checked.{Checked, pure, warn, noted, ◌>>=◌, along, both}
+use Rattle.cxx_expression.specs.Checked.{pure, warn, noted, along, both}
 use Rattle.cxx_expression.specs.Laws.{IsComplete, PiecesAreComplete}
 use Rattle.cxx_expression.specs.Lookups.{looked_up, function_record, base_up}
-use Rattle.cxx_expression.specs.Values.{operand_of, pointer_of, class_of, path_to, as_base, converted_operand}
+use Rattle.cxx_expression.specs.Values.{pointer_of, class_of, path_to, as_base}
 use Rattle.cxx_expression.specs.Calls.{found_function, as_found, function_in, as_function, function_of, counted, target, target_of, plain_operand, argument_of, arguments_of, parameters_in, dispatched, plain_call, defined, named_function, receiver, receiver_of, parameters_of, qualified, qualified_call, call_by, call_of}
 use Rattle.cxx_expression.proofs.Complete.{complete_pure, complete_fail, complete_warn, complete_bind, complete_along, complete_both, complete_if}
 use Rattle.cxx_typing.proofs.Steps.{then_both, pair_both, IsClean, clean_both, clean_along, clean_pair}

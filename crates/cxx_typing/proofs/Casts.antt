@@ -1,7 +1,6 @@
 -- Casts lead from the class of the pointer to the target.
-use Rattle.std.proofs.Common.{◌≡◌, ℕ, ◌<◌, Bool, true, false, Option, Some, None, refl, sym, ◌∙◌, ap, subst, map, length}
+use Rattle.std.proofs.Common.{◌≡◌, ℕ, ◌<◌, Bool, true, false, Option, Some, None, refl, sym, ap, subst, length}
 use Rattle.std.specs.Prelude.{nat_eq, if◌then◌else◌, slice_get}
-use Rattle.std.specs.List.{list_any}
 use Rattle.std.proofs.lemmas.Bool.{eqb-true}
 use Rattle.std.proofs.lemmas.List.{length-map}
 use Rattle.std.proofs.lemmas.Option.{slice_get_within}
@@ -10,7 +9,6 @@ use Rattle.cxx_hierarchy.specs.declared.records.ClassId.{ClassId}
 use Rattle.cxx_hierarchy.specs.declared.records.ValueType.TheVariants as type
 use Rattle.cxx_hierarchy.specs.Classes.{Class, Classes, class_at, class_names}
 use Rattle.cxx_hierarchy.specs.Hierarchies.{IsHierarchy}
-use Rattle.cxx_hierarchy.specs.Declarations.{has_virtual_function}
 use Rattle.cxx_hierarchy.specs.NameTables.{Text, place_in}
 use Rattle.cxx_hierarchy.proofs.Listed.{place_listed}
 use Rattle.cxx_subobject.specs.declared.Root.{Root}
@@ -34,7 +32,7 @@ use Rattle.cxx_expression.specs.declared.scene.Scene.{Scene}
 use Rattle.cxx_expression.specs.declared.scene.Setting.{Setting}
 use Rattle.cxx_expression.specs.declared.typed.Pointer.{Pointer}
 use Rattle.cxx_expression.specs.declared.typed.RightValue.{RightValue}
-use Rattle.cxx_expression.specs.Checked.{Checked, pure, fail, ◌>>=◌}
+use Rattle.cxx_expression.specs.Checked.{pure}
 use Rattle.cxx_expression.specs.Lookups.{class_numbered, find_class, base_up, is_polymorphic, declares_virtual, has_virtual}
 use Rattle.cxx_expression.specs.Values.{as_class, class_named, class_of, pointer_of}
 use Rattle.cxx_expression.specs.Operators.{right_value, truth_value}

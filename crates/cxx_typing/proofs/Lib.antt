@@ -8,3 +8,14 @@ pub mod Casts
 pub mod Calls
 pub mod Rights
 pub mod Statements
+pub mod Onward
+pub mod Drafts
+pub mod Blocks
+pub mod Turns
+pub mod Globals
+pub mod Initializers
+pub mod Bodies
+pub mod OwnParts
+pub mod Owners
+pub mod PureFunctions
+pub mod Programs

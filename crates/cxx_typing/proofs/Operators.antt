@@ -1,10 +1,9 @@
 -- Operators of numbers and of pointers have the types that they are typed to.
-use Rattle.std.proofs.Common.{◌≡◌, ◌⊎◌, ℕ, Bool, true, false, Option, Some, None, inl, inr, refl, sym, ◌∙◌, ap, subst}
+use Rattle.std.proofs.Common.{◌≡◌, ℕ, Bool, true, false, Some, refl, sym, ◌∙◌, ap, subst}
 use Rattle.std.specs.Prelude.{nat_eq, if◌then◌else◌}
 use Rattle.std.proofs.lemmas.Bool.{eqb-true}
 use Rattle.cxx_hierarchy.specs.declared.records.ClassId.{ClassId}
 use Rattle.cxx_hierarchy.specs.declared.records.Scalar.{Scalar}
-use Rattle.cxx_hierarchy.specs.declared.records.Scalar.TheVariants as scalar
 use Rattle.cxx_hierarchy.specs.declared.records.ValueType.{ValueType}
 use Rattle.cxx_hierarchy.specs.declared.records.ValueType.TheVariants as type
 use Rattle.cxx_hierarchy.specs.Classes.{Classes}
@@ -17,7 +16,6 @@ use Rattle.cxx_syntax.specs.declared.tree.BinaryOp.TheVariants as binary
 use Rattle.cxx_program.specs.declared.operand.TypedOperand.{TypedOperand}
 use Rattle.cxx_program.specs.declared.operand.Conversion.{Conversion}
 use Rattle.cxx_program.specs.declared.operand.Conversion.TheVariants as conversion
-use Rattle.cxx_program.specs.declared.operand.Argument.{Argument}
 use Rattle.cxx_program.specs.declared.statement.Arithmetic.{Arithmetic}
 use Rattle.cxx_program.specs.declared.statement.Arithmetic.TheVariants as arithmetic
 use Rattle.cxx_program.specs.declared.statement.TypedRight.TheVariants as typed
@@ -27,7 +25,7 @@ use Rattle.cxx_expression.specs.declared.look_up.Based.TheVariants as based
 use Rattle.cxx_expression.specs.declared.scene.Scene.{Scene}
 use Rattle.cxx_expression.specs.declared.scene.Setting.{Setting}
 use Rattle.cxx_expression.specs.declared.typed.RightValue.{RightValue}
-use Rattle.cxx_expression.specs.Checked.{Checked, pure, ◌>>=◌}
+use Rattle.cxx_expression.specs.Checked.{pure}
 use Rattle.cxx_expression.specs.Lookups.{base_up}
 use Rattle.cxx_expression.specs.Values.{operand_of, number_of, argument}
 use Rattle.cxx_expression.specs.Operators.{type_by, calculated, arithmetic_right, same_pointer, one_converted, to_one_class, if_null, equality, pointers_right, null_right, compared, equal_right, binary_right, not_right, truth_value}

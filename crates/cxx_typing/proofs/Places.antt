@@ -1,13 +1,12 @@
 -- A place leads to what it is typed to.
 use Rattle.std.proofs.Common.{◌≡◌, ◌⊎◌, ℕ, ◌≤◌, ◌<◌, Bool, true, false, Option, Some, None, List, [], ◌∷◌, ◌++◌, inl, inr, refl, sym, ◌∙◌, ap, subst, arith}
-use Rattle.std.specs.Prelude.{nat_lt, if◌then◌else◌, slice_get, Contains}
+use Rattle.std.specs.Prelude.{nat_lt, if◌then◌else◌, slice_get}
 use Rattle.std.proofs.lemmas.Bool.{ltb-true}
 use Rattle.foundation.proofs.Places.{contains_at}
 use Rattle.cxx_hierarchy.specs.declared.records.ClassId.{ClassId}
 use Rattle.cxx_hierarchy.specs.declared.records.FieldType.{FieldType}
 use Rattle.cxx_hierarchy.specs.declared.records.FieldType.TheVariants as field
 use Rattle.cxx_hierarchy.specs.declared.records.Member.{Member}
-use Rattle.cxx_hierarchy.specs.declared.records.ValueType.{ValueType}
 use Rattle.cxx_hierarchy.specs.declared.records.ValueType.TheVariants as type
 use Rattle.cxx_hierarchy.specs.declared.stop.Rule.TheVariants as rule
 use Rattle.cxx_hierarchy.specs.Declarations.{elements_of}
@@ -19,7 +18,6 @@ use Rattle.cxx_subobject.specs.Subobjects.{IsSubobject, class_of}
 use Rattle.cxx_subobject.specs.Locations.{IsElement}
 use Rattle.cxx_lookup.specs.declared.Found.{Found}
 use Rattle.cxx_lookup.specs.declared.Found.TheVariants.{Member as AMember, Function as AFunction}
-use Rattle.cxx_lookup.specs.Lookup.{place_of as place_of_found}
 use Rattle.cxx_lookup.specs.Findings.{Finding, finds_none, finds_one, finds_more, found_by, IsNameFinding}
 use Rattle.cxx_lookup.proofs.NameFindings.{name_is}
 use Rattle.cxx_syntax.specs.declared.tree.Spot.{Spot}
@@ -34,7 +32,7 @@ use Rattle.cxx_expression.specs.declared.scene.Scene.{Scene}
 use Rattle.cxx_expression.specs.declared.scene.Setting.{Setting}
 use Rattle.cxx_expression.specs.declared.typed.Pointer.{Pointer}
 use Rattle.cxx_expression.specs.declared.typed.LeafPlace.{LeafPlace}
-use Rattle.cxx_expression.specs.Checked.{Checked, pure, warn}
+use Rattle.cxx_expression.specs.Checked.{pure, warn}
 use Rattle.cxx_expression.specs.Lookups.{as_looked, looked_up, member_record}
 use Rattle.cxx_expression.specs.Values.{pointer_of}
 use Rattle.cxx_expression.specs.Places.{found_member, as_found, member_in, as_member, member_of, index_of, object_of, place_step, step_of, passed_by, passed_with, further, steps_of, begun, typed_place, with_last, ended, place_of, as_leaf, leaf_of, as_object, object_place_of}

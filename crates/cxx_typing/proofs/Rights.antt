@@ -1,6 +1,5 @@
 -- Right sides have the types that they are typed to.
-use Rattle.std.proofs.Common.{◌≡◌, ◌⊎◌, ℕ, ◌<◌, Bool, true, false, Option, Some, None, inl, inr, refl, sym, ◌∙◌, ap, subst, length}
-use Rattle.std.specs.Prelude.{if◌then◌else◌}
+use Rattle.std.proofs.Common.{◌≡◌, ◌⊎◌, ℕ, ◌<◌, Bool, true, false, Some, inl, inr, refl, sym, ◌∙◌, ap, subst, length}
 use Rattle.cxx_hierarchy.specs.declared.records.ClassId.{ClassId}
 use Rattle.cxx_hierarchy.specs.declared.records.ValueType.{ValueType}
 use Rattle.cxx_hierarchy.specs.declared.records.ValueType.TheVariants as type
@@ -22,12 +21,10 @@ use Rattle.cxx_program.specs.declared.statement.TypedCall.{TypedCall}
 use Rattle.cxx_program.specs.declared.statement.TypedRight.{TypedRight}
 use Rattle.cxx_program.specs.declared.statement.TypedRight.TheVariants as typed
 use Rattle.cxx_program.specs.declared.statement.Converted.{Converted}
-use Rattle.cxx_program.specs.Typed.{Scope, HasRight, an_operand, a_read, an_address, a_result, an_object, Converts, IsCall, IsConverted, a_right, a_null_right, zero_operand}
+use Rattle.cxx_program.specs.Typed.{Scope, an_operand, a_read, an_address, a_result, an_object, Converts, IsCall, IsConverted, a_right, a_null_right}
 use Rattle.cxx_expression.specs.declared.scene.Scene.{Scene}
 use Rattle.cxx_expression.specs.declared.scene.Setting.{Setting}
 use Rattle.cxx_expression.specs.declared.typed.RightValue.{RightValue}
-use Rattle.cxx_expression.specs.declared.typed.CallValue.{CallValue}
-use Rattle.cxx_expression.specs.Checked.{Checked, pure, fail, ◌>>=◌}
 use Rattle.cxx_expression.specs.Laws.{IsComplete, PiecesAreComplete}
 use Rattle.cxx_expression.specs.Values.{operand_of, class_of, conversion_of}
 use Rattle.cxx_expression.specs.Places.{leaf_of, object_place_of}
@@ -41,7 +38,7 @@ use Rattle.cxx_typing.proofs.Values.{operand_typed, BecomesNull, conversion_type
 use Rattle.cxx_typing.proofs.Places.{leaf_typed, object_place_typed}
 use Rattle.cxx_typing.proofs.Operators.{IsRight, right_is, binary_typed, not_typed}
 use Rattle.cxx_typing.proofs.Casts.{class_typed, cast_right_typed, type_test_typed}
-use Rattle.cxx_typing.proofs.Calls.{IsCallValue, call_typed}
+use Rattle.cxx_typing.proofs.Calls.{call_typed}
 
 operand_right_typed : (h : Classes) (e : Setting) (s : Scene) (k : Scope) → IsSetting e k → IsScene s k → (at : ℕ) (x : Operand) (r : RightValue) → (operand_right e s at x).typed ≡ Some r → IsRight h k r
 unfolding operand_right

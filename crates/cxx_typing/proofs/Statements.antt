@@ -1,5 +1,5 @@
 -- Statements are typed.
-use Rattle.std.proofs.Common.{◌≡◌, ◌⊎◌, ℕ, ◌≤◌, ◌<◌, Bool, true, false, Option, Some, None, List, [], ◌∷◌, ◌++◌, inl, inr, refl, sym, ◌∙◌, ap, subst, length}
+use Rattle.std.proofs.Common.{◌≡◌, ℕ, Bool, true, false, Option, Some, None, refl, sym, ◌∙◌, ap, subst, length}
 use Rattle.std.specs.Prelude.{nat_eq, if◌then◌else◌, slice_get}
 use Rattle.std.proofs.lemmas.Bool.{eqb-true}
 use Rattle.cxx_hierarchy.specs.declared.records.ClassId.{ClassId}
@@ -19,7 +19,6 @@ use Rattle.cxx_syntax.specs.declared.tree.Right.{Right}
 use Rattle.cxx_syntax.specs.declared.tree.StatementKind.{StatementKind, If'}
 use Rattle.cxx_syntax.specs.declared.tree.StatementKind as statement
 use Rattle.cxx_hierarchy.specs.declared.records.ReturnType.TheVariants.{Value as ValueReturn}
-use Rattle.cxx_program.specs.declared.operand.Variable.{Variable}
 use Rattle.cxx_program.specs.declared.statement.TypedKind.{TypedKind}
 use Rattle.cxx_program.specs.declared.statement.TypedKind.TheVariants as typed
 use Rattle.cxx_program.specs.Typed.{Scope, IsKnown, HasType, IsTyped, declares, begins, assigns, writes, copies, calls, deletes, returns_nothing, returns_value, prints, prints_type, prints_view, dumps}
@@ -28,7 +27,7 @@ use Rattle.cxx_expression.specs.declared.scene.Setting.{Setting}
 use Rattle.cxx_expression.specs.declared.scene.Returns.{Returns}
 use Rattle.cxx_expression.specs.declared.scene.Returns.TheVariants as returns
 use Rattle.cxx_expression.specs.declared.typed.Pointer.{Pointer}
-use Rattle.cxx_expression.specs.Checked.{Checked, pure, fail, warn, ◌>>=◌, both}
+use Rattle.cxx_expression.specs.Checked.{pure, fail, warn, both}
 use Rattle.cxx_expression.specs.Laws.{IsComplete, PiecesAreComplete}
 use Rattle.cxx_expression.specs.Scenes.{declared, is_taken}
 use Rattle.cxx_expression.specs.Values.{class_named, type_of, variable_of, operand_of, pointer_of, number_of, conversion_of, converted_operand, argument}
@@ -37,13 +36,13 @@ use Rattle.cxx_expression.specs.Calls.{call_of}
 use Rattle.cxx_expression.specs.Casts.{polymorphic_pointer}
 use Rattle.cxx_expression.specs.Rights.{right_of, converted, converted_right}
 use Rattle.cxx_expression.proofs.Complete.{complete_pure, complete_warn, complete_bind, complete_both, complete_if}
-use Rattle.cxx_resolve.specs.Statements.{new_variable, first_value, with_scene, declare_of, assign_of, write_of, same_class, copy_of, call_statement, delete_of, value_return, return_at, return_of, print_of, print_type_of, print_view_of, dump_of, plain_of}
+use Rattle.cxx_resolve.specs.Statements.{new_variable, first_value, declare_of, assign_of, write_of, copy_of, call_statement, delete_of, value_return, return_at, return_of, print_of, print_type_of, print_view_of, dump_of, plain_of}
 use Rattle.cxx_typing.specs.Pieces.{IsDeclared, StatementsAreTyped}
 use Rattle.cxx_typing.proofs.Steps.{then_both, pair_both, IsClean, clean_both, clean_pair, settled_clean}
 use Rattle.cxx_typing.specs.Scopes.{PureAreVirtual, wanted, IsSetting, IsScene}
 use Rattle.cxx_typing.proofs.Values.{variable_typed, operand_typed, pointer_typed, number_typed, conversion_typed, argument_by, converted_typed}
 use Rattle.cxx_typing.proofs.Places.{leaf_typed}
-use Rattle.cxx_typing.proofs.Casts.{named_class_typed, IsPolymorphicPointer, polymorphic_typed}
+use Rattle.cxx_typing.proofs.Casts.{named_class_typed, polymorphic_typed}
 use Rattle.cxx_typing.proofs.Calls.{call_typed}
 use Rattle.cxx_typing.proofs.Rights.{right_typed, converted_by, converted_right_typed}
 

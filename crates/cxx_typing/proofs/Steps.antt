@@ -1,8 +1,8 @@
 -- A piece that rests on others is typed where each of them is.
-use Rattle.std.proofs.Common.{◌≡◌, ◌⊎◌, ℕ, ◌≤◌, ◌<◌, Bool, true, false, Option, Some, None, Ok, List, [], ◌∷◌, length, inl, inr, refl, sym, ◌∙◌, ap, subst, arith}
+use Rattle.std.proofs.Common.{◌≡◌, ◌⊎◌, ◌≤◌, Bool, true, false, Option, Some, None, Ok, List, [], ◌∷◌, length, inl, inr, refl, ap, subst, arith}
 use Rattle.std.specs.Prelude.{if◌then◌else◌}
 use Rattle.cxx_expression.specs.declared.faults.Fault.{Fault}
-use Rattle.cxx_expression.specs.Checked.{Checked, then_typed, then_faults, ◌>>=◌, pair_of, with_second, along, both}
+use Rattle.cxx_expression.specs.Checked.{Checked, then_typed, then_faults, ◌>>=◌, pair_of, along, both}
 use Rattle.cxx_expression.specs.Faults.{least, settled}
 use Rattle.cxx_resolve.specs.Settled.{settle}
 use Rattle.cxx_expression.specs.Laws.{IsComplete}

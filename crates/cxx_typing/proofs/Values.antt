@@ -1,5 +1,5 @@
 -- Operands, pointers and conversions have the types that they are typed to.
-use Rattle.std.proofs.Common.{◌≡◌, ◌⊎◌, ℕ, ◌≤◌, Bool, true, false, Option, Some, None, List, [], ◌∷◌, inl, inr, refl, sym, ◌∙◌, ap, subst, arith}
+use Rattle.std.proofs.Common.{◌≡◌, ◌⊎◌, ℕ, ◌≤◌, Bool, true, false, Option, Some, None, inl, inr, refl, sym, ◌∙◌, ap, subst, arith}
 use Rattle.std.specs.Prelude.{nat_eq, nat_le, if◌then◌else◌, ℤ, pos, neg_ℤ, not, ◌&&◌}
 use Rattle.std.proofs.lemmas.Int.{ints}
 use Rattle.std.proofs.lemmas.Bool.{eqb-true, eq-eqb, leb-true, leb-false}
@@ -12,7 +12,7 @@ use Rattle.cxx_hierarchy.specs.Classes.{Classes}
 use Rattle.cxx_hierarchy.specs.Hierarchies.{IsHierarchy}
 use Rattle.cxx_hierarchy.specs.NameTables.{Text}
 use Rattle.cxx_subobject.specs.declared.Subobject.{Subobject}
-use Rattle.cxx_subobject.specs.Subobjects.{IsSubobject, class_of as class_of_subobject, whole_of}
+use Rattle.cxx_subobject.specs.Subobjects.{class_of as class_of_subobject, whole_of}
 use Rattle.cxx_subobject.proofs.PathLemmas.{same_id}
 use Rattle.cxx_lookup.specs.Findings.{Finding, finds_none, finds_one, finds_more, base_by, IsBaseFinding}
 use Rattle.cxx_lookup.specs.UniqueBase.{IsOfClass}
@@ -40,7 +40,7 @@ use Rattle.cxx_expression.specs.declared.scene.Setting.{Setting}
 use Rattle.cxx_expression.specs.declared.typed.Value.{Value}
 use Rattle.cxx_expression.specs.declared.typed.Pointer.{Pointer}
 use Rattle.cxx_expression.specs.declared.typed.Number.{Number}
-use Rattle.cxx_expression.specs.Checked.{Checked, pure}
+use Rattle.cxx_expression.specs.Checked.{pure}
 use Rattle.cxx_expression.specs.Lookups.{as_based, base_up}
 use Rattle.cxx_expression.specs.Scenes.{last_of}
 use Rattle.cxx_expression.specs.Values.{global_of, local_of, variable_of, named_value, this_of, within_long, spelled, truth, constant_of, operand_of, pointer_value, as_pointer, pointer_of, as_number, number_of, as_base, path_to, conversion_by, class_conversion, conversion_of, argument, converted_operand, value}
