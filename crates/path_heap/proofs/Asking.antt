@@ -8,6 +8,7 @@ use Rattle.cxx_hierarchy.specs.Classes.{Classes}
 use Rattle.cxx_subobject.specs.Subobjects.{class_of}
 use Rattle.path_plan.specs.Places.{Step, ObjectPart}
 use Rattle.path_plan.specs.Plans.{InFull, AsBase}
+use Rattle.path_plan.specs.Whole.{whole_part}
 use Rattle.path_numbers.specs.Sizes.{sizes_of}
 use Rattle.path_numbers.specs.Nodes.{Node, Kid, base_kid, element_kid, shared_kid, Under, here, deeper, IsGood}
 use Rattle.path_numbers.specs.Heap.{IsAt, root_at}
@@ -22,7 +23,7 @@ use Rattle.path_model.specs.Rules.{is_in_heap_object}
 use Rattle.path_heap.specs.declared.state.Cell.{Cell}
 use Rattle.path_heap.specs.declared.state.ObjectRow.{ObjectRow}
 use Rattle.path_heap.specs.declared.heap.Heap.{Heap}
-use Rattle.path_heap.specs.Points.{Points, PointsWhole, IsOwner}
+use Rattle.path_heap.specs.Points.{Points, PointsWhole, IsOwner, IsPart}
 use Rattle.path_heap.specs.Stands.{phase_of, HasBegun, HeapStands}
 use Rattle.path_heap.specs.invariants.Columns.{cell_or, cell_at, row_or, row_at}
 
@@ -118,6 +119,32 @@ closed_told h heap s stands n p q cell is row row_is = (row_found h heap s stand
 -- the root of a heap object is one of its parts
 pub root_is_at : (h : Classes) (classes : List ClassId) (k : ℕ) (c : ClassId) → slice_get classes k ≡ Some c → IsAt h (sizes_of h) classes (root_at (sizes_of h) classes k c)
 root_is_at h classes k c listed = record { object = k; class = c; listed = listed; under = here (root_at (sizes_of h) classes k c) refl }
+
+-- the number and the class of the whole of a part's heap object
+pub heap_object_told : (h : Classes) (heap : Heap) (s : Objects) → HeapStands h heap s → (n : ℕ) (p : ObjectPart) → Points h s.classes n p → (cell : Cell) → cell ≡ cell_at heap n → (row : ObjectRow) → row ≡ row_at heap cell.object
+    → (c : ClassId) → slice_get s.classes p.object ≡ Some c → Points h s.classes row.start (whole_part p.object c)
+heap_object_told h heap s stands n p q cell is row row_is c listed =
+    let r = row_found h heap s stands n p q cell.object (object_told h heap s stands n p q cell is) row row_is in
+    record { node = root_at (sizes_of h) s.classes p.object c; at = root_is_at h s.classes p.object c listed; is_part = refl; is_number = sym r.start }
+
+pub object_class_told : (h : Classes) (heap : Heap) (s : Objects) → HeapStands h heap s → (n : ℕ) (p : ObjectPart) → Points h s.classes n p → (cell : Cell) → cell ≡ cell_at heap n → (row : ObjectRow) → row ≡ row_at heap cell.object
+    → slice_get s.classes p.object ≡ Some row.class
+object_class_told h heap s stands n p q cell is row row_is =
+    let r = row_found h heap s stands n p q cell.object (object_told h heap s stands n p q cell is) row row_is in
+    r.listed ∙ ap (λ (t : ClassId). Some t) (sym r.class_is)
+
+-- a part that has begun, by its cell
+pub part_told : (h : Classes) (heap : Heap) (s : Objects) → HeapStands h heap s → (n : ℕ) (p : ObjectPart) → Points h s.classes n p → HasBegun s p → (cell : Cell) → cell ≡ cell_at heap n
+    → IsPart h s.classes (record { number = n; class = cell.class; whole = cell.whole; owner = cell.owner }) p
+part_told h heap s stands n p q begun cell is =
+    record {
+      node = q.node;
+      at = q.at;
+      is_part = q.is_part;
+      is_number = q.is_number;
+      is_class = sym (class_node h heap s stands n p q begun cell is);
+      owned = owner_told h heap s stands n p q begun cell is;
+    }
 
 -- a complete object has the number of the root where no step leads to it
 root_test : (h : Classes) (heap : Heap) (s : Objects) → HeapStands h heap s → (k : ℕ) (c : ClassId) → slice_get s.classes k ≡ Some c → (w : Node) → IsAt h (sizes_of h) s.classes w → w.form ≡ InFull → w.part.object ≡ k → (o : List Step) → w.part.owner ≡ o

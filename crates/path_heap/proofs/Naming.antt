@@ -10,7 +10,6 @@ use Rattle.path_numbers.specs.Sizes.{sizes_of}
 use Rattle.path_numbers.specs.Nodes.{Node}
 use Rattle.path_numbers.specs.Heap.{root_at}
 use Rattle.path_numbers.proofs.Heap.{heap_number}
-use Rattle.path_heap.specs.declared.state.Part.{Part}
 use Rattle.path_heap.specs.Points.{Points, IsPart}
 use Rattle.path_heap.proofs.Asking.{root_is_at}
 

@@ -1,20 +1,22 @@
 //! What the heap tells of a part.
 
-ghost use Rattle.std.specs.Prelude.{◌≡◌, Some, Option};
+ghost use Rattle.std.specs.Prelude.{◌≡◌, Some, Option, length, slice_get};
+ghost use Rattle.cxx_hierarchy.specs.declared.records.ClassId.{ClassId};
 ghost use Rattle.cxx_hierarchy.specs.Classes.{Classes};
 ghost use Rattle.cxx_subobject.specs.Subobjects.{class_of};
 ghost use Rattle.path_plan.specs.Places.{ObjectPart};
+ghost use Rattle.path_plan.specs.Whole.{whole_part};
 ghost use Rattle.path_model.specs.Values.{Objects};
 ghost use Rattle.path_model.specs.Uses.{class_of_owner, view_of};
 ghost use Rattle.path_model.specs.Rules.{is_in_heap_object};
-ghost use Rattle.path_heap.specs.Points.{Points, PointsWhole, PointsView};
+ghost use Rattle.path_heap.specs.Points.{Points, PointsWhole, PointsView, IsPart};
 ghost use Rattle.path_heap.specs.Stands.{HeapStands, HasBegun, phase_of};
 ghost use Rattle.path_heap.specs.invariants.Columns.{cell_at, row_at, view_number};
 ghost use Rattle.path_heap.specs.Running.{entry_at};
 
 use crate::heap::Heap;
 use crate::lists::entry;
-use crate::state::{Cell, ObjectRow, Phase};
+use crate::state::{Cell, ObjectRow, Part, Phase};
 use cxx_hierarchy::ClassId;
 
 impl Heap {
@@ -55,6 +57,27 @@ impl Heap {
         self.cell(n).object
     }
 
+    /// The number of the whole of the heap object of a part.
+    pub fn heap_object(&self, n: u32) -> u32
+        ensures { (h : Classes) (s : Objects) (p : ObjectPart) (c : ClassId) → HeapStands h self.now s → Points h s.classes n p → slice_get s.classes p.object ≡ Some c → Points h s.classes result (whole_part p.object c) }
+    {
+        self.row(self.cell(n).object).start
+    }
+
+    /// The class of the heap object of a part.
+    pub fn object_class(&self, n: u32) -> ClassId
+        ensures { (h : Classes) (s : Objects) (p : ObjectPart) → HeapStands h self.now s → Points h s.classes n p → slice_get s.classes p.object ≡ Some result }
+    {
+        self.row(self.cell(n).object).class
+    }
+
+    /// How many heap objects have been made.
+    pub fn count(&self) -> usize
+        ensures { (h : Classes) (s : Objects) → HeapStands h self.now s → length s.classes ≡ result }
+    {
+        self.objects.len()
+    }
+
     /// The phase of a part.
     pub fn phase(&self, n: u32) -> Phase
         ensures { (h : Classes) (s : Objects) (p : ObjectPart) → HeapStands h self.now s → Points h s.classes n p → s.phases.phase p ≡ phase_of result }
@@ -88,6 +111,19 @@ impl Heap {
         ensures { (h : Classes) (s : Objects) (p : ObjectPart) → HeapStands h self.now s → Points h s.classes n p → HasBegun s p → class_of_owner h s p ≡ Some result }
     {
         self.cell(n).owner
+    }
+
+    /// A part that has begun, with what its events name.
+    pub fn part(&self, n: u32) -> Part
+        ensures { (h : Classes) (s : Objects) (p : ObjectPart) → HeapStands h self.now s → Points h s.classes n p → HasBegun s p → IsPart h s.classes result p }
+    {
+        let cell = self.cell(n);
+        Part {
+            number: n,
+            class: cell.class,
+            whole: cell.whole,
+            owner: cell.owner,
+        }
     }
 
     /// Whether the complete object of a part that has begun is the heap object itself, and no member.

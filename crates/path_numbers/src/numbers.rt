@@ -10,7 +10,7 @@ ghost use Rattle.cxx_hierarchy.specs.Hierarchies.{IsHierarchy};
 ghost use Rattle.cxx_hierarchy.specs.VirtualBases.{IsDirectBase};
 ghost use Rattle.cxx_subobject.specs.Subobjects.{IsSubobject, Leads, tail_of};
 ghost use Rattle.cxx_subobject.specs.Parts.{IsWithinLimits};
-ghost use Rattle.path_plan.specs.Plans.{AsBase, InFull};
+ghost use Rattle.path_plan.specs.Plans.{AsBase, InFull, virtual_order};
 ghost use Rattle.path_numbers.specs.Sizes.{sizes_of, base_size, unit_size, member_size, total, base_offset, member_offset};
 ghost use Rattle.path_numbers.specs.Numbers.{base_number, path_number, number_in, IsSharedAt, IsRow, AreRows, AreNumbers};
 ghost use Rattle.path_numbers.specs.invariants.Lines.{IsLine, AreSmall};
@@ -246,6 +246,14 @@ impl Numbers {
         ensures { (h : Classes) → IsHierarchy h → AreNumbers h self.now → IsSharedAt h c v result }
     {
         some_offset(offset_at(row_at(&self.rows, c).shared.as_slice(), v.0 as usize))
+    }
+
+    /// The virtual bases of a class, in the order in which they are built.
+    pub fn virtual_bases(&self, c: ClassId) -> &[ClassId]
+        requires { c.0 < length self.now }
+        ensures { (h : Classes) → AreNumbers h self.now → result.now ≡ virtual_order h c }
+    {
+        row_at(&self.rows, c).order.as_slice()
     }
 
     /// How far a direct base of a class stands behind a part, by the base's class.

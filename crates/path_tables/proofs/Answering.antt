@@ -1,15 +1,26 @@
 -- An answer for the subobjects of two numbers is one for every two that have them.
-use Rattle.std.proofs.Common.{◌≡◌, ℕ, ◌<◌, Bool, List, [], length, get_or, ap, subst, sym, ◌∙◌}
-use Rattle.std.specs.Prelude.{Option, Some, None, find, slice_get}
+use Rattle.std.proofs.Common.{◌≡◌, ℕ, ◌<◌, ◌≤◌, ⊎_elim, Bool, true, false, List, [], ◌∷◌, ◌++◌, length, get_or, refl, ap, subst, sym, ◌∙◌, arith, append-nil}
+use Rattle.std.specs.Prelude.{Option, Some, None, Contains, find, slice_get}
 use Rattle.std.proofs.lemmas.List.{get_or-map}
-use Rattle.std.proofs.lemmas.Option.{slice_get-get_or}
+use Rattle.std.proofs.lemmas.Option.{slice_get-get_or, slice_get_past}
+use Rattle.std.proofs.lemmas.Bool.{cases_lt, eqb-true, eq-eqb}
+use Rattle.foundation.proofs.Truth.{not_both}
 use Rattle.cxx_hierarchy.specs.declared.records.ClassId.{ClassId}
-use Rattle.cxx_hierarchy.specs.Classes.{Classes}
+use Rattle.cxx_hierarchy.specs.declared.records.Base.{Base}
+use Rattle.cxx_hierarchy.specs.Classes.{Class, Classes, bases_in}
+use Rattle.cxx_hierarchy.specs.VirtualBases.{IsDirectBase, HasVirtualBase, direct, further}
 use Rattle.cxx_hierarchy.specs.Hierarchies.{IsHierarchy}
-use Rattle.cxx_subobject.specs.declared.Root.TheVariants.{Whole}
 use Rattle.cxx_subobject.specs.declared.Subobject.{Subobject}
+use Rattle.cxx_subobject.specs.Subobjects.{IsSubobject, whole, shared, subobject, class_of, join, whole_of}
+use Rattle.cxx_subobject.specs.Inside.{IsInside}
 use Rattle.cxx_subobject.specs.Preorder.{preorder}
-use Rattle.cxx_search.specs.Searches.{final_in, cast_in}
+use Rattle.cxx_subobject.proofs.PathLemmas.{same_id}
+use Rattle.cxx_subobject.proofs.InsideLemmas.{inside_itself}
+use Rattle.cxx_overrider.specs.declared.FunctionId.{FunctionId}
+use Rattle.cxx_overrider.specs.Functions.{signature_in, signature_of}
+use Rattle.cxx_overrider.specs.Overriding.{IsVirtual}
+use Rattle.cxx_search.specs.Searches.{is_within, is_class, is_of_class, final_in, cast_in}
+use Rattle.cxx_search.proofs.Within.{inside_within}
 use Rattle.cxx_search.proofs.Casts.{is_cast}
 use Rattle.path_numbers.specs.Numbers.{number_in}
 use Rattle.path_tables.specs.declared.finals.FinalAt.{FinalAt}
@@ -23,10 +34,72 @@ use Rattle.path_tables.proofs.Numbered.{one_numbered}
 use Rattle.path_tables.proofs.Targets.{get_length}
 
 pub final_for_all : (h : Classes) → IsHierarchy h → (key : FinalKey) (x y : Subobject) → IsNumbered h (id key.class) key.view x → IsNumbered h (id key.class) key.source y → (answer : Option FinalAt) → answer ≡ numbered h (id key.class) (final_in h x y (function_of key)) → IsFinalAnswer h key answer
-final_for_all h keeps key x y nx ny answer e = λ s t ns nt.
+final_for_all h keeps key x y nx ny answer e = λ s t ns nt of_class is_virtual.
     let a = one_numbered h keeps (id key.class) key.view x s nx ns in
     let b = one_numbered h keeps (id key.class) key.source y t ny nt in
     e ∙ (ap (λ (z : Subobject). numbered h (id key.class) (final_in h z y (function_of key))) a ∙ ap (λ (z : Subobject). numbered h (id key.class) (final_in h s z (function_of key))) b)
+
+-- a class that is not there has no bases
+no_edge : (h : Classes) (c b : ClassId) (way : Bool) → length h ≤ c.0 → IsDirectBase h c way b → ⊥
+no_edge h c b way past edge = let k : Contains [] edge.base = subst (λ (bases : List (Base ClassId)). Contains bases edge.base) (ap bases_in (slice_get_past h c.0 past)) edge.listed in let lt = k.1 in absurd (omega (arith, lt))
+
+no_virtual : (h : Classes) (c v : ClassId) → length h ≤ c.0 → HasVirtualBase h c v → ⊥
+no_virtual h _ _ past (direct c v edge) = no_edge h c v true past edge
+no_virtual h _ _ past (further c b v way edge more) = no_edge h c b way past edge
+
+whole_class : (h : Classes) (c : ClassId) (s : Subobject) → length h ≤ c.0 → IsSubobject h c s → class_of s ≡ Some c
+whole_class h c _ past (whole [] leads) = refl
+whole_class h c _ past (whole (b ∷ path) leads) = absurd (no_edge h c b false past leads.0)
+whole_class h c _ past (shared v path has leads) = absurd (no_virtual h c v past has)
+
+function_known : (h : Classes) (f : FunctionId) → IsVirtual h f → f.class.0 < length h
+function_known h f is_virtual = ⊎_elim (λ lt. lt)
+    (λ past. let none : signature_of h f ≡ None = ap (λ (o : Option Class). signature_in o f.index) (slice_get_past h f.class.0 past) in let some : signature_of h f ≡ Some is_virtual.signature = is_virtual.is in absurd (cc))
+    (cases_lt f.class.0 (length h))
+
+-- an object of which some subobject declares a virtual function is of a class that is there
+pub class_there : (h : Classes) (c : ClassId) (y : Subobject) (f : FunctionId) → IsSubobject h c y → class_of y ≡ Some f.class → IsVirtual h f → c.0 < length h
+class_there h c y f valid class is_virtual = ⊎_elim (λ lt. lt)
+    (λ past. let same : Some f.class ≡ Some c = sym class ∙ whole_class h c y past valid in let one : f.class ≡ c = cc in let lt = function_known h f is_virtual in let e = ap (λ (d : ClassId). d.0) one in absurd (omega arith))
+    (cases_lt c.0 (length h))
+
+class_told : (d : ClassId) (o : Option ClassId) → is_class d o ≡ true → o ≡ Some d
+class_told d None e = absurd (cc)
+class_told d (Some c) e = ap (λ (x : ClassId). Some x) (same_id c d (sym (eqb-true d.0 c.0 e)))
+
+-- what the test of a class tells
+pub is_the_class : (d : ClassId) (s : Subobject) → is_of_class d s ≡ true → class_of s ≡ Some d
+is_the_class d s e = class_told d (class_of s) e
+
+pub has_the_class : (d : ClassId) (s : Subobject) → class_of s ≡ Some d → is_of_class d s ≡ true
+has_the_class d s e = ap (is_class d) e ∙ eq-eqb d.0 d.0 refl
+
+-- nothing is asked of a source of another class
+pub final_other : (h : Classes) → IsHierarchy h → (key : FinalKey) (y : Subobject) → IsNumbered h (id key.class) key.source y → false ≡ is_of_class (id key.owner) y → IsFinalAnswer h key None
+final_other h keeps key y ny told = λ s t ns nt of_class is_virtual.
+    let same = one_numbered h keeps (id key.class) key.source t y nt ny in
+    absurd (not_both (has_the_class (id key.owner) y (ap class_of (sym same) ∙ of_class)) (sym told))
+
+pub within_for_all : (h : Classes) → IsHierarchy h → (c : ClassId) (m n : ℕ) (x y : Subobject) → IsNumbered h c m x → IsNumbered h c n y → (answer : Bool) → answer ≡ is_within h x y → (s t : Subobject) → IsNumbered h c m s → IsNumbered h c n t → answer ≡ is_within h s t
+within_for_all h keeps c m n x y nx ny answer e s t ns nt =
+    e ∙ (ap (λ (z : Subobject). is_within h z y) (one_numbered h keeps c m x s nx ns) ∙ ap (λ (z : Subobject). is_within h s z) (one_numbered h keeps c n y t ny nt))
+
+-- a subobject lies in itself, and each in the whole
+pub within_itself : (h : Classes) → IsHierarchy h → (c : ClassId) (m n : ℕ) → m ≡ n → (s t : Subobject) → IsNumbered h c m s → IsNumbered h c n t → true ≡ is_within h s t
+within_itself h keeps c m n e s t ns nt =
+    let same = one_numbered h keeps c n s t (subst (λ k. IsNumbered h c k s) e ns) nt in sym (inside_within h keeps s t (subst (λ (z : Subobject). IsInside h s z) same (inside_itself h c s ns.valid)))
+
+whole_number : (h : Classes) (c : ClassId) → IsNumbered h c 0 (whole_of c)
+whole_number h c = record { valid = whole [] tt; number = refl }
+
+in_the_whole : (h : Classes) (c : ClassId) (t : Subobject) → IsSubobject h c t → t ≡ join (whole_of c) t
+in_the_whole h c _ (whole path leads) = refl
+in_the_whole h c _ (shared v path has leads) = refl
+
+pub within_whole : (h : Classes) → IsHierarchy h → (c : ClassId) (m n : ℕ) → m ≡ 0 → (s t : Subobject) → IsNumbered h c m s → IsNumbered h c n t → true ≡ is_within h s t
+within_whole h keeps c m n e s t ns nt =
+    let same = one_numbered h keeps c 0 (whole_of c) s (whole_number h c) (subst (λ k. IsNumbered h c k s) e ns) in
+    sym (inside_within h keeps s t (subst (λ (z : Subobject). IsInside h z t) same (record { class = c; of_class = refl; part = t; valid = nt.valid; joined = in_the_whole h c t nt.valid })))
 
 cast_for_all : (h : Classes) → IsHierarchy h → (key : CastKey) (x y : Subobject) → IsNumbered h (id key.class) key.view x → IsNumbered h (id key.class) key.source y → (answer : Option ℕ) → answer ≡ number_of h (id key.class) (cast_in h (id key.target) x y) → IsCastAnswer h key answer
 cast_for_all h keeps key x y nx ny answer e = λ s t ns nt.
@@ -48,15 +121,9 @@ cast_some h keeps key x y parts list place n nx ny is e (t, at, k) number =
     let value : n ≡ number_in h c t = number ∙ (ap (λ (l : List ℕ). get_or l place 0) is.numbers ∙ (get_or-map (number_in h c) (preorder h c) place t 0 lt ∙ ap (number_in h c) one)) in
     cast_for_all h keeps key x y nx ny (Some n) (ap (λ (z : ℕ). Some z) value ∙ ap (number_of h c) (sym (is_cast h keeps c x nx.valid (id key.target) y (Some t) k)))
 
-pub first_number : (h : Classes) (c : ClassId) (test : Subobject → Bool) (list : PartList) (parts : List Subobject) (place n : ℕ) → IsPartList h c list → parts ≡ list.parts → IsFirstOf test parts (Some place) → n ≡ get_or list.numbers.items place 0
-    → Some n ≡ number_of h c (find test (preorder h c))
-first_number h c test list parts place n is e first number =
-    let parts_are : parts ≡ preorder h c = e ∙ is.parts in
-    let lt : place < length (preorder h c) = subst (λ (l : List Subobject). place < length l) parts_are first.0 in
-    let default : Subobject = get_or (preorder h c) place (record { root = Whole; path = [] }) in
-    let found : find test (preorder h c) ≡ Some (get_or (preorder h c) place default) = ap (find test) (sym parts_are) ∙ (first.1 ∙ (ap (λ (l : List Subobject). slice_get l place) parts_are ∙ slice_get-get_or (preorder h c) place default lt)) in
-    let value : n ≡ number_in h c (get_or (preorder h c) place default) = number ∙ (ap (λ (l : List ℕ). get_or l place 0) is.numbers ∙ get_or-map (number_in h c) (preorder h c) place default 0 lt) in
-    ap (λ (z : ℕ). Some z) value ∙ ap (number_of h c) (sym found)
-
-pub no_first : (h : Classes) (c : ClassId) (test : Subobject → Bool) (list : PartList) (parts : List Subobject) → IsPartList h c list → parts ≡ list.parts → IsFirstOf test parts None → None ≡ number_of h c (find test (preorder h c))
-no_first h c test list parts is e first = ap (number_of h c) (sym (ap (find test) (sym (e ∙ is.parts)) ∙ first))
+-- a copy of the first
+pub copied_first : (h : Classes) (c : ClassId) (test : Subobject → Bool) (list : PartList) (parts : List Subobject) (place : ℕ) (found copy : Subobject) → IsPartList h c list → parts ≡ list.parts → IsFirstOf test parts (Some place) → found ≡ get_or parts place found
+    → copy ≡ subobject found.root (found.path ++ []) → Some copy ≡ find test (preorder h c)
+copied_first h c test list parts place found copy is e first at made =
+    let same : copy ≡ found = made ∙ ap (subobject found.root) (append-nil found.path) in
+    ap (λ (s : Subobject). Some s) (same ∙ at) ∙ (sym (slice_get-get_or parts place found first.0) ∙ (sym first.1 ∙ ap (find test) (e ∙ is.parts)))

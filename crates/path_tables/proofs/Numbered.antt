@@ -1,6 +1,6 @@
 -- A number names one subobject of a class.
 use Rattle.std.proofs.Common.{◌≡◌, ℕ, suc, ◌+◌, ◌<◌, Bool, true, List, ◌∷◌, length, get_or, map, drop, drop-cons, refl, ap, subst, sym, ◌∙◌, arith}
-use Rattle.std.specs.Prelude.{Some, Contains, find, slice_get}
+use Rattle.std.specs.Prelude.{Some, None, find, slice_get}
 use Rattle.std.proofs.lemmas.Option.{slice_get-get_or}
 use Rattle.std.proofs.lemmas.List.{get_or-map, length-map}
 use Rattle.cxx_hierarchy.specs.declared.records.ClassId.{ClassId}
@@ -9,7 +9,7 @@ use Rattle.cxx_hierarchy.specs.Hierarchies.{IsHierarchy}
 use Rattle.cxx_subobject.specs.declared.Subobject.{Subobject}
 use Rattle.cxx_subobject.specs.Preorder.{preorder}
 use Rattle.cxx_subobject.proofs.TreeLemmas.{preorder_has, has_preorder}
-use Rattle.foundation.proofs.Members.{Has, has_at, has_map, contains_from_has}
+use Rattle.foundation.proofs.Members.{Has, has_at, has_map, index_of}
 use Rattle.path_plan.specs.Places.{ObjectPart}
 use Rattle.path_numbers.specs.Sizes.{sizes_of}
 use Rattle.path_numbers.specs.Nodes.{Node, IsGood, root_node}
@@ -18,7 +18,9 @@ use Rattle.path_numbers.proofs.Intervals.{one_part}
 use Rattle.path_numbers.proofs.Sized.{sizes_are}
 use Rattle.path_numbers.proofs.Within.{part_at}
 use Rattle.path_tables.specs.declared.parts.PartList.{PartList}
-use Rattle.path_tables.specs.Parts.{IsNumbered, HasNumber, IsPartList}
+use Rattle.path_tables.specs.Parts.{IsNumbered, IsPartList}
+use Rattle.path_tables.specs.invariants.Places.{IsPlace}
+use Rattle.path_tables.proofs.Targets.{get_length}
 
 pub one_numbered : (h : Classes) → IsHierarchy h → (c : ClassId) (x : ℕ) (s t : Subobject) → IsNumbered h c x s → IsNumbered h c x t → s ≡ t
 one_numbered h keeps c x s t a b =
@@ -32,10 +34,15 @@ one_numbered h keeps c x s t a b =
     let same : p.0 ≡ q.0 = one_part h (sizes_of h) (sizes_are h keeps) p.0 q.0 root first.under second.under numbers in
     ap (λ (o : ObjectPart). o.at) (sym first.is_part ∙ ap (λ (n : Node). n.part) same ∙ second.is_part)
 
-pub is_listed : (h : Classes) → IsHierarchy h → (c : ClassId) (x : ℕ) (list : PartList) (numbers : List ℕ) → IsPartList h c list → numbers ≡ list.numbers.items → HasNumber h c x → Contains numbers x
-is_listed h keeps c x list numbers is e has =
-    let there : Has (map (number_in h c) (preorder h c)) (number_in h c has.part) = has_map (number_in h c) (preorder h c) has.part (preorder_has h c keeps has.part has.is.valid) in
-    subst (λ (ns : List ℕ). Contains ns x) (sym (e ∙ is.numbers)) (contains_from_has (map (number_in h c) (preorder h c)) x (subst (Has (map (number_in h c) (preorder h c))) has.is.number there))
+-- a number that stands nowhere is no subobject's
+pub not_listed : (h : Classes) → IsHierarchy h → (c : ClassId) (x : ℕ) (list : PartList) (numbers : List ℕ) → IsPartList h c list → numbers ≡ list.numbers.items → IsPlace numbers x None → (s : Subobject) → IsNumbered h c x s → ⊥
+not_listed h keeps c x list numbers is e none s numbered =
+    let there : Has (map (number_in h c) (preorder h c)) (number_in h c s) = has_map (number_in h c) (preorder h c) s (preorder_has h c keeps s numbered.valid) in
+    let listed : Has numbers x = subst (λ (ns : List ℕ). Has ns x) (sym (e ∙ is.numbers)) (subst (Has (map (number_in h c) (preorder h c))) numbered.number there) in
+    let place = index_of numbers x listed in
+    let lt = get_length numbers place.0 x place.1 in
+    let same : Some (get_or numbers place.0 0) ≡ Some x = sym (slice_get-get_or numbers place.0 0 lt) ∙ place.1 in
+    none place.0 lt (let one : get_or numbers place.0 0 ≡ x = cc in one)
 
 pub list_length : (h : Classes) (c : ClassId) (list : PartList) (numbers : List ℕ) (parts : List Subobject) → IsPartList h c list → numbers ≡ list.numbers.items → parts ≡ list.parts → length numbers ≡ length parts
 list_length h c list numbers parts is e k = ap length (e ∙ is.numbers) ∙ length-map (preorder h c) (number_in h c) ∙ ap length (sym (k ∙ is.parts))

@@ -25,21 +25,21 @@ use Rattle.cxx_search.proofs.Finals.{found_final, final_found}
 use Rattle.path_numbers.specs.Numbers.{number_in}
 use Rattle.path_tables.specs.Parts.{numbered}
 
-same_some : {X : Type 0} (x y : X) → Some x ≡ Some y → x ≡ y
+pub same_some : {X : Type 0} (x y : X) → Some x ≡ Some y → x ≡ y
 same_some x y e = cc
 
 -- the path of a subobject from a head on
-record Walked (h : Classes) (s : Subobject) : Type 0 where
-  head : ClassId
-  tail : List ClassId
-  path : s.path ≡ head ∷ tail
-  leads : Leads h head tail
+pub record Walked (h : Classes) (s : Subobject) : Type 0 where
+  pub head : ClassId
+  pub tail : List ClassId
+  pub path : s.path ≡ head ∷ tail
+  pub leads : Leads h head tail
 
-walked : (h : Classes) (c : ClassId) (s : Subobject) → IsSubobject h c s → Walked h s
+pub walked : (h : Classes) (c : ClassId) (s : Subobject) → IsSubobject h c s → Walked h s
 walked h c _ (whole path l) = record { head = c; tail = path; path = refl; leads = l }
 walked h c _ (shared v path has l) = record { head = v; tail = path; path = refl; leads = l }
 
-cons_parts : (a b : ClassId) (p q : List ClassId) → a ∷ p ≡ b ∷ q → (a ≡ b) × (p ≡ q)
+pub cons_parts : (a b : ClassId) (p q : List ClassId) → a ∷ p ≡ b ∷ q → (a ≡ b) × (p ≡ q)
 cons_parts a b p q e = (cc, cc)
 
 pub part_longer : (h : Classes) (c d : ClassId) (x y i : Subobject) → IsSubobject h c x → IsSubobject h c y → class_of x ≡ Some d → is_longer x y ≡ true → i ≡ subobject Whole (d ∷ drop (length x.path) y.path) → IsSubobject h d i × (join x i ≡ y)

@@ -1,11 +1,12 @@
 -- The subobjects of a class by their numbers.
-use Rattle.std.specs.Prelude.{◌≡◌, ℕ, ◌<◌, Bool, Option, Some, None, List, length, map, find, slice_get}
+use Rattle.std.specs.Prelude.{◌≡◌, ℕ, ◌<◌, Bool, ◌&&◌, Option, Some, None, List, length, map, find, slice_get}
 use Rattle.cxx_hierarchy.specs.declared.records.ClassId.{ClassId}
 use Rattle.cxx_hierarchy.specs.Classes.{Classes}
 use Rattle.cxx_subobject.specs.declared.Subobject.{Subobject}
-use Rattle.cxx_subobject.specs.Subobjects.{IsSubobject}
+use Rattle.cxx_subobject.specs.Subobjects.{IsSubobject, join, same_subobject}
 use Rattle.cxx_subobject.specs.Preorder.{preorder}
 use Rattle.cxx_overrider.specs.declared.Overrider.{Overrider}
+use Rattle.cxx_search.specs.Searches.{is_of_class}
 use Rattle.path_numbers.specs.Numbers.{number_in}
 use Rattle.path_tables.specs.declared.parts.PartList.{PartList}
 use Rattle.path_tables.specs.declared.finals.FinalAt.{FinalAt}
@@ -15,15 +16,14 @@ pub record IsNumbered (h : Classes) (c : ClassId) (x : ℕ) (s : Subobject) : Ty
   pub valid : IsSubobject h c s
   pub number : number_in h c s ≡ x
 
--- x is the number of a subobject of c
-pub record HasNumber (h : Classes) (c : ClassId) (x : ℕ) : Type 0 where
-  pub part : Subobject
-  pub is : IsNumbered h c x part
-
 -- the subobjects of c in preorder, with their numbers
 pub record IsPartList (h : Classes) (c : ClassId) (list : PartList) : Type 0 where
   pub parts : list.parts ≡ preorder h c
   pub numbers : list.numbers.items ≡ map (number_in h c) (preorder h c)
+
+-- the first subobject of class `target` whose base i is y
+abbrev pub derived_in : Classes → ClassId → ClassId → Subobject → Subobject → Option Subobject
+derived_in h c target i y = find (λ t. is_of_class target t && same_subobject (join t i) y) (preorder h c)
 
 -- the place of the first item that a test takes; None: it takes none
 abbrev pub IsFirstOf : {X : Type 0} → (X → Bool) → List X → Option ℕ → Type 0

@@ -1,9 +1,12 @@
 //! Answers that are kept, by the class, the numbers of two subobjects, and what was asked.
 
 ghost use Rattle.std.specs.Prelude.{◌≡◌, None, Some, OnOk, OnErr, if◌then◌else◌};
+ghost use Rattle.cxx_hierarchy.specs.Classes.{Classes};
 ghost use Rattle.path_tables.specs.declared.kept.CastKey.{CastKey};
 ghost use Rattle.path_tables.specs.declared.kept.FinalKey.{FinalKey};
-ghost use Rattle.path_tables.specs.Kept.{cast_of, same_cast, final_of, same_final};
+ghost use Rattle.path_tables.specs.declared.kept.WithinKey.{WithinKey};
+ghost use Rattle.path_tables.specs.declared.kept.DownKey.{DownKey};
+ghost use Rattle.path_tables.specs.Kept.{cast_of, same_cast, final_of, same_final, within_of, same_within, down_of, same_down, IsCastAnswer, IsFinalAnswer, IsWithinAnswer, IsDownAnswer, AreCasts, AreFinals, AreWithins, AreDowns};
 
 use crate::finals::FinalAt;
 use foundation::NoMemory;
@@ -27,6 +30,23 @@ pub struct FinalKey {
     pub source: u32,
     pub owner: u32,
     pub index: u32,
+}
+
+/// A class and two subobjects.
+#[derive(Clone, Copy, Debug, PartialEq, Eq, Hash)]
+pub struct WithinKey {
+    pub class: u32,
+    pub outer: u32,
+    pub inner: u32,
+}
+
+/// A class, a subobject, the class of which it is a base, and the number of that base there.
+#[derive(Clone, Copy, Debug, PartialEq, Eq, Hash)]
+pub struct DownKey {
+    pub class: u32,
+    pub source: u32,
+    pub target: u32,
+    pub offset: u32,
 }
 
 /// Where casts lead.
@@ -53,11 +73,19 @@ impl CastTable {
     }
 
     /// Puts an answer under a key. Where memory is wanting nothing is put.
-    pub fn put(&mut self, key: CastKey, answer: Option<u32>) -> Result<(), NoMemory>
+    fn put(&mut self, key: CastKey, answer: Option<u32>) -> Result<(), NoMemory>
         ensures put { OnOk result ((q : CastKey) → cast_of self.new q ≡ (if same_cast q key then Some answer else cast_of self.old q)) }
         ensures err { OnErr result ((q : CastKey) → cast_of self.new q ≡ cast_of self.old q) }
     {
         self.casts.insert(key, answer)?;
+        Ok(())
+    }
+
+    /// Keeps an answer under a key. Where memory is wanting nothing is kept.
+    pub fn keep(&mut self, key: CastKey, answer: Option<u32>) -> Result<(), NoMemory>
+        ensures { (h : Classes) → IsCastAnswer h key answer → AreCasts h self.old → AreCasts h self.new }
+    {
+        self.put(key, answer)?;
         Ok(())
     }
 }
@@ -86,11 +114,101 @@ impl FinalTable {
     }
 
     /// Puts an answer under a key. Where memory is wanting nothing is put.
-    pub fn put(&mut self, key: FinalKey, answer: Option<FinalAt>) -> Result<(), NoMemory>
+    fn put(&mut self, key: FinalKey, answer: Option<FinalAt>) -> Result<(), NoMemory>
         ensures put { OnOk result ((q : FinalKey) → final_of self.new q ≡ (if same_final q key then Some answer else final_of self.old q)) }
         ensures err { OnErr result ((q : FinalKey) → final_of self.new q ≡ final_of self.old q) }
     {
         self.finals.insert(key, answer)?;
+        Ok(())
+    }
+
+    /// Keeps an answer under a key. Where memory is wanting nothing is kept.
+    pub fn keep(&mut self, key: FinalKey, answer: Option<FinalAt>) -> Result<(), NoMemory>
+        ensures { (h : Classes) → IsFinalAnswer h key answer → AreFinals h self.old → AreFinals h self.new }
+    {
+        self.put(key, answer)?;
+        Ok(())
+    }
+}
+
+/// What lies in what.
+#[derive(Drop)]
+pub struct WithinTable {
+    pub withins: IndexMap<WithinKey, bool>,
+}
+
+impl WithinTable {
+    /// The empty table, which takes no memory.
+    pub fn new(alloc: Global) -> WithinTable
+        ensures { (q : WithinKey) → within_of result q ≡ None }
+    {
+        WithinTable {
+            withins: IndexMap::new(alloc),
+        }
+    }
+
+    /// The answer under a key.
+    pub fn find(&self, key: WithinKey) -> Option<bool>
+        ensures { result ≡ within_of self.now key }
+    {
+        self.withins.get(&key).copied()
+    }
+
+    /// Puts an answer under a key. Where memory is wanting nothing is put.
+    fn put(&mut self, key: WithinKey, answer: bool) -> Result<(), NoMemory>
+        ensures put { OnOk result ((q : WithinKey) → within_of self.new q ≡ (if same_within q key then Some answer else within_of self.old q)) }
+        ensures err { OnErr result ((q : WithinKey) → within_of self.new q ≡ within_of self.old q) }
+    {
+        self.withins.insert(key, answer)?;
+        Ok(())
+    }
+
+    /// Keeps an answer under a key. Where memory is wanting nothing is kept.
+    pub fn keep(&mut self, key: WithinKey, answer: bool) -> Result<(), NoMemory>
+        ensures { (h : Classes) → IsWithinAnswer h key answer → AreWithins h self.old → AreWithins h self.new }
+    {
+        self.put(key, answer)?;
+        Ok(())
+    }
+}
+
+/// Where casts down lead, without a view.
+#[derive(Drop)]
+pub struct DownTable {
+    pub downs: IndexMap<DownKey, Option<u32>>,
+}
+
+impl DownTable {
+    /// The empty table, which takes no memory.
+    pub fn new(alloc: Global) -> DownTable
+        ensures { (q : DownKey) → down_of result q ≡ None }
+    {
+        DownTable {
+            downs: IndexMap::new(alloc),
+        }
+    }
+
+    /// The answer under a key.
+    pub fn find(&self, key: DownKey) -> Option<Option<u32>>
+        ensures { result ≡ down_of self.now key }
+    {
+        self.downs.get(&key).copied()
+    }
+
+    /// Puts an answer under a key. Where memory is wanting nothing is put.
+    fn put(&mut self, key: DownKey, answer: Option<u32>) -> Result<(), NoMemory>
+        ensures put { OnOk result ((q : DownKey) → down_of self.new q ≡ (if same_down q key then Some answer else down_of self.old q)) }
+        ensures err { OnErr result ((q : DownKey) → down_of self.new q ≡ down_of self.old q) }
+    {
+        self.downs.insert(key, answer)?;
+        Ok(())
+    }
+
+    /// Keeps an answer under a key. Where memory is wanting nothing is kept.
+    pub fn keep(&mut self, key: DownKey, answer: Option<u32>) -> Result<(), NoMemory>
+        ensures { (h : Classes) → IsDownAnswer h key answer → AreDowns h self.old → AreDowns h self.new }
+    {
+        self.put(key, answer)?;
         Ok(())
     }
 }

@@ -1,17 +1,18 @@
 //! The subobjects of a class with their numbers.
 
-ghost use Rattle.std.specs.Prelude.{◌≡◌, ◌<◌, ℕ, Option, Some, None, All, Contains, IfOk, length, get_or, map, find, slice_get};
+ghost use Rattle.std.specs.Prelude.{◌≡◌, ◌<◌, [], ◌∷◌, Contains, IfOk, MatchOption, length, map};
 ghost use Rattle.cxx_hierarchy.specs.declared.records.ClassId.{ClassId};
 ghost use Rattle.cxx_subobject.specs.declared.Subobject.{Subobject};
-ghost use Rattle.cxx_subobject.specs.Subobjects.{IsSubobject};
+ghost use Rattle.cxx_subobject.specs.Subobjects.{IsSubobject, whole_of};
 ghost use Rattle.cxx_subobject.specs.Parts.{IsWithinLimits};
 ghost use Rattle.cxx_search.specs.Searches.{is_within, is_of_class};
 ghost use Rattle.path_numbers.specs.Numbers.{AreNumbers, number_in};
-ghost use Rattle.path_tables.specs.Parts.{IsNumbered, HasNumber, IsPartList, IsFirstOf};
+ghost use Rattle.path_tables.specs.Parts.{IsNumbered, IsPartList, IsFirstOf};
+ghost use Rattle.path_tables.specs.invariants.Places.{IsPlace};
 
 use cxx_hierarchy::{ClassId, Hierarchy};
-use cxx_subobject::{Subobject, SubobjectList, class_of, contains, list_subobjects};
-use foundation::NoMemory;
+use cxx_subobject::{Root, Subobject, SubobjectList, class_of, contains, list_subobjects};
+use foundation::{NoMemory, Sequence};
 use path_numbers::Numbers;
 use std::alloc::Global;
 
@@ -43,6 +44,26 @@ fn numbers_of(
     Ok(list)
 }
 
+/// The whole alone, of a class that is not there: it has no bases.
+fn whole_alone(alloc: Global, c: ClassId) -> Result<PartList, NoMemory>
+    ensures parts { IfOk result (λ list. list.parts ≡ whole_of c ∷ []) }
+    ensures numbers { IfOk result (λ list. list.numbers.items ≡ 0 ∷ []) }
+{
+    let mut path = Vec::new(alloc);
+    path.push(c)?;
+    let mut parts = Vec::new(alloc);
+    parts.push(Subobject {
+        root: Root::Whole,
+        path: Sequence::from_vec(path),
+    })?;
+    let mut numbers = Vec::new(alloc);
+    numbers.push(0)?;
+    Ok(PartList {
+        parts: Sequence::from_vec(parts),
+        numbers,
+    })
+}
+
 /// The subobjects of a class, with their numbers.
 ///
 /// Errors: want of memory.
@@ -52,40 +73,41 @@ pub fn list_parts(
     numbers: &Numbers,
     c: ClassId,
 ) -> Result<PartList, NoMemory>
-    requires known { c.0 < length h.now }
     requires limits { (d : ClassId) → d.0 < length h.now → IsWithinLimits h.now d }
     requires numbers { AreNumbers h.now numbers.now }
     ensures { IfOk result (IsPartList h.now c) }
 {
     h.keeps();
+    if c.0 >= h.len() {
+        return whole_alone(alloc, c);
+    }
     let parts = list_subobjects(alloc, h, c)?;
     let numbers = numbers_of(alloc, h, numbers, c, parts.as_slice())?;
     Ok(PartList { parts, numbers })
 }
 
-/// The place of a number in a list.
-fn place_of(numbers: &[u32], x: u32) -> usize
-    requires { Contains numbers.now x }
-    ensures within { result < length numbers.now }
-    ensures is { get_or numbers.now result 0 ≡ x }
+/// The place of a number in a list, if it stands there.
+fn place_of(numbers: &[u32], x: u32) -> Option<usize>
+    ensures { IsPlace numbers.now x result }
 {
     for (i, number) in numbers.iter().enumerate() {
         if *number == x {
-            return i;
+            return Some(i);
         }
     }
-    0
+    None
 }
 
-/// The subobject of a number.
-pub fn part_at<'a>(h: &Hierarchy, c: ClassId, list: &'a PartList, x: u32) -> &'a Subobject
-    requires list { IsPartList h.now c list.now }
-    requires x { HasNumber h.now c x }
-    ensures { IsNumbered h.now c x result.now }
+/// The subobject of a number; None where no subobject has it.
+pub fn part_at<'a>(h: &Hierarchy, c: ClassId, list: &'a PartList, x: u32) -> Option<&'a Subobject>
+    requires { IsPartList h.now c list.now }
+    ensures { MatchOption result ((s : Subobject) → IsNumbered h.now c x s → ⊥) (λ part. IsNumbered h.now c x part.now) }
 {
     h.keeps();
-    let place = place_of(&list.numbers, x);
-    &list.parts.as_slice()[place]
+    match place_of(&list.numbers, x) {
+        Some(place) => Some(&list.parts.as_slice()[place]),
+        None => None,
+    }
 }
 
 /// Whether a subobject is of a class.

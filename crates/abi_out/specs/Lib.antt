@@ -1,0 +1,5 @@
+pub mod Fields
+pub mod Pointers
+pub mod Dumps
+pub mod OutTexts
+pub mod invariants

@@ -1,0 +1,13 @@
+pub mod Clear
+pub mod Pointers
+pub mod Targets
+pub mod Telling
+pub mod Returns
+pub mod Conversions
+pub mod Reading
+pub mod Meaning
+pub mod Typing
+pub mod Dispatch
+pub mod Casting
+pub mod Forms
+pub mod Leaving

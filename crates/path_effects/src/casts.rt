@@ -1,0 +1,94 @@
+//! Casts of pointers (ISO C++03 5.2.7, 5.2.9, 5.4).
+
+ghost use Rattle.std.specs.Prelude.{◌≡◌, None, IfOk};
+ghost use Rattle.cxx_hierarchy.specs.declared.records.ClassId.{ClassId};
+ghost use Rattle.cxx_hierarchy.specs.declared.records.ValueType.TheVariants.{Pointer as PointerType};
+ghost use Rattle.cxx_program.specs.Typed.{Scope, HasType, Casts};
+ghost use Rattle.path_model.specs.Values.{Value as ValueOf, Objects, Sight, value};
+ghost use Rattle.path_model.specs.Uses.{cast_value, cast_uses, down_value, dynamic_value};
+ghost use Rattle.path_model.specs.Rules.{refused};
+ghost use Rattle.path_tables.specs.Asked.{AreAnswers};
+ghost use Rattle.path_heap.specs.Stands.{HeapStands, Means};
+ghost use Rattle.path_values.specs.Worlds.{IsWorld};
+ghost use Rattle.path_values.specs.Scenes.{SceneStands};
+ghost use Rattle.path_values.specs.Given.{IsSeen};
+ghost use Rattle.path_effects.specs.invariants.Begun.{IsBegun};
+
+use cxx_hierarchy::ClassId;
+use cxx_program::{TypedCast, TypedOperand};
+use cxx_subobject::Subobject;
+use foundation::NoMemory;
+use path_heap::{Heap, Value};
+use path_tables::Answers;
+use path_values::{Scene, World, to_base, value};
+use path_views::{cast, down};
+use std::alloc::Global;
+
+/// What a static downcast gives: null of null.
+fn down_value(
+    alloc: Global,
+    world: &World,
+    heap: &Heap,
+    answers: &mut Answers,
+    v: Value,
+    target: ClassId,
+    i: &Subobject,
+) -> Result<Value, NoMemory>
+    requires world { IsWorld world.now.h.now world.now.numbers.now world.now.overriders.now }
+    requires answers { AreAnswers world.now.h.now answers.old }
+    ensures answers { AreAnswers world.now.h.now answers.new }
+    ensures is { IfOk result (λ value. (s : Objects) (w : ValueOf) → HeapStands world.now.h.now heap.now s → Means world.now.h.now s.classes v w → IsBegun s w → Means world.now.h.now s.classes value (down_value world.now.h.now s target i.now w)) }
+{
+    match v {
+        Value::Pointer(n) => down(alloc, world, heap, answers, n, target, i),
+        Value::Null => Ok(Value::Null),
+        _ => Ok(Value::Unset),
+    }
+}
+
+/// What a `dynamic_cast` gives: null of null.
+fn dynamic_value(
+    alloc: Global,
+    world: &World,
+    heap: &Heap,
+    answers: &mut Answers,
+    v: Value,
+    target: ClassId,
+) -> Result<Value, NoMemory>
+    requires world { IsWorld world.now.h.now world.now.numbers.now world.now.overriders.now }
+    requires answers { AreAnswers world.now.h.now answers.old }
+    ensures answers { AreAnswers world.now.h.now answers.new }
+    ensures is { IfOk result (λ value. (s : Objects) (w : ValueOf) → HeapStands world.now.h.now heap.now s → Means world.now.h.now s.classes v w → IsBegun s w → Means world.now.h.now s.classes value (dynamic_value world.now.h.now s target w)) }
+{
+    match v {
+        Value::Pointer(n) => cast(alloc, world, heap, answers, n, target),
+        Value::Null => Ok(Value::Null),
+        _ => Ok(Value::Unset),
+    }
+}
+
+/// The value of a cast.
+///
+/// Errors: want of memory.
+pub(crate) fn cast_value(
+    alloc: Global,
+    world: &World,
+    heap: &Heap,
+    answers: &mut Answers,
+    scene: &Scene,
+    cast: &TypedCast,
+    x: &TypedOperand,
+) -> Result<Value, NoMemory>
+    requires world { IsWorld world.now.h.now world.now.numbers.now world.now.overriders.now }
+    requires answers { AreAnswers world.now.h.now answers.old }
+    ensures answers { AreAnswers world.now.h.now answers.new }
+    ensures is { IfOk result (λ v. (e : Scope) (s : Sight) (c d : ClassId) → SceneStands world.now.h.now heap.now scene.now.globals.now scene.now.this scene.now.locals.now s → IsSeen world.now.h.now e s → HasType e x.now (PointerType c) → Casts world.now.h.now c cast.now d → refused world.now.h.now s.objects (cast_uses cast.now (value s x.now)) ≡ None → Means world.now.h.now s.objects.classes v (cast_value world.now.h.now s.objects cast.now (value s x.now))) }
+{
+    let v = value(scene, x);
+    match cast {
+        TypedCast::Same => Ok(v),
+        TypedCast::Up(i) => Ok(to_base(world, heap, v, i)),
+        TypedCast::Down(target, i) => down_value(alloc, world, heap, answers, v, *target, i),
+        TypedCast::Dynamic(target) => dynamic_value(alloc, world, heap, answers, v, *target),
+    }
+}

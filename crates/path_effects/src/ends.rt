@@ -1,0 +1,27 @@
+//! What `delete` ends (ISO C++03 5.3.5).
+
+ghost use Rattle.std.specs.Prelude.{◌≡◌, Option, None, Bool, List};
+ghost use Rattle.cxx_hierarchy.specs.declared.records.ClassId.{ClassId};
+ghost use Rattle.cxx_hierarchy.specs.Classes.{Classes};
+ghost use Rattle.cxx_program.specs.declared.statement.TypedKind.TheVariants.{Delete};
+ghost use Rattle.cxx_program.specs.Typed.{Scope, IsTyped};
+ghost use Rattle.path_model.specs.Values.{Sight, value};
+ghost use Rattle.path_model.specs.Uses.{Wanted};
+ghost use Rattle.path_model.specs.Rules.{refusal};
+ghost use Rattle.path_values.specs.Scenes.{SceneStands};
+ghost use Rattle.path_values.specs.Given.{IsSeen};
+ghost use Rattle.path_effects.specs.Ends.{Ends};
+
+use cxx_program::TypedOperand;
+use path_heap::{Heap, Part, Value, whole_at};
+use path_values::{Scene, value};
+
+/// The whole of the heap object that `delete` of an operand ends; none where it is null.
+pub fn deleted(heap: &Heap, scene: &Scene, x: &TypedOperand) -> Option<Part>
+    ensures { (h : Classes) (e : Scope) (s : Sight) (w : Wanted) (c : ClassId) → SceneStands h heap.now scene.now.globals.now scene.now.this scene.now.locals.now s → IsSeen h e s → IsTyped h e (Delete x.now c) → refusal h s w (Delete x.now c) ≡ None → Ends h s.objects.classes result (value s x.now) }
+{
+    match value(scene, x) {
+        Value::Pointer(n) => Some(whole_at(heap.heap_object(n), heap.object_class(n))),
+        _ => None,
+    }
+}

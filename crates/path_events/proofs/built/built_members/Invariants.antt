@@ -1,0 +1,7 @@
+use Rattle.std.proofs.Common.{true}
+use Rattle.path_events.specs.declared.frame.Stage.TheVariants.{Members}
+use Rattle.path_events.specs.invariants.Steps.{IsSameLeft}
+use Rattle.path_events.proofs.built.built_members.Given as goal
+
+abbrev pub invariant-loop-place : goal.invariant-loop-place
+invariant-loop-place l = IsSameLeft l.h l.index true l.frame (Members l.m l.i) (Members l.place l.element)

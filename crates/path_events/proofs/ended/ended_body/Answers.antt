@@ -1,0 +1,15 @@
+use Rattle.std.proofs.Common.{List, ◌∷◌, ap, sym, ◌∙◌}
+use Rattle.std.specs.Prelude.{length}
+use Rattle.cxx_hierarchy.specs.declared.records.ClassId.{ClassId}
+use Rattle.cxx_hierarchy.specs.declared.records.Member.{Member}
+use Rattle.path_plan.specs.Phases.{Body}
+use Rattle.path_plan.specs.Pieces.{Own}
+use Rattle.path_model.specs.States.{bodies_of}
+use Rattle.path_events.specs.Frames.{form_of, ended_members}
+use Rattle.path_events.specs.Plans.{body_event}
+use Rattle.path_events.proofs.Giving.{named}
+use Rattle.path_events.proofs.Ending.{body_on}
+use Rattle.path_events.proofs.ended.ended_body.Goals as goal
+
+pub returns-then-has_body : goal.returns-then-has_body
+returns-then-has_body c = λ program classes p is stands. record { e = Body p; means = body_event c.args.frame.part p (named c.args.h.now classes c.args.frame.part _ p stands); is = body_on c.args.h.now (bodies_of program) (form_of c.args.frame.form) c.args.frame.part.class p (sym (c.has_body.ensures program is) ∙ c.if-has_body.true) ∙ ap (λ (ms : List (Member ClassId)). Own (Body p) ∷ ended_members c.args.h.now (form_of c.args.frame.form) c.args.frame.part.class p (length ms) 0) (sym c.members_of-members.ensures) }

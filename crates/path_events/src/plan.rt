@@ -1,0 +1,189 @@
+//! A plan: its upcoming event, and the parts that are open.
+
+ghost use Rattle.std.specs.Prelude.{◌≡◌, ◌∷◌, ◌≤◌, ◌^◌, ℕ, List, Some, OnOk, IfOk, reverse, slice_get, if◌then◌else◌};
+ghost use Rattle.cxx_hierarchy.specs.declared.records.ClassId.{ClassId};
+ghost use Rattle.cxx_hierarchy.specs.Classes.{Classes};
+ghost use Rattle.cxx_program.specs.declared.program.TypedProgram.{TypedProgram};
+ghost use Rattle.path_plan.specs.Phases.{Event};
+ghost use Rattle.path_plan.specs.Plans.{InFull};
+ghost use Rattle.path_plan.specs.Whole.{whole_part, construction, destruction};
+ghost use Rattle.path_model.specs.States.{bodies_of};
+ghost use Rattle.path_numbers.specs.Sizes.{sizes_of, total};
+ghost use Rattle.path_numbers.specs.Numbers.{AreNumbers};
+ghost use Rattle.path_heap.specs.Points.{IsPart};
+ghost use Rattle.path_bodies.specs.Places.{IsIndexOf};
+ghost use Rattle.path_events.specs.Plans.{MeansNext, PlanStands};
+ghost use Rattle.path_events.specs.invariants.Steps.{Gives, first_event, first_stage, at_stage, event_in, stack_behind};
+
+use crate::built::built_step;
+use crate::ended::ended_step;
+use crate::frame::{Form, Pending, Stage, Step};
+use cxx_hierarchy::Hierarchy;
+use foundation::NoMemory;
+use path_bodies::BodyIndex;
+use path_heap::Part;
+use path_numbers::Numbers;
+use std::alloc::Global;
+
+/// What happens to a part (ISO C++03 12.6.2 p5, 12.4 p6).
+#[derive(Clone, Copy)]
+pub enum PlanEvent {
+    /// Its construction begins.
+    Begin(Part),
+    /// Its bases are constructed.
+    Ready(Part),
+    /// The initializer of a member, by its number in the class, is next.
+    Init(Part, u32),
+    /// The body of its constructor or destructor is next.
+    Body(Part),
+    /// Its construction is done.
+    Done(Part),
+    /// Its destruction begins.
+    Ending(Part),
+    /// The destruction of its bases is next.
+    Bases(Part),
+    /// Its destruction has ended.
+    End(Part),
+}
+
+/// The first event of a part.
+fn first_event(is_building: bool, part: Part) -> PlanEvent
+    ensures { result ≡ first_event is_building part }
+{
+    if is_building {
+        PlanEvent::Begin(part)
+    } else {
+        PlanEvent::Ending(part)
+    }
+}
+
+/// The stage behind it.
+fn first_stage(is_building: bool) -> Stage
+    ensures { result ≡ first_stage is_building }
+{
+    if is_building {
+        Stage::Shared(0)
+    } else {
+        Stage::Body
+    }
+}
+
+/// What a part gives next.
+fn next_step(
+    h: &Hierarchy,
+    numbers: &Numbers,
+    index: &BodyIndex,
+    is_building: bool,
+    frame: Pending,
+) -> Step
+    requires { AreNumbers h.now numbers.now }
+    ensures { Gives h.now index.now is_building frame frame.stage result }
+{
+    if is_building {
+        built_step(h, numbers, index, frame)
+    } else {
+        ended_step(h, numbers, index, frame)
+    }
+}
+
+/// The part at another stage.
+fn at_stage(frame: Pending, stage: Stage) -> Pending
+    ensures { result ≡ at_stage frame stage }
+{
+    Pending {
+        part: frame.part,
+        form: frame.form,
+        stage,
+    }
+}
+
+/// The construction or the destruction of a heap object.
+#[derive(Drop)]
+pub struct Plan {
+    pub(crate) is_building: bool,
+    pub(crate) upcoming: Option<PlanEvent>,
+    pub(crate) stack: Vec<Pending>,
+}
+
+impl Plan {
+    /// The plan of a heap object, by its whole: all events of its construction, or else of its destruction.
+    ///
+    /// Errors: want of memory.
+    pub fn new(
+        alloc: Global,
+        h: &Hierarchy,
+        whole: Part,
+        is_building: bool,
+    ) -> Result<Plan, NoMemory>
+        ensures { IfOk result (λ plan. (program : TypedProgram) (classes : List ClassId) (k : ℕ) → slice_get classes k ≡ Some whole.class → IsPart h.now classes whole (whole_part k whole.class) → total (sizes_of h.now InFull) classes ≤ 2 ^ 32 →
+            PlanStands h.now program classes plan (if is_building then construction h.now (bodies_of program) k whole.class else destruction h.now (bodies_of program) k whole.class)) }
+    {
+        h.keeps();
+        let mut stack = Vec::new(alloc);
+        stack.push(Pending {
+            part: whole,
+            form: Form::InFull,
+            stage: first_stage(is_building),
+        })?;
+        Ok(Plan {
+            is_building,
+            upcoming: Some(first_event(is_building, whole)),
+            stack,
+        })
+    }
+
+    /// The upcoming event, and None where there is none.
+    pub fn upcoming(&self) -> Option<PlanEvent>
+        ensures { (h : Classes) (program : TypedProgram) (classes : List ClassId) (events : List Event) → PlanStands h program classes self.now events → MeansNext h program classes result events }
+    {
+        self.upcoming
+    }
+
+    /// Takes a step of the innermost part.
+    fn take(&mut self, frame: Pending, step: Step) -> Result<(), NoMemory>
+        ensures building { OnOk result (self.new.is_building ≡ self.old.is_building) }
+        ensures upcoming { OnOk result (self.new.upcoming ≡ Some (event_in self.old.is_building step)) }
+        ensures stack { OnOk result (reverse self.new.stack.items ≡ stack_behind self.old.is_building frame step (reverse self.old.stack.items)) }
+    {
+        match step {
+            Step::Last(event) => self.upcoming = Some(event),
+            Step::Event(event, stage) => {
+                self.stack.push(at_stage(frame, stage))?;
+                self.upcoming = Some(event);
+            }
+            Step::Open(part, form, stage) => {
+                self.stack.push(at_stage(frame, stage))?;
+                self.stack.push(Pending {
+                    part,
+                    form,
+                    stage: first_stage(self.is_building),
+                })?;
+                self.upcoming = Some(first_event(self.is_building, part));
+            }
+        }
+        Ok(())
+    }
+
+    /// Goes on behind the upcoming event.
+    ///
+    /// Errors: want of memory. The plan is then of no use.
+    pub fn advance(
+        &mut self,
+        h: &Hierarchy,
+        numbers: &Numbers,
+        index: &BodyIndex,
+    ) -> Result<(), NoMemory>
+        requires { AreNumbers h.now numbers.now }
+        ensures { IfOk result (λ _. (program : TypedProgram) (classes : List ClassId) (e : Event) (rest : List Event) → IsIndexOf program index.now → PlanStands h.now program classes self.old (e ∷ rest) → PlanStands h.now program classes self.new rest) }
+    {
+        h.keeps();
+        match self.stack.pop() {
+            None => self.upcoming = None,
+            Some(frame) => {
+                let step = next_step(h, numbers, index, self.is_building, frame);
+                self.take(frame, step)?;
+            }
+        }
+        Ok(())
+    }
+}

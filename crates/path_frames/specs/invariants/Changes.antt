@@ -1,0 +1,18 @@
+-- What taking a frame leaves.
+use Rattle.std.specs.Prelude.{◌≡◌, ℕ, Option, Some, None, List, [], ◌∷◌}
+use Rattle.cxx_hierarchy.specs.declared.records.ClassId.{ClassId}
+use Rattle.cxx_hierarchy.specs.Classes.{Classes}
+use Rattle.cxx_program.specs.declared.program.TypedProgram.{TypedProgram}
+use Rattle.path_model.specs.States.{State, Frame, with_frames}
+use Rattle.path_model.specs.Runs.{open_count}
+use Rattle.path_frames.specs.declared.frames.Frame.{Frame as FrameCode}
+use Rattle.path_frames.specs.declared.machine.Machine.{Machine}
+use Rattle.path_frames.specs.Frames.{FrameStands, depth_in}
+use Rattle.path_frames.specs.Machines.{MachineStands}
+
+-- the frame that was taken stands for the first of the frames, and the machine for the state with the others
+abbrev pub Pops : Classes → (ClassId → ℕ) → TypedProgram → Machine → State → Option FrameCode → List Frame → Type 0
+Pops h sizes program machine s None [] = Unit {0}
+Pops h sizes program machine s None (f ∷ below) = ⊥
+Pops h sizes program machine s (Some code) [] = ⊥
+Pops h sizes program machine s (Some code) (f ∷ below) = FrameStands h program s.objects.classes code f × (depth_in code ≡ open_count (f ∷ below)) × MachineStands h sizes program machine (with_frames s below)

@@ -1,0 +1,12 @@
+pub mod Effecting
+pub mod Happening
+pub mod Moves
+pub mod Opening
+pub mod Planning
+pub mod Resuming
+pub mod Running
+pub mod Turning
+pub mod Stating
+pub mod Beginning
+pub mod Knowing
+pub mod Beginnings

@@ -1,0 +1,60 @@
+use Rattle.std.proofs.Common.{◌≡◌, ◌+◌, ◌∷◌, map, subst, ◌∙◌}
+use Rattle.std.specs.Prelude.{IfSome}
+use Rattle.path_model.specs.Values.{argument_value}
+use Rattle.path_model.specs.Uses.{receiver}
+use Rattle.path_model.specs.States.{InBody, at_statement, with_frames, sight}
+use Rattle.path_model.specs.Effects.{called}
+use Rattle.path_model.specs.Runs.{call_limit}
+use Rattle.path_frames.specs.Frames.{target_of}
+use Rattle.path_machine.specs.invariants.Steps.{size_in}
+use Rattle.path_machine.specs.invariants.Openings.{Opens}
+use Rattle.path_machine.proofs.Moves.{counts_more, open_limited, open_free, call_limited, nothing_opened, body_opened}
+use Rattle.path_machine.proofs.calls.call_body.Goals as goal
+
+-- src/calls.rt:73:9
+pub returns-then-frame-ge-MOST_OPEN-clause-agrees :
+    goal.returns-then-frame-ge-MOST_OPEN-clause-agrees
+returns-then-frame-ge-MOST_OPEN-clause-agrees c = λ e s f below taken calling.
+    let h = c.args.run.now.world.h.now in
+    let program = c.args.run.now.program.now in
+    let sizes = size_in c.args.run.now.sizes.now in
+    let see = sight s f in
+    let call = c.args.call.now in
+    let at = with_frames s (InBody f ∷ below) in
+    call_limited h sizes program c.args.machine.now c.args.outs.now (with_frames s (InBody (at_statement f c.args.next) ∷ below)) (map (argument_value see) call.arguments) call (target_of c.args.target) (receiver see call)
+    (call_limit at) _ (open_limited at c.args.frame.depth taken.counts c.if-frame-ge-MOST_OPEN.true)
+
+-- src/calls.rt:51:1
+pub returns-in-None-clause-agrees : goal.returns-in-None-clause-agrees
+returns-in-None-clause-agrees c = λ e s f below taken calling.
+    let h = c.args.run.now.world.h.now in
+    let program = c.args.run.now.program.now in
+    let sizes = size_in c.args.run.now.sizes.now in
+    let see = sight s f in
+    let call = c.args.call.now in
+    let frames = InBody (at_statement f c.args.next) ∷ below in
+    let next = called h program see (with_frames s frames) call (target_of c.args.target) in
+    let scene = c.scene_of-scene.ensures h sizes program s f below taken in
+    nothing_opened h sizes program c.args.machine.now c.args.outs.now c.args.outs.now s frames next (call_limit (with_frames s (InBody f ∷ below))) _
+    (subst (λ x. Opens h s frames x next) c.in-None.is (c.in_ok-open_call.ensures.opens e s f frames scene calling))
+
+-- src/calls.rt:51:1
+pub returns-in_ok-push-in-Some-2-clause-agrees : goal.returns-in_ok-push-in-Some-2-clause-agrees
+returns-in_ok-push-in-Some-2-clause-agrees c = λ e s f below taken calling.
+    let h = c.args.run.now.world.h.now in
+    let program = c.args.run.now.program.now in
+    let sizes = size_in c.args.run.now.sizes.now in
+    let see = sight s f in
+    let call = c.args.call.now in
+    let depth = c.args.frame.depth in
+    let at = with_frames s (InBody f ∷ below) in
+    let frames = InBody (at_statement f c.args.next) ∷ below in
+    let next = called h program see (with_frames s frames) call (target_of c.args.target) in
+    let code = c.in-Some.opened in
+    let scene = c.scene_of-scene.ensures h sizes program s f below taken in
+    let counts = subst (λ x. IfSome x (λ o. o.frame.depth ≡ depth + 1)) c.in-Some.is c.in_ok-open_call.ensures.depth in
+    body_opened h sizes program c.push-in-Some.new.self c.args.outs.now c.push.new.self s frames code next (call_limit at)
+    (subst (λ x. Opens h s frames x next) c.in-Some.is (c.in_ok-open_call.ensures.opens e s f frames scene calling))
+    (open_free at depth taken.counts c.if-frame-ge-MOST_OPEN.false)
+    (λ g stands one. c.in_ok-push-in-Some-2.ensures h sizes program (with_frames s frames) (InBody g) (c.in_ok-go_on-in-Some.ensures h sizes program s f below taken) stands (counts ∙ counts_more (InBody g) frames depth taken.counts one))
+    c.in_ok-push-in-Some.ensures.ok

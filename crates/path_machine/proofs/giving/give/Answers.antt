@@ -1,0 +1,14 @@
+use Rattle.std.proofs.Common.{subst, sym}
+use Rattle.path_model.specs.Values.{converted}
+use Rattle.path_model.specs.Effects.{given}
+use Rattle.path_frames.specs.Frames.{target_of}
+use Rattle.path_frames.specs.Machines.{MachineStands}
+use Rattle.path_machine.specs.invariants.Steps.{CanGive}
+use Rattle.path_machine.proofs.giving.give.Goals as goal
+
+-- src/giving.rt:20:1
+pub returns-in-Some : goal.returns-in-Some
+returns-in-Some c = λ sizes program s v a m can.
+    let h = c.args.world.now.h.now in
+    subst (λ t. CanGive h s v (target_of t) → MachineStands h sizes program c.assign.new.self (given s v (target_of t))) (sym c.in-Some.is)
+    (λ able. c.assign.ensures h sizes program s (converted v c.in-Some.target.conversion) a (c.convert-converted.ensures s.objects v a.heap_stands m able)) can

@@ -1,0 +1,21 @@
+-- The frame that a call opens, beside what the model does.
+use Rattle.std.specs.Prelude.{◌≡◌, ℕ, Bool, Option, Some, List, [], ◌∷◌, if◌then◌else◌}
+use Rattle.cxx_hierarchy.specs.declared.records.ClassId.{ClassId}
+use Rattle.cxx_hierarchy.specs.Classes.{Classes}
+use Rattle.cxx_program.specs.declared.program.TypedProgram.{TypedProgram}
+use Rattle.path_plan.specs.Whole.{construction, destruction}
+use Rattle.path_model.specs.States.{Target, Running, Frame, InBody, InPlan, State, bodies_of, with_frames}
+use Rattle.path_model.specs.Effects.{Next, Goes, Wrong}
+use Rattle.path_model.specs.Runs.{opened_for}
+use Rattle.path_frames.specs.Frames.{BodyStands}
+use Rattle.path_machine.specs.declared.openings.Opened.{Opened}
+
+-- the model puts a function's body on these frames, for which the opened frame stands, and tells the same; where it is wrong
+-- nothing is said
+pub data Opens (h : Classes) (s : State) (frames : List Frame) : Option Opened → Next → Type 0 where
+  goes_wrong : (code : Option Opened) → Opens h s frames code Wrong
+  opens_body : (code : Opened) (g : Running) → BodyStands h s.objects.classes code.frame g → opened_for g.owner ≡ 1 → Opens h s frames (Some code) (Goes (with_frames s (InBody g ∷ frames)) (code.told ∷ []))
+
+-- the plan frame of the construction or the destruction of the heap object k, of class c
+abbrev pub planned : Classes → TypedProgram → ℕ → Bool → ClassId → Option Target → Frame
+planned h program k is_building c target = InPlan (record { object = k; is_building = is_building; events = if is_building then construction h (bodies_of program) k c else destruction h (bodies_of program) k c; target = target })

@@ -1,0 +1,56 @@
+-- What a function of the machine does of a step of the model.
+use Rattle.std.specs.Prelude.{◌≡◌, ℕ, Option, Some, None, List, ◌∷◌, ◌++◌, get_or}
+use Rattle.cxx_hierarchy.specs.declared.records.ClassId.{ClassId}
+use Rattle.cxx_hierarchy.specs.Classes.{Classes}
+use Rattle.cxx_program.specs.declared.statement.TypedKind.{TypedKind}
+use Rattle.cxx_program.specs.declared.program.TypedProgram.{TypedProgram}
+use Rattle.cxx_program.specs.Typed.{Scope}
+use Rattle.path_model.specs.declared.outs.Out.{Out}
+use Rattle.path_model.specs.Values.{Value}
+use Rattle.path_model.specs.States.{Target, Running, Frame, InBody, State, sight, wanted, with_frames}
+use Rattle.path_model.specs.Rules.{refusal}
+use Rattle.path_model.specs.Effects.{Next, Goes, Refuses, Ends, Wrong}
+use Rattle.path_model.specs.Runs.{Move, Moves, IsRefused, IsLimited, IsOver, IsWrong, open_count}
+use Rattle.path_values.specs.Given.{IsGiven}
+use Rattle.path_values.specs.Conversions.{CanConvert}
+use Rattle.path_frames.specs.declared.frames.BodyFrame.{BodyFrame}
+use Rattle.path_frames.specs.declared.machine.Machine.{Machine}
+use Rattle.path_frames.specs.Frames.{BodyStands}
+use Rattle.path_frames.specs.Machines.{MachineStands}
+use Rattle.path_machine.specs.declared.next.Next.{Next as NextCode}
+use Rattle.path_machine.specs.declared.next.Next.TheVariants.{Goes as GoesCode, Refuses as RefusesCode, Limited, Ends as EndsCode}
+
+-- the size of an object of a class, in bytes
+abbrev pub size_in : List ℕ → ClassId → ℕ
+size_in sizes c = get_or sizes c.0 0
+
+-- the step of the model was done: the machine stands for the state that it leads to, and what it tells stands behind the rest
+abbrev pub StepAgrees : Classes → (ClassId → ℕ) → TypedProgram → Next → Machine → (before after : List Out) → NextCode → Type 0
+StepAgrees h sizes program (Goes s outs) machine before after next = (next ≡ GoesCode) × MachineStands h sizes program machine s × (after ≡ before ++ outs)
+StepAgrees h sizes program (Refuses rule line) machine before after next = (next ≡ RefusesCode rule line) × (after ≡ before)
+StepAgrees h sizes program Ends machine before after next = (next ≡ EndsCode) × (after ≡ before)
+StepAgrees h sizes program Wrong machine before after next = Unit {0}
+
+-- the same of a move, which a limit may end
+abbrev pub MoveAgrees : Classes → (ClassId → ℕ) → TypedProgram → Move → Machine → (before after : List Out) → NextCode → Type 0
+MoveAgrees h sizes program (Moves s outs) machine before after next = (next ≡ GoesCode) × MachineStands h sizes program machine s × (after ≡ before ++ outs)
+MoveAgrees h sizes program (IsRefused rule line) machine before after next = (next ≡ RefusesCode rule line) × (after ≡ before)
+MoveAgrees h sizes program (IsLimited limit) machine before after next = (next ≡ Limited limit) × (after ≡ before)
+MoveAgrees h sizes program IsOver machine before after next = (next ≡ EndsCode) × (after ≡ before)
+MoveAgrees h sizes program IsWrong machine before after next = Unit {0}
+
+-- the frame f is taken from the top: the machine stands for the state with the frames below it
+pub record IsTaken (h : Classes) (sizes : ClassId → ℕ) (program : TypedProgram) (machine : Machine) (frame : BodyFrame) (s : State) (f : Running) (below : List Frame) : Type 0 where
+  pub machine_stands : MachineStands h sizes program machine (with_frames s below)
+  pub body_stands : BodyStands h s.objects.classes frame f
+  pub counts : frame.depth ≡ open_count (InBody f ∷ below)
+
+-- a statement of the frame that no rule refuses
+pub record IsClear (h : Classes) (e : Scope) (s : State) (f : Running) (kind : TypedKind) : Type 0 where
+  pub given : IsGiven h e (sight s f) (wanted f) kind
+  pub clear : refusal h (sight s f) (wanted f) kind ≡ None
+
+-- a value can be converted for who waits for it
+abbrev pub CanGive : Classes → State → Value → Option Target → Type 0
+CanGive h s v None = Unit {0}
+CanGive h s v (Some target) = CanConvert h s.objects v target.conversion

@@ -1,0 +1,427 @@
+//! The steps of bodies: the next statement, or the end of a body.
+
+ghost use Rattle.std.specs.Prelude.{◌≡◌, ◌+◌, ◌<◌, ◌^◌, ◌∷◌, ℕ, List, None, IfOk, IfSome, option_copied, slice_get};
+ghost use Rattle.cxx_hierarchy.specs.declared.records.ClassId.{ClassId};
+ghost use Rattle.cxx_hierarchy.specs.Classes.{Classes};
+ghost use Rattle.cxx_overrider.specs.Functions.{return_of};
+ghost use Rattle.cxx_program.specs.declared.program.TypedProgram.{TypedProgram};
+ghost use Rattle.cxx_program.specs.Typed.{Scope};
+ghost use Rattle.path_model.specs.declared.outs.Out.{Out};
+ghost use Rattle.path_model.specs.Values.{value};
+ghost use Rattle.path_model.specs.Rules.{returns_value, refusal};
+ghost use Rattle.path_model.specs.States.{Running, Frame as FrameOf, InBody, State, at_statement, sight, wanted, body_of, target_conversion, with_frames};
+ghost use Rattle.path_model.specs.Effects.{effect, branched, block_at, declared};
+ghost use Rattle.path_model.specs.Steps.{before_kind, body_step, closed, constructor_closed, function_closed, statement_step};
+ghost use Rattle.path_model.specs.Runs.{move_by, limit_of, demand_of, converted_demand, body_limit};
+ghost use Rattle.path_values.specs.Given.{IsGiven};
+ghost use Rattle.path_tables.specs.Asked.{AreAnswers};
+ghost use Rattle.path_frames.specs.declared.machine.Machine.{Machine as MachineOf};
+ghost use Rattle.path_frames.specs.Frames.{target_of};
+ghost use Rattle.path_frames.specs.Machines.{MachineStands};
+ghost use Rattle.cxx_program.specs.declared.operand.Conversion.TheVariants.{Same as ToSame};
+ghost use Rattle.path_machine.specs.invariants.Steps.{size_in, IsTaken, IsClear, StepAgrees, MoveAgrees};
+ghost use Rattle.path_machine.specs.invariants.Plans.{plan_in};
+ghost use Rattle.path_machine.specs.invariants.Setups.{IsSetup, IsDeclaring, IsBelowNext, IsBodyNext};
+
+use crate::calls::{call_body, delete_object};
+use crate::effects::{branch, go_on};
+use crate::events::event_step;
+use crate::next::Next;
+use crate::run::Run;
+use crate::scenes::scene_of;
+use crate::statements::{
+    copy_object, leave, operand, print_dump, print_type, print_value, print_view, write_place,
+};
+use crate::taking::take;
+use cxx_hierarchy::{Hierarchy, ReturnType};
+use cxx_overrider::FunctionId;
+use cxx_overrider::signatures::declaration;
+use cxx_program::{
+    Conversion, Converted, Owner, TypedBody, TypedKind, TypedOperand, TypedStatement, Variable,
+};
+use foundation::NoMemory;
+use path_frames::{BodyFrame, Frame, Machine, PlanFrame, Target, set};
+use path_heap::Value;
+use path_model::{OutList, refusal_is_least};
+use path_refusals::refusal;
+use path_rules::Undefined;
+use path_tables::Answers;
+
+/// The first statement of a block from n to its end, or where control goes on behind an empty one.
+fn block_at(n: usize, end: usize, behind: usize) -> usize
+    ensures { result ≡ block_at n end behind }
+{
+    if n == end { behind } else { n }
+}
+
+/// The condition of an `if`, of number `after` - 1.
+fn choose(
+    machine: &mut Machine,
+    frame: BodyFrame,
+    after: usize,
+    next: usize,
+    x: &TypedOperand,
+    other: usize,
+    behind: usize,
+) -> Result<Next, NoMemory>
+    ensures { IfOk result (λ done. (h : Classes) (sizes : ClassId → ℕ) (program : TypedProgram) (s : State) (f : Running) (below : List FrameOf) (outs : List Out) → IsTaken h sizes program machine.old frame s f below → StepAgrees h sizes program (branched (with_frames s (InBody (at_statement f next) ∷ below)) (value (sight s f) x.now) (block_at after other next) (block_at other behind next)) machine.new outs outs done) }
+{
+    let v = operand(machine, &frame, x);
+    let yes = block_at(after, other, next);
+    let no = block_at(other, behind, next);
+    let done = branch(machine, frame, v, yes, no)?;
+    Ok(done)
+}
+
+/// The condition of a `while`, of number n.
+fn repeat(
+    machine: &mut Machine,
+    frame: BodyFrame,
+    after: usize,
+    next: usize,
+    x: &TypedOperand,
+    behind: usize,
+    n: usize,
+) -> Result<Next, NoMemory>
+    ensures { IfOk result (λ done. (h : Classes) (sizes : ClassId → ℕ) (program : TypedProgram) (s : State) (f : Running) (below : List FrameOf) (outs : List Out) → IsTaken h sizes program machine.old frame s f below → StepAgrees h sizes program (branched (with_frames s (InBody (at_statement f next) ∷ below)) (value (sight s f) x.now) (block_at after behind n) next) machine.new outs outs done) }
+{
+    let v = operand(machine, &frame, x);
+    let yes = block_at(after, behind, n);
+    let done = branch(machine, frame, v, yes, next)?;
+    Ok(done)
+}
+
+/// A declaration with or without a right side (ISO C++03 6.7).
+fn declare(
+    run: &Run,
+    machine: &mut Machine,
+    answers: &mut Answers,
+    outs: &mut OutList,
+    frame: BodyFrame,
+    next: usize,
+    n: usize,
+    x: &Option<Converted>,
+) -> Result<Next, NoMemory>
+    requires setup { IsSetup run.now.world.h.now run.now.world.numbers.now run.now.world.overriders.now run.now.program.now run.now.index.now }
+    requires answers { AreAnswers run.now.world.h.now answers.old }
+    ensures answers { AreAnswers run.now.world.h.now answers.new }
+    ensures agrees { IfOk result (λ done. (e : Scope) (s : State) (f : Running) (below : List FrameOf) →
+        let h = run.now.world.h.now in
+        let program = run.now.program.now in
+        let sizes = size_in run.now.sizes.now in
+        IsTaken h sizes program machine.old frame s f below → IsDeclaring h e (sight s f) x.now →
+        MoveAgrees h sizes program (move_by (declared h program (sight s f) (with_frames s (InBody (at_statement f next) ∷ below)) n x.now) (limit_of sizes (with_frames s (InBody f ∷ below)) (converted_demand x.now))) machine.new outs.old outs.new done) }
+{
+    match x {
+        None => {
+            go_on(machine, frame, next)?;
+            Ok(Next::Goes)
+        }
+        Some(x) => {
+            let done = take(
+                run,
+                machine,
+                answers,
+                outs,
+                frame,
+                next,
+                Variable::Local(n),
+                x,
+            )?;
+            Ok(done)
+        }
+    }
+}
+
+/// What a statement does that no rule refuses; `after` is the number of the statement behind it in the text.
+fn effect(
+    run: &Run,
+    machine: &mut Machine,
+    answers: &mut Answers,
+    outs: &mut OutList,
+    frame: BodyFrame,
+    after: usize,
+    statement: &TypedStatement,
+) -> Result<Next, NoMemory>
+    requires setup { IsSetup run.now.world.h.now run.now.world.numbers.now run.now.world.overriders.now run.now.program.now run.now.index.now }
+    requires answers { AreAnswers run.now.world.h.now answers.old }
+    ensures answers { AreAnswers run.now.world.h.now answers.new }
+    ensures agrees { IfOk result (λ done. (e : Scope) (s : State) (f : Running) (below : List FrameOf) →
+        let h = run.now.world.h.now in
+        let program = run.now.program.now in
+        let sizes = size_in run.now.sizes.now in
+        IsTaken h sizes program machine.old frame s f below → IsClear h e s f statement.now.kind → after ≡ f.next + 1 →
+        MoveAgrees h sizes program (move_by (effect h program (with_frames s (InBody f ∷ below)) f below f.next statement.now) (limit_of sizes (with_frames s (InBody f ∷ below)) (demand_of (sight s f) statement.now.kind))) machine.new outs.old outs.new done) }
+{
+    let next = statement.next;
+    let n = frame.next;
+    match &statement.kind {
+        TypedKind::Declare(m, x) => {
+            let done = declare(run, machine, answers, outs, frame, next, *m, x)?;
+            Ok(done)
+        }
+        TypedKind::Assign(variable, x) => {
+            let done = take(run, machine, answers, outs, frame, next, *variable, x)?;
+            Ok(done)
+        }
+        TypedKind::Write(place, x) => {
+            let done = write_place(run, machine, frame, next, place, x)?;
+            Ok(done)
+        }
+        TypedKind::Copy(to, from, c) => {
+            let done = copy_object(run, machine, frame, next, to, from, *c)?;
+            Ok(done)
+        }
+        TypedKind::Call(call) => {
+            let done = call_body(run, machine, answers, outs, frame, next, call, None)?;
+            Ok(done)
+        }
+        TypedKind::Delete(x, _) => {
+            let done = delete_object(run, machine, frame, next, x)?;
+            Ok(done)
+        }
+        TypedKind::If(x, other, behind) => {
+            let done = choose(machine, frame, after, next, x, *other, *behind)?;
+            Ok(done)
+        }
+        TypedKind::While(x, behind) => {
+            let done = repeat(machine, frame, after, next, x, *behind, n)?;
+            Ok(done)
+        }
+        TypedKind::Return(x) => {
+            let done = leave(run, machine, frame, x);
+            Ok(done)
+        }
+        TypedKind::Print(x) => {
+            let done = print_value(run, machine, outs, frame, next, x)?;
+            Ok(done)
+        }
+        TypedKind::PrintType(x, _) => {
+            let done = print_type(run, machine, outs, frame, next, x)?;
+            Ok(done)
+        }
+        TypedKind::PrintView(x, _) => {
+            let done = print_view(run, machine, outs, frame, next, x)?;
+            Ok(done)
+        }
+        TypedKind::Dump(x, _) => {
+            let done = print_dump(run, machine, outs, frame, next, x)?;
+            Ok(done)
+        }
+    }
+}
+
+/// A declaration makes its variable unset before its right side is read (ISO C++03 3.3.1).
+fn before_kind(frame: BodyFrame, kind: &TypedKind) -> BodyFrame
+    ensures { (h : Classes) (sizes : ClassId → ℕ) (program : TypedProgram) (machine : MachineOf) (s : State) (f : Running) (below : List FrameOf) → IsTaken h sizes program machine frame s f below → IsTaken h sizes program machine result s (before_kind f kind.now) below }
+{
+    let mut frame = frame;
+    match kind {
+        TypedKind::Declare(n, _) => {
+            set(&mut frame.locals, *n, Value::Unset);
+            frame
+        }
+        _ => frame,
+    }
+}
+
+/// How a result becomes a value of who waits for it.
+fn wanted_by<'a>(target: &'a Option<Target>, same: &'a Conversion) -> &'a Conversion
+    requires { same.now ≡ ToSame }
+    ensures { result.now ≡ target_conversion (target_of target.now) }
+{
+    match target {
+        Some(target) => &target.conversion,
+        None => same,
+    }
+}
+
+/// The rule that refuses the statement of a frame, if one does.
+fn refused(
+    run: &Run,
+    machine: &Machine,
+    answers: &mut Answers,
+    frame: &BodyFrame,
+    kind: &TypedKind,
+) -> Result<Option<Undefined>, NoMemory>
+    requires setup { IsSetup run.now.world.h.now run.now.world.numbers.now run.now.world.overriders.now run.now.program.now run.now.index.now }
+    requires answers { AreAnswers run.now.world.h.now answers.old }
+    ensures answers { AreAnswers run.now.world.h.now answers.new }
+    ensures is { IfOk result (λ rule. (e : Scope) (s : State) (f : Running) (below : List FrameOf) →
+        let h = run.now.world.h.now in
+        IsTaken h (size_in run.now.sizes.now) run.now.program.now machine.now frame.now s f below → IsGiven h e (sight s f) (wanted f) kind.now → rule ≡ refusal h (sight s f) (wanted f) kind.now) }
+{
+    let same = Conversion::Same;
+    let scene = scene_of(machine, frame);
+    let target = wanted_by(&frame.target, &same);
+    let rule = refusal(
+        run.alloc,
+        &run.world,
+        &machine.heap,
+        answers,
+        &scene,
+        &frame.found,
+        target,
+        kind,
+    )?;
+    Ok(rule)
+}
+
+/// A statement: refused, or with its effect.
+fn statement_step(
+    run: &Run,
+    machine: &mut Machine,
+    answers: &mut Answers,
+    outs: &mut OutList,
+    frame: BodyFrame,
+    after: usize,
+    statement: &TypedStatement,
+) -> Result<Next, NoMemory>
+    requires setup { IsSetup run.now.world.h.now run.now.world.numbers.now run.now.world.overriders.now run.now.program.now run.now.index.now }
+    requires answers { AreAnswers run.now.world.h.now answers.old }
+    ensures answers { AreAnswers run.now.world.h.now answers.new }
+    ensures agrees { IfOk result (λ done. (e : Scope) (s : State) (f : Running) (below : List FrameOf) →
+        let h = run.now.world.h.now in
+        let program = run.now.program.now in
+        let sizes = size_in run.now.sizes.now in
+        IsTaken h sizes program machine.old frame s f below → IsGiven h e (sight s f) (wanted f) statement.now.kind → after ≡ f.next + 1 →
+        MoveAgrees h sizes program (move_by (statement_step h program s f below f.next statement.now) (limit_of sizes (with_frames s (InBody f ∷ below)) (demand_of (sight s f) statement.now.kind))) machine.new outs.old outs.new done) }
+{
+    match refused(run, machine, answers, &frame, &statement.kind)? {
+        Some(rule) => Ok(Next::Refuses(rule, statement.line)),
+        None => {
+            let done = effect(run, machine, answers, outs, frame, after, statement)?;
+            Ok(done)
+        }
+    }
+}
+
+/// Whether a function has a result.
+fn has_result(h: &Hierarchy, g: FunctionId) -> bool
+    ensures { result ≡ returns_value (return_of h.now g) }
+{
+    h.keeps();
+    if g.class.0 >= h.len() {
+        return false;
+    }
+    match declaration(h, g) {
+        None => false,
+        Some(function) => match &function.ret {
+            ReturnType::Void => false,
+            ReturnType::Value(_) => true,
+        },
+    }
+}
+
+/// The closing step of a function's body (ISO C++03 6.6.3 p2).
+fn close_function(h: &Hierarchy, g: FunctionId, line: u32) -> Next
+    ensures { (sizes : ClassId → ℕ) (program : TypedProgram) (machine : MachineOf) (s : State) (below : List FrameOf) (outs : List Out) → MachineStands h.now sizes program machine (with_frames s below) → StepAgrees h.now sizes program (function_closed h.now s g line below) machine outs outs result }
+{
+    refusal_is_least();
+    if has_result(h, g) {
+        Next::Refuses(Undefined::MissingReturn, line)
+    } else {
+        Next::Goes
+    }
+}
+
+/// A frame that may be there, where it is that of a plan.
+fn plan_in(frame: Option<Frame>) -> Option<PlanFrame>
+    ensures { result ≡ plan_in frame }
+{
+    match frame {
+        None => None,
+        Some(frame) => match frame {
+            Frame::Body(_) => None,
+            Frame::Plan(plan) => Some(plan),
+        },
+    }
+}
+
+/// The closing step of a constructor's body is the event behind it.
+fn close_constructor(run: &Run, machine: &mut Machine, outs: &mut OutList) -> Result<Next, NoMemory>
+    requires setup { IsSetup run.now.world.h.now run.now.world.numbers.now run.now.world.overriders.now run.now.program.now run.now.index.now }
+    ensures { IfOk result (λ done. (sizes : ClassId → ℕ) (s : State) (below : List FrameOf) →
+        let h = run.now.world.h.now in
+        let program = run.now.program.now in
+        MachineStands h sizes program machine.old (with_frames s below) → IsBelowNext h s below → StepAgrees h sizes program (constructor_closed program s below) machine.new outs.old outs.new done) }
+{
+    let top = machine.pop();
+    match plan_in(top) {
+        Some(plan) => {
+            let done = event_step(run, machine, outs, plan)?;
+            Ok(done)
+        }
+        None => Ok(Next::Wrong),
+    }
+}
+
+/// The closing step of a body: that of a brace on this line.
+fn close(
+    run: &Run,
+    machine: &mut Machine,
+    outs: &mut OutList,
+    owner: Owner,
+    line: u32,
+) -> Result<Next, NoMemory>
+    requires setup { IsSetup run.now.world.h.now run.now.world.numbers.now run.now.world.overriders.now run.now.program.now run.now.index.now }
+    ensures { IfOk result (λ done. (sizes : ClassId → ℕ) (s : State) (below : List FrameOf) →
+        let h = run.now.world.h.now in
+        let program = run.now.program.now in
+        MachineStands h sizes program machine.old (with_frames s below) → IsBelowNext h s below → StepAgrees h sizes program (closed h program s owner line below) machine.new outs.old outs.new done) }
+{
+    match owner {
+        Owner::Main => Ok(Next::Ends),
+        Owner::Function(g) => Ok(close_function(run.world.h, g, line)),
+        Owner::Constructor(_) => {
+            let done = close_constructor(run, machine, outs)?;
+            Ok(done)
+        }
+        Owner::Destructor(_) => Ok(Next::Goes),
+    }
+}
+
+/// A statement of a body by its number.
+fn statement_at(body: &TypedBody, n: usize) -> Option<&TypedStatement>
+    ensures is { option_copied result ≡ slice_get body.now.statements n }
+    ensures room { IfSome result (λ _. n + 1 < 2 ^ 64) }
+{
+    body.statements.as_slice().get(n)
+}
+
+/// The step of a body whose frame was taken from the top.
+///
+/// Errors: want of memory. The machine is then of no use.
+pub(crate) fn body_step(
+    run: &Run,
+    machine: &mut Machine,
+    answers: &mut Answers,
+    outs: &mut OutList,
+    frame: BodyFrame,
+) -> Result<Next, NoMemory>
+    requires setup { IsSetup run.now.world.h.now run.now.world.numbers.now run.now.world.overriders.now run.now.program.now run.now.index.now }
+    requires answers { AreAnswers run.now.world.h.now answers.old }
+    ensures answers { AreAnswers run.now.world.h.now answers.new }
+    ensures agrees { IfOk result (λ done. (s : State) (f : Running) (below : List FrameOf) →
+        let h = run.now.world.h.now in
+        let program = run.now.program.now in
+        let sizes = size_in run.now.sizes.now in
+        IsTaken h sizes program machine.old frame s f below → s.frames ≡ InBody f ∷ below → IsBodyNext h program s f below →
+        MoveAgrees h sizes program (move_by (body_step h program s f below (body_of program f.owner)) (body_limit sizes s f (body_of program f.owner))) machine.new outs.old outs.new done) }
+{
+    match run.index.body(run.program, frame.owner) {
+        None => Ok(Next::Wrong),
+        Some(body) => match statement_at(body, frame.next) {
+            None => {
+                let done = close(run, machine, outs, frame.owner, body.close_line)?;
+                Ok(done)
+            }
+            Some(statement) => {
+                let after = frame.next + 1;
+                let begun = before_kind(frame, &statement.kind);
+                let done = statement_step(run, machine, answers, outs, begun, after, statement)?;
+                Ok(done)
+            }
+        },
+    }
+}

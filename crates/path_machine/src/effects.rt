@@ -1,0 +1,65 @@
+//! What a statement that no rule refuses does to the machine.
+
+ghost use Rattle.std.specs.Prelude.{◌≡◌, ◌∷◌, [], ◌++◌, ℕ, List, Option, Some, IfOk};
+ghost use Rattle.cxx_hierarchy.specs.declared.records.ClassId.{ClassId};
+ghost use Rattle.cxx_hierarchy.specs.Classes.{Classes};
+ghost use Rattle.cxx_program.specs.declared.program.TypedProgram.{TypedProgram};
+ghost use Rattle.path_model.specs.declared.outs.Out.{Out};
+ghost use Rattle.path_model.specs.Values.{Value as ValueOf};
+ghost use Rattle.path_model.specs.States.{Running, Frame as FrameOf, InBody, State, at_statement, with_frames};
+ghost use Rattle.path_model.specs.Effects.{branched, telling};
+ghost use Rattle.path_heap.specs.Stands.{Means};
+ghost use Rattle.path_frames.specs.Machines.{MachineStands};
+ghost use Rattle.path_machine.specs.invariants.Steps.{IsTaken, StepAgrees};
+
+use crate::next::Next;
+use foundation::NoMemory;
+use path_frames::{BodyFrame, Frame, Machine};
+use path_heap::Value;
+use path_model::{Out, OutList};
+use path_values::is_zero;
+
+/// Puts the frame back, with control at a statement.
+pub(crate) fn go_on(machine: &mut Machine, frame: BodyFrame, next: usize) -> Result<(), NoMemory>
+    ensures { IfOk result (λ _. (h : Classes) (sizes : ClassId → ℕ) (program : TypedProgram) (s : State) (f : Running) (below : List FrameOf) → IsTaken h sizes program machine.old frame s f below → MachineStands h sizes program machine.new (with_frames s (InBody (at_statement f next) ∷ below))) }
+{
+    let mut frame = frame;
+    frame.next = next;
+    machine.push(Frame::Body(frame))?;
+    Ok(())
+}
+
+/// A condition: control goes on at one of two statements.
+pub(crate) fn branch(
+    machine: &mut Machine,
+    frame: BodyFrame,
+    condition: Value,
+    yes: usize,
+    no: usize,
+) -> Result<Next, NoMemory>
+    ensures { IfOk result (λ next. (h : Classes) (sizes : ClassId → ℕ) (program : TypedProgram) (s : State) (f : Running) (below : List FrameOf) (n : ℕ) (v : ValueOf) (outs : List Out) → IsTaken h sizes program machine.old frame s f below → Means h s.objects.classes condition v → StepAgrees h sizes program (branched (with_frames s (InBody (at_statement f n) ∷ below)) v yes no) machine.new outs outs next) }
+{
+    let at = if is_zero(condition) { no } else { yes };
+    go_on(machine, frame, at)?;
+    Ok(Next::Goes)
+}
+
+/// A statement that prints.
+pub(crate) fn tell(
+    machine: &mut Machine,
+    outs: &mut OutList,
+    frame: BodyFrame,
+    next: usize,
+    out: Option<Out>,
+) -> Result<Next, NoMemory>
+    ensures { IfOk result (λ taken. (h : Classes) (sizes : ClassId → ℕ) (program : TypedProgram) (s : State) (f : Running) (below : List FrameOf) → IsTaken h sizes program machine.old frame s f below → StepAgrees h sizes program (telling (with_frames s (InBody (at_statement f next) ∷ below)) out) machine.new outs.old outs.new taken) }
+{
+    match out {
+        Some(out) => {
+            outs.push(out)?;
+            go_on(machine, frame, next)?;
+            Ok(Next::Goes)
+        }
+        None => Ok(Next::Wrong),
+    }
+}

@@ -1,0 +1,23 @@
+//! What the statement of a frame sees.
+
+ghost use Rattle.std.specs.Prelude.{ℕ, List};
+ghost use Rattle.cxx_hierarchy.specs.declared.records.ClassId.{ClassId};
+ghost use Rattle.cxx_hierarchy.specs.Classes.{Classes};
+ghost use Rattle.cxx_program.specs.declared.program.TypedProgram.{TypedProgram};
+ghost use Rattle.path_model.specs.States.{Running, Frame as FrameOf, State, sight};
+ghost use Rattle.path_values.specs.Scenes.{SceneStands};
+ghost use Rattle.path_machine.specs.invariants.Steps.{IsTaken};
+
+use path_frames::{BodyFrame, Machine};
+use path_values::Scene;
+
+/// The globals, and `this` and the locals of a frame.
+pub(crate) fn scene_of<'a>(machine: &'a Machine, frame: &'a BodyFrame) -> Scene<'a>
+    ensures { (h : Classes) (sizes : ClassId → ℕ) (program : TypedProgram) (s : State) (f : Running) (below : List FrameOf) → IsTaken h sizes program machine.now frame.now s f below → SceneStands h machine.now.heap result.globals.now result.this result.locals.now (sight s f) }
+{
+    Scene {
+        globals: machine.globals.as_slice(),
+        this: frame.this,
+        locals: frame.locals.as_slice(),
+    }
+}

@@ -1,0 +1,102 @@
+//! The machine of a run.
+
+ghost use Rattle.std.specs.Prelude.{◌≡◌, true, None, IfOk};
+ghost use Rattle.path_model.specs.States.{is_body};
+ghost use Rattle.path_machine.specs.invariants.Steps.{size_in};
+ghost use Rattle.path_machine.specs.invariants.Setups.{IsSetup};
+ghost use Rattle.path_machine.specs.invariants.Ends.{IsFinished};
+ghost use Rattle.path_machine.specs.Turns.{taken_by, budget_of, ended_with, IsInRun, TurnAgrees};
+
+use crate::moving::move_on;
+use crate::next::Next;
+use crate::run::Run;
+use crate::starting::started;
+use foundation::NoMemory;
+use path_frames::Machine;
+use path_model::{OutList, Turn, plans_fit, runs_are_typed, runs_go_on, statements_are_settled};
+use path_tables::Answers;
+
+/// A machine that runs a program: the state that it is in, what was answered of views so far, how many steps it took, how many it
+/// may take, and the answer that ended the run.
+#[derive(Drop)]
+pub struct PathState {
+    pub(crate) machine: Machine,
+    pub(crate) answers: Answers,
+    pub(crate) taken: u32,
+    pub(crate) budget: u32,
+    pub(crate) end: Option<Turn>,
+}
+
+impl PathState {
+    /// The machine at the start of a run of so many steps.
+    ///
+    /// Errors: want of memory.
+    pub fn new(run: &Run, budget: u32) -> Result<PathState, NoMemory>
+        requires setup { IsSetup run.now.world.h.now run.now.world.numbers.now run.now.world.overriders.now run.now.program.now run.now.index.now }
+        requires main { is_body run.now.program.now.main ≡ true }
+        ensures start { IfOk result (λ state. IsInRun run.now.world.h.now (size_in run.now.sizes.now) run.now.program.now state None) }
+        ensures none { IfOk result (λ state. taken_by state ≡ 0) }
+        ensures budget { IfOk result (λ state. budget_of state ≡ budget) }
+        ensures going { IfOk result (λ state. ended_with state ≡ None) }
+    {
+        let alloc = run.alloc;
+        match run.program.main.as_ref() {
+            None => unreachable!(),
+            Some(main) => {
+                let machine = started(alloc, run.program, main)?;
+                Ok(PathState {
+                    machine,
+                    answers: Answers::new(alloc),
+                    taken: 0,
+                    budget,
+                    end: None,
+                })
+            }
+        }
+    }
+
+    /// The next step of the run.
+    ///
+    /// It puts what the step tells behind what was told before. An answer other than Went ends the run, and comes again at
+    /// each later call. Errors: want of memory. The machine is then of no use.
+    pub fn step(&mut self, run: &Run, outs: &mut OutList) -> Result<Turn, NoMemory>
+        requires setup { IsSetup run.now.world.h.now run.now.world.numbers.now run.now.world.overriders.now run.now.program.now run.now.index.now }
+        requires main { is_body run.now.program.now.main ≡ true }
+        requires stands { IsInRun run.now.world.h.now (size_in run.now.sizes.now) run.now.program.now self.old (ended_with self.old) }
+        ensures stands { IfOk result (λ turn. IsInRun run.now.world.h.now (size_in run.now.sizes.now) run.now.program.now self.new (ended_with self.new)) }
+        ensures agrees { IfOk result (λ turn. TurnAgrees run.now.world.h.now (size_in run.now.sizes.now) run.now.program.now self.old self.new outs.old outs.new (ended_with self.old) turn) }
+    {
+        runs_are_typed();
+        plans_fit();
+        statements_are_settled();
+        runs_go_on();
+        match self.end {
+            Some(turn) => return Ok(turn),
+            None => {}
+        }
+        if self.taken >= self.budget {
+            return Ok(self.finish(Turn::OutOfSteps));
+        }
+        match move_on(run, &mut self.machine, &mut self.answers, outs)? {
+            Next::Goes => {
+                self.taken += 1;
+                Ok(Turn::Went)
+            }
+            Next::Ends => {
+                self.taken += 1;
+                Ok(self.finish(Turn::Ended))
+            }
+            Next::Refuses(rule, line) => Ok(self.finish(Turn::Refused(rule, line))),
+            Next::Limited(limit) => Ok(self.finish(Turn::Limit(limit))),
+            Next::Wrong => unreachable!(),
+        }
+    }
+
+    /// The run has ended with this answer.
+    fn finish(&mut self, turn: Turn) -> Turn
+        ensures { IsFinished self.old self.new turn result }
+    {
+        self.end = Some(turn);
+        turn
+    }
+}

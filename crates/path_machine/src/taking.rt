@@ -1,0 +1,119 @@
+//! A variable that takes a right side.
+
+ghost use Rattle.std.specs.Prelude.{◌≡◌, ◌∷◌, [], true, List, IfOk};
+ghost use Rattle.cxx_program.specs.Typed.{Scope};
+ghost use Rattle.path_model.specs.declared.outs.Out.{Out};
+ghost use Rattle.path_model.specs.Values.{converted};
+ghost use Rattle.path_model.specs.States.{Running, Frame as FrameOf, InBody, State, assigned, at_statement, sight, with_frames};
+ghost use Rattle.path_model.specs.Effects.{Goes, right_value, taken, taker};
+ghost use Rattle.path_model.specs.Runs.{move_by, limit_of, right_demand};
+ghost use Rattle.path_tables.specs.Asked.{AreAnswers};
+ghost use Rattle.path_frames.specs.Frames.{target_of};
+ghost use Rattle.path_machine.specs.invariants.Steps.{size_in, IsTaken, StepAgrees, MoveAgrees};
+ghost use Rattle.path_machine.specs.invariants.Setups.{IsSetup, IsTaking, is_plain};
+
+use crate::calls::{call_body, new_object};
+use crate::effects::go_on;
+use crate::next::Next;
+use crate::run::Run;
+use crate::scenes::scene_of;
+use cxx_program::{Conversion, Converted, TypedRight, Variable};
+use cxx_subobject::subobject_below;
+use foundation::NoMemory;
+use path_effects::right_value;
+use path_frames::{BodyFrame, Machine, Target};
+use path_model::OutList;
+use path_tables::Answers;
+use std::alloc::Global;
+
+/// A copy of a conversion.
+///
+/// Errors: want of memory.
+fn copy_conversion(alloc: Global, c: &Conversion) -> Result<Conversion, NoMemory>
+    ensures { IfOk result (λ copied. copied ≡ c.now) }
+{
+    match c {
+        Conversion::Number(t) => Ok(Conversion::Number(*t)),
+        Conversion::Null => Ok(Conversion::Null),
+        Conversion::Same => Ok(Conversion::Same),
+        Conversion::Base(i) => Ok(Conversion::Base(subobject_below(alloc, i, &[])?)),
+    }
+}
+
+/// The variable that waits for a result, with the conversion to its type.
+fn waiting(alloc: Global, variable: Variable, c: &Conversion) -> Result<Option<Target>, NoMemory>
+    ensures { IfOk result (λ target. target_of target ≡ taker variable c.now) }
+{
+    Ok(Some(Target {
+        variable,
+        conversion: copy_conversion(alloc, c)?,
+    }))
+}
+
+/// A variable takes the value of a right side that is no call and no `new`.
+fn take_value(
+    run: &Run,
+    machine: &mut Machine,
+    answers: &mut Answers,
+    frame: BodyFrame,
+    next: usize,
+    variable: Variable,
+    x: &Converted,
+) -> Result<Next, NoMemory>
+    requires setup { IsSetup run.now.world.h.now run.now.world.numbers.now run.now.world.overriders.now run.now.program.now run.now.index.now }
+    requires answers { AreAnswers run.now.world.h.now answers.old }
+    ensures answers { AreAnswers run.now.world.h.now answers.new }
+    ensures agrees { IfOk result (λ taken. (e : Scope) (s : State) (f : Running) (below : List FrameOf) (outs : List Out) →
+        let h = run.now.world.h.now in
+        let program = run.now.program.now in
+        let sizes = size_in run.now.sizes.now in
+        IsTaken h sizes program machine.old frame s f below → IsTaking h e (sight s f) x.now → is_plain x.now.right ≡ true →
+        StepAgrees h sizes program (Goes (assigned (with_frames s (InBody (at_statement f next) ∷ below)) variable (converted (right_value h (sight s f) x.now.right) x.now.conversion)) []) machine.new outs outs taken) }
+{
+    let scene = scene_of(machine, &frame);
+    let value = right_value(run.alloc, &run.world, &machine.heap, answers, &scene, x)?;
+    go_on(machine, frame, next)?;
+    machine.assign(variable, value);
+    Ok(Next::Goes)
+}
+
+/// A variable takes a right side; what a call or a `new` gives comes to it later.
+///
+/// Errors: want of memory.
+pub(crate) fn take(
+    run: &Run,
+    machine: &mut Machine,
+    answers: &mut Answers,
+    outs: &mut OutList,
+    frame: BodyFrame,
+    next: usize,
+    variable: Variable,
+    x: &Converted,
+) -> Result<Next, NoMemory>
+    requires setup { IsSetup run.now.world.h.now run.now.world.numbers.now run.now.world.overriders.now run.now.program.now run.now.index.now }
+    requires answers { AreAnswers run.now.world.h.now answers.old }
+    ensures answers { AreAnswers run.now.world.h.now answers.new }
+    ensures agrees { IfOk result (λ done. (e : Scope) (s : State) (f : Running) (below : List FrameOf) →
+        let h = run.now.world.h.now in
+        let program = run.now.program.now in
+        let sizes = size_in run.now.sizes.now in
+        IsTaken h sizes program machine.old frame s f below → IsTaking h e (sight s f) x.now →
+        MoveAgrees h sizes program (move_by (taken h program (sight s f) (with_frames s (InBody (at_statement f next) ∷ below)) variable x.now.right x.now.conversion) (limit_of sizes (with_frames s (InBody f ∷ below)) (right_demand x.now.right))) machine.new outs.old outs.new done) }
+{
+    match &x.right {
+        TypedRight::Call(call) => {
+            let target = waiting(run.alloc, variable, &x.conversion)?;
+            let done = call_body(run, machine, answers, outs, frame, next, call, target)?;
+            Ok(done)
+        }
+        TypedRight::New(class) => {
+            let target = waiting(run.alloc, variable, &x.conversion)?;
+            let done = new_object(run, machine, frame, next, *class, target)?;
+            Ok(done)
+        }
+        _ => {
+            let done = take_value(run, machine, answers, frame, next, variable, x)?;
+            Ok(done)
+        }
+    }
+}

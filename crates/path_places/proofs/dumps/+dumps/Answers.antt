@@ -1,0 +1,70 @@
+use Rattle.std.proofs.Common.{◌≡◌, ◌<◌, ◌∙◌, length, ap, sym, subst, List, arith}
+use Rattle.std.specs.Prelude.{Some, slice_get}
+use Rattle.std.proofs.lemmas.Result.{on_ok_weaker}
+use Rattle.std.proofs.lemmas.Option.{slice_get-get_or}
+use Rattle.foundation.proofs.Places.{contains_at}
+use Rattle.cxx_hierarchy.specs.declared.records.ClassId.{ClassId}
+use Rattle.cxx_hierarchy.specs.declared.records.Member.{Member}
+use Rattle.cxx_hierarchy.specs.Classes.{members_of}
+use Rattle.path_numbers.proofs.Rows.{members_are}
+use Rattle.path_places.specs.invariants.Dumps.{seen}
+use Rattle.path_places.proofs.Listing.{valid_at, class_at, class_known}
+use Rattle.path_places.proofs.Dumping.{values_dumped, objects_dumped, elements_next, members_next, bases_step}
+use Rattle.path_places.proofs.dumps.+dumps.Goals as goal
+
+pub dump_elements-loop-i-preserved : goal.dump_elements-loop-i-preserved
+dump_elements-loop-i-preserved t c =
+    let site = c.args.site.now in
+    let h = site.world.now.h.now in
+    elements_next (seen h site.heap.now site.object site.class) c.args.place.now.hops.now c.args.place.now.base.now c.args.m c.args.d c.args.k c.args.count c.loop-i.i c.in_full-size.result c.loop-i-test.true (c.in_full-size.ensures h c.requires.world.are_numbers)
+    c.in_ok-hops.hops.items c.in_ok-hops.ensures c.args.out.now.items c.loop-i.out.items c.dump_whole.new.out.items c.loop-i.invariant c.deref.result.now c.deref.ensures.value c.in_ok-dump_whole.ensures
+
+pub dump_member-returns-in-Value : goal.dump_member-returns-in-Value
+dump_member-returns-in-Value t c =
+    let site = c.args.site.now in
+    on_ok_weaker c.dump_values.result (values_dumped (seen site.world.now.h.now site.heap.now site.object site.class) c.args.place.now.hops.now c.args.place.now.base.now c.args.c c.args.m c.args.member.now c.in-Value.field-0 c.in-Value.is c.args.k c.elements.result c.elements.ensures
+    c.args.out.now.items c.dump_values.new.out.items) c.dump_values.ensures
+
+pub dump_member-returns-in-Object : goal.dump_member-returns-in-Object
+dump_member-returns-in-Object t c =
+    let site = c.args.site.now in
+    on_ok_weaker c.dump_elements.result (objects_dumped (seen site.world.now.h.now site.heap.now site.object site.class) c.args.place.now.hops.now c.args.place.now.base.now c.args.c c.args.m c.in-Object.d c.args.member.now c.in-Object.is c.args.k c.elements-in-Object.result c.elements-in-Object.ensures
+    c.args.out.now.items c.dump_elements.new.out.items) c.dump_elements.ensures
+
+pub dump_own-dump_member-requires : goal.dump_own-dump_member-requires
+dump_own-dump_member-requires t c =
+    let h = c.args.site.now.world.now.h.now in
+    let e = members_are h c.args.c c.class.result.now c.as_slice-members.result.now c.class.ensures c.as_slice-members.ensures in
+    let x = c.index-members-m.result in
+    let at : slice_get (members_of h c.args.c) c.loop-m.m ≡ Some x = ap (λ (l : List (Member ClassId)). slice_get l c.loop-m.m) (sym e) ∙ (slice_get-get_or c.as_slice-members.result.now c.loop-m.m x c.loop-m-test.true ∙ ap (λ (y : Member ClassId). Some y) (sym c.index-members-m.is)) in
+    let d = c.decreases in
+    (omega arith, (c.requires.world, (c.requires.known, λ d ty. c.keeps.ensures.objects c.args.c d x (contains_at (members_of h c.args.c) c.loop-m.m x at) ty)))
+
+pub dump_own-loop-m-preserved : goal.dump_own-loop-m-preserved
+dump_own-loop-m-preserved t c =
+    let site = c.args.site.now in
+    let h = site.world.now.h.now in
+    let e = members_are h c.args.c c.class.result.now c.as_slice-members.result.now c.class.ensures c.as_slice-members.ensures in
+    let x = c.index-members-m.result in
+    let at : slice_get (members_of h c.args.c) c.loop-m.m ≡ Some x = ap (λ (l : List (Member ClassId)). slice_get l c.loop-m.m) (sym e) ∙ (slice_get-get_or c.as_slice-members.result.now c.loop-m.m x c.loop-m-test.true ∙ ap (λ (y : Member ClassId). Some y) (sym c.index-members-m.is)) in
+    let lt : c.loop-m.m < length (members_of h c.args.c) = subst (λ (l : List (Member ClassId)). c.loop-m.m < length l) e c.loop-m-test.true in
+    members_next (seen h site.heap.now site.object site.class) c.args.place.now.hops.now c.args.place.now.base.now c.args.c c.args.k c.loop-m.m x c.member_offset.result at (c.member_offset.ensures h c.requires.world.are_numbers lt)
+    c.args.out.now.items c.loop-m.out.items c.dump_member.new.out.items c.loop-m.invariant c.in_ok-dump_member.ensures
+
+pub dump_whole-dump_own-requires : goal.dump_whole-dump_own-requires
+dump_whole-dump_own-requires t c =
+    let h = c.args.site.now.world.now.h.now in
+    let is = c.as_slice-base-items.ensures ∙ c.in_ok-bases.ensures.preorder in
+    let valid = valid_at h c.args.c c.as_slice-base-items.result.now c.loop-base.base-index c.base-item.result is c.loop-base-test.true c.base-item.is in
+    let low = class_known h c.requires.world.hierarchy c.args.c c.class_or_first-d.result c.base-item.result valid (class_at h c.args.c c.class_or_first-d.result c.base-item.result valid c.class_or_first-d.ensures) in
+    let d = c.decreases in
+    let known = c.requires.known in
+    (omega arith, (c.requires.world, omega arith))
+
+pub dump_whole-loop-base-preserved : goal.dump_whole-loop-base-preserved
+dump_whole-loop-base-preserved t c =
+    let site = c.args.site.now in
+    let h = site.world.now.h.now in
+    let is = c.as_slice-base-items.ensures ∙ c.in_ok-bases.ensures.preorder in
+    bases_step (seen h site.heap.now site.object site.class) c.requires.world.hierarchy c.args.hops.now c.args.c c.args.k c.as_slice-base-items.result.now c.loop-base.base-index c.base-item.result is c.loop-base-test.true c.base-item.is
+    c.class_or_first-d.result c.class_or_first-d.ensures c.number_in.result c.number_in.ensures c.args.out.now.items c.loop-base.out.items c.dump_own.new.out.items c.loop-base.invariant c.in_ok-dump_own.ensures

@@ -1,0 +1,62 @@
+use Rattle.std.proofs.Common.{◌≡◌, ◌<◌, ◌∙◌, length, ap, sym, subst, List, arith}
+use Rattle.std.specs.Prelude.{Some, slice_get}
+use Rattle.std.proofs.lemmas.Result.{on_ok_weaker}
+use Rattle.std.proofs.lemmas.Option.{slice_get-get_or}
+use Rattle.foundation.proofs.Places.{contains_at}
+use Rattle.cxx_hierarchy.specs.declared.records.ClassId.{ClassId}
+use Rattle.cxx_hierarchy.specs.declared.records.Member.{Member}
+use Rattle.cxx_hierarchy.specs.Classes.{members_of}
+use Rattle.path_numbers.proofs.Rows.{members_are}
+use Rattle.path_places.proofs.Listing.{values_listed, objects_listed, elements_next, members_next, bases_step, valid_at, class_at, class_known}
+use Rattle.path_places.proofs.leaves.+leaves.Goals as goal
+
+pub push_elements-loop-i-preserved : goal.push_elements-loop-i-preserved
+push_elements-loop-i-preserved t c =
+    let h = c.args.world.now.h.now in
+    elements_next h c.requires.world.hierarchy c.args.class c.args.k c.args.count c.loop-i.i c.in_full-size.result c.loop-i-test.true (c.in_full-size.ensures h c.requires.world.are_numbers)
+    c.args.leaves.now.items c.loop-i.leaves.items c.push_whole.new.leaves.items c.loop-i.invariant c.in_ok-push_whole.ensures
+
+pub push_member-returns-in-Value : goal.push_member-returns-in-Value
+push_member-returns-in-Value t c =
+    let h = c.args.world.now.h.now in
+    on_ok_weaker c.push_numbers.result (values_listed h c.requires.world.hierarchy c.args.c c.args.member.now c.in-Value.field-0 c.in-Value.is c.args.k c.elements.result c.elements.ensures c.args.leaves.now.items c.push_numbers.new.leaves.items) c.push_numbers.ensures
+
+pub push_member-returns-in-Object : goal.push_member-returns-in-Object
+push_member-returns-in-Object t c =
+    let h = c.args.world.now.h.now in
+    on_ok_weaker c.push_elements.result (objects_listed h c.args.c c.in-Object.d c.args.member.now c.in-Object.is c.args.k c.elements-in-Object.result c.elements-in-Object.ensures c.args.leaves.now.items c.push_elements.new.leaves.items) c.push_elements.ensures
+
+pub push_own-push_member-requires : goal.push_own-push_member-requires
+push_own-push_member-requires t c =
+    let h = c.args.world.now.h.now in
+    let e = members_are h c.args.c c.class.result.now c.as_slice-members.result.now c.class.ensures c.as_slice-members.ensures in
+    let x = c.index-members-m.result in
+    let at : slice_get (members_of h c.args.c) c.loop-m.m ≡ Some x = ap (λ (l : List (Member ClassId)). slice_get l c.loop-m.m) (sym e) ∙ (slice_get-get_or c.as_slice-members.result.now c.loop-m.m x c.loop-m-test.true ∙ ap (λ (y : Member ClassId). Some y) (sym c.index-members-m.is)) in
+    let d = c.decreases in
+    (omega arith, (c.requires.world, (c.requires.known, λ d ty. c.keeps.ensures.objects c.args.c d x (contains_at (members_of h c.args.c) c.loop-m.m x at) ty)))
+
+pub push_own-loop-m-preserved : goal.push_own-loop-m-preserved
+push_own-loop-m-preserved t c =
+    let h = c.args.world.now.h.now in
+    let e = members_are h c.args.c c.class.result.now c.as_slice-members.result.now c.class.ensures c.as_slice-members.ensures in
+    let x = c.index-members-m.result in
+    let at : slice_get (members_of h c.args.c) c.loop-m.m ≡ Some x = ap (λ (l : List (Member ClassId)). slice_get l c.loop-m.m) (sym e) ∙ (slice_get-get_or c.as_slice-members.result.now c.loop-m.m x c.loop-m-test.true ∙ ap (λ (y : Member ClassId). Some y) (sym c.index-members-m.is)) in
+    let lt : c.loop-m.m < length (members_of h c.args.c) = subst (λ (l : List (Member ClassId)). c.loop-m.m < length l) e c.loop-m-test.true in
+    members_next h c.args.c c.args.k c.loop-m.m x c.member_offset.result at (c.member_offset.ensures h c.requires.world.are_numbers lt) c.args.leaves.now.items c.loop-m.leaves.items c.push_member.new.leaves.items c.loop-m.invariant c.in_ok-push_member.ensures
+
+pub push_whole-push_own-requires : goal.push_whole-push_own-requires
+push_whole-push_own-requires t c =
+    let h = c.args.world.now.h.now in
+    let is = c.as_slice-base-items.ensures ∙ c.in_ok-bases.ensures.preorder in
+    let valid = valid_at h c.args.c c.as_slice-base-items.result.now c.loop-base.base-index c.base-item.result is c.loop-base-test.true c.base-item.is in
+    let low = class_known h c.requires.world.hierarchy c.args.c c.class_or_first-d.result c.base-item.result valid (class_at h c.args.c c.class_or_first-d.result c.base-item.result valid c.class_or_first-d.ensures) in
+    let d = c.decreases in
+    let known = c.requires.known in
+    (omega arith, (c.requires.world, omega arith))
+
+pub push_whole-loop-base-preserved : goal.push_whole-loop-base-preserved
+push_whole-loop-base-preserved t c =
+    let h = c.args.world.now.h.now in
+    let is = c.as_slice-base-items.ensures ∙ c.in_ok-bases.ensures.preorder in
+    bases_step h c.requires.world.hierarchy c.args.c c.args.k c.as_slice-base-items.result.now c.loop-base.base-index c.base-item.result is c.loop-base-test.true c.base-item.is c.class_or_first-d.result c.class_or_first-d.ensures
+    c.number_in.result c.number_in.ensures c.args.leaves.now.items c.loop-base.leaves.items c.push_own.new.leaves.items c.loop-base.invariant c.in_ok-push_own.ensures

@@ -1,0 +1,62 @@
+//! The copy of a part.
+
+ghost use Rattle.std.specs.Prelude.{◌≡◌, Some, IfOk, OnErr, OnOk};
+ghost use Rattle.cxx_subobject.specs.Subobjects.{class_of};
+ghost use Rattle.path_plan.specs.Places.{ObjectPart};
+ghost use Rattle.path_model.specs.Values.{Objects};
+ghost use Rattle.path_model.specs.Effects.{copied};
+ghost use Rattle.path_heap.specs.Points.{Points};
+ghost use Rattle.path_heap.specs.Stands.{HeapStands, HasBegun};
+ghost use Rattle.path_values.specs.Worlds.{IsWorld};
+ghost use Rattle.path_places.specs.invariants.Stores.{ReadsAll, StoresAll};
+
+use crate::leaves::leaf_numbers;
+use cxx_hierarchy::ClassId;
+use foundation::NoMemory;
+use path_heap::{Heap, Value};
+use path_values::World;
+use std::alloc::Global;
+
+/// The values of some leaves.
+fn values_of(alloc: Global, heap: &Heap, leaves: &[u32]) -> Result<Vec<Value>, NoMemory>
+    ensures { IfOk result (λ values. ReadsAll heap.now leaves.now values.items) }
+{
+    let mut values = Vec::new(alloc);
+    for k in leaves {
+        values.push(heap.leaf(*k))?;
+    }
+    Ok(values)
+}
+
+/// Gives each leaf its value, the last one first.
+fn store_all(heap: &mut Heap, leaves: &[u32], values: &[Value])
+    ensures { StoresAll heap.old heap.new leaves.now values.now }
+{
+    let mut i = leaves.len().min(values.len());
+    while i > 0 {
+        i -= 1;
+        heap.set_leaf(leaves[i], values[i]);
+    }
+}
+
+/// Each leaf of one part takes the old value of the same leaf of another one, both of class c: `*to = *from` (ISO C++03 12.8 p13).
+///
+/// Errors: want of memory. The heap is then as it was.
+pub fn copy(
+    alloc: Global,
+    world: &World,
+    heap: &mut Heap,
+    c: ClassId,
+    to: u32,
+    from: u32,
+) -> Result<(), NoMemory>
+    requires { IsWorld world.now.h.now world.now.numbers.now world.now.overriders.now }
+    ensures copied { OnOk result ((s : Objects) (p q : ObjectPart) → HeapStands world.now.h.now heap.old s → Points world.now.h.now s.classes to p → Points world.now.h.now s.classes from q → HasBegun s p → HasBegun s q → class_of p.at ≡ Some c → class_of q.at ≡ Some c → HeapStands world.now.h.now heap.new (copied world.now.h.now c p q s)) }
+    ensures kept { OnErr result (heap.new ≡ heap.old) }
+{
+    let leaves = leaf_numbers(alloc, world, heap, to, c)?;
+    let sources = leaf_numbers(alloc, world, heap, from, c)?;
+    let values = values_of(alloc, heap, &sources)?;
+    store_all(heap, &leaves, &values);
+    Ok(())
+}

@@ -1,0 +1,230 @@
+//! The dump of a heap object.
+
+ghost use Rattle.std.specs.Prelude.{◌≡◌, ◌+◌, ◌<◌, ◌++◌, ◌∷◌, [], true, Some, IfOk, OnOk, IsTrue, length, slice_get};
+ghost use Rattle.cxx_hierarchy.specs.declared.records.ClassId.{ClassId};
+ghost use Rattle.cxx_hierarchy.specs.declared.records.FieldType.TheVariants.{Object};
+ghost use Rattle.cxx_hierarchy.specs.Classes.{members_of};
+ghost use Rattle.cxx_subobject.specs.declared.locations.Hop.TheVariants.{Inherit, Member as MemberHop};
+ghost use Rattle.path_plan.specs.Places.{ObjectPart};
+ghost use Rattle.path_model.specs.Values.{Objects};
+ghost use Rattle.path_model.specs.Effects.{object_out};
+ghost use Rattle.path_heap.specs.Points.{Points};
+ghost use Rattle.path_heap.specs.Stands.{HeapStands};
+ghost use Rattle.path_values.specs.Worlds.{IsWorld};
+ghost use Rattle.path_places.specs.invariants.Dumps.{seen, DumpsWhole, DumpsOwn, DumpsMember, DumpsValues, DumpsElements, DumpsLeaf};
+
+use crate::leaves::class_or_first;
+use crate::locations::shown;
+use cxx_hierarchy::{ClassId, FieldType, Member};
+use cxx_subobject::{Hop, Location, Subobject, list_subobjects, subobject_below};
+use foundation::{NoMemory, Sequence};
+use path_heap::Heap;
+use path_model::{DumpLeaf, Out};
+use path_values::World;
+use std::alloc::Global;
+
+/// What a dump looks at, and the number from 1 and the class of the heap object.
+#[derive(Clone, Copy)]
+struct Site<'a> {
+    world: &'a World<'a>,
+    heap: &'a Heap,
+    object: u32,
+    class: ClassId,
+}
+
+/// A subobject of the complete object to which the hops lead.
+#[derive(Clone, Copy)]
+struct Place<'a> {
+    hops: &'a [Hop],
+    base: &'a Subobject,
+}
+
+/// A hop once more.
+fn copy_hop(alloc: Global, hop: &Hop) -> Result<Hop, NoMemory>
+    ensures { IfOk result (λ copy. copy ≡ hop.now) }
+{
+    match hop {
+        Hop::Inherit(base) => Ok(Hop::Inherit(subobject_below(alloc, base, &[])?)),
+        Hop::Member(member, index) => Ok(Hop::Member(*member, *index)),
+    }
+}
+
+/// The hops to an element of a member of a subobject.
+fn hops_below(alloc: Global, place: &Place, member: u32, index: u32) -> Result<Vec<Hop>, NoMemory>
+    ensures { IfOk result (λ hops. hops.items ≡ place.now.hops.now ++ Inherit place.now.base.now ∷ MemberHop member index ∷ []) }
+{
+    let mut hops = Vec::new(alloc);
+    for hop in place.hops {
+        hops.push(copy_hop(alloc, hop)?)?;
+    }
+    hops.push(Hop::Inherit(subobject_below(alloc, place.base, &[])?))?;
+    hops.push(Hop::Member(member, index))?;
+    Ok(hops)
+}
+
+/// A leaf, by its number, and its value.
+fn dump_leaf(
+    alloc: Global,
+    site: &Site,
+    place: &Place,
+    member: u32,
+    index: u32,
+    k: u32,
+) -> Result<DumpLeaf, NoMemory>
+    requires { IsWorld site.now.world.now.h.now site.now.world.now.numbers.now site.now.world.now.overriders.now }
+    ensures { IfOk result (DumpsLeaf (seen site.now.world.now.h.now site.now.heap.now site.now.object site.now.class) place.now.hops.now place.now.base.now member index k) }
+{
+    let value = shown(alloc, site.world, site.heap, site.heap.leaf(k))?;
+    let hops = hops_below(alloc, place, member, index)?;
+    Ok(DumpLeaf {
+        at: Location {
+            object: site.object,
+            class: site.class,
+            hops: Sequence::from_vec(hops),
+        },
+        value,
+    })
+}
+
+/// The leaves of a member that is a number or a pointer, whose element 0 has the number k.
+fn dump_values(
+    alloc: Global,
+    site: &Site,
+    place: &Place,
+    m: u32,
+    k: u32,
+    count: u32,
+    out: &mut Vec<DumpLeaf>,
+) -> Result<(), NoMemory>
+    requires { IsWorld site.now.world.now.h.now site.now.world.now.numbers.now site.now.world.now.overriders.now }
+    ensures { OnOk result (DumpsValues (seen site.now.world.now.h.now site.now.heap.now site.now.object site.now.class) place.now.hops.now place.now.base.now m k count count out.old.items out.new.items) }
+{
+    for i in 0..count {
+        out.push(dump_leaf(alloc, site, place, m, i, k.wrapping_add(i))?)?;
+    }
+    Ok(())
+}
+
+/// The leaves of a member that is an object of class d.
+#[cycle(dumps)]
+fn dump_elements(
+    alloc: Global,
+    site: &Site,
+    place: &Place,
+    m: u32,
+    d: ClassId,
+    k: u32,
+    count: u32,
+    out: &mut Vec<DumpLeaf>,
+) -> Result<(), NoMemory>
+    requires world { IsWorld site.now.world.now.h.now site.now.world.now.numbers.now site.now.world.now.overriders.now }
+    requires known { d.0 < length site.now.world.now.h.now }
+    ensures { OnOk result (DumpsElements (seen site.now.world.now.h.now site.now.heap.now site.now.object site.now.class) place.now.hops.now place.now.base.now m d k count count out.old.items out.new.items) }
+{
+    let size = site.world.numbers.in_full(d);
+    for i in 0..count {
+        let hops = hops_below(alloc, place, m, i)?;
+        let start = k.wrapping_add(i.wrapping_mul(size));
+        dump_whole(alloc, site, &hops, d, start, out)?;
+    }
+    Ok(())
+}
+
+/// The leaves of the member number m of a part of class c.
+#[cycle(dumps)]
+fn dump_member(
+    alloc: Global,
+    site: &Site,
+    place: &Place,
+    c: ClassId,
+    m: u32,
+    member: &Member<ClassId>,
+    k: u32,
+    out: &mut Vec<DumpLeaf>,
+) -> Result<(), NoMemory>
+    requires world { IsWorld site.now.world.now.h.now site.now.world.now.numbers.now site.now.world.now.overriders.now }
+    requires known { c.0 < length site.now.world.now.h.now }
+    requires below { (d : ClassId) → member.now.ty ≡ Object d → d.0 < c.0 }
+    ensures { OnOk result (DumpsMember (seen site.now.world.now.h.now site.now.heap.now site.now.object site.now.class) place.now.hops.now place.now.base.now c m member.now k out.old.items out.new.items) }
+{
+    match &member.ty {
+        FieldType::Value(_) => dump_values(alloc, site, place, m, k, member.elements(), out),
+        FieldType::Object(d) => {
+            dump_elements(alloc, site, place, m, *d, k, member.elements(), out)
+        }
+    }
+}
+
+/// The leaves of the members that class c declares, in a part of it of number k.
+#[cycle(dumps)]
+fn dump_own(
+    alloc: Global,
+    site: &Site,
+    place: &Place,
+    c: ClassId,
+    k: u32,
+    out: &mut Vec<DumpLeaf>,
+) -> Result<(), NoMemory>
+    requires world { IsWorld site.now.world.now.h.now site.now.world.now.numbers.now site.now.world.now.overriders.now }
+    requires known { c.0 < length site.now.world.now.h.now }
+    ensures { OnOk result (DumpsOwn (seen site.now.world.now.h.now site.now.heap.now site.now.object site.now.class) place.now.hops.now place.now.base.now c k out.old.items out.new.items) }
+{
+    site.world.h.keeps();
+    let members = site.world.h.class(c).members.as_slice();
+    for (m, member) in members.iter().enumerate() {
+        let start = k.wrapping_add(site.world.numbers.member_offset(c, m));
+        dump_member(alloc, site, place, c, m as u32, member, start, out)?;
+    }
+    Ok(())
+}
+
+/// The leaves of a complete object of class c, of number k, to which the hops lead.
+#[cycle(dumps)]
+fn dump_whole(
+    alloc: Global,
+    site: &Site,
+    hops: &[Hop],
+    c: ClassId,
+    k: u32,
+    out: &mut Vec<DumpLeaf>,
+) -> Result<(), NoMemory>
+    requires world { IsWorld site.now.world.now.h.now site.now.world.now.numbers.now site.now.world.now.overriders.now }
+    requires known { c.0 < length site.now.world.now.h.now }
+    ensures { OnOk result (DumpsWhole (seen site.now.world.now.h.now site.now.heap.now site.now.object site.now.class) hops.now c k out.old.items out.new.items) }
+{
+    site.world.h.keeps();
+    let bases = list_subobjects(alloc, site.world.h, c)?;
+    for base in bases.as_slice() {
+        let d = class_or_first(base);
+        let start = k.wrapping_add(site.world.numbers.number_in(site.world.h, c, base));
+        let place = Place { hops, base };
+        dump_own(alloc, site, &place, d, start, out)?;
+    }
+    Ok(())
+}
+
+/// The dump of the whole heap object of a part: its number from 1, its class, and each of its leaves with its value.
+///
+/// Errors: want of memory, also for the heap object behind which no number of 32 bits is left.
+pub fn dump(alloc: Global, world: &World, heap: &Heap, n: u32) -> Result<Out, NoMemory>
+    requires { IsWorld world.now.h.now world.now.numbers.now world.now.overriders.now }
+    ensures { IfOk result (λ told. (s : Objects) (p : ObjectPart) → HeapStands world.now.h.now heap.now s → Points world.now.h.now s.classes n p → Some told ≡ object_out world.now.h.now s p.object (slice_get s.classes p.object)) }
+{
+    let object = heap.object(n);
+    if object == u32::MAX {
+        return Err(NoMemory);
+    }
+    let class = heap.object_class(n);
+    let site = Site {
+        world,
+        heap,
+        object: object + 1,
+        class,
+    };
+    let mut leaves = Vec::new(alloc);
+    if class.0 >= world.h.len() {
+        return Ok(Out::Dump(object + 1, class, Sequence::from_vec(leaves)));
+    }
+    dump_whole(alloc, &site, &[], class, heap.heap_object(n), &mut leaves)?;
+    Ok(Out::Dump(object + 1, class, Sequence::from_vec(leaves)))
+}

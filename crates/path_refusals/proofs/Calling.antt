@@ -1,0 +1,171 @@
+-- What a call asks behind its pointer.
+use Rattle.std.proofs.Common.{arith, ◌<◌, ◌≤◌, ◌≡◌, Bool, true, false, ◌||◌, Option, Some, None, List, [], ◌∷◌, ◌++◌, refl, ap, subst, ◌∙◌, append_assoc}
+use Rattle.std.specs.Prelude.{if◌then◌else◌}
+use Rattle.std.specs.List.{flat_map}
+use Rattle.foundation.proofs.Truth.{split}
+use Rattle.cxx_hierarchy.specs.declared.records.ClassId.{ClassId}
+use Rattle.cxx_hierarchy.specs.declared.records.Function.{Function}
+use Rattle.cxx_hierarchy.specs.Classes.{Classes}
+use Rattle.cxx_subobject.specs.declared.Subobject.{Subobject}
+use Rattle.cxx_subobject.specs.Locations.{ObjectPart}
+use Rattle.cxx_subobject.proofs.InsideLemmas.{join_class}
+use Rattle.cxx_overrider.specs.declared.FunctionId.{FunctionId}
+use Rattle.cxx_search.proofs.Virtuals.{test_virtual}
+use Rattle.cxx_program.specs.declared.statement.TypedCall.{TypedCall}
+use Rattle.cxx_program.specs.Typed.{Scope, IsWay, IsCall}
+use Rattle.path_rules.specs.declared.Undefined.TheVariants.{PureCall}
+use Rattle.path_model.specs.Values.{Value, Unset, Number, Null, Pointer, Objects, Sight, value, to_base}
+use Rattle.path_model.specs.Uses.{Use, Takes, takes, views, arrow, is_shared, is_shared_way, goes_to, argument_uses, call_uses}
+use Rattle.path_model.specs.Rules.{refused, names, is_unready, is_outside, is_pure_at}
+use Rattle.path_model.proofs.Ranks.{first_place, rank, rank_append}
+use Rattle.path_model.proofs.Single.{none_rank, view_rank, view_late, views_none}
+use Rattle.path_model.proofs.Conversions.{is_pointer, off_outside, base_steady, converted_of}
+use Rattle.cxx_program.specs.declared.operand.Conversion.TheVariants.{Base as ToBase}
+use Rattle.path_heap.specs.declared.state.Value.{Value as ValueCode}
+use Rattle.path_heap.specs.declared.heap.Heap.{Heap}
+use Rattle.path_model.specs.Typed.{IsOf}
+use Rattle.path_heap.specs.Stands.{Means}
+use Rattle.path_values.specs.Conversions.{CanReach, CanGo}
+use Rattle.path_refusals.specs.invariants.Pieces.{IsValueOf, IsFound, CanTake, way_asked, found_asked}
+use Rattle.path_refusals.proofs.Refused.{clear_rank, refused_alike, swapped_rank, rank_behind}
+use Rattle.path_refusals.proofs.Reading.{arrow_then, begun_of}
+use Rattle.path_refusals.proofs.Paths.{inner_begun}
+
+pub take_is : (h : Classes) (s : Objects) (p : ObjectPart) (f : FunctionId) (b : Bool) → is_pure_at h s f p ≡ b → refused h s (Takes (Pointer p) f ∷ []) ≡ (if b then Some PureCall else None)
+unfolding refused
+take_is h s p f true e = rw e refl
+take_is h s p f false e = rw e refl
+
+take_rank : (h : Classes) (s : Objects) (p : ObjectPart) (f : FunctionId) (b : Bool) → is_pure_at h s f p ≡ b → rank h s (Takes (Pointer p) f ∷ []) ≡ (if b then 5 else 12)
+unfolding rank first_place
+take_rank h s p f true e = rw e refl
+take_rank h s p f false e = rw e refl
+
+pub off_take : (h : Classes) (s : Objects) (x : Value) (f : FunctionId) (b : Bool) → is_pointer x ≡ false → None ≡ refused h s (takes b x f)
+unfolding refused
+off_take h s Unset f true e = refl
+off_take h s Unset f false e = refl
+off_take h s (Number z) f true e = refl
+off_take h s (Number z) f false e = refl
+off_take h s Null f true e = refl
+off_take h s Null f false e = refl
+off_take h s (Pointer p) f b e = absurd (cc)
+
+takes_late : (h : Classes) (s : Objects) (b : Bool) (x : Value) (f : FunctionId) → 5 ≤ rank h s (takes b x f)
+takes_late h s false x f = let n = none_rank h s in omega (arith, n)
+takes_late h s true Unset f = let r = clear_rank h s (takes true Unset f) (off_take h s Unset f true refl) in omega (arith, r)
+takes_late h s true (Number z) f = let r = clear_rank h s (takes true (Number z) f) (off_take h s (Number z) f true refl) in omega (arith, r)
+takes_late h s true Null f = let r = clear_rank h s (takes true Null f) (off_take h s Null f true refl) in omega (arith, r)
+takes_late h s true (Pointer p) f = split (is_pure_at h s f p) (λ b. is_pure_at h s f p ≡ b → 5 ≤ rank h s (Takes (Pointer p) f ∷ []))
+    (λ _ e. let r = take_rank h s p f true e in omega (arith, r)) (λ _ e. let r = take_rank h s p f false e in omega (arith, r)) refl
+
+view_three : (h : Classes) (s : Objects) (b : Bool) (x : Value) → rank h s (views b x) < 12 → rank h s (views b x) ≤ 3
+view_three h s true x less = split (names (is_outside h s) x) (λ t. rank h s (views true x) ≤ 3) (λ e. let r = view_rank h s x true e in omega (arith, r)) (λ e. let r = view_rank h s x false e in omega (arith, r, less))
+view_three h s false x less = let n = none_rank h s in omega (arith, n, less)
+
+-- a view comes before what is asked behind it
+pub view_then : (h : Classes) (s : Objects) (b : Bool) (x : Value) (us : List Use) → 3 ≤ rank h s us → rank h s (views b x) < 12 → rank h s (views b x) ≤ rank h s us
+view_then h s b x us late less = let l = view_three h s b x less in omega (arith, l, late)
+
+pub taken_late : (h : Classes) (s : Objects) (b : Bool) (x : Value) (f : FunctionId) → 3 ≤ rank h s (takes b x f)
+taken_late h s b x f = let l = takes_late h s b x f in omega (arith, l)
+
+pub found_late : (h : Classes) (s : Objects) (call : TypedCall) (y : Value) → 3 ≤ rank h s (found_asked call y)
+found_late h s call y =
+    let r = rank_append h s (views (is_shared call.base) y) (takes call.is_dispatched (to_base call.base y) call.function) in
+    let v = view_late h s (is_shared call.base) y in
+    let t = takes_late h s call.is_dispatched (to_base call.base y) call.function in
+    omega (arith, r, v, t)
+
+pub way_late : (h : Classes) (s : Objects) (call : TypedCall) (x : Value) → 2 ≤ rank h s (way_asked call x)
+way_late h s call x =
+    let r = rank_append h s (views (call.is_dispatched || is_shared_way call.qualifier) x) (found_asked call (goes_to call.qualifier x)) in
+    let v = view_late h s (call.is_dispatched || is_shared_way call.qualifier) x in
+    let f = found_late h s call (goes_to call.qualifier x) in
+    omega (arith, r, v, f)
+
+base_off : (i : Subobject) (x : Value) → is_pointer x ≡ false → is_pointer (to_base i x) ≡ false
+base_off i Unset e = refl
+base_off i (Number z) e = refl
+base_off i Null e = refl
+base_off i (Pointer p) e = absurd (cc)
+
+goes_off : (q : Option Subobject) (x : Value) → is_pointer x ≡ false → is_pointer (goes_to q x) ≡ false
+goes_off None x e = e
+goes_off (Some i) x e = base_off i x e
+
+way_off : (h : Classes) (s : Objects) (call : TypedCall) (x : Value) → is_pointer x ≡ false → rank h s (way_asked call x) ≡ 12
+way_off h s call x e =
+    let y = goes_to call.qualifier x in
+    let off = goes_off call.qualifier x e in
+    let r = rank_append h s (views (call.is_dispatched || is_shared_way call.qualifier) x) (found_asked call y) in
+    let t = rank_append h s (views (is_shared call.base) y) (takes call.is_dispatched (to_base call.base y) call.function) in
+    let v = views_none h s (call.is_dispatched || is_shared_way call.qualifier) x (off_outside h s x e) in
+    let w = views_none h s (is_shared call.base) y (off_outside h s y off) in
+    let u = clear_rank h s (takes call.is_dispatched (to_base call.base y) call.function) (off_take h s (to_base call.base y) call.function call.is_dispatched (base_off call.base y off)) in
+    omega (arith, r, t, v, w, u)
+
+pub arrow_way : (h : Classes) (s : Objects) (call : TypedCall) (x : Value) → rank h s (arrow x) < 12 → rank h s (arrow x) ≤ rank h s (way_asked call x)
+arrow_way h s call x less = arrow_then h s x (way_asked call x) (way_off h s call x) (way_late h s call x) less
+
+-- the way to the class before `::`
+
+pub can_go : (h : Classes) (heap : Heap) (s : Objects) (v : ValueCode) (x : Value) (c through : ClassId) (q : Option Subobject) → IsValueOf h heap s v x c → names (is_unready s) x ≡ false → IsWay h c q through → CanGo h s x q
+can_go h heap s v x c through None a e way = tt
+can_go h heap s v Unset c through (Some i) a e way = tt
+can_go h heap s v (Number z) c through (Some i) a e way = tt
+can_go h heap s v Null c through (Some i) a e way = tt
+can_go h heap s v (Pointer p) c through (Some i) a e way = record { begun = begun_of s p e; class = c; of_class = a.of_class.0; valid = way.valid }
+
+pub gone_steady : (h : Classes) (heap : Heap) (s : Objects) (v : ValueCode) (x : Value) (c through : ClassId) (q : Option Subobject) → IsValueOf h heap s v x c → names (is_unready s) x ≡ false → IsWay h c q through → names (is_unready s) (goes_to q x) ≡ false
+gone_steady h heap s v x c through None a e way = e
+gone_steady h heap s v x c through (Some i) a e way = base_steady h s a.settled x c through i a.of_class way e
+
+pub gone_value : (h : Classes) (heap : Heap) (s : Objects) (v u : ValueCode) (x : Value) (c through : ClassId) (q : Option Subobject) → IsValueOf h heap s v x c → IsWay h c q through → Means h s.classes u (goes_to q x) → IsValueOf h heap s u (goes_to q x) through
+gone_value h heap s v u x c through None a way m = record { heap_stands = a.heap_stands; means = m; settled = a.settled; of_class = subst (λ (k : ClassId). IsOf s x k) way a.of_class }
+gone_value h heap s v u x c through (Some i) a way m = record { heap_stands = a.heap_stands; means = m; settled = a.settled; of_class = converted_of h s x c through (ToBase i) a.of_class way }
+
+-- the way to the function
+
+pub can_reach : (h : Classes) (heap : Heap) (s : Objects) (v : ValueCode) (x : Value) (through : ClassId) (call : TypedCall) → IsValueOf h heap s v x through → names (is_unready s) x ≡ false → IsFound h through call → CanReach h s x call.base
+can_reach h heap s v Unset through call a e found = tt
+can_reach h heap s v (Number z) through call a e found = tt
+can_reach h heap s v Null through call a e found = tt
+can_reach h heap s v (Pointer p) through call a e found = record { begun = begun_of s p e; class = through; of_class = a.of_class.0; valid = found.base }
+
+pub can_take : (h : Classes) (heap : Heap) (s : Objects) (v : ValueCode) (x : Value) (through : ClassId) (call : TypedCall) → IsValueOf h heap s v x through → names (is_unready s) x ≡ false → IsFound h through call → CanTake h s call.function call.is_dispatched (to_base call.base x)
+can_take h heap s v Unset through call a e found = tt
+can_take h heap s v (Number z) through call a e found = tt
+can_take h heap s v Null through call a e found = tt
+can_take h heap s v (Pointer p) through call a e found = (
+  inner_begun h s p through call.base a.of_class.0 (a.settled p.object a.of_class.1.0 a.of_class.1.1) e found.base,
+  λ d. record { of_class = join_class h through p.at call.base a.of_class.0 found.base ∙ found.of_class; virtual_function = test_virtual h call.function (found.dispatched d) },
+)
+
+pub call_found : (h : Classes) (e : Scope) (call : TypedCall) (f : Function ClassId) (a : IsCall h e call f) → IsFound h a.through call
+call_found h e call f a = record { base = a.base; of_class = a.of_class; dispatched = λ d. (a.dispatched d).1 }
+
+-- the arguments stand between the views and the function
+pub call_is : (h : Classes) (s : Sight) (call : TypedCall) → refused h s.objects ((arrow (value s call.pointer) ++ way_asked call (value s call.pointer)) ++ flat_map (argument_uses s) call.arguments) ≡ refused h s.objects (call_uses s call)
+call_is h s call = refused_alike h s.objects ((A ++ (V ++ (W ++ T))) ++ F) (A ++ (V ++ (W ++ (F ++ T))))
+    (ap (λ us. rank h s.objects us) (append_assoc A (V ++ (W ++ T)) F) ∙ rank_behind h s.objects A ((V ++ (W ++ T)) ++ F) (V ++ (W ++ (F ++ T)))
+    (ap (λ us. rank h s.objects us) (append_assoc V (W ++ T) F) ∙ rank_behind h s.objects V ((W ++ T) ++ F) (W ++ (F ++ T))
+    (ap (λ us. rank h s.objects us) (append_assoc W T F) ∙ rank_behind h s.objects W (T ++ F) (F ++ T) (swapped_rank h s.objects T F))))
+  where
+    x : Value
+    x = value s call.pointer
+
+    A : List Use
+    A = arrow x
+
+    V : List Use
+    V = views (call.is_dispatched || is_shared_way call.qualifier) x
+
+    W : List Use
+    W = views (is_shared call.base) (goes_to call.qualifier x)
+
+    T : List Use
+    T = takes call.is_dispatched (to_base call.base (goes_to call.qualifier x)) call.function
+
+    F : List Use
+    F = flat_map (argument_uses s) call.arguments

@@ -1,0 +1,10 @@
+pub mod Refused
+pub mod Reading
+pub mod Paths
+pub mod Owning
+pub mod Casting
+pub mod Calling
+pub mod Givens
+pub mod Staging
+pub mod Covering
+pub mod Kinded

@@ -1,0 +1,211 @@
+//! What is asked of a call: its pointer, the way to the function, the view that dispatches, and its arguments.
+
+ghost use Rattle.std.specs.Prelude.{◌≡◌, [], ◌∷◌, ◌++◌, ◌||◌, false, IfOk};
+ghost use Rattle.cxx_hierarchy.specs.declared.records.ClassId.{ClassId};
+ghost use Rattle.cxx_subobject.specs.Locations.{ObjectPart};
+ghost use Rattle.cxx_hierarchy.specs.declared.records.Function.{Function};
+ghost use Rattle.cxx_program.specs.Typed.{Scope, IsWay, IsCall};
+ghost use Rattle.path_model.specs.Values.{Value as ValueOf, Objects, Sight, Pointer};
+ghost use Rattle.path_model.specs.Uses.{Takes, takes, arrow, call_uses, is_shared_way};
+ghost use Rattle.path_model.specs.Rules.{refused, names, is_unready};
+ghost use Rattle.path_heap.specs.Points.{Points};
+ghost use Rattle.path_heap.specs.Stands.{HeapStands, HasBegun, Means};
+ghost use Rattle.path_tables.specs.Asked.{AreAnswers};
+ghost use Rattle.path_values.specs.Worlds.{IsWorld};
+ghost use Rattle.path_views.specs.Views.{IsCallable};
+ghost use Rattle.path_refusals.specs.invariants.Pieces.{Stands, IsValueOf, IsFound, CanTake, way_asked, found_asked};
+
+use crate::operands::arguments;
+use crate::pointers::arrow;
+use crate::rules::least;
+use crate::views::{is_shared, view_of};
+use cxx_overrider::FunctionId;
+use cxx_program::TypedCall;
+use cxx_subobject::Subobject;
+use foundation::NoMemory;
+use path_heap::{Heap, Value};
+use path_rules::Undefined;
+use path_tables::Answers;
+use path_values::{Scene, World, goes_to, to_base, value};
+use path_views::is_pure;
+use std::alloc::Global;
+
+/// What a dispatched call on a part breaks: the final overrider is pure (ISO C++03 10.4 p6).
+///
+/// Errors: want of memory.
+fn part_taken(
+    alloc: Global,
+    world: &World,
+    heap: &Heap,
+    answers: &mut Answers,
+    n: u32,
+    f: FunctionId,
+) -> Result<Option<Undefined>, NoMemory>
+    requires world { IsWorld world.now.h.now world.now.numbers.now world.now.overriders.now }
+    requires answers { AreAnswers world.now.h.now answers.old }
+    ensures answers { AreAnswers world.now.h.now answers.new }
+    ensures is { IfOk result (λ rule. (s : Objects) (p : ObjectPart) → HeapStands world.now.h.now heap.now s → Points world.now.h.now s.classes n p → HasBegun s p → IsCallable world.now.h.now p f → rule ≡ refused world.now.h.now s (Takes (Pointer p) f ∷ [])) }
+{
+    if is_pure(alloc, world, heap, answers, n, f)? {
+        Ok(Some(Undefined::PureCall))
+    } else {
+        Ok(None)
+    }
+}
+
+/// The same of a receiver, where the call is dispatched.
+///
+/// Errors: want of memory.
+fn taken(
+    alloc: Global,
+    world: &World,
+    heap: &Heap,
+    answers: &mut Answers,
+    v: Value,
+    f: FunctionId,
+    is_dispatched: bool,
+) -> Result<Option<Undefined>, NoMemory>
+    requires world { IsWorld world.now.h.now world.now.numbers.now world.now.overriders.now }
+    requires answers { AreAnswers world.now.h.now answers.old }
+    ensures answers { AreAnswers world.now.h.now answers.new }
+    ensures is { IfOk result (λ rule. (s : Objects) (x : ValueOf) → HeapStands world.now.h.now heap.now s → Means world.now.h.now s.classes v x → CanTake world.now.h.now s f is_dispatched x → rule ≡ refused world.now.h.now s (takes is_dispatched x f)) }
+{
+    if !is_dispatched {
+        return Ok(None);
+    }
+    match v {
+        Value::Unset => Ok(None),
+        Value::Number(_) => Ok(None),
+        Value::Null => Ok(None),
+        Value::Pointer(n) => part_taken(alloc, world, heap, answers, n, f),
+    }
+}
+
+/// Whether the class before `::` is behind a virtual base.
+fn is_shared_way(qualifier: &Option<Subobject>) -> bool
+    ensures { result ≡ is_shared_way qualifier.now }
+{
+    match qualifier {
+        Some(i) => is_shared(i),
+        None => false,
+    }
+}
+
+/// Whether the way to the function needs the view of the pointer.
+fn is_view_needed(call: &TypedCall) -> bool
+    ensures { result ≡ (call.now.is_dispatched || is_shared_way call.now.qualifier) }
+{
+    if call.is_dispatched {
+        return true;
+    }
+    is_shared_way(&call.qualifier)
+}
+
+/// What a call breaks from the subobject of the class before `::`, or of the pointer's, on.
+///
+/// Errors: want of memory.
+fn found(
+    alloc: Global,
+    world: &World,
+    heap: &Heap,
+    answers: &mut Answers,
+    v: Value,
+    call: &TypedCall,
+) -> Result<Option<Undefined>, NoMemory>
+    requires world { IsWorld world.now.h.now world.now.numbers.now world.now.overriders.now }
+    requires answers { AreAnswers world.now.h.now answers.old }
+    ensures answers { AreAnswers world.now.h.now answers.new }
+    ensures is { IfOk result (λ rule. (s : Objects) (x : ValueOf) (through : ClassId) → IsValueOf world.now.h.now heap.now s v x through → names (is_unready s) x ≡ false → IsFound world.now.h.now through call.now → rule ≡ refused world.now.h.now s (found_asked call.now x)) }
+{
+    match view_of(alloc, world, heap, answers, v, is_shared(&call.base))? {
+        Some(rule) => Ok(Some(rule)),
+        None => {
+            let receiver = to_base(world, heap, v, &call.base);
+            taken(
+                alloc,
+                world,
+                heap,
+                answers,
+                receiver,
+                call.function,
+                call.is_dispatched,
+            )
+        }
+    }
+}
+
+/// What a call breaks behind the arrow of its pointer, but for its arguments.
+///
+/// Errors: want of memory.
+fn way(
+    alloc: Global,
+    world: &World,
+    heap: &Heap,
+    answers: &mut Answers,
+    v: Value,
+    call: &TypedCall,
+) -> Result<Option<Undefined>, NoMemory>
+    requires world { IsWorld world.now.h.now world.now.numbers.now world.now.overriders.now }
+    requires answers { AreAnswers world.now.h.now answers.old }
+    ensures answers { AreAnswers world.now.h.now answers.new }
+    ensures is { IfOk result (λ rule. (s : Objects) (x : ValueOf) (through : ClassId) → IsValueOf world.now.h.now heap.now s v x call.now.class → names (is_unready s) x ≡ false → IsWay world.now.h.now call.now.class call.now.qualifier through → IsFound world.now.h.now through call.now → rule ≡ refused world.now.h.now s (way_asked call.now x)) }
+{
+    match view_of(alloc, world, heap, answers, v, is_view_needed(call))? {
+        Some(rule) => Ok(Some(rule)),
+        None => {
+            let from = goes_to(world, heap, v, &call.qualifier);
+            found(alloc, world, heap, answers, from, call)
+        }
+    }
+}
+
+/// What the pointer of a call breaks, and what is asked on the way from it.
+///
+/// Errors: want of memory.
+fn pointer(
+    alloc: Global,
+    world: &World,
+    heap: &Heap,
+    answers: &mut Answers,
+    v: Value,
+    call: &TypedCall,
+) -> Result<Option<Undefined>, NoMemory>
+    requires world { IsWorld world.now.h.now world.now.numbers.now world.now.overriders.now }
+    requires answers { AreAnswers world.now.h.now answers.old }
+    ensures answers { AreAnswers world.now.h.now answers.new }
+    ensures is { IfOk result (λ rule. (s : Objects) (x : ValueOf) (through : ClassId) → IsValueOf world.now.h.now heap.now s v x call.now.class → IsWay world.now.h.now call.now.class call.now.qualifier through → IsFound world.now.h.now through call.now → rule ≡ refused world.now.h.now s (arrow x ++ way_asked call.now x)) }
+{
+    match arrow(heap, v) {
+        Some(rule) => Ok(Some(rule)),
+        None => way(alloc, world, heap, answers, v, call),
+    }
+}
+
+/// What a call breaks (ISO C++03 5.2.2, 10.3 p12, 12.7 p3).
+///
+/// Errors: want of memory.
+pub(crate) fn call(
+    alloc: Global,
+    world: &World,
+    heap: &Heap,
+    answers: &mut Answers,
+    scene: &Scene,
+    call: &TypedCall,
+) -> Result<Option<Undefined>, NoMemory>
+    requires world { IsWorld world.now.h.now world.now.numbers.now world.now.overriders.now }
+    requires answers { AreAnswers world.now.h.now answers.old }
+    ensures answers { AreAnswers world.now.h.now answers.new }
+    ensures is { IfOk result (λ rule. (e : Scope) (s : Sight) (f : Function ClassId) → Stands world.now.h.now heap.now scene.now.globals.now scene.now.this scene.now.locals.now e s → IsCall world.now.h.now e call.now f → rule ≡ refused world.now.h.now s.objects (call_uses s call.now)) }
+{
+    let v = value(scene, &call.pointer);
+    let to = pointer(alloc, world, heap, answers, v, call)?;
+    let with = arguments(
+        alloc,
+        world,
+        heap,
+        answers,
+        scene,
+        call.arguments.as_slice(),
+    )?;
+    Ok(least(to, with))
+}

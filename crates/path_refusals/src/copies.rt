@@ -1,0 +1,165 @@
+//! What is asked of a copy: both pointers, the class members that it covers, and the views where the class has a virtual base.
+
+ghost use Rattle.std.specs.Prelude.{◌≡◌, ◌<◌, ◌≤◌, ◌∷◌, ◌++◌, ℕ, false, Some, IfOk, length, slice_get};
+ghost use Rattle.cxx_hierarchy.specs.declared.records.ClassId.{ClassId};
+ghost use Rattle.cxx_hierarchy.specs.Classes.{members_of};
+ghost use Rattle.cxx_subobject.specs.Subobjects.{class_of};
+ghost use Rattle.cxx_subobject.specs.Locations.{ObjectPart};
+ghost use Rattle.cxx_search.specs.Searches.{has_virtual_base};
+ghost use Rattle.path_plan.specs.Views.{Settled};
+ghost use Rattle.path_model.specs.Values.{Value, Objects, Pointer};
+ghost use Rattle.path_model.specs.Uses.{Passes, arrow, views, member_uses};
+ghost use Rattle.path_model.specs.Rules.{refused, names, is_unready};
+ghost use Rattle.path_model.specs.Order.{asked_covers, asked_covered};
+ghost use Rattle.path_heap.specs.Points.{Points};
+ghost use Rattle.path_heap.specs.Stands.{HeapStands};
+ghost use Rattle.path_tables.specs.Asked.{AreAnswers};
+ghost use Rattle.path_values.specs.Worlds.{IsWorld};
+ghost use Rattle.path_refusals.specs.invariants.Pieces.{TypedRefuses, OpenRefuses, IsReadyPart, Covers};
+
+use crate::deletes::is_complete;
+use crate::pointers::{arrow, is_unready};
+use crate::views::view;
+use cxx_hierarchy::{ClassId, FieldType, Member};
+use foundation::NoMemory;
+use path_heap::{Heap, Value};
+use path_rules::Undefined;
+use path_tables::Answers;
+use path_values::World;
+use std::alloc::Global;
+
+/// Whether a class has a virtual base: then it takes more numbers in full than as a base.
+pub(crate) fn has_virtual_base(world: &World, c: ClassId) -> bool
+    requires world { IsWorld world.now.h.now world.now.numbers.now world.now.overriders.now }
+    ensures { result ≡ has_virtual_base world.now.h.now c }
+{
+    world.h.keeps();
+    if c.0 >= world.h.len() {
+        return false;
+    }
+    world.numbers.as_base(c) < world.numbers.in_full(c)
+}
+
+/// A member by its place.
+fn member_at(members: &[Member<ClassId>], i: usize) -> &Member<ClassId>
+    requires { i < length members.now }
+    ensures { slice_get members.now i ≡ Some result.now }
+{
+    &members[i]
+}
+
+/// Whether an element of class d is ready, and the class members in it.
+#[cycle(covers)]
+fn is_element_covered(world: &World, heap: &Heap, e: u32, d: ClassId) -> bool
+    requires world { IsWorld world.now.h.now world.now.numbers.now world.now.overriders.now }
+    ensures { (s : Objects) (p : ObjectPart) (k : ℕ) → HeapStands world.now.h.now heap.now s → Points world.now.h.now s.classes e p → Settled world.now.h.now p.object s.phases → class_of p.at ≡ Some d → d.0 < k → Covers world.now.h.now s result (Passes p ∷ asked_covers world.now.h.now k d p) }
+{
+    if is_unready(heap, e) {
+        return false;
+    }
+    is_covered(world, heap, e, d)
+}
+
+/// Whether all elements of a member of a part that is ready are covered.
+#[cycle(covers)]
+fn is_member_covered(
+    world: &World,
+    heap: &Heap,
+    n: u32,
+    c: ClassId,
+    m: u32,
+    member: &Member<ClassId>,
+) -> bool
+    requires world { IsWorld world.now.h.now world.now.numbers.now world.now.overriders.now }
+    requires listed { slice_get (members_of world.now.h.now c) m ≡ Some member.now }
+    ensures { (s : Objects) (p : ObjectPart) (k : ℕ) → IsReadyPart world.now.h.now heap.now s n p c → c.0 ≤ k → Covers world.now.h.now s result (member_uses (asked_covers world.now.h.now k) p m (Some member.now)) }
+{
+    match &member.ty {
+        FieldType::Value(_) => true,
+        FieldType::Object(d) => {
+            for i in 0..member.elements() {
+                let e = heap.element(world.numbers, world.h, n, m, i);
+                if !is_element_covered(world, heap, e, *d) {
+                    return false;
+                }
+            }
+            true
+        }
+    }
+}
+
+/// Whether the class members are ready that a part of class c has which is ready, and the class members in these. In what is
+/// complete all are.
+#[cycle(covers)]
+fn is_covered(world: &World, heap: &Heap, n: u32, c: ClassId) -> bool
+    requires world { IsWorld world.now.h.now world.now.numbers.now world.now.overriders.now }
+    ensures { (s : Objects) (p : ObjectPart) (k : ℕ) → IsReadyPart world.now.h.now heap.now s n p c → c.0 < k → Covers world.now.h.now s result (asked_covers world.now.h.now k c p) }
+{
+    world.h.keeps();
+    if is_complete(heap.phase(n)) {
+        return true;
+    }
+    if c.0 >= world.h.len() {
+        return true;
+    }
+    let members = world.h.class(c).members.as_slice();
+    for m in 0..members.len() {
+        if !is_member_covered(world, heap, n, c, m as u32, member_at(members, m)) {
+            return false;
+        }
+    }
+    true
+}
+
+/// What a copy breaks behind the arrow of one of its pointers.
+///
+/// Errors: want of memory.
+fn covered(
+    alloc: Global,
+    world: &World,
+    heap: &Heap,
+    answers: &mut Answers,
+    v: Value,
+    c: ClassId,
+    needed: bool,
+) -> Result<Option<Undefined>, NoMemory>
+    requires world { IsWorld world.now.h.now world.now.numbers.now world.now.overriders.now }
+    requires answers { AreAnswers world.now.h.now answers.old }
+    ensures answers { AreAnswers world.now.h.now answers.new }
+    ensures is { IfOk result (OpenRefuses world.now.h.now heap.now v c (λ x. views needed x ++ asked_covered world.now.h.now c x)) }
+{
+    match v {
+        Value::Unset => Ok(None),
+        Value::Number(_) => Ok(None),
+        Value::Null => Ok(None),
+        Value::Pointer(n) => {
+            if !is_covered(world, heap, n, c) {
+                return Ok(Some(Undefined::NotReady));
+            }
+            view(alloc, world, heap, answers, n, needed)
+        }
+    }
+}
+
+/// What a copy breaks on one side, by the value of that pointer (ISO C++03 12.8 p13).
+///
+/// Errors: want of memory.
+pub(crate) fn side(
+    alloc: Global,
+    world: &World,
+    heap: &Heap,
+    answers: &mut Answers,
+    v: Value,
+    c: ClassId,
+    needed: bool,
+) -> Result<Option<Undefined>, NoMemory>
+    requires world { IsWorld world.now.h.now world.now.numbers.now world.now.overriders.now }
+    requires answers { AreAnswers world.now.h.now answers.old }
+    ensures answers { AreAnswers world.now.h.now answers.new }
+    ensures is { IfOk result (TypedRefuses world.now.h.now heap.now v c (λ x. arrow x ++ (views needed x ++ asked_covered world.now.h.now c x))) }
+{
+    match arrow(heap, v) {
+        Some(rule) => Ok(Some(rule)),
+        None => covered(alloc, world, heap, answers, v, c, needed),
+    }
+}

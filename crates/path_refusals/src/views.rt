@@ -1,0 +1,215 @@
+//! What is asked of views: of conversions to a base, and of what needs the view of a complete object.
+
+ghost use Rattle.std.specs.Prelude.{◌≡◌, ◌∷◌, ◌++◌, IfOk};
+ghost use Rattle.path_model.specs.Values.{Pointer};
+ghost use Rattle.path_model.specs.Uses.{Reads, Guards, arrow, convert, is_shared, views};
+ghost use Rattle.path_tables.specs.Asked.{AreAnswers};
+ghost use Rattle.path_values.specs.Worlds.{IsWorld};
+ghost use Rattle.path_refusals.specs.invariants.Pieces.{Refuses, SteadyRefuses, PartRefuses, ReadyRefuses};
+
+use crate::pointers::{arrow, is_unready, reads};
+use cxx_program::Conversion;
+use cxx_subobject::{Root, Subobject};
+use foundation::NoMemory;
+use path_heap::{Heap, Value};
+use path_rules::Undefined;
+use path_tables::Answers;
+use path_values::World;
+use path_views::is_outside;
+use std::alloc::Global;
+
+/// Whether a subobject is a virtual base or lies behind one.
+pub(crate) fn is_shared(i: &Subobject) -> bool
+    ensures { result ≡ is_shared i.now }
+{
+    match i.root {
+        Root::Whole => false,
+        Root::Shared(_) => true,
+    }
+}
+
+/// What a part breaks that is ready, where its view is needed: it lies outside of the view (ISO C++03 12.7).
+///
+/// Errors: want of memory.
+pub(crate) fn view(
+    alloc: Global,
+    world: &World,
+    heap: &Heap,
+    answers: &mut Answers,
+    n: u32,
+    needed: bool,
+) -> Result<Option<Undefined>, NoMemory>
+    requires world { IsWorld world.now.h.now world.now.numbers.now world.now.overriders.now }
+    requires answers { AreAnswers world.now.h.now answers.old }
+    ensures answers { AreAnswers world.now.h.now answers.new }
+    ensures is { IfOk result (ReadyRefuses world.now.h.now heap.now n (λ p. views needed (Pointer p))) }
+{
+    if !needed {
+        return Ok(None);
+    }
+    if is_outside(alloc, world, heap, answers, n)? {
+        Ok(Some(Undefined::OutsideView))
+    } else {
+        Ok(None)
+    }
+}
+
+/// The same of a value that is no pointer to a part that is not ready.
+///
+/// Errors: want of memory.
+pub(crate) fn view_of(
+    alloc: Global,
+    world: &World,
+    heap: &Heap,
+    answers: &mut Answers,
+    v: Value,
+    needed: bool,
+) -> Result<Option<Undefined>, NoMemory>
+    requires world { IsWorld world.now.h.now world.now.numbers.now world.now.overriders.now }
+    requires answers { AreAnswers world.now.h.now answers.old }
+    ensures answers { AreAnswers world.now.h.now answers.new }
+    ensures is { IfOk result (SteadyRefuses world.now.h.now heap.now v (λ x. views needed x)) }
+{
+    match v {
+        Value::Unset => Ok(None),
+        Value::Number(_) => Ok(None),
+        Value::Null => Ok(None),
+        Value::Pointer(n) => view(alloc, world, heap, answers, n, needed),
+    }
+}
+
+/// What a guarded use of a part breaks, where its view may be needed too.
+///
+/// Errors: want of memory.
+pub(crate) fn guard_view(
+    alloc: Global,
+    world: &World,
+    heap: &Heap,
+    answers: &mut Answers,
+    n: u32,
+    needed: bool,
+) -> Result<Option<Undefined>, NoMemory>
+    requires world { IsWorld world.now.h.now world.now.numbers.now world.now.overriders.now }
+    requires answers { AreAnswers world.now.h.now answers.old }
+    ensures answers { AreAnswers world.now.h.now answers.new }
+    ensures is { IfOk result (PartRefuses world.now.h.now heap.now n (λ p. Guards (Pointer p) ∷ views needed (Pointer p))) }
+{
+    if is_unready(heap, n) {
+        return Ok(Some(Undefined::NotReady));
+    }
+    view(alloc, world, heap, answers, n, needed)
+}
+
+/// The same of a value.
+///
+/// Errors: want of memory.
+pub(crate) fn guard_view_of(
+    alloc: Global,
+    world: &World,
+    heap: &Heap,
+    answers: &mut Answers,
+    v: Value,
+    needed: bool,
+) -> Result<Option<Undefined>, NoMemory>
+    requires world { IsWorld world.now.h.now world.now.numbers.now world.now.overriders.now }
+    requires answers { AreAnswers world.now.h.now answers.old }
+    ensures answers { AreAnswers world.now.h.now answers.new }
+    ensures is { IfOk result (Refuses world.now.h.now heap.now v (λ x. Guards x ∷ views needed x)) }
+{
+    match v {
+        Value::Unset => Ok(None),
+        Value::Number(_) => Ok(None),
+        Value::Null => Ok(None),
+        Value::Pointer(n) => guard_view(alloc, world, heap, answers, n, needed),
+    }
+}
+
+/// The same of a value that is read.
+///
+/// Errors: want of memory.
+pub(crate) fn read_view(
+    alloc: Global,
+    world: &World,
+    heap: &Heap,
+    answers: &mut Answers,
+    v: Value,
+    needed: bool,
+) -> Result<Option<Undefined>, NoMemory>
+    requires world { IsWorld world.now.h.now world.now.numbers.now world.now.overriders.now }
+    requires answers { AreAnswers world.now.h.now answers.old }
+    ensures answers { AreAnswers world.now.h.now answers.new }
+    ensures is { IfOk result (Refuses world.now.h.now heap.now v (λ x. Reads x ∷ (Guards x ∷ views needed x))) }
+{
+    match reads(heap, v) {
+        Some(rule) => Ok(Some(rule)),
+        None => guard_view_of(alloc, world, heap, answers, v, needed),
+    }
+}
+
+/// What a conversion breaks (ISO C++03 4.10, 12.7 p2).
+///
+/// Errors: want of memory.
+pub(crate) fn convert(
+    alloc: Global,
+    world: &World,
+    heap: &Heap,
+    answers: &mut Answers,
+    v: Value,
+    c: &Conversion,
+) -> Result<Option<Undefined>, NoMemory>
+    requires world { IsWorld world.now.h.now world.now.numbers.now world.now.overriders.now }
+    requires answers { AreAnswers world.now.h.now answers.old }
+    ensures answers { AreAnswers world.now.h.now answers.new }
+    ensures is { IfOk result (Refuses world.now.h.now heap.now v (λ x. convert x c.now)) }
+{
+    match c {
+        Conversion::Number(_) => Ok(None),
+        Conversion::Null => Ok(None),
+        Conversion::Same => Ok(None),
+        Conversion::Base(i) => guard_view_of(alloc, world, heap, answers, v, is_shared(i)),
+    }
+}
+
+/// What a value breaks that is read and converted.
+///
+/// Errors: want of memory.
+pub(crate) fn read_converted(
+    alloc: Global,
+    world: &World,
+    heap: &Heap,
+    answers: &mut Answers,
+    v: Value,
+    c: &Conversion,
+) -> Result<Option<Undefined>, NoMemory>
+    requires world { IsWorld world.now.h.now world.now.numbers.now world.now.overriders.now }
+    requires answers { AreAnswers world.now.h.now answers.old }
+    ensures answers { AreAnswers world.now.h.now answers.new }
+    ensures is { IfOk result (Refuses world.now.h.now heap.now v (λ x. Reads x ∷ convert x c.now)) }
+{
+    match reads(heap, v) {
+        Some(rule) => Ok(Some(rule)),
+        None => convert(alloc, world, heap, answers, v, c),
+    }
+}
+
+/// What the pointer of `->`, `*` or `typeid` breaks, where its view may be needed.
+///
+/// Errors: want of memory.
+pub(crate) fn arrow_view(
+    alloc: Global,
+    world: &World,
+    heap: &Heap,
+    answers: &mut Answers,
+    v: Value,
+    needed: bool,
+) -> Result<Option<Undefined>, NoMemory>
+    requires world { IsWorld world.now.h.now world.now.numbers.now world.now.overriders.now }
+    requires answers { AreAnswers world.now.h.now answers.old }
+    ensures answers { AreAnswers world.now.h.now answers.new }
+    ensures is { IfOk result (Refuses world.now.h.now heap.now v (λ x. arrow x ++ views needed x)) }
+{
+    match arrow(heap, v) {
+        Some(rule) => Ok(Some(rule)),
+        None => view_of(alloc, world, heap, answers, v, needed),
+    }
+}

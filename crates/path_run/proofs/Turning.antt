@@ -1,0 +1,155 @@
+-- A turn of a run: a step more with its lines, the end of the run, or a step whose lines pass the limit.
+use Rattle.std.proofs.Common.{◌≡◌, ◌∙◌, ℕ, suc, ◌+◌, ◌-◌, ◌≤◌, ◌<◌, ⊎_elim, arith, true, false, Option, Some, None, List, [], ◌++◌, length, ap, subst, sym, length-append}
+use Rattle.std.proofs.lemmas.Bool.{cases_lt, lt-ltb}
+use Rattle.cxx_hierarchy.specs.declared.records.ClassId.{ClassId}
+use Rattle.cxx_hierarchy.specs.declared.stop.LimitNo.TheVariants.{L9}
+use Rattle.cxx_hierarchy.specs.Classes.{Classes}
+use Rattle.cxx_program.specs.declared.program.TypedProgram.{TypedProgram}
+use Rattle.path_model.specs.declared.outs.Out.{Out}
+use Rattle.path_model.specs.declared.outs.Turn.{Turn}
+use Rattle.path_model.specs.declared.outs.Turn.TheVariants.{Went, Ended as EndedTurn, Refused, OutOfSteps as NoSteps, Limit as LimitTurn}
+use Rattle.path_model.specs.Runs.{IsRunning, move, outs_at, outs_in, run_of, state_at}
+use Rattle.path_machine.specs.declared.state.PathState.{PathState}
+use Rattle.path_machine.specs.Turns.{IsAtStep, IsInRun, HasEnded, TurnAgrees, taken_by, budget_of, ended_with}
+use Rattle.abi_sound.specs.Places.{Places}
+use Rattle.abi_out.specs.OutTexts.{printed, text_of}
+use Rattle.path_run.specs.declared.run.End.{End}
+use Rattle.path_run.specs.declared.run.End.TheVariants.{Done, Undefined, OutOfSteps, Limit}
+use Rattle.path_run.specs.Told.{ending_of, passes, text_at, text_limit, told}
+use Rattle.path_run.specs.invariants.Going.{IsGoing, IsRun, IsTurned, end_by}
+use Rattle.path_run.proofs.Ends.{small_passes, told_to, told_whole}
+use Rattle.path_run.proofs.Texts.{text_append}
+
+-- what a step that was taken gives
+pub record HasGoneOn (h : Classes) (l : Places) (program : TypedProgram) (before after : PathState) (telling : List Out) : Type 0 where
+  pub taken : taken_by after ≡ taken_by before + 1
+  pub budget : budget_of after ≡ budget_of before
+  pub going : ended_with after ≡ None
+  pub tells : telling ≡ outs_in (move h l.size program (state_at h l.size program (taken_by before)))
+
+pub went : (h : Classes) (l : Places) (program : TypedProgram) (before after : PathState) (telling : List Out) (turn : Turn) → TurnAgrees h l.size program before after [] telling None turn → end_by turn ≡ None → HasGoneOn h l program before after telling
+went h l program before after telling Went (taken, budget, going, tells) e = record { taken = taken; budget = budget; going = going; tells = tells }
+went h l program before after telling EndedTurn a e = absurd (let f : Some Done ≡ None = e in cc)
+went h l program before after telling (Refused rule line) a e = absurd (let f : Some (Undefined rule line) ≡ None = e in cc)
+went h l program before after telling NoSteps a e = absurd (let f : Some OutOfSteps ≡ None = e in cc)
+went h l program before after telling (LimitTurn limit) a e = absurd (let f : Some (Limit limit) ≡ None = e in cc)
+
+-- what an answer that ends the run gives
+pub record Over (h : Classes) (l : Places) (program : TypedProgram) (before : PathState) (end_is : End) : Type 0 where
+  pub outs : (run_of h l.size program (budget_of before)).outs ≡ outs_at h l.size program (taken_by before)
+  pub ending : (run_of h l.size program (budget_of before)).ending ≡ ending_of end_is
+
+over_by : (h : Classes) (l : Places) (program : TypedProgram) (before after : PathState) (end_is last : End) (turn : Turn) → (run_of h l.size program (budget_of before)).outs ≡ outs_at h l.size program (taken_by before) → budget_of after ≡ budget_of before → ended_with after ≡ Some turn
+    → IsInRun h l.size program after (ended_with after) → ((x : HasEnded h l.size program after turn) → (run_of h l.size program (budget_of after)).ending ≡ ending_of last) → last ≡ end_is → Over h l program before end_is
+over_by h l program before after end_is last turn outs budget ended in_run by same =
+    let x : HasEnded h l.size program after turn = subst (IsInRun h l.size program after) ended in_run in
+    record {
+      outs = outs;
+      ending = ap (λ (n : ℕ). (run_of h l.size program n).ending) (sym budget) ∙ (by x ∙ ap ending_of same);
+    }
+
+pub over : (h : Classes) (l : Places) (program : TypedProgram) (before after : PathState) (telling : List Out) (turn : Turn) (end_is : End) → TurnAgrees h l.size program before after [] telling None turn → end_by turn ≡ Some end_is → IsInRun h l.size program after (ended_with after) → Over h l program before end_is
+over h l program before after telling Went end_is a e in_run = absurd (let f : None ≡ Some end_is = e in cc)
+over h l program before after telling EndedTurn end_is (outs, budget, ended, same) e in_run = over_by h l program before after end_is Done EndedTurn outs budget ended in_run (λ x. x.ending) (let f : Some Done ≡ Some end_is = e in cc)
+over h l program before after telling (Refused rule line) end_is (outs, budget, ended, same) e in_run = over_by h l program before after end_is (Undefined rule line) (Refused rule line) outs budget ended in_run (λ x. x.ending) (let f : Some (Undefined rule line) ≡ Some end_is = e in cc)
+over h l program before after telling NoSteps end_is (outs, budget, ended, same) e in_run = over_by h l program before after end_is OutOfSteps NoSteps outs budget ended in_run (λ x. x.ending) (let f : Some OutOfSteps ≡ Some end_is = e in cc)
+over h l program before after telling (LimitTurn limit) end_is (outs, budget, ended, same) e in_run = over_by h l program before after end_is (Limit limit) (LimitTurn limit) outs budget ended in_run (λ x. x.ending) (let f : Some (Limit limit) ≡ Some end_is = e in cc)
+
+-- the run has ended with the text so far
+pub ends_run : (h : Classes) (l : Places) (program : TypedProgram) (before : PathState) (text : List ℕ) (end_is : End) → IsGoing h l program before text → Over h l program before end_is → IsRun h l program (budget_of before) text end_is
+ends_run h l program before text end_is goes last =
+    let steps = budget_of before in
+    let ran = run_of h l.size program steps in
+    let text_all : text_of h l (printed ran.outs) ≡ text = ap (λ (xs : List Out). text_of h l (printed xs)) last.outs ∙ sym goes.text_is in
+    let whole = told_whole h l program steps (subst (λ (t : List ℕ). length t ≤ text_limit) (sym text_all) goes.small) in
+    record {
+      text_is = sym text_all ∙ sym (ap (λ t. t.text) whole);
+      ending = sym last.ending ∙ sym (ap (λ t. t.ending) whole);
+    }
+
+one_more : (n : ℕ) → n + 1 ≡ suc n
+one_more n = omega arith
+
+-- the text with the lines of the next step
+lines_behind : (h : Classes) (l : Places) (program : TypedProgram) (n : ℕ) (text lines : List ℕ) (telling : List Out) → text ≡ text_at h l program n → telling ≡ outs_in (move h l.size program (state_at h l.size program n)) → lines ≡ text_of h l (printed telling) → text ++ lines ≡ text_at h l program (n + 1)
+lines_behind h l program n text lines telling is tells adds =
+    ap (λ (t : List ℕ). t ++ lines) is
+    ∙ (ap (λ (t : List ℕ). text_at h l program n ++ t) (adds ∙ ap (λ (xs : List Out). text_of h l (printed xs)) tells)
+    ∙ (sym (text_append h l (outs_at h l.size program n) (outs_in (move h l.size program (state_at h l.size program n)))) ∙ ap (text_at h l program) (sym (one_more n))))
+
+-- the lines pass the limit
+pub passes_limit : (h : Classes) (l : Places) (program : TypedProgram) (before after : PathState) (text lines : List ℕ) (telling : List Out) → IsGoing h l program before text → HasGoneOn h l program before after telling → IsInRun h l.size program after (ended_with after)
+    → lines ≡ text_of h l (printed telling) → text_limit < length text + length lines → IsRun h l program (budget_of before) text (Limit L9)
+passes_limit h l program before after text lines telling goes step in_run adds long =
+    let n = taken_by before in
+    let new : IsAtStep h l.size program after = subst (IsInRun h l.size program after) step.going in_run in
+    let all = lines_behind h l program n text lines telling goes.text_is step.tells adds in
+    let size = sym (length-append text lines) ∙ ap length all in
+    let passed : passes h l program n ≡ true = lt-ltb text_limit (length (text_at h l program (n + 1))) (omega (arith, size, long)) in
+    let within : n + 1 ≤ budget_of before = let a = new.within in let b = step.taken in let c = step.budget in omega (arith, a, b, c) in
+    let whole = told_to h l program n (budget_of before) (subst (λ (k : ℕ). IsRunning h l.size program k) step.taken new.running) within goes.room passed in
+    record {
+      text_is = goes.text_is ∙ sym (ap (λ t. t.text) whole);
+      ending = sym (ap (λ t. t.ending) whole);
+    }
+
+room_more : (h : Classes) (l : Places) (program : TypedProgram) (n : ℕ) → ((k : ℕ) → k < n → passes h l program k ≡ false) → length (text_at h l program (n + 1)) ≤ text_limit → (k : ℕ) → k < n + 1 → passes h l program k ≡ false
+room_more h l program n room small k lt = ⊎_elim (λ less. room k less) (λ ge. let same : k ≡ n = omega (arith, lt, ge) in ap (passes h l program) same ∙ small_passes h l program n small) (cases_lt k n)
+
+-- the lines stand behind the text
+pub goes_on : (h : Classes) (l : Places) (program : TypedProgram) (before after : PathState) (text lines new : List ℕ) (telling : List Out) → IsGoing h l program before text → HasGoneOn h l program before after telling → IsInRun h l.size program after (ended_with after)
+    → lines ≡ text_of h l (printed telling) → length text + length lines ≤ text_limit → new ≡ text ++ lines → IsTurned h l program before after new
+goes_on h l program before after text lines new telling goes step in_run adds few puts =
+    let n = taken_by before in
+    let all : new ≡ text_at h l program (n + 1) = puts ∙ lines_behind h l program n text lines telling goes.text_is step.tells adds in
+    let size = ap length puts ∙ length-append text lines in
+    let small : length new ≤ text_limit = omega (arith, size, few) in
+    record {
+      goes = record {
+        at_step = subst (IsInRun h l.size program after) step.going in_run;
+        going = step.going;
+        text_is = all ∙ ap (text_at h l program) (sym step.taken);
+        small = small;
+        room = λ k lt. room_more h l program n goes.room (subst (λ (t : List ℕ). length t ≤ text_limit) all small) k (subst (λ (m : ℕ). k < m) step.taken lt);
+      };
+      taken = step.taken;
+      budget = step.budget;
+    }
+
+-- a machine is at a step of a run whose sizes are those of the layout
+pub stands_at : (h : Classes) (sizes : ClassId → ℕ) (l : Places) (program : TypedProgram) (state : PathState) → sizes ≡ l.size → ended_with state ≡ None → IsAtStep h l.size program state → IsInRun h sizes program state (ended_with state)
+stands_at h sizes l program state is going at_step = subst (IsInRun h sizes program state) (sym going) (subst (λ (z : ClassId → ℕ). IsAtStep h z program state) (sym is) at_step)
+
+pub agrees_at : (h : Classes) (sizes : ClassId → ℕ) (l : Places) (program : TypedProgram) (before after : PathState) (old telling : List Out) (o : Option Turn) (turn : Turn) → sizes ≡ l.size → old ≡ [] → o ≡ None → TurnAgrees h sizes program before after old telling o turn
+    → TurnAgrees h l.size program before after [] telling None turn
+agrees_at h sizes l program before after old telling o turn is none going a =
+    subst (λ (z : ClassId → ℕ). TurnAgrees h z program before after [] telling None turn) is
+    (subst (λ (xs : List Out). TurnAgrees h sizes program before after xs telling None turn) none
+    (subst (λ (p : Option Turn). TurnAgrees h sizes program before after old telling p turn) going a))
+
+pub in_run_at : (h : Classes) (sizes : ClassId → ℕ) (l : Places) (program : TypedProgram) (state : PathState) (o : Option Turn) → sizes ≡ l.size → IsInRun h sizes program state o → IsInRun h l.size program state o
+in_run_at h sizes l program state o is a = subst (λ (z : ClassId → ℕ). IsInRun h z program state o) is a
+
+-- the lines of what a step tells
+pub lines_are : (h : Classes) (l : Places) (old lines : List ℕ) (outs telling : List Out) → old ≡ [] → outs ≡ telling → lines ≡ old ++ text_of h l (printed outs) → lines ≡ text_of h l (printed telling)
+lines_are h l old lines outs telling none same adds = adds ∙ (ap (λ (t : List ℕ). t ++ text_of h l (printed outs)) none ∙ ap (λ (xs : List Out). text_of h l (printed xs)) same)
+
+-- before the first step
+pub starts : (h : Classes) (sizes : ClassId → ℕ) (l : Places) (program : TypedProgram) (state : PathState) (text : List ℕ) → sizes ≡ l.size → IsInRun h sizes program state None → taken_by state ≡ 0 → ended_with state ≡ None → text ≡ [] → IsGoing h l program state text
+starts h sizes l program state text is in_run none going fresh = record {
+  at_step = in_run_at h sizes l program state None is in_run;
+  going = going;
+  text_is = fresh ∙ sym (ap (text_at h l program) none);
+  small = subst (λ (t : List ℕ). length t ≤ text_limit) (sym fresh) (omega arith);
+  room = λ k lt. absurd (omega (arith, lt, none));
+}
+
+-- a turn leaves fewer steps
+pub less_left : (b t c u : ℕ) → u ≡ t + 1 → c ≡ b → u ≤ c → c - u < b - t
+less_left b t c u more same le = omega (arith, more, same, le)
+
+pub run_is : (h : Classes) (l : Places) (program : TypedProgram) (left steps : ℕ) (text given : List ℕ) (end_is : End) → left ≡ steps → given ≡ text → IsRun h l program left text end_is → IsRun h l program steps given end_is
+run_is h l program left steps text given end_is same is a = record {
+  text_is = is ∙ (a.text_is ∙ ap (λ (n : ℕ). (told h l program n).text) same);
+  ending = a.ending ∙ ap (λ (n : ℕ). (told h l program n).ending) same;
+}

@@ -1,0 +1,44 @@
+-- A run that goes on with the text so far, and a run that has ended.
+use Rattle.std.specs.Prelude.{◌≡◌, ◌≤◌, ◌<◌, ℕ, ◌+◌, false, Option, Some, None, List, length}
+use Rattle.cxx_hierarchy.specs.Classes.{Classes}
+use Rattle.cxx_program.specs.declared.program.TypedProgram.{TypedProgram}
+use Rattle.path_model.specs.declared.outs.Turn.{Turn}
+use Rattle.path_model.specs.declared.outs.Turn.TheVariants.{Went, Ended as EndedTurn, Refused, OutOfSteps as NoSteps, Limit as LimitTurn}
+use Rattle.path_machine.specs.declared.state.PathState.{PathState}
+use Rattle.path_machine.specs.Turns.{IsAtStep, taken_by, budget_of, ended_with}
+use Rattle.abi_sound.specs.Places.{Places}
+use Rattle.path_run.specs.declared.run.End.{End}
+use Rattle.path_run.specs.declared.run.End.TheVariants.{Done, Undefined, OutOfSteps, Limit}
+use Rattle.path_run.specs.Told.{ending_of, passes, text_at, text_limit, told}
+
+-- the end that an answer is; none of a step that was taken
+abbrev pub end_by : Turn → Option End
+end_by Went = None
+end_by EndedTurn = Some Done
+end_by (Refused rule line) = Some (Undefined rule line)
+end_by NoSteps = Some OutOfSteps
+end_by (LimitTurn limit) = Some (Limit limit)
+
+-- the machine is at a step, and the text is that of the steps before, none of which passed the limit
+pub record IsGoing (h : Classes) (l : Places) (program : TypedProgram) (state : PathState) (text : List ℕ) : Type 0 where
+  pub at_step : IsAtStep h l.size program state
+  pub going : ended_with state ≡ None
+  pub text_is : text ≡ text_at h l program (taken_by state)
+  pub small : length text ≤ text_limit
+  pub room : (k : ℕ) → k < taken_by state → passes h l program k ≡ false
+
+-- the run of so many steps has this text and this end
+pub record IsRun (h : Classes) (l : Places) (program : TypedProgram) (steps : ℕ) (text : List ℕ) (end_is : End) : Type 0 where
+  pub text_is : text ≡ (told h l program steps).text
+  pub ending : ending_of end_is ≡ (told h l program steps).ending
+
+-- one step more, with its lines
+pub record IsTurned (h : Classes) (l : Places) (program : TypedProgram) (before after : PathState) (text : List ℕ) : Type 0 where
+  pub goes : IsGoing h l program after text
+  pub taken : taken_by after ≡ taken_by before + 1
+  pub budget : budget_of after ≡ budget_of before
+
+-- what one turn came to
+abbrev pub Turned : Classes → Places → TypedProgram → (before after : PathState) → List ℕ → Option End → Type 0
+Turned h l program before after text None = IsTurned h l program before after text
+Turned h l program before after text (Some end_is) = IsRun h l program (budget_of before) text end_is

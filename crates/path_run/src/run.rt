@@ -1,0 +1,105 @@
+//! A whole run.
+
+ghost use Rattle.std.specs.Prelude.{◌≡◌, ◌≤◌, true, IfOk};
+ghost use Rattle.cxx_overrider.specs.Overriders.{AreOverriders};
+ghost use Rattle.cxx_program.specs.Typed.{IsTypedProgram};
+ghost use Rattle.path_model.specs.States.{is_body};
+ghost use Rattle.path_machine.specs.invariants.Setups.{IsSetup};
+ghost use Rattle.path_machine.specs.invariants.Steps.{size_in};
+ghost use Rattle.abi_sound.specs.Places.{places_of};
+ghost use Rattle.path_run.specs.Told.{told, ending_of};
+ghost use Rattle.path_run.specs.invariants.Going.{IsRun};
+
+use crate::sizes::sizes_of;
+use crate::turn::turn;
+use abi_sound::SoundLayout;
+use cxx_hierarchy::{Hierarchy, LimitNo};
+use cxx_overrider::Overriders;
+use cxx_program::TypedProgram;
+use foundation::{NoMemory, Sequence};
+use path_bodies::BodyIndex;
+use path_machine::{PathState, Run};
+use path_numbers::Numbers;
+use path_rules::Undefined;
+use path_values::World;
+use std::alloc::Global;
+
+/// How a run ends.
+#[derive(Clone, Copy, Debug, PartialEq, Eq)]
+pub enum End {
+    /// `main` ran to its end.
+    Done,
+    /// A step is undefined, with the line of its statement.
+    Undefined(Undefined, u32),
+    /// All steps of the budget were taken.
+    OutOfSteps,
+    /// A limit was met.
+    Limit(LimitNo),
+}
+
+/// The lines that a run printed, and how it ended.
+#[derive(Drop)]
+pub struct PathRun {
+    pub text: Sequence<u8>,
+    pub end: End,
+}
+
+/// Turns the machine of a run until an answer ends it.
+fn run_all<L: SoundLayout>(layout: &L, run: &Run, steps: u32) -> Result<PathRun, NoMemory>
+    requires layout { L.lays_out layout.now run.now.world.h.now }
+    requires setup { IsSetup run.now.world.h.now run.now.world.numbers.now run.now.world.overriders.now run.now.program.now run.now.index.now }
+    requires main { is_body run.now.program.now.main ≡ true }
+    requires sizes { size_in run.now.sizes.now ≡ (places_of run.now.world.h.now (L.rows layout.now)).size }
+    ensures { IfOk result (λ ran. IsRun run.now.world.h.now (places_of run.now.world.h.now (L.rows layout.now)) run.now.program.now steps ran.text ran.end) }
+{
+    let mut state = PathState::new(run, steps)?;
+    let mut text = Vec::new(run.alloc);
+    loop {
+        let ended = turn(layout, run, &mut state, &mut text)?;
+        match ended {
+            Some(end) => return Ok(PathRun {
+                text: Sequence::from_vec(text),
+                end,
+            }),
+            None => {}
+        }
+    }
+}
+
+/// Runs a typed program that has a `main`, for at most so many steps; places and sizes are those of the layout.
+///
+/// Errors: want of memory.
+pub fn run_paths<L: SoundLayout>(
+    alloc: Global,
+    h: &Hierarchy,
+    overriders: &Overriders,
+    layout: &L,
+    program: &TypedProgram,
+    steps: u32,
+) -> Result<PathRun, NoMemory>
+    requires layout { L.lays_out layout.now h.now }
+    requires overriders { AreOverriders h.now overriders.now }
+    requires typed { IsTypedProgram h.now program.now }
+    requires main { is_body program.now.main ≡ true }
+    requires budget { steps ≤ 4000000 }
+    ensures text { IfOk result (λ run. run.text ≡ (told h.now (places_of h.now (L.rows layout.now)) program.now steps).text) }
+    ensures end { IfOk result (λ run. ending_of run.end ≡ (told h.now (places_of h.now (L.rows layout.now)) program.now steps).ending) }
+{
+    h.keeps();
+    let numbers = Numbers::new(alloc, h)?;
+    let index = BodyIndex::new(alloc, program)?;
+    let sizes = sizes_of(alloc, h, layout)?;
+    let run = Run {
+        alloc,
+        world: World {
+            h,
+            numbers: &numbers,
+            overriders,
+        },
+        program,
+        index: &index,
+        sizes: sizes.as_slice(),
+    };
+    let ran = run_all(layout, &run, steps)?;
+    Ok(ran)
+}

@@ -1,0 +1,64 @@
+//! One turn of a run.
+
+ghost use Rattle.std.specs.Prelude.{◌≡◌, true, IfOk};
+ghost use Rattle.path_model.specs.States.{is_body};
+ghost use Rattle.path_machine.specs.invariants.Setups.{IsSetup};
+ghost use Rattle.path_machine.specs.invariants.Steps.{size_in};
+ghost use Rattle.abi_sound.specs.Places.{places_of};
+ghost use Rattle.path_run.specs.invariants.Going.{IsGoing, Turned, end_by};
+
+use crate::lines::append_printed;
+use crate::run::End;
+use abi_sound::SoundLayout;
+use cxx_hierarchy::LimitNo;
+use foundation::{NoMemory, Sequence};
+use path_machine::{PathState, Run};
+use path_model::Turn;
+
+/// The bytes that the text of a run may have.
+const TEXT_LIMIT: usize = 16777216;
+
+/// The end that an answer is; None for a step that was taken.
+fn end_of(turn: Turn) -> Option<End>
+    ensures { result ≡ end_by turn }
+{
+    match turn {
+        Turn::Went => None,
+        Turn::Ended => Some(End::Done),
+        Turn::Refused(rule, line) => Some(End::Undefined(rule, line)),
+        Turn::OutOfSteps => Some(End::OutOfSteps),
+        Turn::Limit(limit) => Some(End::Limit(limit)),
+    }
+}
+
+/// The next step, with its lines behind those before; the end of the run, where it has ended. A step whose lines pass the
+/// limit on the text leaves none.
+///
+/// Errors: want of memory.
+pub(crate) fn turn<L: SoundLayout>(
+    layout: &L,
+    run: &Run,
+    state: &mut PathState,
+    text: &mut Vec<u8>,
+) -> Result<Option<End>, NoMemory>
+    requires layout { L.lays_out layout.now run.now.world.h.now }
+    requires setup { IsSetup run.now.world.h.now run.now.world.numbers.now run.now.world.overriders.now run.now.program.now run.now.index.now }
+    requires main { is_body run.now.program.now.main ≡ true }
+    requires sizes { size_in run.now.sizes.now ≡ (places_of run.now.world.h.now (L.rows layout.now)).size }
+    requires going { IsGoing run.now.world.h.now (places_of run.now.world.h.now (L.rows layout.now)) run.now.program.now state.old text.old.items }
+    ensures { IfOk result (λ end. Turned run.now.world.h.now (places_of run.now.world.h.now (L.rows layout.now)) run.now.program.now state.old state.new text.new.items end) }
+{
+    let mut outs = Sequence::new(run.alloc);
+    let answer = state.step(run, &mut outs)?;
+    match end_of(answer) {
+        Some(end) => return Ok(Some(end)),
+        None => {}
+    }
+    let mut lines = Vec::new(run.alloc);
+    append_printed(run.alloc, run.world.h, layout, &mut lines, outs.as_slice())?;
+    if text.len() + lines.len() > TEXT_LIMIT {
+        return Ok(Some(End::Limit(LimitNo::L9)));
+    }
+    text.extend_from_slice(&lines)?;
+    Ok(None)
+}

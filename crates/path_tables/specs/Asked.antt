@@ -1,0 +1,12 @@
+-- When answers that are kept are right.
+use Rattle.cxx_hierarchy.specs.Classes.{Classes}
+use Rattle.path_tables.specs.declared.asked.Answers.{Answers}
+use Rattle.path_tables.specs.Kept.{AreLists, AreCasts, AreFinals, AreWithins, AreDowns}
+
+-- each list is that of its class, and each answer that of its key
+pub record AreAnswers (h : Classes) (answers : Answers) : Type 0 where
+  pub lists_right : AreLists h answers.lists
+  pub casts_right : AreCasts h answers.casts
+  pub finals_right : AreFinals h answers.finals
+  pub withins_right : AreWithins h answers.withins
+  pub downs_right : AreDowns h answers.downs

@@ -1,0 +1,5 @@
+pub mod Worlds
+pub mod Scenes
+pub mod Given
+pub mod Conversions
+pub mod Open
