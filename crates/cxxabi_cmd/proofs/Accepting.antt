@@ -1,5 +1,6 @@
 -- What is known of an accepted source.
-use Rattle.std.proofs.Common.{◌≡◌, ℕ, List, []}
+use Rattle.std.proofs.Common.{◌≡◌, ℕ, Bool, Option, Some, None, Ok, List, [], take, drop, true, refl, sym, ◌∙◌, ap}
+use Rattle.std.specs.Option.{is_some}
 use Rattle.std.proofs.lemmas.List.Elements.{recursion_from_All}
 use Rattle.foundation.proofs.Places.{each_at}
 use Rattle.cxx_hierarchy.specs.Classes.{Classes}
@@ -7,8 +8,23 @@ use Rattle.cxx_hierarchy.specs.ClassPass.{faults_of, IsInOrder}
 use Rattle.cxx_hierarchy.specs.Resolved.{resolved}
 use Rattle.cxx_hierarchy.specs.Hierarchies.{IsHierarchy}
 use Rattle.cxx_hierarchy.proofs.Kept.{is_hierarchy}
+use Rattle.cxx_syntax.specs.declared.tree.BodyTree.{BodyTree}
+use Rattle.cxx_syntax.specs.declared.source_text.Body.{Body}
 use Rattle.cxx_syntax.specs.declared.source_text.SourceText.{SourceText}
+use Rattle.cxx_some_reading.proofs.Owners.{source_bodies}
+use Rattle.cxx_program.specs.declared.program.TypedBody.{TypedBody}
 use Rattle.cxx_program.specs.declared.program.TypedProgram.{TypedProgram}
+use Rattle.cxx_program.specs.declared.program.Owner.TheVariants as owner
+use Rattle.cxx_program.specs.Typed.{IsTypedProgram}
+use Rattle.cxx_expression.specs.declared.scene.Entry.{Entry}
+use Rattle.cxx_resolve.specs.Stops.{◌>>=◌}
+use Rattle.cxx_resolve.specs.Turns.{in_turn}
+use Rattle.cxx_resolve.specs.Globals.{global_of}
+use Rattle.cxx_resolve.specs.Programs.{typed_body, main_setting, main_tree, main_of, body_of, program, program_of}
+use Rattle.cxx_typing.specs.Sources.{IsSourceOf}
+use Rattle.cxx_typing.proofs.Drafts.{then_ok}
+use Rattle.cxx_typing.proofs.PureFunctions.{pure_are_virtual}
+use Rattle.path_model.specs.States.{is_body}
 use Rattle.cxx_record_parser.proofs.Numbers.{source_in_order}
 use Rattle.cxxabi_cmd.specs.Verdict.{Verdict, Judgement, Stops, Accepts, by_text, by_records, by_classes, by_bodies, by_words, accepted, IsSource, HasNoFault}
 
@@ -35,3 +51,74 @@ accepted_keeps text s h p verdict = (kept text (Accepts s h p) verdict).0
 -- and have no fault
 pub accepted_fine : (text : List ℕ) (s : SourceText) (h : Classes) (p : TypedProgram) → Verdict text (Accepts s h p) → HasNoFault h
 accepted_fine text s h p verdict = (kept text (Accepts s h p) verdict).1
+
+-- a program has a main exactly where its source has one
+tree_kept : (h : Classes) (globals : List Entry) (tree : BodyTree) (main : Option TypedBody) → main_tree h globals tree ≡ Ok main → is_body main ≡ true
+unfolding main_tree
+tree_kept h globals tree main w =
+    let r = then_ok (typed_body h (main_setting globals) owner.Main [] [] tree) (λ (b : TypedBody). Ok (Some b)) main w in
+    let last = r.2 in
+    let same : Some r.0 ≡ main = cc in
+    ap is_body (sym same)
+
+main_kept : (h : Classes) (globals : List Entry) (tree : Option BodyTree) (main : Option TypedBody) → main_of h globals tree ≡ Ok main → is_body main ≡ is_some tree
+main_kept h globals None main w = let same : None ≡ main = cc in ap is_body (sym same)
+main_kept h globals (Some tree) main w = tree_kept h globals tree main w
+
+behind_main : (h : Classes) (globals : List Entry) (before : List TypedBody) (behind : List Body) (main : Option TypedBody) (given : Bool) (result : TypedProgram) →
+    (in_turn (body_of h globals) before behind >>= λ bodies. Ok (program globals main bodies)) ≡ Ok result → is_body main ≡ given → is_body result.main ≡ given
+behind_main h globals before behind main given result w is =
+    let r = then_ok (in_turn (body_of h globals) before behind) (λ (bodies : List TypedBody). Ok (program globals main bodies)) result w in
+    let last = r.2 in
+    let same : program globals main r.0 ≡ result = cc in
+    ap (λ (p : TypedProgram). is_body p.main) (sym same) ∙ is
+
+from_main : (h : Classes) (globals : List Entry) (before : List TypedBody) (behind : List Body) (tree : Option BodyTree) (result : TypedProgram) →
+    (main_of h globals tree >>= λ main. in_turn (body_of h globals) before behind >>= λ bodies. Ok (program globals main bodies)) ≡ Ok result → is_body result.main ≡ is_some tree
+from_main h globals before behind tree result w =
+    let m = then_ok (main_of h globals tree) (λ (main : Option TypedBody). in_turn (body_of h globals) before behind >>= λ bodies. Ok (program globals main bodies)) result w in
+    behind_main h globals before behind m.0 (is_some tree) result m.2 (main_kept h globals tree m.0 m.1)
+
+from_bodies : (h : Classes) (globals : List Entry) (front behind : List Body) (tree : Option BodyTree) (result : TypedProgram) →
+    (in_turn (body_of h globals) [] front >>= λ before. main_of h globals tree >>= λ main. in_turn (body_of h globals) before behind >>= λ bodies. Ok (program globals main bodies)) ≡ Ok result → is_body result.main ≡ is_some tree
+from_bodies h globals front behind tree result w =
+    let b = then_ok (in_turn (body_of h globals) [] front)
+    (λ (before : List TypedBody). main_of h globals tree >>= λ main. in_turn (body_of h globals) before behind >>= λ bodies. Ok (program globals main bodies)) result w in
+    from_main h globals b.0 behind tree result b.2
+
+program_main : (h : Classes) (source : SourceText) (result : TypedProgram) → program_of h source ≡ Ok result → is_body result.main ≡ is_some source.main
+unfolding program_of
+program_main h source result w =
+    let n = source.main_place in
+    let g = then_ok (in_turn (global_of h) [] source.globals)
+    (λ (globals : List Entry). in_turn (body_of h globals) [] (take n source.bodies) >>= λ before. main_of h globals source.main >>= λ main. in_turn (body_of h globals) before (drop n source.bodies) >>= λ bodies. Ok (program globals main bodies)) result w in
+    from_bodies h g.0 (take n source.bodies) (drop n source.bodies) source.main result g.2
+
+-- what a source resolves to without a fault is typed
+abbrev pub ProgramsAreTyped : Type 0
+ProgramsAreTyped = (h : Classes) (source : SourceText) (program : TypedProgram) → IsSourceOf h source → program_of h source ≡ Ok program → IsTypedProgram h program
+
+source_is : (text : List ℕ) (s : SourceText) → IsSource text s → faults_of s.records ≡ [] → IsSourceOf (resolved s.records) s
+source_is text s is none =
+    let keeps = source_keeps text s is none in
+    record { keeps = keeps; classes = refl; pure = pure_are_virtual text s is.all is.rest is.reads keeps; bodies = source_bodies text s is.all is.rest is.reads }
+
+-- the program of an accepted source is typed, and has a main exactly where the source has one
+abbrev pub ProgramFits : Judgement → Type 0
+ProgramFits (Stops stop) = Unit {0}
+ProgramFits (Accepts source h program) = IsTypedProgram h program × (is_body program.main ≡ is_some source.main)
+
+fits : ProgramsAreTyped → (text : List ℕ) (judgement : Judgement) → Verdict text judgement → ProgramFits judgement
+fits law text _ (by_text stop is) = tt
+fits law text _ (by_records s stop is first) = tt
+fits law text _ (by_classes s stop is none first) = tt
+fits law text _ (by_bodies s stop is none nothing resolves) = tt
+fits law text _ (by_words s p is none nothing resolves many) = tt
+fits law text _ (accepted s p is none nothing resolves few) =
+    (law (resolved s.records) s p (source_is text s is none) resolves, program_main (resolved s.records) s p resolves)
+
+pub accepted_typed : ProgramsAreTyped → (text : List ℕ) (s : SourceText) (h : Classes) (p : TypedProgram) → Verdict text (Accepts s h p) → IsTypedProgram h p
+accepted_typed law text s h p verdict = (fits law text (Accepts s h p) verdict).0
+
+pub accepted_main : ProgramsAreTyped → (text : List ℕ) (s : SourceText) (h : Classes) (p : TypedProgram) → Verdict text (Accepts s h p) → is_body p.main ≡ is_some s.main
+accepted_main law text s h p verdict = (fits law text (Accepts s h p) verdict).1

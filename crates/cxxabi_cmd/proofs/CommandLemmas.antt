@@ -3,7 +3,8 @@ use Rattle.std.proofs.Common.{◌≡◌, ℕ, ◌<◌, ◌≤◌, true, false, O
 use Rattle.std.specs.Prelude.{IfOk, MatchOption}
 use Rattle.foundation.specs.declared.memory.NoMemory.{NoMemory as Want}
 use Rattle.cxxabi_cmd.specs.declared.command.Command.{Command}
-use Rattle.cxxabi_cmd.specs.Commands.{Says, check, run, layout, layout_of, tables, tables_of, IsCommand, is_option}
+use Rattle.cxxabi_cmd.specs.Commands.{Says, check, run, layout, layout_of, tables, tables_of, paths, paths_within, IsCommand, is_option}
+use Rattle.cxxabi_cmd.specs.invariants.Replies.{HasFewSteps}
 
 one_item : {X Y : Type 0} (f : X → Y) (xs : List X) (x : X) → 1 ≤ length xs → length xs < 2 → x ≡ get_or xs 0 x → map f xs ≡ f x ∷ []
 one_item f [] x some few e = absurd (omega arith)
@@ -26,6 +27,17 @@ pub says_words : {X : Type 0} (f : X → List ℕ) (xs : List X) (x y : X) (byte
 says_words f xs x y bytes word name some few first second value is other =
     two_items f xs x y some few first second ∙ ap (λ w. w ∷ f y ∷ []) (sym value ∙ is) ∙ ap (λ n. word ∷ n ∷ []) (sym other)
 
+-- a command of words gives few steps
+pub few_said : (words : List (List ℕ)) (c : Command) → Says words c → HasFewSteps c
+few_said _ _ check = tt
+few_said _ _ run = tt
+few_said _ _ layout = tt
+few_said _ _ (layout_of name plain) = tt
+few_said _ _ tables = tt
+few_said _ _ (tables_of name plain) = tt
+few_said _ _ paths = omega arith
+few_said _ _ (paths_within word steps is) = is.most
+
 both_ways : (a b : List ℕ) → a ≡ b → is_option a ≡ false → is_option b ≡ true → ⊥
 both_ways a b one off on = let clash : false ≡ true = sym off ∙ ap is_option one ∙ on in cc
 
@@ -36,6 +48,8 @@ option_no_command _ first name _ layout same option = cc
 option_no_command _ first name _ (layout_of other plain) same option = both_ways other name (cc) plain option
 option_no_command _ first name _ tables same option = cc
 option_no_command _ first name _ (tables_of other plain) same option = both_ways other name (cc) plain option
+option_no_command _ first name _ paths same option = cc
+option_no_command _ first name _ (paths_within word steps is) same option = cc
 
 -- what a word is with the name of a class
 pub named_with : (r : Result (Option Command) Want) (words : List (List ℕ)) (first name : List ℕ) (command : Command) → words ≡ first ∷ name ∷ [] → (is_option name ≡ false → Says (first ∷ name ∷ []) command) →

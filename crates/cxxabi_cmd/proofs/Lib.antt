@@ -3,6 +3,8 @@ pub mod CommandLemmas
 pub mod OutputLemmas
 pub mod ReplyLemmas
 pub mod AnswerLemmas
+pub mod PathAnswers
+pub mod StepLemmas
 pub mod MeaningFaults
 pub mod ClassFaults
 pub mod Judging

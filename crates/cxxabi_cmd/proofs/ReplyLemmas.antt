@@ -17,11 +17,12 @@ use Rattle.cxxabi_cmd.specs.declared.reply.Reply.{Reply}
 use Rattle.cxxabi_cmd.specs.Commands.{Says}
 use Rattle.cxxabi_cmd.specs.Verdict.{Verdict, Stops, Accepts}
 use Rattle.cxxabi_cmd.specs.Handed.{Seen, HandsOut}
-use Rattle.cxxabi_cmd.specs.Output.{Answer, AsksFor, AsksForName, IsProgram, Output, stopped, yielded, Yields, counted, no_main, not_taken, ran, unknown_class, listed, Lists, whole, too_much, IsAnswered, line_alone, status_of_stop, run_by}
+use Rattle.cxxabi_cmd.specs.Output.{Answer, AsksFor, AsksForName, IsProgram, Output, stopped, yielded, Yields, counted, no_main, not_taken, ran, no_main_by_paths, ran_by_paths, unknown_class, listed, Lists, whole, too_much, IsAnswered, line_alone, status_of_stop, run_by}
 use Rattle.cxxabi_cmd.specs.declared.listing.Listing.{Listing}
 use Rattle.cxxabi_cmd.specs.invariants.Listings.{ListsName, is_unknown, is_class}
 use Rattle.cxxabi_cmd.specs.invariants.Replies.{answer_of, machine_of, HandsBy}
 use Rattle.cxxabi_cmd.proofs.AnswerLemmas.{answered_end}
+use Rattle.cxxabi_cmd.proofs.PathAnswers.{paths_answered}
 use Rattle.cxxabi_cmd.proofs.OneOutput.{says_one}
 use Rattle.cxxabi_cmd.proofs.OneProgram.{program_left}
 use Rattle.cxxabi_cmd.proofs.OneVerdict.{one_verdict}
@@ -65,6 +66,8 @@ yields_answered size source h typed _ _ counted = tt
 yields_answered size source h typed _ _ (no_main empty) = tt
 yields_answered size source h typed _ _ (not_taken tree main nothing) = tt
 yields_answered size source h typed _ _ (ran program rows is laid) = answered_end (run_by h rows program).ending
+yields_answered size source h typed _ _ (no_main_by_paths steps empty) = tt
+yields_answered size source h typed _ _ (ran_by_paths steps tree rows answer main laid is) = paths_answered h rows typed steps answer is
 yields_answered size source h typed _ _ (unknown_class command name names empty) = tt
 yields_answered size source h typed _ _ (listed command listing classes answer asks lists) = lists_answered h listing classes answer lists
 

@@ -1,6 +1,7 @@
 -- Words and the bytes of a source have an answer.
 use Rattle.std.proofs.Common.{◌≡◌, ℕ, zero, suc, ◌≤◌, ◌⊎◌, ⊎_elim, inl, inr, Option, Some, None, Result, Ok, Err, List, [], ◌∷◌, length, refl, sym, ◌∙◌, subst}
 use Rattle.std.specs.Prelude.{slice_get}
+use Rattle.std.specs.Option.{is_some}
 use Rattle.std.proofs.lemmas.Bool.{cases_lt}
 use Rattle.cxx_grammar.specs.Lexemes.{lexemes, source_start}
 use Rattle.cxx_text.proofs.SomeTokens.{some_tokens}
@@ -17,25 +18,28 @@ use Rattle.cxx_hierarchy.specs.Resolved.{resolved}
 use Rattle.cxx_syntax.specs.declared.tree.BodyTree.{BodyTree}
 use Rattle.cxx_syntax.specs.declared.source_text.SourceText.{SourceText}
 use Rattle.cxx_program.specs.declared.program.TypedProgram.{TypedProgram}
+use Rattle.cxx_program.specs.Typed.{IsTypedProgram}
 use Rattle.cxx_simple.specs.declared.program.SimpleProgram.{SimpleProgram}
 use Rattle.cxx_resolve.specs.Programs.{program_of}
 use Rattle.cxx_simple.specs.Main.{MainResolves}
 use Rattle.cxx_simple.proofs.MainDecisions.{some_program as main_or_none}
+use Rattle.path_model.specs.States.{is_body}
 use Rattle.abi_layout.proofs.rules.SomeLayout.{some_layout}
 use Rattle.foundation.proofs.Places.{place_of}
 use Rattle.cxx_overrider.proofs.FaultSearch.{class_answer}
 use Rattle.abi_layout.proofs.rules.SomeAnswers.{large_decided, shared_decided}
 use Rattle.cxxabi_cmd.specs.declared.command.Command.{Command}
-use Rattle.cxxabi_cmd.specs.declared.command.Command.TheVariants.{Check, Run, Layout, LayoutOf, Tables, TablesOf}
+use Rattle.cxxabi_cmd.specs.declared.command.Command.TheVariants.{Check, Run, Layout, LayoutOf, Tables, TablesOf, Paths}
 use Rattle.cxxabi_cmd.specs.declared.listing.Listing.{Listing}
 use Rattle.cxxabi_cmd.specs.declared.listing.Listing.TheVariants.{OfLayout, OfTables}
 use Rattle.cxxabi_cmd.specs.declared.status.Status.TheVariants.{Refused, Usage, Limit}
 use Rattle.cxxabi_cmd.specs.Commands.{IsCommand}
 use Rattle.cxxabi_cmd.specs.Verdict.{AreLexemes, IsSource, HasNoFault, Judgement, Verdict, Stops, Accepts, by_text, by_records, by_classes, by_bodies, by_words, accepted}
 use Rattle.cxxabi_cmd.specs.Output.{source_limit, text_limit, Answer, AsksFor, all_layouts, one_layout, all_tables, one_tables, AsksForName, named_layout, named_tables, IsProgram, Lists, whole, too_much, Yields, counted, no_main, not_taken, ran, unknown_class, listed, Output, usage, too_long, stopped, yielded, line_alone, count_answer, text_answer, status_of_stop, run_answer, run_by, numbered, first_classes}
-use Rattle.cxxabi_cmd.proofs.Accepting.{source_keeps, accepted_keeps, accepted_fine}
+use Rattle.cxxabi_cmd.proofs.Accepting.{ProgramsAreTyped, source_keeps, accepted_keeps, accepted_fine, accepted_typed, accepted_main}
 use Rattle.cxxabi_cmd.proofs.LaidRows.{no_meaning, sound_rows, words_decided}
 use Rattle.cxxabi_cmd.proofs.Listed.{SomeTables, AreKnown, some_texts, asked_known}
+use Rattle.cxxabi_cmd.proofs.PathAnswers.{NeverWrong, yields_paths}
 use Rattle.cxxabi_cmd.proofs.SomeCommand.{same_text, some_command}
 use Rattle.cxxabi_cmd.proofs.SomeFault.{IsDecided, some_fault}
 
@@ -153,26 +157,28 @@ yields_run size source h typed (Some tree) keeps main =
     (some_program source h tree keeps main)
 
 -- a command has an answer to an accepted source
-pub some_yield : SomeTables → (size : ℕ) (source : SourceText) (h : Classes) (typed : TypedProgram) (command : Command) → IsHierarchy h → HasNoFault h → (answer : Answer) × Yields size source h typed command answer
-some_yield law size source h typed Check keeps fine = (count_answer h, counted)
-some_yield law size source h typed Run keeps fine = yields_run size source h typed source.main keeps refl
-some_yield law size source h typed Layout keeps fine = yields_list law size source h typed Layout OfLayout (first_classes (length h)) keeps fine all_layouts
-some_yield law size source h typed (LayoutOf name) keeps fine = yields_named law size source h typed (LayoutOf name) OfLayout name keeps fine (named_layout name) (one_layout name) (some_place (class_names h) name)
-some_yield law size source h typed Tables keeps fine = yields_list law size source h typed Tables OfTables (first_classes (length h)) keeps fine all_tables
-some_yield law size source h typed (TablesOf name) keeps fine = yields_named law size source h typed (TablesOf name) OfTables name keeps fine (named_tables name) (one_tables name) (some_place (class_names h) name)
+pub some_yield : SomeTables → NeverWrong → (size : ℕ) (source : SourceText) (h : Classes) (typed : TypedProgram) (command : Command) → IsHierarchy h → HasNoFault h → IsTypedProgram h typed → is_body typed.main ≡ is_some source.main → (answer : Answer) × Yields size source h typed command answer
+some_yield law right size source h typed Check keeps fine is main = (count_answer h, counted)
+some_yield law right size source h typed Run keeps fine is main = yields_run size source h typed source.main keeps refl
+some_yield law right size source h typed Layout keeps fine is main = yields_list law size source h typed Layout OfLayout (first_classes (length h)) keeps fine all_layouts
+some_yield law right size source h typed (LayoutOf name) keeps fine is main = yields_named law size source h typed (LayoutOf name) OfLayout name keeps fine (named_layout name) (one_layout name) (some_place (class_names h) name)
+some_yield law right size source h typed Tables keeps fine is main = yields_list law size source h typed Tables OfTables (first_classes (length h)) keeps fine all_tables
+some_yield law right size source h typed (TablesOf name) keeps fine is main = yields_named law size source h typed (TablesOf name) OfTables name keeps fine (named_tables name) (one_tables name) (some_place (class_names h) name)
+some_yield law right size source h typed (Paths steps) keeps fine is main = let laid = some_layout h keeps in yields_paths right size source h laid.0 typed steps source.main keeps (no_meaning h fine) laid.1 is main refl
 
-output_by : SomeTables → (words : List (List ℕ)) (bytes : List ℕ) → IsCommand words → length bytes ≤ source_limit → (judgement : Judgement) → Verdict bytes judgement → (answer : Answer) × Output words bytes answer
-output_by law words bytes command short (Stops stop) verdict = (line_alone (status_of_stop stop), stopped stop command short verdict)
-output_by law words bytes command short (Accepts source h typed) verdict =
-    let yields = some_yield law (length bytes) source h typed command.0 (accepted_keeps bytes source h typed verdict) (accepted_fine bytes source h typed verdict) in
+output_by : SomeTables → ProgramsAreTyped → NeverWrong → (words : List (List ℕ)) (bytes : List ℕ) → IsCommand words → length bytes ≤ source_limit → (judgement : Judgement) → Verdict bytes judgement → (answer : Answer) × Output words bytes answer
+output_by law typing right words bytes command short (Stops stop) verdict = (line_alone (status_of_stop stop), stopped stop command short verdict)
+output_by law typing right words bytes command short (Accepts source h typed) verdict =
+    let yields = some_yield law right (length bytes) source h typed command.0 (accepted_keeps bytes source h typed verdict) (accepted_fine bytes source h typed verdict)
+    (accepted_typed typing bytes source h typed verdict) (accepted_main typing bytes source h typed verdict) in
     (yields.0, yielded command.0 source h typed yields.0 command.1 short verdict yields.1)
 
 -- words and bytes have an answer
-pub some_output : SomeTables → (words : List (List ℕ)) (bytes : List ℕ) → (answer : Answer) × Output words bytes answer
-some_output law words bytes =
+pub some_output : SomeTables → ProgramsAreTyped → NeverWrong → (words : List (List ℕ)) (bytes : List ℕ) → (answer : Answer) × Output words bytes answer
+some_output law typing right words bytes =
     ⊎_elim
     (λ command. ⊎_elim (λ long. (line_alone (Limit L1), too_long command long))
-    (λ short. let judged = some_verdict bytes short in output_by law words bytes command short judged.0 judged.1)
+    (λ short. let judged = some_verdict bytes short in output_by law typing right words bytes command short judged.0 judged.1)
     (cases_lt source_limit (length bytes)))
     (λ none. (line_alone Usage, usage none))
     (some_command words)

@@ -15,6 +15,9 @@ use Rattle.cxx_simple.specs.declared.program.SimpleProgram.{SimpleProgram}
 use Rattle.cxx_simple.specs.Main.{MainResolves}
 use Rattle.simple_model.specs.Runs.{Ran, Ending, Done as IsDone, UndefinedAt, OutOfSteps as IsOutOfSteps, LimitMet, run_of}
 use Rattle.path_rules.specs.Rules.{undefined_no}
+use Rattle.path_run.specs.declared.run.End.{End}
+use Rattle.path_run.specs.declared.run.End.TheVariants as ends
+use Rattle.path_run.specs.Told.{told, ending_of}
 use Rattle.abi_sound.specs.declared.class_layout.ClassLayout.{ClassLayout}
 use Rattle.abi_sound.specs.Places.{places_of}
 use Rattle.abi_tables.specs.declared.tables.ClassTables.{ClassTables}
@@ -24,12 +27,13 @@ use Rattle.abi_print.specs.Texts.{text_of}
 use Rattle.abi_print.specs.LayoutTexts.{layout_text}
 use Rattle.abi_print.specs.TableTexts.{tables_text}
 use Rattle.cxxabi_cmd.specs.declared.command.Command.{Command}
-use Rattle.cxxabi_cmd.specs.declared.command.Command.TheVariants.{Check, Run, Layout, LayoutOf, Tables, TablesOf}
+use Rattle.cxxabi_cmd.specs.declared.command.Command.TheVariants.{Check, Run, Layout, LayoutOf, Tables, TablesOf, Paths}
 use Rattle.cxxabi_cmd.specs.declared.listing.Listing.{Listing}
 use Rattle.cxxabi_cmd.specs.declared.listing.Listing.TheVariants.{OfLayout, OfTables}
 use Rattle.cxxabi_cmd.specs.declared.status.Status.{Status}
 use Rattle.cxxabi_cmd.specs.declared.status.Status.TheVariants.{Done, Refused, Usage, Undefined, OutOfSteps, Limit, ReadFault, WriteFault, NoMemory}
 use Rattle.cxxabi_cmd.specs.Commands.{Says, IsCommand}
+pub use Rattle.cxxabi_cmd.specs.Commands.{budget}
 use Rattle.cxxabi_cmd.specs.Statuses.{last_line}
 use Rattle.cxxabi_cmd.specs.Streams.{IsPartOf}
 use Rattle.cxxabi_cmd.specs.Verdict.{Verdict, Stops, Accepts}
@@ -49,6 +53,13 @@ status_of (UndefinedAt rule line) = Undefined (undefined_no rule) line
 status_of IsOutOfSteps = OutOfSteps
 status_of (LimitMet limit) = Limit limit
 
+-- the status of the end of a run on the machine of paths
+abbrev pub status_by : End → Status
+status_by ends.Done = Done
+status_by (ends.Undefined rule line) = Undefined (undefined_no rule) line
+status_by ends.OutOfSteps = OutOfSteps
+status_by (ends.Limit limit) = Limit limit
+
 -- the bytes that a source may have (limit L1)
 abbrev pub source_limit : ℕ
 source_limit = max_text_bytes
@@ -56,10 +67,6 @@ source_limit = max_text_bytes
 -- the bytes that the text of a command may have (limit L9)
 abbrev pub text_limit : ℕ
 text_limit = 16777216
-
--- the steps that a run may take
-abbrev pub budget : ℕ
-budget = 1000000
 
 abbrev pub run_by : Classes → List ClassLayout → SimpleProgram → Ran
 run_by h rows program = run_of h (places_of h rows).size program budget
@@ -76,6 +83,15 @@ line_alone status = record { text = last_line status budget; status = status }
 -- what a run told, with the places of the layout, and then its last line
 abbrev pub run_answer : Classes → List ClassLayout → Ran → Answer
 run_answer h rows ran = record { text = text_of (places_of h rows).place ran.outs ++ last_line (status_of ran.ending) budget; status = status_of ran.ending }
+
+-- a text of a run, and then the last line of its end
+abbrev pub ended_answer : List ℕ → End → ℕ → Answer
+ended_answer text e steps = record { text = text ++ last_line (status_by e) steps; status = status_by e }
+
+-- what a run on the machine of paths told, with the places of the layout, and how it ended
+pub data IsPathsAnswer (h : Classes) (rows : List ClassLayout) (typed : TypedProgram) (steps : ℕ) : Answer → Type 0 where
+  ends_with : (e : End) → ending_of e ≡ (told h (places_of h rows) typed steps).ending →
+      IsPathsAnswer h rows typed steps (ended_answer (told h (places_of h rows) typed steps).text e steps)
 
 -- the status of a source that is not accepted
 abbrev pub status_of_stop : Stop → Status
@@ -148,6 +164,9 @@ pub data Yields (size : ℕ) (source : SourceText) (h : Classes) (typed : TypedP
       Yields size source h typed Run (line_alone (Refused Syntax 0))
   ran : (program : SimpleProgram) (rows : List ClassLayout) → IsProgram source h program → IsLaid h rows →
       Yields size source h typed Run (run_answer h rows (run_by h rows program))
+  no_main_by_paths : (steps : ℕ) → source.main ≡ None → Yields size source h typed (Paths steps) (line_alone (Refused UnknownName size))
+  ran_by_paths : (steps : ℕ) (tree : BodyTree) (rows : List ClassLayout) (answer : Answer) → source.main ≡ Some tree → IsLaid h rows → IsPathsAnswer h rows typed steps answer →
+      Yields size source h typed (Paths steps) answer
   unknown_class : (command : Command) (name : List ℕ) → AsksForName command name → (Contains (class_names h) name → ⊥) → Yields size source h typed command (line_alone (Refused UnknownName size))
   listed : (command : Command) (listing : Listing) (classes : List ClassId) (answer : Answer) → AsksFor h command listing classes → Lists h listing classes answer → Yields size source h typed command answer
 

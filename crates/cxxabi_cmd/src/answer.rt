@@ -5,8 +5,6 @@ ghost use Rattle.std.specs.Option.{option_map};
 ghost use Rattle.cxx_hierarchy.specs.declared.stop.Stop.{Stop};
 ghost use Rattle.cxx_simple.specs.declared.program.SimpleProgram.{SimpleProgram};
 ghost use Rattle.cxx_simple.specs.Typed.{IsTypedProgram};
-ghost use Rattle.path_rules.specs.Rules.{undefined_no};
-ghost use Rattle.path_rules.specs.declared.Undefined.{Undefined};
 ghost use Rattle.abi_sound.specs.declared.class_layout.ClassLayout.{ClassLayout};
 ghost use Rattle.abi_layout.specs.AbiLayouts.{IsAbiLayout};
 ghost use Rattle.abi_layout.specs.Layouts.{IsLaid};
@@ -14,13 +12,14 @@ ghost use Rattle.abi_refine.specs.Endings.{ending_of};
 ghost use Rattle.cxxabi_cmd.specs.Output.{Answer, IsProgram, Yields, IsAnswered, line_alone, run_answer, run_by, status_of};
 ghost use Rattle.cxxabi_cmd.specs.Handed.{IsMachineOf};
 ghost use Rattle.cxxabi_cmd.specs.invariants.Listings.{IsReady};
-ghost use Rattle.cxxabi_cmd.specs.invariants.Replies.{answer_of, machine_of, HandsBy};
+ghost use Rattle.cxxabi_cmd.specs.invariants.Replies.{answer_of, machine_of, HandsBy, HasFewSteps};
 
 use crate::command::Command;
 use crate::list_answer::{list_all, list_one};
 use crate::listing::Listing;
+use crate::path_answer::run_on_paths;
 use crate::reply::{BUDGET, Reply, class_count, line_alone};
-use crate::status::{Status, last_line_of};
+use crate::status::{Status, last_line_of, number_of};
 use crate::verdict::Accepted;
 use abi_layout::AbiLayout;
 use abi_refine::{End, Execution, execute};
@@ -28,28 +27,7 @@ use cxx_hierarchy::{Hierarchy, Rule, Stop};
 use cxx_simple::{SimpleProgram, resolve_main};
 use cxx_syntax::SourceText;
 use foundation::NoMemory;
-use path_rules::Undefined;
 use std::alloc::Global;
-
-// The number of a rule.
-fn number_of(rule: Undefined) -> u8
-    ensures { result ≡ undefined_no rule }
-{
-    match rule {
-        Undefined::NullUse => 1,
-        Undefined::Dangling => 2,
-        Undefined::NotReady => 3,
-        Undefined::OutsideView => 4,
-        Undefined::Unset => 5,
-        Undefined::PureCall => 6,
-        Undefined::BadDowncast => 7,
-        Undefined::NonVirtualDelete => 8,
-        Undefined::NotHeapObject => 9,
-        Undefined::NotComplete => 10,
-        Undefined::MissingReturn => 11,
-        Undefined::Overflow => 12,
-    }
-}
 
 // The status of an end.
 fn status_of(end: End) -> Status
@@ -141,7 +119,8 @@ pub(crate) fn answer(
     size: u32,
     accepted: &Accepted,
 ) -> Result<Reply, NoMemory>
-    requires { IsReady accepted.now }
+    requires ready { IsReady accepted.now }
+    requires few { HasFewSteps command.now }
     ensures yields { IfOk result (λ reply. Yields size accepted.now.source accepted.now.hierarchy accepted.now.program command.now (answer_of reply)) }
     ensures machine { IfOk result (λ reply. HandsBy command.now accepted.now.source accepted.now.hierarchy (machine_of reply)) }
 {
@@ -156,5 +135,6 @@ pub(crate) fn answer(
         Command::TablesOf(name) => {
             list_one(alloc, size, Listing::OfTables, name.as_slice(), accepted)
         }
+        Command::Paths(steps) => run_on_paths(alloc, size, *steps, accepted),
     }
 }

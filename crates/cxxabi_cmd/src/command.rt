@@ -1,9 +1,11 @@
 //! What the words ask for.
 
-ghost use Rattle.std.specs.Prelude.{◌≡◌, true, false, IfOk, MatchOption};
+ghost use Rattle.std.specs.Prelude.{◌≡◌, ◌∷◌, [], true, false, IfOk, MatchOption};
 ghost use Rattle.cxxabi_cmd.specs.Output.{texts_of};
 ghost use Rattle.cxxabi_cmd.specs.Commands.{Says, IsCommand, is_option};
 
+use crate::reply::BUDGET;
+use crate::steps::steps_of;
 use cxx_hierarchy::Name;
 use foundation::{NoMemory, Sequence};
 use std::alloc::Global;
@@ -23,6 +25,8 @@ pub enum Command {
     Tables,
     /// The tables of the class of a name.
     TablesOf(Name),
+    /// A run of its `main` on the machine of paths, of at most so many steps.
+    Paths(u32),
 }
 
 // Whether a word begins with `-`, so that it is no name.
@@ -66,6 +70,19 @@ fn tables_of(alloc: Global, word: &str) -> Result<Option<Command>, NoMemory>
     }
 }
 
+// The command that three words ask for, and None where they are those of none.
+fn command_of_three(first: &str, second: &str, third: &str) -> Option<Command>
+    ensures { MatchOption result (IsCommand (first.now ∷ second.now ∷ third.now ∷ []) → ⊥) (Says (first.now ∷ second.now ∷ third.now ∷ [])) }
+{
+    match first {
+        "paths" => match second {
+            "--steps" => Some(Command::Paths(steps_of(third.as_bytes())?)),
+            _ => None,
+        },
+        _ => None,
+    }
+}
+
 /// The command that the words ask for, and None where they are those of none.
 ///
 /// Errors: want of memory.
@@ -78,6 +95,7 @@ pub(crate) fn command_of(alloc: Global, words: &[String]) -> Result<Option<Comma
             "run" => Ok(Some(Command::Run)),
             "layout" => Ok(Some(Command::Layout)),
             "tables" => Ok(Some(Command::Tables)),
+            "paths" => Ok(Some(Command::Paths(BUDGET))),
             _ => Ok(None),
         },
         [word, name] => match word.as_str() {
@@ -85,6 +103,9 @@ pub(crate) fn command_of(alloc: Global, words: &[String]) -> Result<Option<Comma
             "tables" => tables_of(alloc, name.as_str()),
             _ => Ok(None),
         },
+        [first, second, third] => {
+            Ok(command_of_three(first.as_str(), second.as_str(), third.as_str()))
+        }
         _ => Ok(None),
     }
 }

@@ -14,6 +14,7 @@ mod answer;
 pub mod command;
 mod list_answer;
 pub mod listing;
+mod path_answer;
 pub mod reading;
 mod reply;
 pub mod run;
@@ -22,6 +23,7 @@ pub mod sinks;
 pub mod source;
 pub mod sources;
 pub mod status;
+mod steps;
 #[cfg(test)]
 mod tests;
 mod verdict;

@@ -5,7 +5,7 @@ ghost use Rattle.std.specs.Option.{option_map};
 ghost use Rattle.cxxabi_cmd.specs.Streams.{Rose, IsPartOf};
 ghost use Rattle.cxxabi_cmd.specs.Commands.{Says, IsCommand};
 ghost use Rattle.cxxabi_cmd.specs.Output.{source_limit, texts_of, Tells, Output, Answer, Answers, BreaksOff, IsAnswered, IsSilent, line_alone, status_of_stop};
-ghost use Rattle.cxxabi_cmd.specs.invariants.Replies.{answer_of, machine_of};
+ghost use Rattle.cxxabi_cmd.specs.invariants.Replies.{answer_of, machine_of, HasFewSteps};
 ghost use Rattle.cxxabi_cmd.specs.Handed.{HandsOut, seen_of};
 
 use crate::answer::answer;
@@ -21,7 +21,9 @@ use abi_tables::{one_tables, some_tables};
 use byte_machine::Machine;
 use byte_memory::FlatMemory;
 use cxx_hierarchy::{LimitNo, Stop};
+use cxx_typing::programs_are_typed;
 use foundation::NoMemory;
+use path_model::runs_are_typed;
 use std::alloc::Global;
 
 // What is answered to a source that stops.
@@ -38,7 +40,8 @@ fn stopped(alloc: Global, stop: Stop) -> Result<Reply, NoMemory>
 
 // What a command answers to the bytes of a source.
 fn reply_to(alloc: Global, command: &Command, bytes: &[u8]) -> Result<Reply, NoMemory>
-    requires { length bytes.now ≤ source_limit }
+    requires short { length bytes.now ≤ source_limit }
+    requires few { HasFewSteps command.now }
     ensures output { IfOk result (λ reply. (words : List (List ℕ)) → Says words command.now → Output words bytes.now (answer_of reply)) }
     ensures machine { IfOk result (λ reply. (words : List (List ℕ)) → Says words command.now → HandsOut words bytes.now (machine_of reply)) }
     ensures answered { IfOk result (λ reply. IsAnswered reply.status) }
@@ -51,7 +54,8 @@ fn reply_to(alloc: Global, command: &Command, bytes: &[u8]) -> Result<Reply, NoM
 
 // What a command answers to the bytes that were read, up to one past the limit.
 fn reply_within(alloc: Global, command: &Command, bytes: &[u8]) -> Result<Reply, NoMemory>
-    requires { length bytes.now ≤ 262145 }
+    requires read { length bytes.now ≤ 262145 }
+    requires few { HasFewSteps command.now }
     ensures output { IfOk result (λ reply. (words : List (List ℕ)) (all : List ℕ) → Says words command.now → bytes.now ≡ take 262145 all → Output words all (answer_of reply)) }
     ensures machine { IfOk result (λ reply. (words : List (List ℕ)) (all : List ℕ) → Says words command.now → bytes.now ≡ take 262145 all → HandsOut words all (machine_of reply)) }
     ensures answered { IfOk result (λ reply. IsAnswered reply.status) }
@@ -97,7 +101,7 @@ fn deliver<K: Sink>(sink: &mut K, text: &[u8], status: Status) -> Status
 
 /// Does all that the program does: reads the source where the words are a command, and writes the answer.
 ///
-/// `last` is set in every call: to the machine of the run, or to None where there was no run.
+/// `last` is set in every call: to the byte machine of what `run` ran, or to None where there was no such run.
 pub fn run_cxxabi<S: Source, K: Sink>(
     alloc: Global,
     words: &[String],
@@ -147,4 +151,6 @@ pub fn some_output()
     ensures { (words : List (List ℕ)) (bytes : List ℕ) → (answer : Answer) × Output words bytes answer }
 {
     some_tables();
+    programs_are_typed();
+    runs_are_typed();
 }

@@ -2,10 +2,12 @@
 
 ghost use Rattle.std.specs.Prelude.{◌≡◌, ◌++◌, ◌∷◌, [], IfOk, codes, string_bytes};
 ghost use Rattle.std.specs.Fmt.{decimal};
+ghost use Rattle.path_rules.specs.Rules.{undefined_no};
 ghost use Rattle.cxxabi_cmd.specs.Statuses.{code_of, name_of_rule, name_of_undefined, last_line};
 
 use cxx_hierarchy::{LimitNo, Rule};
 use foundation::NoMemory;
+use path_rules::Undefined;
 use std::alloc::{AllocError, Global};
 
 /// How a call of the program ended.
@@ -81,6 +83,26 @@ fn rule_name(rule: Rule) -> &'static str
         Rule::LeftOut => "LeftOut",
         Rule::UnknownName => "UnknownName",
         Rule::SharedPlace => "SharedPlace",
+    }
+}
+
+// The number of a rule of a run.
+pub(crate) fn number_of(rule: Undefined) -> u8
+    ensures { result ≡ undefined_no rule }
+{
+    match rule {
+        Undefined::NullUse => 1,
+        Undefined::Dangling => 2,
+        Undefined::NotReady => 3,
+        Undefined::OutsideView => 4,
+        Undefined::Unset => 5,
+        Undefined::PureCall => 6,
+        Undefined::BadDowncast => 7,
+        Undefined::NonVirtualDelete => 8,
+        Undefined::NotHeapObject => 9,
+        Undefined::NotComplete => 10,
+        Undefined::MissingReturn => 11,
+        Undefined::Overflow => 12,
     }
 }
 

@@ -20,6 +20,7 @@ use cxx_program::TypedProgram;
 use cxx_resolve::resolve;
 use cxx_syntax::SourceText;
 use cxx_text::tokens;
+use cxx_typing::programs_are_typed;
 use std::alloc::Global;
 
 // A source that is accepted, its classes, what its globals and bodies resolve to, the final overriders and the layout of the
@@ -103,6 +104,7 @@ pub(crate) fn judge(alloc: Global, bytes: &[u8]) -> Result<Accepted, Stop>
     ensures ready { IfOk result (λ accepted. IsReady accepted) }
     ensures err { IfErr result (λ stop. (stop ≡ Stop.NoMemory) ⊎ Verdict bytes.now (Stops stop)) }
 {
+    programs_are_typed();
     let list = tokens(alloc, bytes)?;
     let source = parse_source(alloc, bytes, &list)?;
     let hierarchy = build(alloc, &source.records)?;

@@ -1,9 +1,12 @@
--- How the listing of classes is put together.
+-- What is known of an accepted source, and how the listing of classes is put together.
 use Rattle.std.specs.Prelude.{◌≡◌, ℕ, ◌<◌, ◌≤◌, Contains, Some, List, [], ◌∷◌, ◌++◌, length, slice_get}
+use Rattle.std.specs.Option.{is_some}
 use Rattle.cxx_hierarchy.specs.declared.records.ClassId.{ClassId}
 use Rattle.cxx_hierarchy.specs.declared.stop.Rule.TheVariants.{UnknownName}
 use Rattle.cxx_hierarchy.specs.Classes.{Classes, class_names}
 use Rattle.cxx_overrider.specs.Overriders.{AreOverriders}
+use Rattle.cxx_program.specs.Typed.{IsTypedProgram}
+use Rattle.path_model.specs.States.{is_body}
 use Rattle.abi_sound.specs.declared.class_layout.ClassLayout.{ClassLayout}
 use Rattle.abi_sound.specs.Places.{places_of}
 use Rattle.abi_slots.specs.Slots.{AreSlots}
@@ -13,11 +16,14 @@ use Rattle.cxxabi_cmd.specs.declared.status.Status.TheVariants.{Refused}
 use Rattle.cxxabi_cmd.specs.declared.verdict.Accepted.{Accepted}
 use Rattle.cxxabi_cmd.specs.Output.{Answer, IsClassText, AreTexts, Lists, line_alone, text_limit}
 
--- the layout, the final overriders, and what the classes list for their tables are those of the classes
+-- the layout, the final overriders, and what the classes list for their tables are those of the classes; the program is typed,
+-- and has a main where the source has one
 pub record IsReady (accepted : Accepted) : Type 0 where
   pub layout : IsAbiLayout accepted.hierarchy accepted.layout
   pub overriders : AreOverriders accepted.hierarchy accepted.overriders
   pub slots : AreSlots accepted.hierarchy (places_of accepted.hierarchy accepted.layout) accepted.slots
+  pub typed : IsTypedProgram accepted.hierarchy accepted.program
+  pub main : is_body accepted.program.main ≡ is_some accepted.source.main
 
 -- behind what was there stands the text of a class
 pub record IsAppended (h : Classes) (rows : List ClassLayout) (listing : Listing) (c : ClassId) (before after : List ℕ) : Type 0 where

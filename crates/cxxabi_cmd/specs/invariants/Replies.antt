@@ -1,5 +1,5 @@
 -- What the parts of the top call answer.
-use Rattle.std.specs.Prelude.{◌≡◌, Option, Some, None, List}
+use Rattle.std.specs.Prelude.{◌≡◌, ◌≤◌, Option, Some, None, List}
 use Rattle.std.specs.Option.{option_map}
 use Rattle.cxx_hierarchy.specs.Classes.{Classes}
 use Rattle.cxx_syntax.specs.declared.source_text.SourceText.{SourceText}
@@ -8,9 +8,15 @@ use Rattle.abi_sound.specs.declared.class_layout.ClassLayout.{ClassLayout}
 use Rattle.abi_layout.specs.Layouts.{IsLaid}
 use Rattle.cxxabi_cmd.specs.declared.reply.Reply.{Reply}
 use Rattle.cxxabi_cmd.specs.declared.command.Command.{Command}
-use Rattle.cxxabi_cmd.specs.declared.command.Command.TheVariants.{Run}
+use Rattle.cxxabi_cmd.specs.declared.command.Command.TheVariants.{Run, Paths}
+use Rattle.cxxabi_cmd.specs.Commands.{most_steps}
 use Rattle.cxxabi_cmd.specs.Output.{Answer, IsProgram}
 use Rattle.cxxabi_cmd.specs.Handed.{Seen, seen_of, IsMachineOf}
+
+-- the command gives a run no more steps than the words may say
+abbrev pub HasFewSteps : Command → Type 0
+HasFewSteps (Paths steps) = steps ≤ most_steps
+HasFewSteps other = Unit {0}
 
 abbrev pub answer_of : Reply → Answer
 answer_of reply = record { text = reply.text.items; status = reply.status }

@@ -1,11 +1,11 @@
-use Rattle.std.proofs.Common.{ℕ, List, length, subst, sym}
+use Rattle.std.proofs.Common.{ℕ, List, length, subst, sym, ◌∙◌}
 use Rattle.std.specs.Prelude.{IfOk}
 use Rattle.cxxabi_cmd.specs.declared.command.Command.{Command}
 use Rattle.cxxabi_cmd.specs.declared.command.Command.TheVariants.{Layout, LayoutOf, Tables, TablesOf}
 use Rattle.cxxabi_cmd.specs.declared.listing.Listing.TheVariants.{OfLayout, OfTables}
 use Rattle.cxxabi_cmd.specs.Output.{Yields, counted, count_answer, first_classes, all_layouts, one_layout, all_tables, one_tables, named_layout, named_tables}
-use Rattle.cxxabi_cmd.specs.invariants.Replies.{answer_of}
-use Rattle.cxxabi_cmd.proofs.AnswerLemmas.{yields}
+use Rattle.cxxabi_cmd.specs.invariants.Replies.{answer_of, HasFewSteps}
+use Rattle.cxxabi_cmd.proofs.AnswerLemmas.{yields, hands_none}
 use Rattle.cxxabi_cmd.proofs.ReplyLemmas.{yields_all, yields_one}
 use Rattle.cxxabi_cmd.proofs.answer.answer.Goals as goal
 
@@ -49,3 +49,18 @@ returns-in-TablesOf-clause-yields c =
     subst (λ (d : Command). IfOk c.list_one-in-TablesOf.result (λ reply. Yields c.args.size source h typed d (answer_of reply))) (sym c.in-TablesOf.is)
     (subst (λ (n : List ℕ). IfOk c.list_one-in-TablesOf.result (λ reply. Yields c.args.size source h typed (TablesOf n) (answer_of reply))) c.as_slice-in-TablesOf.ensures
     (yields_one c.list_one-in-TablesOf.result c.args.size source h typed (TablesOf name) OfTables name (named_tables name) (one_tables name) c.list_one-in-TablesOf.ensures.lists))
+
+pub run_on_paths-requires-clause-few : goal.run_on_paths-requires-clause-few
+run_on_paths-requires-clause-few c = subst HasFewSteps c.in-Paths.is c.requires.few
+
+pub returns-in-Paths-clause-yields : goal.returns-in-Paths-clause-yields
+returns-in-Paths-clause-yields c =
+    let h = c.args.accepted.now.hierarchy in
+    let source = c.args.accepted.now.source in
+    let typed = c.args.accepted.now.program in
+    subst (λ (d : Command). IfOk c.run_on_paths.result (λ reply. Yields c.args.size source h typed d (answer_of reply))) (sym c.in-Paths.is) c.run_on_paths.ensures.yields
+
+pub returns-in-Paths-clause-machine : goal.returns-in-Paths-clause-machine
+returns-in-Paths-clause-machine c =
+    hands_none c.run_on_paths.result c.args.command.now c.args.accepted.now.source c.args.accepted.now.hierarchy c.run_on_paths.ensures.machine
+    (λ asked program rows is laid. let clash = sym c.in-Paths.is ∙ asked in cc)

@@ -1,6 +1,6 @@
 use Rattle.std.proofs.Common.{codes, string_bytes, subst, sym, List, ℕ, map}
-use Rattle.cxxabi_cmd.specs.declared.command.Command.TheVariants.{Check, Run, Layout, LayoutOf, Tables, TablesOf}
-use Rattle.cxxabi_cmd.specs.Commands.{Says, check, run, layout, layout_of, tables, tables_of}
+use Rattle.cxxabi_cmd.specs.declared.command.Command.TheVariants.{Check, Run, Layout, LayoutOf, Tables, TablesOf, Paths}
+use Rattle.cxxabi_cmd.specs.Commands.{Says, check, run, layout, layout_of, tables, tables_of, paths, budget}
 use Rattle.cxxabi_cmd.proofs.CommandLemmas.{says_word, says_words, named_with}
 use Rattle.cxxabi_cmd.proofs.command.command_of.Goals as goal
 
@@ -15,6 +15,9 @@ returns-in-layout c = subst (λ (w : List (List ℕ)). Says w Layout) (sym (says
 
 pub returns-in-tables : goal.returns-in-tables
 returns-in-tables c = subst (λ (w : List (List ℕ)). Says w Tables) (sym (says_word string_bytes c.args.words.now c.word-item.result c.as_str.result.now _ c.in-len1.len_at_least c.in-len1.len_below c.word-item.is c.as_str.ensures.value c.in-tables.is)) tables
+
+pub returns-in-paths : goal.returns-in-paths
+returns-in-paths c = subst (λ (w : List (List ℕ)). Says w (Paths budget)) (sym (says_word string_bytes c.args.words.now c.word-item.result c.as_str.result.now _ c.in-len1.len_at_least c.in-len1.len_below c.word-item.is c.as_str.ensures.value c.in-paths.is)) paths
 
 pub returns-in-layout-as_str : goal.returns-in-layout-as_str
 returns-in-layout-as_str c = named_with c.layout_of.result (map string_bytes c.args.words.now) (codes "layout") c.as_str-in-layout-as_str.result.now (LayoutOf c.as_str-in-layout-as_str.result.now)

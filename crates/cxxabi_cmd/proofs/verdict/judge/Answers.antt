@@ -3,6 +3,7 @@ use Rattle.std.proofs.lemmas.Result.{err_from_is_err_and}
 use Rattle.std.specs.Prelude.{IfErr}
 use Rattle.cxx_hierarchy.specs.declared.stop.Stop.TheVariants as stop
 use Rattle.cxxabi_cmd.specs.Verdict.{Verdict, Stops}
+use Rattle.cxxabi_cmd.proofs.Accepting.{accepted_typed, accepted_main}
 use Rattle.cxxabi_cmd.proofs.Judging.{text_stop, records_stop, classes_stop, few_statements, bodies_stop, words_stop, all_passed}
 use Rattle.cxxabi_cmd.proofs.verdict.judge.Goals as goal
 
@@ -41,3 +42,15 @@ returns-clause-err c =
 pub returns-in-Ok-clause-ok : goal.returns-in-Ok-clause-ok
 returns-in-Ok-clause-ok c =
     all_passed c.args.bytes.now c.in_ok-list.list.tokens c.in_ok-list.list.bad c.in_ok-source.source c.in_ok-hierarchy.hierarchy c.in_ok-program.program c.in_ok-list.ensures.cover c.in_ok-source.ensures.reads c.in_ok-hierarchy.ensures.ok c.in_ok-overriders.ensures.none c.in_ok-program.ensures c.in-Ok.ensures.few
+
+pub returns-in-Ok-clause-ready : goal.returns-in-Ok-clause-ready
+returns-in-Ok-clause-ready c =
+    let verdict =
+    all_passed c.args.bytes.now c.in_ok-list.list.tokens c.in_ok-list.list.bad c.in_ok-source.source c.in_ok-hierarchy.hierarchy c.in_ok-program.program c.in_ok-list.ensures.cover c.in_ok-source.ensures.reads c.in_ok-hierarchy.ensures.ok c.in_ok-overriders.ensures.none c.in_ok-program.ensures c.in-Ok.ensures.few in
+    record {
+      layout = c.in_ok-overriders.ensures.layout;
+      overriders = c.in_ok-overriders.ensures.overriders;
+      slots = c.in-Ok.ensures.slots;
+      typed = accepted_typed c.programs_are_typed.ensures c.args.bytes.now c.in_ok-source.source c.in_ok-hierarchy.hierarchy c.in_ok-program.program verdict;
+      main = accepted_main c.programs_are_typed.ensures c.args.bytes.now c.in_ok-source.source c.in_ok-hierarchy.hierarchy c.in_ok-program.program verdict;
+    }
