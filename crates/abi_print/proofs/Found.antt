@@ -3,8 +3,8 @@ use Rattle.std.proofs.Common.{◌≡◌, ℕ, ◌+◌, ◌≤◌, Bool, true, fa
 use Rattle.std.specs.Prelude.{nat_le, nat_lt, ◌&&◌}
 use Rattle.std.specs.List.{find}
 use Rattle.std.proofs.lemmas.Bool.Decides.{nat_tests}
-use Rattle.byte_machine.specs.declared.heap.Opened.{Opened}
-use Rattle.byte_machine.specs.Heap.{object_at, has_address}
+use Rattle.simple_machine.specs.declared.heap.Opened.{Opened}
+use Rattle.simple_machine.specs.Heap.{object_at, has_address}
 
 find-passes : {X : Type 0} (p : X → Bool) (xs : List X) (x : X) → find p xs ≡ Some x → p x ≡ true
 find-passes p [] x e = cc

@@ -5,10 +5,10 @@ use Rattle.std.specs.Fmt.{decimal, signed_decimal}
 use Rattle.cxx_hierarchy.specs.declared.records.ClassId.{ClassId}
 use Rattle.cxx_subobject.specs.declared.Subobject.{Subobject}
 use Rattle.simple_model.specs.Steps.{Out, NumberOut, PointerOut}
-use Rattle.byte_machine.specs.declared.heap.Opened.{Opened}
-use Rattle.byte_machine.specs.declared.turn.RawOut.{RawOut}
-use Rattle.byte_machine.specs.declared.turn.RawOut.TheVariants.{Number, Address}
-use Rattle.byte_machine.specs.Heap.{object_at}
+use Rattle.simple_machine.specs.declared.heap.Opened.{Opened}
+use Rattle.simple_machine.specs.declared.turn.RawOut.{RawOut}
+use Rattle.simple_machine.specs.declared.turn.RawOut.TheVariants.{Number, Address}
+use Rattle.simple_machine.specs.Heap.{object_at}
 
 -- the place of a subobject in an object of a class, in bytes
 abbrev pub PlaceOf : Type 0

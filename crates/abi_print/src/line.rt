@@ -1,13 +1,13 @@
 //! The line of what a machine tells.
 
 ghost use Rattle.std.specs.Prelude.{◌≡◌, ◌++◌, IfOk, OnErr, OnOk, string_bytes};
-ghost use Rattle.byte_machine.specs.Heap.{object_at};
-ghost use Rattle.byte_machine.specs.MachineState.{state_of};
+ghost use Rattle.simple_machine.specs.Heap.{object_at};
+ghost use Rattle.simple_machine.specs.MachineState.{state_of};
 ghost use Rattle.abi_print.specs.Texts.{location_text, address_text as address_text_of, raw_line};
 
-use byte_machine::{Machine, RawOut};
 use byte_memory::Memory;
 use foundation::NoMemory;
+use simple_machine::{Machine, RawOut};
 use std::alloc::Global;
 
 /// `#n+off`: the number of an object, and a place in it.

@@ -13,14 +13,14 @@ pub type BlockList = Sequence<Block>;
 pub type ByteList = Sequence<u8>;
 
 /// The ops of one step, and the line of the source that a refusal of one of them names.
-#[derive(Debug, Drop)]
+#[derive(Drop)]
 pub struct Block {
     pub ops: OpList,
     pub line: u32,
 }
 
 /// The lowered program.
-#[derive(Debug, Drop)]
+#[derive(Drop)]
 pub struct Code {
     pub blocks: BlockList,
     /// The number of main's first block, or 0 without a main.

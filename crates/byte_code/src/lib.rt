@@ -1,9 +1,9 @@
 //! The code that a byte machine runs, and the bytes of the image that it reads.
 //!
 //! An op names registers of its frame by their numbers, and gives sizes, offsets and widths in bytes; none names a path
-//! or a declaration. The crate owns the records `Code`, `Block`, `Op`, `Check`, `Width` and `ImageBytes`, and how numbers
-//! stand in words (`specs/Numbers.antt`): two's complement, in a register modulo 2^64 and in n bytes modulo 256^n. It owns
-//! how words stand in an image (`specs/Images.antt`), and how entries of virtual tables, their thunks and type information
+//! or a declaration. The crate owns the records `Code`, `Block`, `Op`, `Finish`, `Check`, `Width` and `ImageBytes`, and how
+//! numbers stand in words (`specs/Numbers.antt`): two's complement, in a register modulo 2^64 and in n bytes modulo 256^n. It
+//! owns how words stand in an image (`specs/Images.antt`), and how entries of virtual tables, their thunks and type information
 //! stand in words (`specs/Records.antt`).
 //!
 //! The layer above may rely on the lemmas of `proofs/Words.antt`: a number in the range of a `Width` comes back from its
@@ -18,5 +18,8 @@ pub mod width;
 
 pub use crate::code::{Block, BlockList, ByteList, Code, ImageBytes, OpList};
 pub use crate::image::{BaseRecord, EntryRecord, InfoRecord, ThunkRecord};
-pub use crate::op::{ArithKind, Check, Op, PrintAs};
+pub use crate::op::{
+    ArithKind, BaseHand, Check, Finish, FinishList, NumberKind, Op, Opening, Phase, PointSource,
+    PrintAs, RegisterList, ResultUse, Setting, TraceKind, Whose,
+};
 pub use crate::width::Width;

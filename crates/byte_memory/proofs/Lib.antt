@@ -3,3 +3,4 @@ pub mod Ascending
 pub mod Reached
 pub mod Numbers
 pub mod ByteCells
+pub mod Copies

@@ -21,7 +21,8 @@ reached (r ∷ rs) at n len ends h =
     reached_at r rs at n len true e here there h = grind (arith, nat_tests)
     reached_at r rs at n len false e here there h = there h
 
-shut_same : (r : Region) (at : ℕ) (z : Bool) → nat_eq r.start at ≡ z → ((shut at r).start ≡ r.start) × ((shut at r).size ≡ r.size)
+-- a region as closed starts there and is of that size
+pub shut_same : (r : Region) (at : ℕ) (z : Bool) → nat_eq r.start at ≡ z → ((shut at r).start ≡ r.start) × ((shut at r).size ≡ r.size)
 shut_same r at true e = rw e (refl, refl)
 shut_same r at false e = rw e (refl, refl)
 
@@ -87,7 +88,7 @@ starts-differ rs i k r x up sizes here other there =
     (IsAscendingBy-apart (λ (q : Region). q.start) (λ q. q.size) rs k i x r up there here other)
 
 -- what stands after a close was there before it
-slice_get-shut : (rs : List Region) (at i : ℕ) (x : Region) → slice_get (map (shut at) rs) i ≡ Some x → (q : Region) × (slice_get rs i ≡ Some q) × (q.start ≡ x.start) × (q.size ≡ x.size)
+pub slice_get-shut : (rs : List Region) (at i : ℕ) (x : Region) → slice_get (map (shut at) rs) i ≡ Some x → (q : Region) × (slice_get rs i ≡ Some q) × (q.start ≡ x.start) × (q.size ≡ x.size)
 slice_get-shut [] at i x here = cc
 slice_get-shut (r ∷ rs) at zero x here =
     let same : shut at r ≡ x = cc in

@@ -1,4 +1,4 @@
-use Rattle.std.specs.Prelude.{ℕ, suc, zero, ◌+◌, ◌*◌, ◌/◌, ◌%◌, nat_le, nat_lt, nat_eq, ◌&&◌, if◌then◌else◌, Option, Some, None}
+use Rattle.std.specs.Prelude.{◌≡◌, ℕ, suc, zero, ◌+◌, ◌-◌, ◌*◌, ◌/◌, ◌%◌, ◌≤◌, ◌⊎◌, nat_le, nat_lt, nat_eq, ◌&&◌, if◌then◌else◌, Option, Some, None}
 
 -- a number with its lowest byte, where both are set
 abbrev pub with_low : Option ℕ → Option ℕ → Option ℕ
@@ -23,3 +23,11 @@ stored byte at (suc n) value = stored (put byte at (Some (value % 256))) (at + 1
 -- the bytes after n of them were unset
 abbrev pub cleared : (ℕ → Option ℕ) → ℕ → ℕ → ℕ → Option ℕ
 cleared byte at n a = if nat_le at a && nat_lt a (at + n) then None else byte a
+
+-- two ranges of n bytes are one, or have no byte in common
+abbrev pub AreOneOrApart : ℕ → ℕ → ℕ → Type 0
+AreOneOrApart from to n = (from ≡ to) ⊎ ((from + n ≤ to) ⊎ (to + n ≤ from))
+
+-- the bytes after n of them, set or unset, were copied from one address to another
+abbrev pub copied : (ℕ → Option ℕ) → ℕ → ℕ → ℕ → ℕ → Option ℕ
+copied byte from to n a = if nat_le to a && nat_lt a (to + n) then byte (from + (a - to)) else byte a

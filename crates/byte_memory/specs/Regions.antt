@@ -1,5 +1,6 @@
 use Rattle.std.specs.Prelude.{◌≡◌, ℕ, ◌+◌, ◌*◌, ◌/◌, ◌<◌, ◌≤◌, Bool, false, nat_le, nat_eq, ◌&&◌, if◌then◌else◌, Option, Some, None, List, sum_by, slice_get}
 use Rattle.std.specs.List.{find}
+use Rattle.std.specs.Option.{option_or}
 use Rattle.byte_memory.specs.declared.memory.Region.{Region}
 use Rattle.byte_memory.specs.declared.memory.MemoryFault.{MemoryFault}
 use Rattle.byte_memory.specs.declared.memory.MemoryFault.TheVariants.{Closed, Range}
@@ -20,6 +21,10 @@ fault_in at (Some region) = if region.is_open then None else Some (Closed at)
 -- why the n bytes from an address on can't be reached, if so
 abbrev pub fault_at : List Region → ℕ → ℕ → Option MemoryFault
 fault_at regions at n = fault_in at (find (holds at n) regions)
+
+-- why n bytes can't be copied from one address to another, if so: the first reason is that of what is read
+abbrev pub copy_fault : List Region → ℕ → ℕ → ℕ → Option MemoryFault
+copy_fault regions from to n = option_or (fault_at regions from n) (fault_at regions to n)
 
 -- why the region that starts there can't be closed, if so
 abbrev pub close_fault : List Region → ℕ → Option MemoryFault

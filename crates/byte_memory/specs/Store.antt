@@ -3,7 +3,7 @@ use Rattle.std.specs.List.{find}
 use Rattle.byte_memory.specs.declared.memory.Region.{Region}
 use Rattle.byte_memory.specs.declared.memory.MemoryFault.{MemoryFault}
 use Rattle.byte_memory.specs.declared.memory.MemoryFault.TheVariants.{Unset}
-use Rattle.byte_memory.specs.Bytes.{number_from, stored, cleared}
+use Rattle.byte_memory.specs.Bytes.{number_from, stored, cleared, copied}
 use Rattle.byte_memory.specs.Regions.{fault_at, starts, shut}
 
 -- what a memory is, however it is kept: its regions, in the order in which they were opened, and the byte at each address, None where it is unset
@@ -28,6 +28,10 @@ load_of memory at n = answer at (fault_at memory.regions at n) (number_from memo
 -- the memory after the low n bytes of a value were stored
 abbrev pub store_of : Store → ℕ → ℕ → ℕ → Store
 store_of memory at n value = record memory { byte = stored memory.byte at n value }
+
+-- the memory after n bytes were copied
+abbrev pub copy_of : Store → ℕ → ℕ → ℕ → Store
+copy_of memory from to n = record memory { byte = copied memory.byte from to n }
 
 -- an address at which a new region of this size may be opened: each earlier region ends before it
 pub record IsRoom (memory : Store) (at size : ℕ) : Type 0 where

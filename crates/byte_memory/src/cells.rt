@@ -1,7 +1,7 @@
 //! Cells, one for each address, and the little-endian numbers in them.
 
 ghost use Rattle.std.specs.Prelude.{◌≡◌, ℕ, ◌+◌, ◌*◌, ◌<◌, ◌≤◌, ◌^◌, length, IfSome};
-ghost use Rattle.byte_memory.specs.Bytes.{number_from, stored, cleared};
+ghost use Rattle.byte_memory.specs.Bytes.{number_from, stored, cleared, copied, AreOneOrApart};
 ghost use Rattle.byte_memory.specs.Cells.{byte_of};
 
 /// Unsets n cells.
@@ -38,5 +38,17 @@ pub fn write_cells(cells: &mut [Option<u8>], at: usize, n: u8, value: u64)
     if n > 0 {
         cells[at] = Some((value % 256) as u8);
         write_cells(cells, at + 1, n - 1, value / 256);
+    }
+}
+
+/// Gives n cells what those from another one on have, set or unset.
+pub fn copy_cells(cells: &mut [Option<u8>], from: usize, to: usize, n: usize)
+    requires source { from + n ≤ length cells.old }
+    requires target { to + n ≤ length cells.old }
+    requires apart { AreOneOrApart from to n }
+    ensures { byte_of cells.new ≡ copied (byte_of cells.old) from to n }
+{
+    for i in 0..n {
+        cells[to + i] = cells[from + i];
     }
 }

@@ -4,7 +4,7 @@ ghost use Rattle.std.specs.Prelude.{◌≡◌, ℕ, ◌+◌, ◌*◌, ◌<◌, �
 ghost use Rattle.byte_memory.specs.Regions.{total_of, rounded, IsAscending};
 ghost use Rattle.byte_memory.specs.Cells.{byte_of};
 
-use crate::cells::{clear_cells, read_cells, write_cells};
+use crate::cells::{clear_cells, copy_cells, read_cells, write_cells};
 use crate::memory::{Memory, MemoryFault, Region};
 use crate::regions::{check, region_from, shut_region};
 use std::alloc::Global;
@@ -87,6 +87,13 @@ impl Memory for FlatMemory {
     fn store(&mut self, at: u64, bytes: u8, value: u64) -> Result<(), MemoryFault> {
         check(&self.regions, at, bytes as u64)?;
         write_cells(&mut self.cells, at as usize, bytes, value);
+        Ok(())
+    }
+
+    fn copy(&mut self, from: u64, to: u64, bytes: u8) -> Result<(), MemoryFault> {
+        check(&self.regions, from, bytes as u64)?;
+        check(&self.regions, to, bytes as u64)?;
+        copy_cells(&mut self.cells, from as usize, to as usize, bytes as usize);
         Ok(())
     }
 }

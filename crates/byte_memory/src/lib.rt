@@ -6,7 +6,8 @@
 //! refusals of its calls and their order, and `FlatMemory`, which keeps a cell for each address.
 //!
 //! The layer above may rely on the contracts of `Memory` alone: a load gives the number whose little-endian bytes were
-//! last stored there; a store changes its bytes and nothing else; a new region stands above all earlier ones.
+//! last stored there; a store changes its bytes and nothing else, and so does a copy, which also passes on that a byte is
+//! unset (`proofs/Copies.antt`: what stands in bytes that were copied); a new region stands above all earlier ones.
 #![tactic(auto)]
 
 pub mod cells;

@@ -1,8 +1,9 @@
 //! The trait of all memories.
 
 ghost use Rattle.std.specs.Prelude.{◌≡◌, ◌+◌, ◌<◌, ◌≤◌, ◌^◌, Some, None, MatchResult, IfOk, is_some};
-ghost use Rattle.byte_memory.specs.Regions.{fault_at, close_fault, total_of, rounded, IsAscending};
-ghost use Rattle.byte_memory.specs.Store.{Store, IsRoom, open_of, store_of, load_of, Closes};
+ghost use Rattle.byte_memory.specs.Bytes.{AreOneOrApart};
+ghost use Rattle.byte_memory.specs.Regions.{fault_at, close_fault, copy_fault, total_of, rounded, IsAscending};
+ghost use Rattle.byte_memory.specs.Store.{Store, IsRoom, open_of, store_of, copy_of, load_of, Closes};
 
 use thiserror::Error;
 
@@ -82,6 +83,20 @@ pub trait Memory {
             (λ _. (fault_at (meaning self.old).regions at bytes ≡ None)
             × (meaning self.new ≡ store_of (meaning self.old) at bytes value))
             (λ fault. (fault_at (meaning self.old).regions at bytes ≡ Some fault)
+            × (meaning self.new ≡ meaning self.old)) };
+
+    /// Gives the bytes at `to` the values of those at `from`, and unsets each whose byte at `from` is unset; it changes
+    /// nothing else, and takes no memory. The two ranges are equal or have no byte in common.
+    ///
+    /// Refusals are those of `store`, of `from` before `to`, each with its address; then all is as before.
+    fn copy(&mut self, from: u64, to: u64, bytes: u8) -> Result<(), MemoryFault>
+        requires some { 0 < bytes }
+        requires word { bytes ≤ 8 }
+        requires apart { AreOneOrApart from to bytes }
+        ensures { MatchResult result
+            (λ _. (copy_fault (meaning self.old).regions from to bytes ≡ None)
+            × (meaning self.new ≡ copy_of (meaning self.old) from to bytes))
+            (λ fault. (copy_fault (meaning self.old).regions from to bytes ≡ Some fault)
             × (meaning self.new ≡ meaning self.old)) };
 
     // No address is given out twice.

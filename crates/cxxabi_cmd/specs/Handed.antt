@@ -2,11 +2,11 @@
 use Rattle.std.specs.Prelude.{◌≡◌, ℕ, ◌≤◌, Option, Some, None, List, length}
 use Rattle.byte_memory.specs.Store.{empty}
 use Rattle.byte_memory.specs.declared.memory.Memory.{Ghosts}
-use Rattle.byte_code.specs.declared.code.Code.{Code}
+use Rattle.simple_code.specs.declared.code.Code.{Code}
 use Rattle.byte_code.specs.declared.code.ImageBytes.{ImageBytes}
-use Rattle.byte_machine.specs.declared.machine.Machine.{Machine}
-use Rattle.byte_machine.specs.MachineState.{code_of, image_of, state_of}
-use Rattle.byte_machine.specs.Turn.{State, begun}
+use Rattle.simple_machine.specs.declared.machine.Machine.{Machine}
+use Rattle.simple_machine.specs.MachineState.{code_of, image_of, state_of}
+use Rattle.simple_machine.specs.Turn.{State, begun}
 use Rattle.cxx_hierarchy.specs.Classes.{Classes}
 use Rattle.cxx_syntax.specs.declared.source_text.SourceText.{SourceText}
 use Rattle.cxx_program.specs.declared.program.TypedProgram.{TypedProgram}
@@ -14,10 +14,10 @@ use Rattle.cxx_simple.specs.declared.program.SimpleProgram.{SimpleProgram}
 use Rattle.abi_sound.specs.declared.class_layout.ClassLayout.{ClassLayout}
 use Rattle.abi_sound.specs.Places.{places_of}
 use Rattle.abi_layout.specs.Layouts.{IsLaid}
-use Rattle.abi_lower.specs.Blocks.{setup, code_for}
+use Rattle.simple_lower.specs.Blocks.{setup, code_for}
 use Rattle.abi_print.specs.Texts.{text_of}
-use Rattle.abi_refine.specs.Endings.{turn_of}
-use Rattle.abi_refine.specs.Reaches.{ReachesWith, no_image}
+use Rattle.simple_refine.specs.Endings.{turn_of}
+use Rattle.simple_refine.specs.Reaches.{ReachesWith, no_image}
 use Rattle.cxxabi_cmd.specs.declared.command.Command.TheVariants.{Run}
 use Rattle.cxxabi_cmd.specs.Commands.{Says}
 use Rattle.cxxabi_cmd.specs.Verdict.{Verdict, Accepts}

@@ -8,7 +8,7 @@ ghost use Rattle.cxx_simple.specs.Typed.{IsTypedProgram};
 ghost use Rattle.abi_sound.specs.declared.class_layout.ClassLayout.{ClassLayout};
 ghost use Rattle.abi_layout.specs.AbiLayouts.{IsAbiLayout};
 ghost use Rattle.abi_layout.specs.Layouts.{IsLaid};
-ghost use Rattle.abi_refine.specs.Endings.{ending_of};
+ghost use Rattle.simple_refine.specs.Endings.{ending_of};
 ghost use Rattle.cxxabi_cmd.specs.Output.{Answer, IsProgram, Yields, IsAnswered, line_alone, run_answer, run_by, status_of};
 ghost use Rattle.cxxabi_cmd.specs.Handed.{IsMachineOf};
 ghost use Rattle.cxxabi_cmd.specs.invariants.Listings.{IsReady};
@@ -22,11 +22,11 @@ use crate::reply::{BUDGET, Reply, class_count, line_alone};
 use crate::status::{Status, last_line_of, number_of};
 use crate::verdict::Accepted;
 use abi_layout::AbiLayout;
-use abi_refine::{End, Execution, execute};
 use cxx_hierarchy::{Hierarchy, Rule, Stop};
 use cxx_simple::{SimpleProgram, resolve_main};
 use cxx_syntax::SourceText;
 use foundation::NoMemory;
+use simple_refine::{End, Execution, execute};
 use std::alloc::Global;
 
 // The status of an end.

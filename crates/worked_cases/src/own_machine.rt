@@ -3,16 +3,16 @@
 ghost use Rattle.std.specs.Prelude.{◌≤◌, length};
 
 use abi_layout::lay_out;
-use abi_lower::lower;
-use abi_refine::{execute, run_machine};
 use byte_code::ImageBytes;
-use byte_machine::Machine;
 use byte_memory::{FlatMemory, Memory, MemoryFault};
 use cxx_decl_parser::parse_source;
 use cxx_hierarchy::{Stop, build};
 use cxx_simple::resolve_main;
 use cxx_text::tokens;
 use foundation::Sequence;
+use simple_lower::lower;
+use simple_machine::Machine;
+use simple_refine::{execute, run_machine};
 use std::alloc::Global;
 
 /// The steps that a run may take.
@@ -49,6 +49,10 @@ impl<M: Memory> Memory for Counting<M> {
     fn store(&mut self, at: u64, bytes: u8, value: u64) -> Result<(), MemoryFault> {
         self.stores = self.stores.saturating_add(1);
         self.inner.store(at, bytes, value)
+    }
+
+    fn copy(&mut self, from: u64, to: u64, bytes: u8) -> Result<(), MemoryFault> {
+        self.inner.copy(from, to, bytes)
     }
 }
 

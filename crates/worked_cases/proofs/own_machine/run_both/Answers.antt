@@ -2,8 +2,8 @@
 use Rattle.std.proofs.Common.{refl, arith}
 use Rattle.cxx_simple.proofs.Whole.{typed_main}
 use Rattle.abi_sound.specs.Places.{places_of}
-use Rattle.abi_lower.specs.Blocks.{setup}
-use Rattle.abi_refine.proofs.Running.{stands_at_start}
+use Rattle.simple_lower.specs.Blocks.{setup}
+use Rattle.simple_refine.proofs.Running.{stands_at_start}
 use Rattle.worked_cases.proofs.own_machine.run_both.Goals as goal
 
 pub lower-requires-clause-typed : goal.lower-requires-clause-typed

@@ -1,0 +1,10 @@
+pub mod Numbers
+pub mod Bases
+pub mod Distances
+pub mod Showing
+pub mod Answering
+pub mod Records
+pub mod Reading
+pub mod Walking
+pub mod Joining
+pub mod FirstPoints

@@ -1,0 +1,12 @@
+pub mod OnceLists
+pub mod Entries
+pub mod Chaining
+pub mod Findings
+pub mod Going
+pub mod Scanning
+pub mod Ways
+pub mod Choosing
+pub mod Ruling
+pub mod OneAnswer
+pub mod Transfer
+pub mod Keeping

@@ -1,0 +1,4 @@
+pub mod Rule
+pub mod Graph
+pub mod Casts
+pub mod invariants

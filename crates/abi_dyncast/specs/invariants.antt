@@ -1,0 +1,4 @@
+pub mod Chain
+pub mod Finding
+pub mod Walks
+pub mod Deciding

@@ -1,0 +1,62 @@
+//! The walk over the parts of a view.
+
+ghost use Rattle.std.specs.Prelude.{◌≡◌};
+ghost use Rattle.byte_code.specs.Images.{word_at};
+ghost use Rattle.abi_dyncast.specs.Graph.{graph_of};
+ghost use Rattle.abi_dyncast.specs.invariants.Finding.{found_at, joined, Tells};
+ghost use Rattle.abi_dyncast.specs.invariants.Walks.{IsReady, Visited};
+
+use crate::parts::{Part, edge_at};
+use crate::work::{Found, Goal, WorkList};
+use byte_code::ImageBytes;
+use byte_memory::Memory;
+
+/// What a part of a class at an address tells by itself.
+fn found_at(goal: Goal, at: u64, class: u32) -> Found
+    ensures { result ≡ found_at goal at class }
+{
+    let source = at == goal.at && class == goal.class;
+    Found {
+        source,
+        public_source: source,
+        public_target: class == goal.target,
+    }
+}
+
+/// What a part tells, with what one of its bases tells.
+fn joined(own: Found, below: Found, is_public: bool) -> Found
+    ensures { result ≡ joined own below is_public }
+{
+    Found {
+        source: own.source || below.source,
+        public_source: own.public_source || is_public && below.public_source,
+        public_target: own.public_target || is_public && below.public_target,
+    }
+}
+
+/// Visits a part and all parts below it that were not met before, bases first, and says what was found there.
+pub(crate) fn visit<M: Memory>(
+    image: &ImageBytes,
+    memory: &M,
+    work: &mut WorkList,
+    goal: Goal,
+    part: Part,
+) -> Found
+    requires { IsReady (word_at image.now) (M.meaning memory.now) goal work.old.parts work.old.entries.items part }
+    ensures tells { Tells (graph_of (word_at image.now) (M.meaning memory.now)) goal part result }
+    ensures visited { Visited (graph_of (word_at image.now) (M.meaning memory.now)) goal part work.old.entries.items work.new.entries.items }
+    ensures parts { work.new.parts ≡ work.old.parts }
+{
+    if let Some(entry) = work.find(part) {
+        return entry.found;
+    }
+    let info = image.info(part.info);
+    let mut found = found_at(goal, part.at, info.class);
+    for number in 0..info.bases {
+        let way = edge_at(image, memory, part, info, number);
+        let below = visit(image, memory, work, goal, way.part);
+        found = joined(found, below, way.is_public);
+    }
+    work.add(part, info.class, found);
+    found
+}

@@ -1,0 +1,9 @@
+pub mod Hops
+pub mod Objects
+pub mod Made
+pub mod Inside
+pub mod Sums
+pub mod Apart
+pub mod Growth
+pub mod Found
+pub mod Sizes

@@ -1,0 +1,4 @@
+pub mod Heaps
+pub mod Addresses
+pub mod Placed
+pub mod Regions

@@ -1,0 +1,149 @@
+//! The notes, by address and class.
+
+ghost use Rattle.std.specs.Prelude.{◌≡◌, ◌≢◌, None, OnOk, OnErr};
+ghost use Rattle.byte_shadow.specs.Shadows.{no_notes, begun, phased, viewed, is_ready_phase, ready_at};
+ghost use Rattle.byte_shadow.specs.Meaning.{place, note_of, pair_of, phase_of, owner_of, view_of, notes_of};
+
+use byte_code::Phase;
+use foundation::NoMemory;
+use indexmap::IndexMap;
+use std::alloc::Global;
+
+/// An address and the number of a class, which name a class subobject.
+#[derive(Clone, Copy, PartialEq, Eq, Hash)]
+pub struct Place {
+    pub at: u64,
+    pub class: u32,
+}
+
+/// What is noted of a subobject: its phase, its complete object, and the view of that object, where it is one itself.
+#[derive(Clone, Copy)]
+pub struct Note {
+    pub phase: Phase,
+    pub owner: Place,
+    pub view: Option<Place>,
+}
+
+fn pair_of(place: Place) -> (u64, u32)
+    ensures { result ≡ pair_of place }
+{
+    (place.at, place.class)
+}
+
+/// Whether the phase is one in which the subobject's bases are constructed and none has begun to end.
+fn is_ready_phase(phase: Phase) -> bool
+    ensures { result ≡ is_ready_phase phase }
+{
+    matches!(
+        phase,
+        Phase::ReadyBuilding | Phase::Complete | Phase::ReadyEnding
+    )
+}
+
+/// What is noted of class subobjects, by their address and the number of their class: the phase of each, the complete object
+/// that it belongs to, and of a complete object its view. Addresses are in bytes.
+#[derive(Drop)]
+pub struct Shadow {
+    notes: IndexMap<Place, Note>,
+}
+
+impl Shadow {
+    /// Nothing is noted. It takes no memory.
+    pub fn new(alloc: Global) -> Shadow
+        ensures { notes_of result ≡ no_notes }
+    {
+        Shadow {
+            notes: IndexMap::new(alloc),
+        }
+    }
+
+    fn note(&self, at: u64, class: u32) -> Option<Note>
+        ensures { result ≡ note_of self.now at class }
+    {
+        self.notes.get(&Place { at, class }).copied()
+    }
+
+    /// Notes a raw subobject of a complete object, of which nothing is noted yet.
+    ///
+    /// Errors: want of memory; then all is as before.
+    pub fn begin(
+        &mut self,
+        at: u64,
+        class: u32,
+        owner: u64,
+        owner_class: u32,
+    ) -> Result<(), NoMemory>
+        requires { (notes_of self.old).phase at class ≡ None }
+        ensures ok { OnOk result (notes_of self.new ≡ begun (notes_of self.old) at class owner owner_class) }
+        ensures err { OnErr result (notes_of self.new ≡ notes_of self.old) }
+    {
+        let note = Note {
+            phase: Phase::Raw,
+            owner: Place {
+                at: owner,
+                class: owner_class,
+            },
+            view: None,
+        };
+        self.notes.insert(Place { at, class }, note)?;
+        Ok(())
+    }
+
+    /// Puts a subobject that is noted into a phase. It takes no memory.
+    pub fn set_phase(&mut self, at: u64, class: u32, phase: Phase)
+        requires { (notes_of self.old).phase at class ≢ None }
+        ensures { notes_of self.new ≡ phased (notes_of self.old) at class phase }
+    {
+        if let Some(note) = self.notes.get_mut(&Place { at, class }) {
+            note.phase = phase;
+        }
+    }
+
+    /// The phase of a subobject, if it is noted.
+    pub fn phase(&self, at: u64, class: u32) -> Option<Phase>
+        ensures { result ≡ (notes_of self.now).phase at class }
+    {
+        self.note(at, class).map(|note| note.phase)
+    }
+
+    /// Whether a subobject is noted, its bases are constructed, and none of them has begun to end.
+    pub fn is_ready(&self, at: u64, class: u32) -> bool
+        ensures { result ≡ ready_at (notes_of self.now) at class }
+    {
+        match self.phase(at, class) {
+            Some(phase) => is_ready_phase(phase),
+            None => false,
+        }
+    }
+
+    /// Makes a subobject the view of a complete object that is noted. It takes no memory.
+    pub fn set_view(&mut self, owner: u64, owner_class: u32, at: u64, class: u32)
+        requires { (notes_of self.old).phase owner owner_class ≢ None }
+        ensures { notes_of self.new ≡ viewed (notes_of self.old) owner owner_class at class }
+    {
+        let complete = Place {
+            at: owner,
+            class: owner_class,
+        };
+        let view = Place { at, class };
+        if let Some(note) = self.notes.get_mut(&complete) {
+            note.view = Some(view);
+        }
+    }
+
+    /// The view of a complete object, as an address and the number of a class, if one was set.
+    pub fn view(&self, owner: u64, owner_class: u32) -> Option<(u64, u32)>
+        ensures { result ≡ (notes_of self.now).view owner owner_class }
+    {
+        let view = self.note(owner, owner_class)?.view?;
+        Some(pair_of(view))
+    }
+
+    /// The complete object that a subobject belongs to, as an address and the number of a class, if the subobject is noted.
+    pub fn owner(&self, at: u64, class: u32) -> Option<(u64, u32)>
+        ensures { result ≡ (notes_of self.now).owner at class }
+    {
+        let note = self.note(at, class)?;
+        Some(pair_of(note.owner))
+    }
+}
