@@ -1,0 +1,383 @@
+//! Calls: the pointer is read into the first free register, the receiver stands in the second, the result comes into the third.
+
+ghost use Rattle.std.specs.Prelude.{◌≡◌, ◌<◌, ◌+◌, ◌∷◌, [], ◌++◌, true, false, ◌||◌, OnOk, IfOk, Contains, length, Some, None};
+ghost use Rattle.std.specs.Option.{option_copied};
+ghost use Rattle.cxx_overrider.specs.Functions.{declaration_of, return_of};
+ghost use Rattle.cxx_overrider.specs.Virtuals.{own};
+ghost use Rattle.cxx_program.specs.Typed.{scope_of};
+ghost use Rattle.path_model.specs.Uses.{is_shared_way};
+ghost use Rattle.abi_sound.specs.Places.{places_of};
+ghost use Rattle.abi_slots.specs.Listing.{pointee, entry_number};
+ghost use Rattle.abi_slots.specs.Slots.{first_key};
+ghost use Rattle.abi_ops.specs.Setups.{setup, FunctionCode};
+ghost use Rattle.abi_ops.specs.Routines.{start_by};
+ghost use Rattle.abi_ops.specs.Operands.{ops_of};
+ghost use Rattle.abi_ops.specs.Uses.{check_ops};
+ghost use Rattle.abi_ops.specs.Arguments.{block_in, free, arguments_registers};
+ghost use Rattle.abi_statements.specs.Rights.{through_class, qualifier_distance, call_views, call_used, qualifier_ops, receiver_ops, result_class, call_entry, call_op, call_front, call_ops, unused, result_taken, object_taken};
+ghost use Rattle.abi_ops.specs.invariants.Fits.{IsSite, FitsVariable, FitsConversion};
+ghost use Rattle.abi_statements.specs.invariants.Fits.{FitsWay, FitsCall};
+
+use abi_ops::arguments::{
+    push_arguments, push_arguments_front, push_arguments_used, push_checked_taken, push_taken,
+    registers,
+};
+use abi_ops::operands::{class_or_first, operand_register, push_base, push_done, push_operand};
+use abi_ops::reads::{is_shared, push_arrow, push_views_if};
+use abi_ops::routines::start_of;
+use abi_ops::sites::Site;
+use abi_ops::uses::{UseList, Used, push_check_ops};
+use abi_slots::BlockKind;
+use abi_sound::SoundLayout;
+use byte_code::{Finish, FinishList, Op, OpList, RegisterList, ResultUse, TraceKind};
+use cxx_hierarchy::{ClassId, Function, Hierarchy, ReturnType, ValueType};
+use cxx_overrider::FunctionId;
+use cxx_program::{Conversion, TypedCall, Variable};
+use cxx_subobject::{Subobject, class_of};
+use foundation::{NoMemory, Sequence};
+
+/// The class before `::`, or the pointer's.
+fn through_class(call: &TypedCall) -> ClassId
+    ensures { result ≡ through_class call.now }
+{
+    match &call.qualifier {
+        Some(i) => class_or_first(class_of(i)),
+        None => call.class,
+    }
+}
+
+/// How far the subobject before `::` lies behind that of the pointer.
+fn qualifier_distance<L: SoundLayout>(site: &Site<L>, call: &TypedCall) -> u64
+    requires layout { L.lays_out site.now.layout.now site.now.h.now }
+    requires site { IsSite site.now.h.now (L.rows site.now.layout.now) site.now.slots.now site.now.body.now }
+    requires way { FitsWay site.now.h.now call.now.class call.now.qualifier }
+    ensures { result ≡ qualifier_distance (block_in (setup site.now.h.now (L.rows site.now.layout.now) site.now.program.now) site.now.body.now) call.now }
+{
+    match &call.qualifier {
+        Some(i) => site.layout.place(site.h, call.class, i) as u64,
+        None => 0,
+    }
+}
+
+/// Puts the look at the view behind other uses: at that of the pointer, else at that of the subobject before `::`.
+fn push_call_views<L: SoundLayout>(
+    uses: &mut UseList,
+    site: &Site<L>,
+    is_first: bool,
+    call: &TypedCall,
+    r: u32,
+) -> Result<(), NoMemory>
+    requires layout { L.lays_out site.now.layout.now site.now.h.now }
+    requires site { IsSite site.now.h.now (L.rows site.now.layout.now) site.now.slots.now site.now.body.now }
+    requires way { FitsWay site.now.h.now call.now.class call.now.qualifier }
+    ensures { OnOk result (uses.new ≡ uses.old ++ call_views (block_in (setup site.now.h.now (L.rows site.now.layout.now) site.now.program.now) site.now.body.now) is_first call.now r) }
+{
+    if is_first {
+        push_views_if(uses, true, r, 0, call.class)?;
+    } else {
+        let offset = qualifier_distance(site, call);
+        push_views_if(uses, is_shared(&call.base), r, offset, through_class(call))?;
+    }
+    Ok(())
+}
+
+/// Whether the class before `::` is behind a virtual base.
+fn is_shared_way(qualifier: &Option<Subobject>) -> bool
+    ensures { result ≡ is_shared_way qualifier.now }
+{
+    match qualifier {
+        Some(i) => is_shared(i),
+        None => false,
+    }
+}
+
+/// Puts the uses of a call behind others.
+///
+/// Errors: want of memory.
+pub fn push_call_used<L: SoundLayout>(
+    uses: &mut UseList,
+    site: &Site<L>,
+    call: &TypedCall,
+) -> Result<(), NoMemory>
+    requires layout { L.lays_out site.now.layout.now site.now.h.now }
+    requires site { IsSite site.now.h.now (L.rows site.now.layout.now) site.now.slots.now site.now.body.now }
+    requires fits { FitsCall site.now.h.now (scope_of site.now.h.now site.now.program.now.globals site.now.body.now) call.now }
+    ensures { OnOk result (uses.new ≡ uses.old ++ call_used (block_in (setup site.now.h.now (L.rows site.now.layout.now) site.now.program.now) site.now.body.now) call.now) }
+{
+    let r = site.free(0);
+    let register = operand_register(r, call.pointer);
+    let is_first = call.is_dispatched || is_shared_way(&call.qualifier);
+    push_arrow(uses, site, r, call.pointer, call.class)?;
+    push_call_views(uses, site, is_first, call, register)?;
+    push_arguments_used(uses, site, 0, call.arguments.as_slice())?;
+    Ok(())
+}
+
+/// Reads what a call takes.
+///
+/// Errors: want of memory.
+pub fn push_call_front<L: SoundLayout>(
+    ops: &mut OpList,
+    site: &Site<L>,
+    call: &TypedCall,
+) -> Result<(), NoMemory>
+    requires site { IsSite site.now.h.now (L.rows site.now.layout.now) site.now.slots.now site.now.body.now }
+    requires fits { FitsCall site.now.h.now (scope_of site.now.h.now site.now.program.now.globals site.now.body.now) call.now }
+    ensures { OnOk result (ops.new ≡ ops.old ++ call_front (block_in (setup site.now.h.now (L.rows site.now.layout.now) site.now.program.now) site.now.body.now) call.now) }
+{
+    push_operand(ops, site.free(0), call.pointer)?;
+    push_arguments_front(ops, site, 0, call.arguments.as_slice())?;
+    Ok(())
+}
+
+/// Moves a pointer to the subobject before `::`, where one stands there.
+fn push_qualifier<L: SoundLayout>(
+    list: &mut FinishList,
+    site: &Site<L>,
+    call: &TypedCall,
+    to: u32,
+    from: u32,
+) -> Result<(), NoMemory>
+    requires layout { L.lays_out site.now.layout.now site.now.h.now }
+    requires site { IsSite site.now.h.now (L.rows site.now.layout.now) site.now.slots.now site.now.body.now }
+    requires way { FitsWay site.now.h.now call.now.class call.now.qualifier }
+    ensures { OnOk result (list.new ≡ list.old ++ qualifier_ops (block_in (setup site.now.h.now (L.rows site.now.layout.now) site.now.program.now) site.now.body.now) call.now to from call.now.qualifier) }
+{
+    match &call.qualifier {
+        Some(i) => push_base(list, site, call.class, i, to, from)?,
+        None => list.push(Finish::Move { to, from })?,
+    }
+    Ok(())
+}
+
+/// Puts the receiver of a call into the second free register.
+fn push_receiver<L: SoundLayout>(
+    list: &mut FinishList,
+    site: &Site<L>,
+    call: &TypedCall,
+) -> Result<(), NoMemory>
+    requires layout { L.lays_out site.now.layout.now site.now.h.now }
+    requires site { IsSite site.now.h.now (L.rows site.now.layout.now) site.now.slots.now site.now.body.now }
+    requires fits { FitsCall site.now.h.now (scope_of site.now.h.now site.now.program.now.globals site.now.body.now) call.now }
+    ensures { OnOk result (list.new ≡ list.old ++ receiver_ops (block_in (setup site.now.h.now (L.rows site.now.layout.now) site.now.program.now) site.now.body.now) call.now) }
+{
+    let to = site.free(1);
+    let from = operand_register(site.free(0), call.pointer);
+    push_qualifier(list, site, call, to, from)?;
+    push_base(list, site, through_class(call), &call.base, to, to)?;
+    Ok(())
+}
+
+/// What a class declares under an index, if it is no destructor.
+fn declaration(h: &Hierarchy, f: FunctionId) -> Option<&Function<ClassId>>
+    ensures { option_copied result ≡ declaration_of h.now f }
+{
+    if f.class.0 >= h.len() {
+        return None;
+    }
+    h.class(f.class).functions.as_slice().get(f.index as usize)
+}
+
+/// The class to which the result of a function points, if it is a pointer.
+pub fn return_class(h: &Hierarchy, f: FunctionId) -> Option<ClassId>
+    ensures { result ≡ pointee (return_of h.now f) }
+{
+    match declaration(h, f) {
+        None => None,
+        Some(function) => match &function.ret {
+            ReturnType::Void => None,
+            ReturnType::Value(ValueType::Number(_)) => None,
+            ReturnType::Value(ValueType::Pointer(class)) => Some(*class),
+        },
+    }
+}
+
+/// The number of the class to which the result of a function points, if it is a pointer.
+pub fn result_class<L: SoundLayout>(site: &Site<L>, f: FunctionId) -> Option<u32>
+    ensures { result ≡ result_class (setup site.now.h.now (L.rows site.now.layout.now) site.now.program.now) f }
+{
+    match return_class(site.h, f) {
+        Some(class) => Some(class.0),
+        None => None,
+    }
+}
+
+/// The number of the entry of a virtual function.
+fn call_entry<L: SoundLayout>(site: &Site<L>, f: FunctionId) -> u32
+    requires site { IsSite site.now.h.now (L.rows site.now.layout.now) site.now.slots.now site.now.body.now }
+    requires own { Contains (own site.now.h.now f.class) f }
+    ensures { result ≡ call_entry (setup site.now.h.now (L.rows site.now.layout.now) site.now.program.now) f }
+{
+    site.slots.entry(f)
+}
+
+/// Calls by the view: the entry must run code.
+fn push_entry_call<L: SoundLayout>(
+    ops: &mut OpList,
+    site: &Site<L>,
+    call: &TypedCall,
+    arguments: RegisterList,
+    taken: ResultUse,
+) -> Result<(), NoMemory>
+    requires site { IsSite site.now.h.now (L.rows site.now.layout.now) site.now.slots.now site.now.body.now }
+    requires own { Contains (own site.now.h.now call.now.function.class) call.now.function }
+    requires registers { arguments ≡ arguments_registers (block_in (setup site.now.h.now (L.rows site.now.layout.now) site.now.program.now) site.now.body.now) 0 call.now.arguments }
+    ensures { OnOk result (ops.new ≡ ops.old ++ call_op (block_in (setup site.now.h.now (L.rows site.now.layout.now) site.now.program.now) site.now.body.now) (start_by (setup site.now.h.now (L.rows site.now.layout.now) site.now.program.now) site.now.numbers.now) true call.now taken) }
+{
+    let this = site.free(1);
+    let entry = call_entry(site, call.function);
+    let register = this;
+    push_check_ops(site.alloc, ops, &[Used::Takes { register, entry }])?;
+    ops.push(Op::CallEntry {
+        this,
+        entry,
+        arguments,
+        result: taken,
+    })?;
+    Ok(())
+}
+
+/// Calls the function that was found.
+fn push_code_call<L: SoundLayout>(
+    ops: &mut OpList,
+    site: &Site<L>,
+    call: &TypedCall,
+    arguments: RegisterList,
+    taken: ResultUse,
+) -> Result<(), NoMemory>
+    requires site { IsSite site.now.h.now (L.rows site.now.layout.now) site.now.slots.now site.now.body.now }
+    requires registers { arguments ≡ arguments_registers (block_in (setup site.now.h.now (L.rows site.now.layout.now) site.now.program.now) site.now.body.now) 0 call.now.arguments }
+    ensures { OnOk result (ops.new ≡ ops.old ++ call_op (block_in (setup site.now.h.now (L.rows site.now.layout.now) site.now.program.now) site.now.body.now) (start_by (setup site.now.h.now (L.rows site.now.layout.now) site.now.program.now) site.now.numbers.now) false call.now taken) }
+{
+    ops.push(Op::CallCode {
+        block: start_of(site.numbers, call.function, BlockKind::Plain),
+        this: site.free(1),
+        arguments,
+        result: taken,
+    })?;
+    Ok(())
+}
+
+/// Calls a function by the view, or the function that was found.
+fn push_call_op<L: SoundLayout>(
+    ops: &mut OpList,
+    site: &Site<L>,
+    call: &TypedCall,
+    taken: ResultUse,
+) -> Result<(), NoMemory>
+    requires layout { L.lays_out site.now.layout.now site.now.h.now }
+    requires site { IsSite site.now.h.now (L.rows site.now.layout.now) site.now.slots.now site.now.body.now }
+    requires fits { FitsCall site.now.h.now (scope_of site.now.h.now site.now.program.now.globals site.now.body.now) call.now }
+    ensures { OnOk result (ops.new ≡ ops.old ++ call_op (block_in (setup site.now.h.now (L.rows site.now.layout.now) site.now.program.now) site.now.body.now) (start_by (setup site.now.h.now (L.rows site.now.layout.now) site.now.program.now) site.now.numbers.now) call.now.is_dispatched call.now taken) }
+{
+    let arguments = registers(site, call.arguments.as_slice())?;
+    if call.is_dispatched {
+        push_entry_call(ops, site, call, arguments, taken)?;
+    } else {
+        push_code_call(ops, site, call, arguments, taken)?;
+    }
+    Ok(())
+}
+
+/// Makes a call, behind the tests of what it uses.
+///
+/// Errors: want of memory.
+pub fn push_call<L: SoundLayout>(
+    ops: &mut OpList,
+    site: &Site<L>,
+    call: &TypedCall,
+    taken: ResultUse,
+) -> Result<(), NoMemory>
+    requires layout { L.lays_out site.now.layout.now site.now.h.now }
+    requires site { IsSite site.now.h.now (L.rows site.now.layout.now) site.now.slots.now site.now.body.now }
+    requires fits { FitsCall site.now.h.now (scope_of site.now.h.now site.now.program.now.globals site.now.body.now) call.now }
+    ensures { OnOk result (ops.new ≡ ops.old ++ call_ops (block_in (setup site.now.h.now (L.rows site.now.layout.now) site.now.program.now) site.now.body.now) (start_by (setup site.now.h.now (L.rows site.now.layout.now) site.now.program.now) site.now.numbers.now) call.now taken) }
+{
+    let mut receiver = Sequence::new(site.alloc);
+    push_receiver(&mut receiver, site, call)?;
+    push_done(ops, receiver.as_slice())?;
+    let mut arguments = Sequence::new(site.alloc);
+    push_arguments(&mut arguments, site, 0, call.arguments.as_slice())?;
+    push_done(ops, arguments.as_slice())?;
+    push_call_op(ops, site, call, taken)?;
+    ops.push(Op::Trace(TraceKind::Call))?;
+    Ok(())
+}
+
+/// A result that no variable takes.
+pub fn unused<L: SoundLayout>(site: &Site<L>, f: FunctionId) -> ResultUse
+    ensures { result ≡ unused (setup site.now.h.now (L.rows site.now.layout.now) site.now.program.now) f }
+{
+    ResultUse {
+        to: None,
+        class: result_class(site, f),
+        finish: Sequence::new(site.alloc),
+    }
+}
+
+/// A result that is converted and given to a variable.
+///
+/// Errors: want of memory.
+pub fn result_taken<L: SoundLayout>(
+    site: &Site<L>,
+    variable: Variable,
+    f: FunctionId,
+    conversion: &Conversion,
+) -> Result<ResultUse, NoMemory>
+    requires layout { L.lays_out site.now.layout.now site.now.h.now }
+    requires site { IsSite site.now.h.now (L.rows site.now.layout.now) site.now.slots.now site.now.body.now }
+    requires variable { FitsVariable variable }
+    requires fits { FitsConversion site.now.h.now (pointee (return_of site.now.h.now f)) conversion.now }
+    ensures { IfOk result (λ taken. taken ≡ result_taken (block_in (setup site.now.h.now (L.rows site.now.layout.now) site.now.program.now) site.now.body.now) variable (pointee (return_of site.now.h.now f)) (result_class (setup site.now.h.now (L.rows site.now.layout.now) site.now.program.now) f) conversion.now) }
+{
+    let to = site.free(2);
+    let mut finish = Sequence::new(site.alloc);
+    let class = return_class(site.h, f);
+    push_checked_taken(
+        &mut finish,
+        site,
+        variable,
+        class,
+        conversion,
+        site.free(3),
+        to,
+    )?;
+    Ok(ResultUse {
+        to: Some(to),
+        class: result_class(site, f),
+        finish,
+    })
+}
+
+/// The pointer that a `new` gives, which is converted and given to a variable.
+///
+/// Errors: want of memory.
+pub fn object_taken<L: SoundLayout>(
+    site: &Site<L>,
+    variable: Variable,
+    d: ClassId,
+    conversion: &Conversion,
+) -> Result<ResultUse, NoMemory>
+    requires layout { L.lays_out site.now.layout.now site.now.h.now }
+    requires site { IsSite site.now.h.now (L.rows site.now.layout.now) site.now.slots.now site.now.body.now }
+    requires variable { FitsVariable variable }
+    requires fits { FitsConversion site.now.h.now (Some d) conversion.now }
+    ensures { IfOk result (λ taken. taken ≡ object_taken (block_in (setup site.now.h.now (L.rows site.now.layout.now) site.now.program.now) site.now.body.now) variable d conversion.now) }
+{
+    let to = site.free(2);
+    let mut finish = Sequence::new(site.alloc);
+    push_taken(
+        &mut finish,
+        site,
+        variable,
+        Some(d),
+        conversion,
+        site.free(3),
+        to,
+    )?;
+    Ok(ResultUse {
+        to: Some(to),
+        class: None,
+        finish,
+    })
+}

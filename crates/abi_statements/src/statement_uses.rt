@@ -1,0 +1,220 @@
+//! What statements read, and what is tested of them.
+
+ghost use Rattle.std.specs.Prelude.{◌≡◌, ◌<◌, ◌+◌, ◌++◌, OnOk, length, Some, None, ℕ};
+ghost use Rattle.cxx_overrider.specs.Overriders.{AreOverriders};
+ghost use Rattle.cxx_overrider.specs.Virtuals.{is_virtual};
+ghost use Rattle.cxx_program.specs.Typed.{scope_of};
+ghost use Rattle.cxx_program.specs.declared.statement.TypedKind.TheVariants.{Declare, Assign, Write, Copy, Call, Delete, If, While, Return, Print, PrintType, PrintView, Dump};
+ghost use Rattle.abi_ops.specs.Setups.{setup, spare_register};
+ghost use Rattle.abi_ops.specs.Arguments.{block_in, free};
+ghost use Rattle.abi_ops.specs.invariants.Fits.{IsSite, FitsOperand, FitsPlace, FitsArgument, most_locals};
+ghost use Rattle.abi_statements.specs.Statements.{declared_front, kind_front, kind_used};
+ghost use Rattle.abi_statements.specs.invariants.Fits.{FitsDeclared, FitsKind};
+
+use crate::calls::{push_call_front, push_call_used};
+use crate::deletes::is_virtual_end;
+use crate::right_uses::{push_right_front, push_right_used};
+use abi_ops::arguments::push_argument_used;
+use abi_ops::operands::{local_register, operand_register, push_operand};
+use abi_ops::places::push_place_used;
+use abi_ops::reads::{push_arrow, push_guards, push_reads, push_views_if};
+use abi_ops::sites::Site;
+use abi_ops::uses::{UseList, Used};
+use abi_sound::SoundLayout;
+use byte_code::{Finish, Op, OpList};
+use cxx_hierarchy::ClassId;
+use cxx_program::{Argument, Converted, TypedKind, TypedOperand, TypedPlace};
+use foundation::NoMemory;
+
+/// Makes a local unset, and reads what its initializer takes.
+fn push_declared_front<L: SoundLayout>(
+    ops: &mut OpList,
+    site: &Site<L>,
+    n: usize,
+    value: &Option<Converted>,
+) -> Result<(), NoMemory>
+    requires site { IsSite site.now.h.now (L.rows site.now.layout.now) site.now.slots.now site.now.body.now }
+    requires local { n < most_locals }
+    requires fits { FitsDeclared site.now.h.now (scope_of site.now.h.now site.now.program.now.globals site.now.body.now) value.now }
+    ensures { OnOk result (ops.new ≡ ops.old ++ declared_front (block_in (setup site.now.h.now (L.rows site.now.layout.now) site.now.program.now) site.now.body.now) (spare_register (Some site.now.body.now)) n value.now) }
+{
+    ops.push(Op::Does(Finish::Move {
+        to: local_register(n),
+        from: site.spare(),
+    }))?;
+    match value {
+        Some(v) => push_right_front(ops, site, &v.right)?,
+        None => {}
+    }
+    Ok(())
+}
+
+/// Reads what a statement takes, before its tests.
+///
+/// Errors: want of memory.
+pub fn push_kind_front<L: SoundLayout>(
+    ops: &mut OpList,
+    site: &Site<L>,
+    kind: &TypedKind,
+) -> Result<(), NoMemory>
+    requires site { IsSite site.now.h.now (L.rows site.now.layout.now) site.now.slots.now site.now.body.now }
+    requires fits { (size n : ℕ) × FitsKind site.now.h.now (scope_of site.now.h.now site.now.program.now.globals site.now.body.now) size n kind.now }
+    ensures { OnOk result (ops.new ≡ ops.old ++ kind_front (block_in (setup site.now.h.now (L.rows site.now.layout.now) site.now.program.now) site.now.body.now) (spare_register (Some site.now.body.now)) kind.now) }
+{
+    let first = site.free(0);
+    match kind {
+        TypedKind::Declare(n, v) => push_declared_front(ops, site, *n, v)?,
+        TypedKind::Assign(_, v) => push_right_front(ops, site, &v.right)?,
+        TypedKind::Write(place, a) => {
+            push_operand(ops, first, place.pointer)?;
+            push_operand(ops, site.free(1), a.operand)?;
+        }
+        TypedKind::Copy(_, _, _) | TypedKind::Return(None) => {}
+        TypedKind::Call(call) => push_call_front(ops, site, call)?,
+        TypedKind::Return(Some(a)) => push_operand(ops, first, a.operand)?,
+        TypedKind::Delete(p, _)
+        | TypedKind::If(p, _, _)
+        | TypedKind::While(p, _)
+        | TypedKind::Print(p)
+        | TypedKind::PrintType(p, _)
+        | TypedKind::PrintView(p, _)
+        | TypedKind::Dump(p, _) => push_operand(ops, first, *p)?,
+    }
+    Ok(())
+}
+
+/// Puts the uses of a `delete` behind others.
+fn push_delete_used<L: SoundLayout>(
+    uses: &mut UseList,
+    site: &Site<L>,
+    p: TypedOperand,
+    c: ClassId,
+) -> Result<(), NoMemory>
+    requires site { IsSite site.now.h.now (L.rows site.now.layout.now) site.now.slots.now site.now.body.now }
+    requires overriders { AreOverriders site.now.h.now site.now.overriders.now }
+    requires operand { FitsOperand p }
+    requires known { c.0 < length site.now.h.now }
+    ensures { OnOk result (uses.new ≡ uses.old ++ kind_used (block_in (setup site.now.h.now (L.rows site.now.layout.now) site.now.program.now) site.now.body.now) (Delete p c)) }
+{
+    let r = site.free(0);
+    let register = operand_register(r, p);
+    let is_virtual = is_virtual_end(site, c);
+    let class = c.0;
+    push_reads(uses, site, r, p)?;
+    push_guards(uses, register, 0, c)?;
+    push_views_if(uses, is_virtual, register, 0, c)?;
+    uses.push(Used::Deletes {
+        register,
+        class,
+        is_virtual,
+    })?;
+    Ok(())
+}
+
+/// Puts the uses of a print of a type or of a view behind others; a type asks for a pointer that is not null.
+fn push_shown_used<L: SoundLayout>(
+    uses: &mut UseList,
+    site: &Site<L>,
+    p: TypedOperand,
+    c: ClassId,
+) -> Result<(), NoMemory>
+    requires site { IsSite site.now.h.now (L.rows site.now.layout.now) site.now.slots.now site.now.body.now }
+    requires operand { FitsOperand p }
+    ensures { OnOk result (uses.new ≡ uses.old ++ kind_used (block_in (setup site.now.h.now (L.rows site.now.layout.now) site.now.program.now) site.now.body.now) (PrintView p c)) }
+{
+    let r = site.free(0);
+    let register = operand_register(r, p);
+    push_reads(uses, site, r, p)?;
+    push_guards(uses, register, 0, c)?;
+    push_views_if(uses, true, register, 0, c)?;
+    Ok(())
+}
+
+/// Puts the uses of a print of a type behind others.
+fn push_type_used<L: SoundLayout>(
+    uses: &mut UseList,
+    site: &Site<L>,
+    p: TypedOperand,
+    c: ClassId,
+) -> Result<(), NoMemory>
+    requires site { IsSite site.now.h.now (L.rows site.now.layout.now) site.now.slots.now site.now.body.now }
+    requires operand { FitsOperand p }
+    ensures { OnOk result (uses.new ≡ uses.old ++ kind_used (block_in (setup site.now.h.now (L.rows site.now.layout.now) site.now.program.now) site.now.body.now) (PrintType p c)) }
+{
+    let r = site.free(0);
+    push_arrow(uses, site, r, p, c)?;
+    push_views_if(uses, true, operand_register(r, p), 0, c)?;
+    Ok(())
+}
+
+/// Puts the uses of a dump behind others.
+fn push_dump_used<L: SoundLayout>(
+    uses: &mut UseList,
+    site: &Site<L>,
+    p: TypedOperand,
+    c: ClassId,
+) -> Result<(), NoMemory>
+    requires site { IsSite site.now.h.now (L.rows site.now.layout.now) site.now.slots.now site.now.body.now }
+    requires operand { FitsOperand p }
+    ensures { OnOk result (uses.new ≡ uses.old ++ kind_used (block_in (setup site.now.h.now (L.rows site.now.layout.now) site.now.program.now) site.now.body.now) (Dump p c)) }
+{
+    let _c = c;
+    let r = site.free(0);
+    let register = operand_register(r, p);
+    push_reads(uses, site, r, p)?;
+    uses.push(Used::Follows { register })?;
+    uses.push(Used::Dumps { register })?;
+    Ok(())
+}
+
+/// Puts the uses of a write behind others.
+fn push_write_used<L: SoundLayout>(
+    uses: &mut UseList,
+    site: &Site<L>,
+    place: &TypedPlace,
+    a: &Argument,
+) -> Result<(), NoMemory>
+    requires layout { L.lays_out site.now.layout.now site.now.h.now }
+    requires site { IsSite site.now.h.now (L.rows site.now.layout.now) site.now.slots.now site.now.body.now }
+    requires place { FitsPlace site.now.h.now place.now }
+    requires fits { FitsArgument site.now.h.now (scope_of site.now.h.now site.now.program.now.globals site.now.body.now) a.now }
+    ensures { OnOk result (uses.new ≡ uses.old ++ kind_used (block_in (setup site.now.h.now (L.rows site.now.layout.now) site.now.program.now) site.now.body.now) (Write place.now a.now)) }
+{
+    push_place_used(uses, site, place, site.free(0))?;
+    push_argument_used(uses, site, a, site.free(1))?;
+    Ok(())
+}
+
+/// Puts what is tested of a statement behind other uses.
+///
+/// Errors: want of memory.
+pub fn push_kind_used<L: SoundLayout>(
+    uses: &mut UseList,
+    site: &Site<L>,
+    kind: &TypedKind,
+) -> Result<(), NoMemory>
+    requires layout { L.lays_out site.now.layout.now site.now.h.now }
+    requires site { IsSite site.now.h.now (L.rows site.now.layout.now) site.now.slots.now site.now.body.now }
+    requires overriders { AreOverriders site.now.h.now site.now.overriders.now }
+    requires fits { (size n : ℕ) × FitsKind site.now.h.now (scope_of site.now.h.now site.now.program.now.globals site.now.body.now) size n kind.now }
+    ensures { OnOk result (uses.new ≡ uses.old ++ kind_used (block_in (setup site.now.h.now (L.rows site.now.layout.now) site.now.program.now) site.now.body.now) kind.now) }
+{
+    let first = site.free(0);
+    match kind {
+        TypedKind::Declare(_, Some(v)) | TypedKind::Assign(_, v) => {
+            push_right_used(uses, site, &v.right, &v.conversion)?;
+        }
+        TypedKind::Declare(_, None) | TypedKind::Copy(_, _, _) | TypedKind::Return(None) => {}
+        TypedKind::Write(place, a) => push_write_used(uses, site, place, a)?,
+        TypedKind::Call(call) => push_call_used(uses, site, call)?,
+        TypedKind::Delete(p, c) => push_delete_used(uses, site, *p, *c)?,
+        TypedKind::If(p, _, _) | TypedKind::While(p, _) | TypedKind::Print(p) => {
+            push_reads(uses, site, first, *p)?;
+        }
+        TypedKind::Return(Some(a)) => push_argument_used(uses, site, a, first)?,
+        TypedKind::PrintType(p, c) => push_type_used(uses, site, *p, *c)?,
+        TypedKind::PrintView(p, c) => push_shown_used(uses, site, *p, *c)?,
+        TypedKind::Dump(p, c) => push_dump_used(uses, site, *p, *c)?,
+    }
+    Ok(())
+}

@@ -1,0 +1,17 @@
+pub mod Leads
+pub mod TurnLeads
+pub mod CheckLeads
+pub mod ValueLeads
+pub mod CallLeads
+pub mod ReturnLeads
+pub mod PlanLeads
+pub mod ControlLeads
+pub mod Registers
+pub mod Ranges
+pub mod Objects
+pub mod Counted
+pub mod Arithmetic
+pub mod Allowed
+pub mod Results
+pub mod BlockRuns
+pub mod KeptTwice

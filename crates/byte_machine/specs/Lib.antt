@@ -1,0 +1,14 @@
+pub mod Heap
+pub mod Frames
+pub mod Running
+pub mod Checks
+pub mod Values
+pub mod Calls
+pub mod Plans
+pub mod Effects
+pub mod Runs
+pub mod Leads
+pub mod Turn
+pub mod GivenFrames
+pub mod MachineState
+pub mod invariants

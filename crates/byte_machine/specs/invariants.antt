@@ -1,0 +1,5 @@
+pub mod States
+pub mod CheckKinds
+pub mod OpKinds
+pub mod GivenCallees
+pub mod Steps

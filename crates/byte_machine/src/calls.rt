@@ -1,0 +1,204 @@
+//! Calls, `new` and `delete` (Itanium C++ ABI 2.5.2, 2.5.3).
+
+ghost use Rattle.std.specs.Prelude.{◌≡◌, [], IfOk};
+ghost use Rattle.byte_machine.specs.Calls.{code_called, deleted, entry_called, new_made, nothing_used};
+ghost use Rattle.byte_machine.specs.Effects.{effect_of};
+ghost use Rattle.byte_machine.specs.invariants.OpKinds.{op_kind, OfCalls, OfDeletes};
+ghost use Rattle.byte_machine.specs.invariants.States.{CanDo, DidAs, Keeps, limited};
+
+use crate::callees::find_callee;
+use crate::entering::{keep, open_call};
+use crate::running::{Running, Setup};
+use byte_code::{Op, ResultUse};
+use byte_memory::Memory;
+use foundation::{NoMemory, Sequence};
+
+/// How many calls, `new` and `delete` may be open.
+const MOST_CALLS: u32 = 4096;
+
+/// A call by an entry of the table of an address. It answers the limit that it meets, if it does.
+fn call_entry<M: Memory>(
+    setup: &Setup,
+    running: &mut Running<M>,
+    this: u64,
+    entry: u32,
+    arguments: &[u32],
+    outcome: &ResultUse,
+) -> Result<Option<u8>, NoMemory>
+    requires { CanDo setup.now (λ f s. entry_called f s entry arguments.now outcome.now this) running.old }
+    ensures did { IfOk result (λ limit. DidAs setup.now (λ f s. entry_called f s entry arguments.now outcome.now this) running.old running.new (limited limit)) }
+    ensures kept { Keeps running.old running.new }
+{
+    if running.calls >= MOST_CALLS {
+        return Ok(Some(10));
+    }
+    let callee = find_callee(&setup.image, &running.heap, this, entry).unwrap();
+    let kept = keep(setup, outcome, callee.vbase, callee.add)?;
+    open_call(setup, running, callee.block, callee.this, arguments, kept)?;
+    Ok(None)
+}
+
+/// A call of a block, with `this`. It answers the limit that it meets, if it does.
+fn call_code<M: Memory>(
+    setup: &Setup,
+    running: &mut Running<M>,
+    block: u32,
+    this: u64,
+    arguments: &[u32],
+    outcome: &ResultUse,
+) -> Result<Option<u8>, NoMemory>
+    requires { CanDo setup.now (λ f s. code_called f s block arguments.now outcome.now this) running.old }
+    ensures did { IfOk result (λ limit. DidAs setup.now (λ f s. code_called f s block arguments.now outcome.now this) running.old running.new (limited limit)) }
+    ensures kept { Keeps running.old running.new }
+{
+    if running.calls >= MOST_CALLS {
+        return Ok(Some(10));
+    }
+    let kept = keep(setup, outcome, 0, 0)?;
+    open_call(setup, running, block, this, arguments, kept)?;
+    Ok(None)
+}
+
+/// A `new`: a heap object, and the frame of a block over its address. It answers the limit that it meets, if it does.
+fn make<M: Memory>(
+    setup: &Setup,
+    running: &mut Running<M>,
+    size: u32,
+    class: u32,
+    block: u32,
+    outcome: &ResultUse,
+) -> Result<Option<u8>, NoMemory>
+    requires { CanDo setup.now (λ f s. new_made f s size class block outcome.now) running.old }
+    ensures did { IfOk result (λ limit. DidAs setup.now (λ f s. new_made f s size class block outcome.now) running.old running.new (limited limit)) }
+    ensures kept { Keeps running.old running.new }
+{
+    if running.heap.is_full(size) {
+        return Ok(Some(8));
+    }
+    if running.calls >= MOST_CALLS {
+        return Ok(Some(10));
+    }
+    let kept = keep(setup, outcome, 0, 0)?;
+    let at = running.heap.make(size, class)?;
+    open_call(setup, running, block, at, &[], kept)?;
+    Ok(None)
+}
+
+/// Nothing becomes of a result.
+fn unused(setup: &Setup) -> ResultUse
+    ensures { result ≡ nothing_used }
+{
+    ResultUse {
+        to: None,
+        class: None,
+        finish: Sequence::new(setup.alloc),
+    }
+}
+
+/// A `delete`, by an entry of the table of an address.
+fn delete_entry<M: Memory>(
+    setup: &Setup,
+    running: &mut Running<M>,
+    this: u64,
+    entry: u32,
+) -> Result<Option<u8>, NoMemory>
+    requires { CanDo setup.now (λ f s. deleted this s (entry_called f s entry [] nothing_used this)) running.old }
+    ensures did { IfOk result (λ limit. DidAs setup.now (λ f s. deleted this s (entry_called f s entry [] nothing_used this)) running.old running.new (limited limit)) }
+    ensures kept { Keeps running.old running.new }
+{
+    if this == 0 {
+        return Ok(None);
+    }
+    let outcome = unused(setup);
+    let limit = call_entry(setup, running, this, entry, &[], &outcome)?;
+    Ok(limit)
+}
+
+/// A `delete`, by a block.
+fn delete_code<M: Memory>(
+    setup: &Setup,
+    running: &mut Running<M>,
+    this: u64,
+    block: u32,
+) -> Result<Option<u8>, NoMemory>
+    requires { CanDo setup.now (λ f s. deleted this s (code_called f s block [] nothing_used this)) running.old }
+    ensures did { IfOk result (λ limit. DidAs setup.now (λ f s. deleted this s (code_called f s block [] nothing_used this)) running.old running.new (limited limit)) }
+    ensures kept { Keeps running.old running.new }
+{
+    if this == 0 {
+        return Ok(None);
+    }
+    let outcome = unused(setup);
+    let limit = call_code(setup, running, block, this, &[], &outcome)?;
+    Ok(limit)
+}
+
+/// Runs a call or a `new`. It answers the limit that it meets, if it does.
+///
+/// Errors: want of memory; then nothing is said of what it works on.
+pub fn run_call<M: Memory>(
+    setup: &Setup,
+    running: &mut Running<M>,
+    op: &Op,
+) -> Result<Option<u8>, NoMemory>
+    requires kind { op_kind op.now ≡ OfCalls }
+    requires allowed { CanDo setup.now (λ f s. effect_of f op.now s) running.old }
+    ensures did { IfOk result (λ limit. DidAs setup.now (λ f s. effect_of f op.now s) running.old running.new (limited limit)) }
+    ensures kept { Keeps running.old running.new }
+{
+    let limit = match op {
+        Op::CallEntry {
+            this,
+            entry,
+            arguments,
+            result,
+        } => {
+            let at = running.register(*this).unwrap();
+            call_entry(setup, running, at, *entry, arguments.as_slice(), result)?
+        }
+        Op::CallCode {
+            block,
+            this,
+            arguments,
+            result,
+        } => {
+            let at = running.register(*this).unwrap();
+            call_code(setup, running, *block, at, arguments.as_slice(), result)?
+        }
+        Op::New {
+            size,
+            class,
+            block,
+            result,
+        } => make(setup, running, *size, *class, *block, result)?,
+        _ => unreachable!(),
+    };
+    Ok(limit)
+}
+
+/// Runs a `delete`. It answers the limit that it meets, if it does.
+///
+/// Errors: want of memory; then nothing is said of what it works on.
+pub fn run_delete<M: Memory>(
+    setup: &Setup,
+    running: &mut Running<M>,
+    op: &Op,
+) -> Result<Option<u8>, NoMemory>
+    requires kind { op_kind op.now ≡ OfDeletes }
+    requires allowed { CanDo setup.now (λ f s. effect_of f op.now s) running.old }
+    ensures did { IfOk result (λ limit. DidAs setup.now (λ f s. effect_of f op.now s) running.old running.new (limited limit)) }
+    ensures kept { Keeps running.old running.new }
+{
+    let limit = match op {
+        Op::DeleteEntry { this, entry } => {
+            let at = running.register(*this).unwrap();
+            delete_entry(setup, running, at, *entry)?
+        }
+        Op::DeleteCode { this, block } => {
+            let at = running.register(*this).unwrap();
+            delete_code(setup, running, at, *block)?
+        }
+        _ => unreachable!(),
+    };
+    Ok(limit)
+}

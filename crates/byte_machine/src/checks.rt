@@ -1,0 +1,214 @@
+//! Checks.
+
+ghost use Rattle.std.specs.Prelude.{◌≡◌, if◌then◌else◌};
+ghost use Rattle.abi_dyncast.specs.Casts.{room};
+ghost use Rattle.byte_machine.specs.Running.{Goes};
+ghost use Rattle.byte_machine.specs.Checks.{checked, view_checked};
+ghost use Rattle.byte_machine.specs.invariants.States.{running_of, CanDo, DidAs, Keeps, refusal};
+ghost use Rattle.byte_machine.specs.invariants.CheckKinds.{check_kind, OfWords, OfMemory, OfPhases, OfOwners};
+
+use crate::numbers::fits;
+use crate::running::{Running, Setup};
+use crate::words::{moved, table_word};
+use abi_dyncast::is_within;
+use byte_code::{Check, Phase};
+use byte_memory::Memory;
+
+/// The rule that refuses, where its test does not hold.
+fn unless(holds: bool, rule: u8) -> Option<u8>
+    ensures { result ≡ (if holds then None else Some rule) }
+{
+    if holds { None } else { Some(rule) }
+}
+
+/// A check that looks at words alone. It answers the rule that refuses, if it does.
+fn check_words<M: Memory>(_setup: &Setup, running: &Running<M>, check: Check) -> Option<u8>
+    requires kind { check_kind check ≡ OfWords }
+    requires allowed { CanDo _setup.now (λ f s. checked f check s) running.now }
+    ensures { DidAs _setup.now (λ f s. checked f check s) running.now running.now (refusal running.now.line result) }
+{
+    match check {
+        Check::NotNull { register } => match running.register(register) {
+            Some(0) => Some(1),
+            _ => None,
+        },
+        Check::SetRegister { register } => unless(running.register(register).is_some(), 5),
+        Check::Never => Some(11),
+        Check::Fits {
+            kind,
+            width,
+            left,
+            right,
+        } => match running.register(left) {
+            None => None,
+            Some(left) => match running.register(right) {
+                None => None,
+                Some(right) => unless(fits(kind, width, left, right), 12),
+            },
+        },
+        _ => unreachable!(),
+    }
+}
+
+/// A check that looks at memory, or at the image.
+fn check_memory<M: Memory>(setup: &Setup, running: &Running<M>, check: Check) -> Option<u8>
+    requires kind { check_kind check ≡ OfMemory }
+    requires allowed { CanDo setup.now (λ f s. checked f check s) running.now }
+    ensures { DidAs setup.now (λ f s. checked f check s) running.now running.now (refusal running.now.line result) }
+{
+    match check {
+        Check::Open { register } => match running.register(register) {
+            None | Some(0) => None,
+            Some(at) => unless(running.heap.fault(at).is_none(), 2),
+        },
+        Check::SetLeaf {
+            base,
+            offset,
+            width,
+        } => match running.register(base) {
+            None | Some(0) => None,
+            Some(at) => unless(
+                running
+                    .heap
+                    .load(moved(at, offset as u64), width.bytes)
+                    .is_ok(),
+                5,
+            ),
+        },
+        Check::HasCode { register, entry } => match running.register(register) {
+            None | Some(0) => None,
+            Some(at) => {
+                let record = table_word(&setup.image, &running.heap, at, 8 * entry as u64);
+                unless(record != Some(0), 6)
+            }
+        },
+        _ => unreachable!(),
+    }
+}
+
+/// A check that looks at phases.
+fn check_phases<M: Memory>(_setup: &Setup, running: &Running<M>, check: Check) -> Option<u8>
+    requires kind { check_kind check ≡ OfPhases }
+    requires allowed { CanDo _setup.now (λ f s. checked f check s) running.now }
+    ensures { DidAs _setup.now (λ f s. checked f check s) running.now running.now (refusal running.now.line result) }
+{
+    match check {
+        Check::Ready {
+            register,
+            offset,
+            class,
+        } => match running.register(register) {
+            None | Some(0) => None,
+            Some(at) => unless(running.shadow.is_ready(moved(at, offset), class), 3),
+        },
+        Check::Derived {
+            register,
+            offset,
+            class,
+        } => match running.register(register) {
+            None | Some(0) => None,
+            Some(at) => unless(running.shadow.phase(moved(at, offset), class).is_some(), 7),
+        },
+        Check::Complete { register } => match running.register(register) {
+            None | Some(0) => None,
+            Some(at) => {
+                let object = running.heap.opened(at).unwrap();
+                let phase = running.shadow.phase(object.start, object.class);
+                unless(phase == Some(Phase::Complete), 10)
+            }
+        },
+        _ => unreachable!(),
+    }
+}
+
+/// Whether a subobject is the view of its complete object, or a base of that view; else 4 refuses.
+pub fn check_view<M: Memory>(
+    setup: &Setup,
+    running: &mut Running<M>,
+    at: u64,
+    class: u32,
+) -> Option<u8>
+    requires allowed { CanDo setup.now (λ f s. view_checked s at class (Goes s)) running.old }
+    requires room { room running.old.work ≡ setup.now.parts }
+    ensures did { DidAs setup.now (λ f s. view_checked s at class (Goes s)) running.old running.old (refusal running.old.line result) }
+    ensures same { running_of running.new ≡ running_of running.old }
+    ensures kept { Keeps running.old running.new }
+{
+    let owner = running.shadow.owner(at, class).unwrap();
+    let view = running.shadow.view(owner.0, owner.1).unwrap();
+    if view.0 == at && view.1 == class {
+        return None;
+    }
+    let inside = is_within(
+        &setup.image,
+        running.heap.memory(),
+        &mut running.work,
+        view.0,
+        view.1,
+        at,
+        class,
+    );
+    unless(inside, 4)
+}
+
+/// A check that looks at complete objects.
+fn check_owners<M: Memory>(setup: &Setup, running: &mut Running<M>, check: Check) -> Option<u8>
+    requires kind { check_kind check ≡ OfOwners }
+    requires allowed { CanDo setup.now (λ f s. checked f check s) running.old }
+    requires room { room running.old.work ≡ setup.now.parts }
+    ensures did { DidAs setup.now (λ f s. checked f check s) running.old running.new (refusal running.old.line result) }
+    ensures kept { Keeps running.old running.new }
+{
+    match check {
+        Check::InView {
+            register,
+            offset,
+            class,
+        } => match running.register(register) {
+            None | Some(0) => None,
+            Some(at) => {
+                let rule = check_view(setup, running, moved(at, offset), class);
+                rule
+            }
+        },
+        Check::Whole { register, class } => match running.register(register) {
+            None | Some(0) => None,
+            Some(at) => {
+                let owner = running.shadow.owner(at, class).unwrap();
+                unless(owner.0 == at && owner.1 == class, 8)
+            }
+        },
+        Check::HeapObject { register, class } => match running.register(register) {
+            None | Some(0) => None,
+            Some(at) => {
+                let owner = running.shadow.owner(at, class).unwrap();
+                let object = running.heap.opened(at).unwrap();
+                unless(owner.0 == object.start && owner.1 == object.class, 9)
+            }
+        },
+        _ => unreachable!(),
+    }
+}
+
+/// Runs a check. It answers the rule that refuses, if it does.
+pub fn run_check<M: Memory>(setup: &Setup, running: &mut Running<M>, check: Check) -> Option<u8>
+    requires allowed { CanDo setup.now (λ f s. checked f check s) running.old }
+    requires room { room running.old.work ≡ setup.now.parts }
+    ensures did { DidAs setup.now (λ f s. checked f check s) running.old running.new (refusal running.old.line result) }
+    ensures kept { Keeps running.old running.new }
+{
+    match check {
+        Check::NotNull { .. } | Check::SetRegister { .. } | Check::Never | Check::Fits { .. } => {
+            check_words(setup, running, check)
+        }
+        Check::Open { .. } | Check::SetLeaf { .. } | Check::HasCode { .. } => {
+            check_memory(setup, running, check)
+        }
+        Check::Ready { .. } | Check::Derived { .. } | Check::Complete { .. } => {
+            check_phases(setup, running, check)
+        }
+        Check::InView { .. } | Check::Whole { .. } | Check::HeapObject { .. } => {
+            check_owners(setup, running, check)
+        }
+    }
+}

@@ -1,0 +1,136 @@
+//! The frames that calls open.
+
+ghost use Rattle.std.specs.Prelude.{◌≡◌, ◌<◌, ◌++◌, IfOk, replicate};
+ghost use Rattle.byte_machine.specs.Frames.{entered};
+ghost use Rattle.byte_machine.specs.Calls.{calling, frame_at, kept_for, most_calls, words_in};
+ghost use Rattle.byte_machine.specs.GivenFrames.{frame_of, kept_of};
+ghost use Rattle.byte_machine.specs.Turn.{main_frame};
+ghost use Rattle.byte_machine.specs.invariants.States.{fixed_by, running_of, Keeps};
+
+use crate::frames::{Frame, Handed, Kept};
+use crate::running::{Running, Setup};
+use byte_code::{Code, ResultUse};
+use byte_memory::Memory;
+use foundation::{NoMemory, Sequence};
+use std::alloc::Global;
+
+/// The words of these registers of the frame that runs go behind others.
+fn push_words<M: Memory>(
+    registers: &mut Vec<Option<u64>>,
+    running: &Running<M>,
+    arguments: &[u32],
+) -> Result<(), NoMemory>
+    ensures { IfOk result (λ _. registers.new.items ≡ registers.old.items ++ words_in (running_of running.now) arguments.now) }
+{
+    for number in arguments {
+        registers.push(running.register(*number))?;
+    }
+    Ok(())
+}
+
+/// The registers of a frame that is entered: `this`, the words of these registers, and unset ones.
+pub fn enter<M: Memory>(
+    setup: &Setup,
+    running: &Running<M>,
+    this: u64,
+    arguments: &[u32],
+) -> Result<Vec<Option<u64>>, NoMemory>
+    ensures { IfOk result (λ registers. registers.items ≡ entered setup.now.size this (words_in (running_of running.now) arguments.now)) }
+{
+    let size = setup.size as usize;
+    let mut registers = Vec::with_capacity(setup.alloc, size)?;
+    registers.push(Some(this))?;
+    push_words(&mut registers, running, arguments)?;
+    let count = registers.len();
+    registers.resize(count.max(size), None)?;
+    Ok(registers)
+}
+
+/// What the return of a call does.
+pub fn keep(setup: &Setup, outcome: &ResultUse, vbase: u64, add: u64) -> Result<Kept, NoMemory>
+    ensures { IfOk result (λ kept. kept_of kept ≡ kept_for outcome.now vbase add) }
+{
+    let finish = Vec::from_slice(setup.alloc, outcome.finish.as_slice())?;
+    Ok(Kept {
+        to: outcome.to,
+        class: outcome.class,
+        vbase,
+        add,
+        finish: Sequence::from_vec(finish),
+    })
+}
+
+/// Nothing is handed to a complete object, a function or `main`.
+pub const NOTHING_HANDED: Handed = Handed {
+    owner: 0,
+    owner_class: 0,
+    vtt: 0,
+    outer: 0,
+    outer_class: 0,
+};
+
+/// Opens the frame of a call.
+pub fn open_call<M: Memory>(
+    setup: &Setup,
+    running: &mut Running<M>,
+    block: u32,
+    this: u64,
+    arguments: &[u32],
+    kept: Kept,
+) -> Result<(), NoMemory>
+    requires { running.old.calls < 4096 }
+    ensures did { IfOk result (λ _. running_of running.new ≡ calling (frame_at (fixed_by setup.now) block this (words_in (running_of running.old) arguments.now) (kept_of kept)) (running_of running.old)) }
+    ensures kept { Keeps running.old running.new }
+{
+    let registers = enter(setup, running, this, arguments)?;
+    let frame = Frame {
+        registers,
+        handed: NOTHING_HANDED,
+        block,
+        start: block,
+        again: 0,
+        stride: 0,
+        is_call: true,
+        kept,
+    };
+    running.opened.push(frame)?;
+    running.calls += 1;
+    Ok(())
+}
+
+/// So many words that are all the same.
+pub fn same_words(
+    alloc: Global,
+    count: u32,
+    word: Option<u64>,
+) -> Result<Vec<Option<u64>>, NoMemory>
+    ensures { IfOk result (λ words. words.items ≡ replicate count word) }
+{
+    let mut words = Vec::new(alloc);
+    words.resize(count as usize, word)?;
+    Ok(words)
+}
+
+/// The frame of `main`.
+pub fn enter_main(alloc: Global, code: &Code) -> Result<Frame, NoMemory>
+    ensures { IfOk result (λ frame. frame_of frame ≡ main_frame code.now) }
+{
+    let registers = same_words(alloc, code.registers, None)?;
+    let kept = Kept {
+        to: None,
+        class: None,
+        vbase: 0,
+        add: 0,
+        finish: Sequence::new(alloc),
+    };
+    Ok(Frame {
+        registers,
+        handed: NOTHING_HANDED,
+        block: code.start,
+        start: code.start,
+        again: 0,
+        stride: 0,
+        is_call: false,
+        kept,
+    })
+}

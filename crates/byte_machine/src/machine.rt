@@ -1,0 +1,159 @@
+//! The machine.
+
+ghost use Rattle.std.specs.Prelude.{◌≡◌, ◌+◌, ◌<◌, ◌^◌, length};
+ghost use Rattle.abi_dyncast.specs.Casts.{room};
+
+use crate::entering::{enter_main, same_words};
+use crate::heap::{Heap, Opened};
+use crate::running::{Running, Setup};
+use crate::step::run_step;
+use crate::turn::{MachineTurn, RawOutList, kept};
+use abi_dyncast::WorkList;
+use byte_code::{Code, ImageBytes};
+use byte_memory::Memory;
+use byte_shadow::Shadow;
+use foundation::{NoMemory, Sequence};
+use std::alloc::Global;
+
+/// A machine over a memory, with its image and its code.
+#[derive(Drop)]
+pub struct Machine<M: Memory> {
+    setup: Setup,
+    code: Code,
+    running: Running<M>,
+    taken: u32,
+    left: u32,
+    answer: Option<MachineTurn>,
+    failed: bool,
+    ghost counts: { taken + left < 2 ^ 32 },
+    ghost few: { length code.blocks < 2 ^ 32 },
+    ghost size: { setup.size ≡ code.registers },
+    ghost room: { room running.work ≡ setup.parts },
+    ghost settled: { length running.opened.items ≡ 0 },
+}
+
+impl<M: Memory> Machine<M> {
+    ghost use Rattle.std.specs.Prelude.{IfOk, OnOk, OnErr, IsErr, true, false};
+    ghost use Rattle.byte_machine.specs.Heap.{object_at};
+    ghost use Rattle.byte_machine.specs.Turn.{Turns, HasTurn, begun};
+    ghost use Rattle.byte_machine.specs.MachineState.{code_of, image_of, parts_of, fixed_in, state_of, has_failed};
+
+    /// A machine before its first step, with globals that are 0 and registers that are unset.
+    ///
+    /// `largest` is the greatest number of inheritance subobjects of a class: room for a cast is reserved for so many parts.
+    /// `steps` says how many blocks may run. Errors: want of memory, also where the code has 2^32 blocks or more.
+    pub fn new(
+        alloc: Global,
+        memory: M,
+        image: ImageBytes,
+        code: Code,
+        largest: usize,
+        steps: u32,
+    ) -> Result<Machine<M>, NoMemory>
+    where
+        M: Drop,
+        ensures state { IfOk result (λ m. state_of m ≡ begun (M.meaning memory) code steps) }
+        ensures code { IfOk result (λ m. code_of m ≡ code) }
+        ensures image { IfOk result (λ m. image_of m ≡ image) }
+        ensures parts { IfOk result (λ m. parts_of m ≡ largest) }
+        ensures failed { IfOk result (λ m. has_failed m ≡ false) }
+    {
+        if code.blocks.len() > u32::MAX as usize {
+            return Err(NoMemory);
+        }
+        let running = Running {
+            heap: Heap::new(alloc, memory),
+            shadow: Shadow::new(alloc),
+            work: WorkList::reserve(alloc, largest)?,
+            globals: same_words(alloc, code.globals, Some(0))?,
+            opened: Vec::new(alloc),
+            top: enter_main(alloc, &code)?,
+            below: Vec::new(alloc),
+            calls: 0,
+            outs: Sequence::new(alloc),
+            line: 0,
+        };
+        let setup = Setup {
+            image,
+            size: code.registers,
+            parts: largest,
+            alloc,
+        };
+        Ok(Machine {
+            setup,
+            code,
+            running,
+            taken: 0,
+            left: steps,
+            answer: None,
+            failed: false,
+        })
+    }
+
+    /// The memory.
+    pub fn memory(&self) -> &M
+        ensures { M.meaning result.now ≡ (state_of self.now).memory }
+    {
+        self.running.heap.memory()
+    }
+
+    /// The image that the machine was made with.
+    pub fn image(&self) -> &ImageBytes
+        ensures { result.now ≡ image_of self.now }
+    {
+        &self.setup.image
+    }
+
+    /// The code that the machine was made with.
+    pub fn code(&self) -> &Code
+        ensures { result.now ≡ code_of self.now }
+    {
+        &self.code
+    }
+
+    /// The heap object whose region has the address, open or closed; None exactly where there is none.
+    pub fn opened(&self, at: u64) -> Option<Opened>
+        ensures { result ≡ object_at (state_of self.now).objects at }
+    {
+        self.running.heap.opened(at)
+    }
+
+    /// One turn, whose outs are put at the end of `outs`.
+    ///
+    /// After NoMemory `outs` has its old items, and each later step answers NoMemory too.
+    pub fn step(&mut self, outs: &mut RawOutList) -> Result<MachineTurn, NoMemory>
+        requires { has_failed self.old ≡ false → HasTurn (fixed_in self.old) (code_of self.old) (state_of self.old) outs.old }
+        ensures turn { IfOk result (λ turn.
+            Turns (fixed_in self.old) (code_of self.old) (state_of self.old) outs.old (state_of self.new) outs.new turn) }
+        ensures code { code_of self.new ≡ code_of self.old }
+        ensures image { image_of self.new ≡ image_of self.old }
+        ensures parts { parts_of self.new ≡ parts_of self.old }
+        ensures ok { OnOk result (has_failed self.new ≡ false) }
+        ensures failed { OnErr result (has_failed self.new ≡ true) }
+        ensures outs { OnErr result (outs.new ≡ outs.old) }
+        ensures again { has_failed self.old ≡ true → IsErr result }
+    {
+        if self.failed {
+            return Err(NoMemory);
+        }
+        if let Some(turn) = self.answer {
+            return Ok(turn);
+        }
+        if self.left == 0 {
+            self.answer = Some(MachineTurn::OutOfSteps);
+            return Ok(MachineTurn::OutOfSteps);
+        }
+        match run_step(&self.setup, &self.code, &mut self.running, outs) {
+            Err(error) => {
+                self.failed = true;
+                Err(error)
+            }
+            Ok(turn) => {
+                self.taken += 1;
+                self.left -= 1;
+                self.answer = kept(turn);
+                Ok(turn)
+            }
+        }
+    }
+}

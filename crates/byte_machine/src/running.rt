@@ -1,0 +1,71 @@
+//! What the ops of a block work on.
+
+ghost use Rattle.std.specs.Prelude.{◌≡◌};
+
+use crate::frames::Frame;
+use crate::heap::Heap;
+use crate::turn::{MachineTurn, RawOutList};
+use abi_dyncast::WorkList;
+use byte_code::{FinishList, ImageBytes};
+use byte_memory::Memory;
+use byte_shadow::Shadow;
+use std::alloc::Global;
+
+/// What no op changes: the image, how many registers a frame has, and for how many parts a cast has room.
+#[derive(Drop)]
+pub struct Setup {
+    pub image: ImageBytes,
+    pub size: u32,
+    pub parts: usize,
+    pub alloc: Global,
+}
+
+/// What the ops of a block work on. Of each list of frames the last one is the innermost.
+#[derive(Drop)]
+pub struct Running<M: Memory> {
+    pub heap: Heap<M>,
+    pub shadow: Shadow,
+    pub work: WorkList,
+    pub globals: Vec<Option<u64>>,
+    /// The frames that the block opened.
+    pub opened: Vec<Frame>,
+    /// The frame whose block runs.
+    pub top: Frame,
+    pub below: Vec<Frame>,
+    /// How many calls are open.
+    pub calls: u32,
+    pub outs: RawOutList,
+    pub line: u32,
+}
+
+/// What stops a block: an answer, or a return, with what follows it.
+#[derive(Drop)]
+pub enum Stop {
+    Answers(MachineTurn),
+    Returned(FinishList),
+}
+
+impl<M: Memory> Running<M> {
+    ghost use Rattle.std.specs.Prelude.{◌<◌, length};
+    ghost use Rattle.byte_machine.specs.Running.{register, with_register};
+    ghost use Rattle.byte_machine.specs.invariants.States.{running_of, Keeps};
+
+    /// The word that a register of the frame has, None where it is unset.
+    pub fn register(&self, number: u32) -> Option<u64>
+        ensures { result ≡ register (running_of self.now) number }
+    {
+        match self.top.registers.get(number as usize) {
+            Some(word) => *word,
+            None => None,
+        }
+    }
+
+    /// Sets or unsets a register of the frame.
+    pub fn put(&mut self, number: u32, word: Option<u64>)
+        requires { number < length self.old.top.registers.items }
+        ensures put { running_of self.new ≡ with_register (running_of self.old) number word }
+        ensures kept { Keeps self.old self.new }
+    {
+        self.top.registers[number as usize] = word;
+    }
+}

@@ -1,0 +1,84 @@
+//! One step: the block of the innermost frame, over what it works on.
+
+ghost use Rattle.std.specs.Prelude.{◌≡◌, ◌<◌, ◌^◌, IfOk, OnErr, length};
+ghost use Rattle.abi_dyncast.specs.Casts.{room};
+ghost use Rattle.byte_machine.specs.invariants.States.{fixed_by, running_of, Keeps};
+ghost use Rattle.byte_machine.specs.invariants.Steps.{settled, with_outs, HasNext, RanNext};
+
+use crate::block::run_block;
+use crate::running::{Running, Setup};
+use crate::turn::{MachineTurn, RawOutList};
+use byte_code::Code;
+use byte_memory::Memory;
+use foundation::NoMemory;
+
+/// The frames that a block opened go over the one that opened them. Errors: want of memory.
+fn settle<M: Memory>(running: &mut Running<M>) -> Result<(), NoMemory>
+    ensures settles { IfOk result (λ _. running_of running.new ≡ settled (running_of running.old)) }
+    ensures opened { IfOk result (λ _. length running.new.opened.items ≡ 0) }
+    ensures kept { Keeps running.old running.new }
+{
+    let Some(next) = running.opened.pop() else {
+        return Ok(());
+    };
+    let top = std::mem::replace(&mut running.top, next);
+    running.below.push(top)?;
+    running.below.append(&mut running.opened)?;
+    Ok(())
+}
+
+/// Runs the next block. Errors: want of memory.
+fn run_next<M: Memory>(
+    setup: &Setup,
+    code: &Code,
+    running: &mut Running<M>,
+) -> Result<MachineTurn, NoMemory>
+    requires next { HasNext (fixed_by setup.now) code.now (running_of running.old) }
+    requires few { length code.now.blocks < 2 ^ 32 }
+    requires room { room running.old.work ≡ setup.now.parts }
+    ensures ran { IfOk result (λ turn. RanNext (fixed_by setup.now) code.now (running_of running.old) (running_of running.new) turn) }
+    ensures opened { IfOk result (λ _. length running.new.opened.items ≡ 0) }
+    ensures kept { Keeps running.old running.new }
+{
+    let Some(block) = code.blocks.as_slice().get(running.top.block as usize) else {
+        unreachable!();
+    };
+    running.top.block += 1;
+    running.line = block.line;
+    let turn = run_block(setup, running, block.ops.as_slice())?;
+    settle(running)?;
+    Ok(turn)
+}
+
+/// Runs the next block, and puts what it tells at the end of `outs`.
+///
+/// Errors: want of memory; then `outs` has its old items.
+pub fn run_step<M: Memory>(
+    setup: &Setup,
+    code: &Code,
+    running: &mut Running<M>,
+    outs: &mut RawOutList,
+) -> Result<MachineTurn, NoMemory>
+    requires next { HasNext (fixed_by setup.now) code.now (with_outs (running_of running.old) outs.old) }
+    requires few { length code.now.blocks < 2 ^ 32 }
+    requires room { room running.old.work ≡ setup.now.parts }
+    ensures ran { IfOk result (λ turn. RanNext (fixed_by setup.now) code.now (with_outs (running_of running.old) outs.old) (with_outs (running_of running.new) outs.new) turn) }
+    ensures outs { OnErr result (outs.new ≡ outs.old) }
+    ensures opened { length running.new.opened.items ≡ 0 }
+    ensures room { room running.new.work ≡ room running.old.work }
+{
+    let was = outs.len();
+    std::mem::swap(outs, &mut running.outs);
+    match run_next(setup, code, running) {
+        Ok(turn) => {
+            std::mem::swap(outs, &mut running.outs);
+            Ok(turn)
+        }
+        Err(error) => {
+            running.outs.truncate(was);
+            running.opened.clear();
+            std::mem::swap(outs, &mut running.outs);
+            Err(error)
+        }
+    }
+}

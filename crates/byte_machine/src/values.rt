@@ -1,0 +1,76 @@
+//! Ops on words, globals and memory.
+
+ghost use Rattle.std.specs.Prelude.{◌≡◌, None};
+ghost use Rattle.byte_machine.specs.Effects.{effect_of};
+ghost use Rattle.byte_machine.specs.invariants.OpKinds.{op_kind, OfValues};
+ghost use Rattle.byte_machine.specs.invariants.States.{CanDo, DidAs, Keeps};
+
+use crate::numbers::calculate;
+use crate::running::{Running, Setup};
+use crate::words::moved;
+use byte_code::Op;
+use byte_memory::Memory;
+
+/// Runs an op on words, globals or memory.
+pub fn run_value<M: Memory>(_setup: &Setup, running: &mut Running<M>, op: &Op)
+    requires kind { op_kind op.now ≡ OfValues }
+    requires allowed { CanDo _setup.now (λ f s. effect_of f op.now s) running.old }
+    ensures did { DidAs _setup.now (λ f s. effect_of f op.now s) running.old running.new None }
+    ensures kept { Keeps running.old running.new }
+{
+    match op {
+        Op::Const { to, value } => running.put(*to, Some(*value)),
+        Op::ReadGlobal { to, global } => {
+            let word = running.globals[*global as usize];
+            running.put(*to, word);
+        }
+        Op::Load {
+            to,
+            base,
+            offset,
+            width,
+        } => {
+            let at = running.register(*base).unwrap();
+            let low = running
+                .heap
+                .load(moved(at, *offset as u64), width.bytes)
+                .unwrap();
+            running.put(*to, Some(width.extend(low)));
+        }
+        Op::Store {
+            from,
+            base,
+            offset,
+            width,
+        } => {
+            let at = running.register(*base).unwrap();
+            let word = running.register(*from).unwrap();
+            running
+                .heap
+                .store(moved(at, *offset as u64), width.bytes, word)
+                .unwrap();
+        }
+        Op::Copy {
+            to,
+            from,
+            offset,
+            bytes,
+        } => {
+            let source = moved(running.register(*from).unwrap(), *offset as u64);
+            let target = moved(running.register(*to).unwrap(), *offset as u64);
+            running.heap.copy(source, target, *bytes).unwrap();
+        }
+        Op::Arith {
+            kind,
+            width,
+            to,
+            left,
+            right,
+        } => {
+            let left = running.register(*left).unwrap();
+            let right = running.register(*right).unwrap();
+            running.put(*to, Some(calculate(*kind, *width, left, right)));
+        }
+        _ => unreachable!(),
+    }
+}
