@@ -1,0 +1,15 @@
+pub mod Bases
+pub mod Conversions
+pub mod Kept
+pub mod Entered
+pub mod Adjusted
+pub mod Results
+pub mod Showing
+pub mod Below
+pub mod TakenResults
+pub mod Returns
+pub mod Calls
+pub mod Arguments
+pub mod Receivers
+pub mod Opened
+pub mod Endings

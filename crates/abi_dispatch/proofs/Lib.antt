@@ -1,0 +1,12 @@
+pub mod Numbers
+pub mod Bounds
+pub mod Reading
+pub mod Entering
+pub mod ResultClasses
+pub mod Adjusting
+pub mod Listers
+pub mod Returning
+pub mod Running
+pub mod Moving
+pub mod Viewing
+pub mod OwnKeys

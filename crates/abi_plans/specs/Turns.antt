@@ -1,0 +1,67 @@
+-- Turns of plans: the frame on top of a plan, and the block that it runs next.
+use Rattle.std.specs.Prelude.{◌≡◌, ◌⊎◌, ℕ, Option, None, List, [], ◌∷◌, ◌++◌}
+use Rattle.path_model.specs.declared.outs.Out.{Out}
+use Rattle.path_model.specs.States.{State, Running as PathRunning, Planned, Frame as PathFrame}
+use Rattle.path_model.specs.Steps.{objects_after, event_outs}
+use Rattle.path_model.specs.Runs.{Moves}
+use Rattle.abi_lower.specs.Blocks.{AtEvent, plan_return, event_block}
+use Rattle.abi_lower.specs.Items.{Item, Does, event_of}
+use Rattle.abi_lower.specs.Lowered.{IsEnd}
+use Rattle.abi_lower.specs.declared.items.Kind.{Kind}
+use Rattle.abi_lower.specs.declared.items.Kind.TheVariants.{AtBody}
+use Rattle.abi_ops.specs.Routines.{IsCourse}
+use Rattle.abi_ops.specs.Setups.{plan_owner}
+use Rattle.byte_memory.specs.Store.{Store}
+use Rattle.byte_shadow.specs.Shadows.{Notes}
+use Rattle.byte_machine.specs.declared.turn.RawOut.{RawOut}
+use Rattle.byte_machine.specs.declared.turn.MachineTurn.{MachineTurn}
+use Rattle.byte_machine.specs.Frames.{Frame}
+use Rattle.byte_machine.specs.Running.{Running}
+use Rattle.byte_machine.specs.Leads.{Leads, LeadsBlock, Ends}
+use Rattle.abi_parts.specs.Heaps.{Heap}
+use Rattle.abi_stands.specs.Worlds.{World, fixed}
+use Rattle.abi_stands.specs.Words.{heap_of}
+use Rattle.abi_stands.specs.Goings.{Going, at_left, opened, builds, AreOf, ArePlanned, events_left}
+use Rattle.abi_stands.specs.Frames.{Numbers, IsPlanFrame, AreElements, IsInner, IsOuter, WaitInPlan, Behind, StandOver}
+use Rattle.abi_stands.specs.Agrees.{Agrees}
+use Rattle.abi_plans.specs.Events.{IsAfter, now}
+
+-- the frame that runs f, over the parts below: the elements behind f, and the frames below
+pub record IsTop (w : World) (at : Numbers) (g : Heap) (p : Planned) (path : List PathFrame) (under : List Going → List Frame → Type 0) (f : Going) (below : List Going) (b : Frame) (bs : List Frame) : Type 0 where
+  pub more : List Going
+  pub rest : List Going
+  pub is : below ≡ more ++ rest
+  pub frame : IsPlanFrame w at g f below b
+  pub again : AreElements w g f b.again b.stride more
+  pub kind : (IsInner b × WaitInPlan w at g p path rest bs under) ⊎ (IsOuter w g p f path b × under rest bs)
+
+-- and where it is the last of a heap object: the return to who waits for the object
+abbrev pub Leaves : World → Numbers → Heap → Planned → List PathFrame → (List Going → List Frame → Type 0) → Going → List Item → List Going → Running → (Running → MachineTurn → Type 0) → Type 0
+Leaves w at g p path under f left below r Q = left ≡ [] → IsOuter w g p (at_left f left) path r.top → under below r.below → Leads (fixed w) (plan_return f.course ∷ []) r (Ends (fixed w) Q)
+
+-- its block: that of the event's place, which agrees with the step, but for the return to who waits for a heap object
+pub record IsPlanBlock (w : World) (at : Numbers) (s : State) (p : Planned) (path : List PathFrame) (r : Running) (s' : State) (told : List Out) : Type 0 where
+  pub f : Going
+  pub k : Kind
+  pub left : List Item
+  pub others : List Going
+  pub lower : List Going
+  pub block : r.top.block ≡ at (AtEvent f.course f.form f.class (Does k ∷ left))
+  pub course : IsCourse f.course f.form
+  pub ends : IsEnd w.setup f.course f.form f.class (Does k ∷ left)
+  pub leads : ((registers : List (Option ℕ)) (memory : Store) (notes : Notes) (outs : List RawOut) → IsAfter w at (objects_after w.setup.program s.objects (event_of k f.part)) r (event_outs s.objects (event_of k f.part)) memory notes outs
+      → Leaves w at (heap_of s.objects.classes r.memory.regions) p path (Behind lower (StandOver w at (heap_of s.objects.classes r.memory.regions) None path)) f left (others ++ lower) (now r registers memory notes outs) (Agrees w at (Moves s' told)))
+      → LeadsBlock (fixed w) (event_block w.setup at f.course f.form f.class k left) r (Agrees w at (Moves s' told))
+
+-- a body of a plan on top of a state: f is the part whose body runs, and left what is left behind the body
+pub record InPlanBody (w : World) (at : Numbers) (s : State) (fb : PathRunning) (p : Planned) (path : List PathFrame) (r : Running) : Type 0 where
+  pub f : Going
+  pub left : List Item
+  pub others : List Going
+  pub lower : List Going
+  pub owner : fb.owner ≡ plan_owner f.course f.class
+  pub planned : ArePlanned w s.objects.classes s.objects.phases (at_left f (Does AtBody ∷ left) ∷ (others ++ lower))
+  pub events : p.events ≡ events_left w (opened w f left others)
+  pub course : builds f.course ≡ p.is_building
+  pub courses : AreOf p.is_building others
+  pub top : IsTop w at (heap_of s.objects.classes r.memory.regions) p path (Behind lower (StandOver w at (heap_of s.objects.classes r.memory.regions) None path)) (at_left f []) (others ++ lower) r.top r.below

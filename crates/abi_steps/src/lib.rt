@@ -1,0 +1,2 @@
+//! The blocks of statements do their statements.
+#![tactic(auto)]
