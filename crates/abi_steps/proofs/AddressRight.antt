@@ -27,9 +27,9 @@ use Rattle.path_model.proofs.TypedPlaces.{path_made, object_made, end_more}
 use Rattle.abi_sound.specs.Locations.{element_place}
 use Rattle.abi_sound.proofs.PlaceLemmas.{element_place_is}
 use Rattle.byte_code.specs.declared.op.Op.TheVariants.{Jump}
+use Rattle.abi_ops.specs.Arguments.{free, checked_taken}
 use Rattle.abi_ops.specs.Operands.{operand_register, ops_of}
 use Rattle.abi_ops.specs.PlaceOps.{place_ops}
-use Rattle.abi_ops.specs.Arguments.{free, checked_taken}
 use Rattle.abi_parts.specs.Addresses.{address}
 use Rattle.abi_parts.proofs.Inside.{part_limit}
 use Rattle.abi_parts.proofs.Sums.{to_element}

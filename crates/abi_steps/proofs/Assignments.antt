@@ -20,13 +20,12 @@ use Rattle.byte_memory.specs.Cells.{byte_of}
 use Rattle.byte_code.specs.declared.op.Op.{Op}
 use Rattle.byte_code.specs.declared.op.Op.TheVariants.{Does}
 use Rattle.byte_code.specs.declared.op.Finish.TheVariants.{Move}
-use Rattle.abi_ops.specs.Setups.{local_register}
+use Rattle.abi_lower.specs.Blocks.{statement_ops}
+use Rattle.abi_ops.specs.Setups.{local_register, spare_register}
 use Rattle.byte_machine.specs.Leads.{Leads, LeadsBlock}
 use Rattle.byte_machine.proofs.Leads.{leads_end}
 use Rattle.byte_machine.proofs.ValueLeads.{leads_move}
 use Rattle.byte_machine.proofs.ControlLeads.{leads_jump}
-use Rattle.abi_ops.specs.Setups.{spare_register}
-use Rattle.abi_lower.specs.Blocks.{statement_ops}
 use Rattle.abi_stands.specs.Worlds.{classes_in, fixed}
 use Rattle.abi_stands.specs.Frames.{HasVariables}
 use Rattle.abi_stands.specs.Agrees.{Agrees}

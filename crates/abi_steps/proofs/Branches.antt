@@ -25,10 +25,10 @@ use Rattle.byte_machine.specs.Effects.{jumping}
 use Rattle.byte_machine.specs.Leads.{Leads, LeadsBlock}
 use Rattle.byte_machine.proofs.Leads.{leads_end}
 use Rattle.byte_machine.proofs.ControlLeads.{leads_jump, leads_jump_if, leads_jump_if_not}
+use Rattle.abi_lower.specs.Blocks.{statement_ops}
+use Rattle.abi_ops.specs.Arguments.{free}
 use Rattle.abi_ops.specs.Operands.{operand_ops, operand_register}
 use Rattle.abi_ops.specs.Uses.{check_ops, reads}
-use Rattle.abi_ops.specs.Arguments.{free}
-use Rattle.abi_lower.specs.Blocks.{statement_ops}
 use Rattle.abi_stands.specs.Worlds.{classes_in, fixed}
 use Rattle.abi_stands.specs.Words.{register_of}
 use Rattle.abi_stands.specs.Frames.{HasVariables}

@@ -19,9 +19,9 @@ use Rattle.byte_memory.specs.Cells.{byte_of}
 use Rattle.byte_code.specs.declared.op.Op.{Op}
 use Rattle.byte_code.specs.declared.op.Op.TheVariants.{Jump}
 use Rattle.byte_machine.specs.Leads.{Leads}
+use Rattle.abi_ops.specs.Arguments.{free, taken_ops, checked_taken}
 use Rattle.abi_ops.specs.Operands.{ops_of}
 use Rattle.abi_ops.specs.Uses.{convert_used, check_list}
-use Rattle.abi_ops.specs.Arguments.{free, taken_ops, checked_taken}
 use Rattle.abi_stands.specs.Worlds.{classes_in, fixed}
 use Rattle.abi_stands.specs.Words.{register_of}
 use Rattle.abi_stands.specs.Frames.{HasVariables}

@@ -30,8 +30,8 @@ use Rattle.byte_machine.specs.Leads.{Leads}
 use Rattle.byte_machine.proofs.ValueLeads.{leads_add_null, leads_add_unset, leads_add_vbase_null, leads_add_vbase_unset, leads_convert, leads_convert_unset, leads_move}
 use Rattle.abi_slots.specs.Listing.{vbase_number}
 use Rattle.abi_slots.specs.Slots.{word_number}
-use Rattle.abi_ops.specs.Setups.{number_kind, word_width}
 use Rattle.abi_ops.specs.Operands.{pointed, base_moves, base_ops, converted_ops, ops_of}
+use Rattle.abi_ops.specs.Setups.{number_kind, word_width}
 use Rattle.abi_parts.specs.Heaps.{Heap}
 use Rattle.abi_stands.specs.Worlds.{World, IsWorld, classes_in, places_in, fixed}
 use Rattle.abi_stands.specs.Words.{heap_of, register_of}

@@ -30,3 +30,8 @@ pub mod WriteStep
 pub mod CheckedTaken
 pub mod AddressRight
 pub mod SeenPointers
+pub mod TypeSteps
+pub mod RunningParts
+pub mod CastRights
+pub mod PlainCasts
+pub mod DynamicCast

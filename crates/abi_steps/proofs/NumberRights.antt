@@ -33,11 +33,11 @@ use Rattle.byte_code.specs.Numbers.{word_of, number_of}
 use Rattle.byte_machine.specs.Values.{calculated}
 use Rattle.byte_machine.specs.Leads.{Leads}
 use Rattle.byte_machine.proofs.ValueLeads.{leads_arith}
-use Rattle.abi_ops.specs.Setups.{width_of}
+use Rattle.abi_ops.specs.Arguments.{free, taken_ops}
 use Rattle.abi_ops.specs.Operands.{operand_ops, operand_register, ops_of}
+use Rattle.abi_ops.specs.Setups.{width_of, word_width}
 use Rattle.abi_ops.specs.Uses.{reads}
 use Rattle.abi_ops.specs.declared.uses.Used.TheVariants.{Overflows as OverflowsWords}
-use Rattle.abi_ops.specs.Arguments.{free, taken_ops}
 use Rattle.abi_statements.specs.Rights.{arith_kind, right_used}
 use Rattle.abi_stands.specs.Worlds.{classes_in, fixed}
 use Rattle.abi_stands.specs.Words.{register_of}
@@ -60,7 +60,6 @@ use Rattle.byte_code.specs.declared.op.Op.TheVariants.{Const}
 use Rattle.byte_code.proofs.Words.{word_of-fits}
 use Rattle.byte_machine.specs.Values.{truth_word}
 use Rattle.byte_machine.proofs.ValueLeads.{leads_const}
-use Rattle.abi_ops.specs.Setups.{word_width}
 use Rattle.abi_steps.proofs.Numbers.{equal_words, zero_test, truth_result}
 use Rattle.abi_steps.proofs.Registers.{set_there}
 use Rattle.abi_steps.proofs.Operands.{operand_apart}

@@ -27,8 +27,8 @@ use Rattle.path_model.proofs.TypedRanges.{zero_in_range}
 use Rattle.path_model.proofs.TypedValues.{operand_typed}
 use Rattle.byte_code.specs.declared.op.Op.TheVariants.{Jump}
 use Rattle.byte_machine.specs.Leads.{Leads}
-use Rattle.abi_ops.specs.Operands.{operand_class, operand_register, ops_of}
 use Rattle.abi_ops.specs.Arguments.{free, taken_ops, argument_used}
+use Rattle.abi_ops.specs.Operands.{operand_class, operand_register, ops_of}
 use Rattle.abi_stands.specs.Worlds.{classes_in, fixed}
 use Rattle.abi_steps.specs.Registers.{at_registers, body_on}
 use Rattle.abi_steps.proofs.Registers.{variables_kept}

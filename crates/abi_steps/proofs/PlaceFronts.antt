@@ -19,8 +19,8 @@ use Rattle.byte_code.specs.declared.op.Op.{Op}
 use Rattle.byte_machine.specs.Leads.{Leads}
 use Rattle.abi_ops.specs.Arguments.{free}
 use Rattle.abi_ops.specs.Operands.{operand_ops, operand_register}
-use Rattle.abi_ops.specs.Uses.{check_ops}
 use Rattle.abi_ops.specs.PlaceOps.{place_used}
+use Rattle.abi_ops.specs.Uses.{check_ops}
 use Rattle.abi_stands.specs.Worlds.{classes_in, fixed}
 use Rattle.abi_stands.specs.Words.{register_of}
 use Rattle.abi_stands.specs.Frames.{HasVariables}

@@ -29,10 +29,10 @@ use Rattle.byte_machine.specs.Running.{Running, Stop, register}
 use Rattle.byte_machine.proofs.Leads.{IsIdle}
 use Rattle.byte_machine.proofs.CheckLeads.{leads_idle}
 use Rattle.abi_ops.specs.Operands.{operand_register}
+use Rattle.abi_ops.specs.PlaceOps.{element_distance, passed_used, place_used}
 use Rattle.abi_ops.specs.Uses.{checks_of, views_if, arrow_used}
 use Rattle.abi_ops.specs.declared.uses.Used.{Used}
 use Rattle.abi_ops.specs.declared.uses.Used.TheVariants.{Guards as GuardsWord}
-use Rattle.abi_ops.specs.PlaceOps.{element_distance, passed_used, place_used}
 use Rattle.abi_parts.specs.Addresses.{address}
 use Rattle.abi_parts.proofs.Made.{inner_is_made}
 use Rattle.abi_parts.proofs.Sums.{to_inner, to_element}

@@ -11,7 +11,12 @@ use Rattle.path_model.specs.declared.outs.Out.{Out}
 use Rattle.path_model.specs.Rules.{is_unset}
 use Rattle.abi_stands.specs.Agrees.{Agrees}
 use Rattle.byte_machine.specs.Leads.{LeadsBlock}
+use Rattle.abi_lower.specs.Blocks.{statement_ops}
+use Rattle.abi_ops.specs.Arguments.{free}
+use Rattle.abi_ops.specs.Operands.{operand_register}
+use Rattle.abi_ops.specs.Setups.{register_width}
 use Rattle.abi_ops.specs.Uses.{reads}
+use Rattle.abi_statements.specs.Statements.{print_as, operand_print, written_width}
 use Rattle.abi_steps.proofs.Tests.{unbroken}
 use Rattle.abi_steps.proofs.Told.{part_lies}
 use Rattle.abi_steps.specs.Registers.{body_on}
@@ -43,11 +48,6 @@ use Rattle.byte_machine.specs.Leads.{Leads}
 use Rattle.byte_machine.proofs.Leads.{leads_end}
 use Rattle.byte_machine.proofs.ValueLeads.{leads_print_number, leads_print_address}
 use Rattle.byte_machine.proofs.ControlLeads.{leads_jump}
-use Rattle.abi_ops.specs.Setups.{register_width}
-use Rattle.abi_ops.specs.Operands.{operand_register}
-use Rattle.abi_ops.specs.Arguments.{free}
-use Rattle.abi_lower.specs.Blocks.{statement_ops}
-use Rattle.abi_statements.specs.Statements.{print_as, operand_print, written_width}
 use Rattle.abi_parts.specs.Heaps.{Heap}
 use Rattle.abi_parts.specs.Addresses.{address}
 use Rattle.abi_stands.specs.Worlds.{classes_in, places_in, fixed}

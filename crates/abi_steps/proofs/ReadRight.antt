@@ -38,10 +38,10 @@ use Rattle.byte_machine.specs.Running.{moved}
 use Rattle.byte_machine.specs.Leads.{Leads}
 use Rattle.byte_machine.proofs.CheckLeads.{Reached, leads_set_leaf, leads_unset_leaf}
 use Rattle.byte_machine.proofs.ValueLeads.{leads_load}
-use Rattle.abi_ops.specs.Setups.{value_width}
+use Rattle.abi_ops.specs.Arguments.{free, taken_ops}
 use Rattle.abi_ops.specs.Operands.{operand_register, pointed, ops_of}
 use Rattle.abi_ops.specs.PlaceOps.{place_ops, place_type}
-use Rattle.abi_ops.specs.Arguments.{free, taken_ops}
+use Rattle.abi_ops.specs.Setups.{value_width}
 use Rattle.abi_ops.specs.Uses.{check_ops}
 use Rattle.abi_ops.specs.declared.uses.Used.TheVariants.{ReadsPointer}
 use Rattle.abi_statements.specs.Rights.{loaded_used, load_ops}

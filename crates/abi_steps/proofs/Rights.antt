@@ -24,11 +24,11 @@ use Rattle.byte_code.specs.declared.op.Finish.{Finish}
 use Rattle.byte_code.specs.declared.op.Op.{Op}
 use Rattle.byte_code.specs.declared.op.Op.TheVariants.{Does, Jump}
 use Rattle.byte_machine.specs.Leads.{Leads}
+use Rattle.abi_lower.specs.Blocks.{first_place}
+use Rattle.abi_ops.specs.Arguments.{free, taken_ops}
 use Rattle.abi_ops.specs.Operands.{pointed, ops_of, converted_ops, assign_op}
 use Rattle.abi_ops.specs.Uses.{check_ops}
-use Rattle.abi_ops.specs.Arguments.{free, taken_ops}
 use Rattle.abi_statements.specs.Rights.{right_front, right_used, right_ops}
-use Rattle.abi_lower.specs.Blocks.{first_place}
 use Rattle.abi_stands.specs.Worlds.{classes_in, fixed}
 use Rattle.abi_stands.specs.Words.{register_of}
 use Rattle.abi_stands.specs.Frames.{HasVariables}

@@ -13,10 +13,9 @@ use Rattle.path_model.proofs.TypedBodies.{body_typed}
 use Rattle.path_model.proofs.TypedFrames.{sight_typed}
 use Rattle.byte_machine.specs.Frames.{Frame}
 use Rattle.byte_machine.specs.Running.{Running}
-use Rattle.abi_ops.specs.Setups.{body_in}
-use Rattle.abi_ops.specs.Arguments.{Block, free}
-use Rattle.abi_ops.specs.Arguments.{block_in}
 use Rattle.abi_lower.specs.Lowered.{argument_count}
+use Rattle.abi_ops.specs.Arguments.{Block, free, block_in}
+use Rattle.abi_ops.specs.Setups.{body_in}
 use Rattle.abi_parts.specs.Heaps.{Heap}
 use Rattle.abi_parts.proofs.Inside.{known_class}
 use Rattle.abi_stands.specs.Worlds.{World, IsWorld, classes_in}

@@ -1,5 +1,5 @@
 -- A pointer to a polymorphic class, of whose object the view is asked.
-use Rattle.std.proofs.Common.{◌≡◌, ℕ, false, Option, Some, None, List, [], ◌∷◌, ◌++◌, length, inl, inr, refl, ◌∙◌, subst, arith}
+use Rattle.std.proofs.Common.{sym, ◌≡◌, ℕ, false, Option, Some, None, List, [], ◌∷◌, ◌++◌, length, inl, inr, refl, ◌∙◌, subst, arith}
 use Rattle.foundation.proofs.Members.{Has}
 use Rattle.cxx_hierarchy.specs.declared.records.ClassId.{ClassId}
 use Rattle.cxx_hierarchy.specs.declared.records.ValueType.TheVariants.{Pointer as PointerType}
@@ -55,6 +55,13 @@ pub record IsSeen {statement : TypedStatement} (scene : Scene statement) (v : Va
   pub made : IsPartMade (classes_in scene.w) scene.s.objects.classes part c
   pub is_open : scene.s.objects.is_closed part.object ≡ false
   pub under_view : IsUnder scene.w scene.s.objects scene.b part c
+
+-- the part that a pointer names is the one that is seen
+pub seen_under : {statement : TypedStatement} (scene : Scene statement) (v : Value) (c : ClassId) → (k : IsSeen scene v c) → (p : ObjectPart) → v ≡ Pointer p → IsUnder scene.w scene.s.objects scene.b p c
+seen_under scene v c k p is =
+    let one : Pointer k.part ≡ Pointer p = sym k.is ∙ is in
+    let same : k.part ≡ p = cc in
+    subst (λ (q : ObjectPart). IsUnder scene.w scene.s.objects scene.b q c) same k.under_view
 
 module _ {statement : TypedStatement} (scene : Scene statement) (locals : List Value) (x : TypedOperand) (c : ClassId) where
   open scene use {w, at, s, f, below, body, b}

@@ -8,11 +8,11 @@ use Rattle.cxx_subobject.specs.Locations.{ObjectPart}
 use Rattle.cxx_program.specs.declared.program.TypedBody.{TypedBody}
 use Rattle.path_model.specs.TypedStates.{IsPartMade}
 use Rattle.abi_ops.specs.Routines.{IsRoutine, has_body}
+use Rattle.abi_ops.specs.Setups.{Routine, MainCode, FunctionCode, PlanCode, owner_of}
 use Rattle.abi_stands.specs.Worlds.{classes_in}
 use Rattle.abi_stands.specs.Goings.{AreGoing}
 use Rattle.path_model.specs.States.{body_of, Running as Body, Planned, Frame as PathFrame, InBody, InPlan}
 use Rattle.byte_machine.specs.Frames.{Frame}
-use Rattle.abi_ops.specs.Setups.{Routine, MainCode, FunctionCode, PlanCode, owner_of}
 use Rattle.abi_parts.specs.Heaps.{Heap}
 use Rattle.abi_stands.specs.Worlds.{World}
 use Rattle.abi_stands.specs.Goings.{Going}

@@ -27,12 +27,12 @@ use Rattle.path_model.specs.Rules.{breaks, is_unready, names, is_broken}
 use Rattle.path_model.specs.TypedStates.{IsPartMade, IsValue}
 use Rattle.path_model.proofs.TypedValues.{IsTypedSight, operand_typed}
 use Rattle.byte_machine.specs.Running.{Running, Stop, register, moved}
-use Rattle.abi_ops.specs.Setups.{width_of}
+use Rattle.abi_ops.specs.Arguments.{Block, argument_used}
 use Rattle.abi_ops.specs.Operands.{operand_class, operand_register, pointed, pointed_in}
+use Rattle.abi_ops.specs.Setups.{width_of}
 use Rattle.abi_ops.specs.Uses.{checks_of, reads, reads_by, views_if, convert_used, arrow_used}
 use Rattle.abi_ops.specs.declared.uses.Used.{Used}
 use Rattle.abi_ops.specs.declared.uses.Used.TheVariants.{ReadsNumber, ReadsPointer, Follows as FollowsWord, Guards as GuardsWord, Views as ViewsWord, Overflows as OverflowsWords}
-use Rattle.abi_ops.specs.Arguments.{Block, argument_used}
 use Rattle.abi_statements.specs.Rights.{arith_kind}
 use Rattle.abi_parts.specs.Addresses.{address}
 use Rattle.abi_stands.specs.Worlds.{World, IsWorld, classes_in, places_in, fixed}

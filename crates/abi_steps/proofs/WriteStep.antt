@@ -39,11 +39,11 @@ use Rattle.byte_machine.proofs.Leads.{leads_end}
 use Rattle.byte_machine.proofs.CheckLeads.{Reached}
 use Rattle.byte_machine.proofs.ValueLeads.{leads_store}
 use Rattle.byte_machine.proofs.ControlLeads.{leads_jump}
-use Rattle.abi_ops.specs.Setups.{value_width}
+use Rattle.abi_lower.specs.Blocks.{statement_ops}
+use Rattle.abi_ops.specs.Arguments.{free, argument_front, argument_used, argument_ops}
 use Rattle.abi_ops.specs.Operands.{operand_ops, operand_register, ops_of, converted_ops}
 use Rattle.abi_ops.specs.PlaceOps.{place_used}
-use Rattle.abi_ops.specs.Arguments.{free, argument_front, argument_used, argument_ops}
-use Rattle.abi_lower.specs.Blocks.{statement_ops}
+use Rattle.abi_ops.specs.Setups.{value_width}
 use Rattle.abi_sound.specs.Places.{size_of_value}
 use Rattle.abi_parts.specs.Addresses.{leaf_address}
 use Rattle.abi_parts.proofs.Sizes.{value_some, value_word}
