@@ -16,10 +16,10 @@ def path():
     return built if os.access(built, os.X_OK) else os.path.join(TOP, "tagymelur")
 
 
-def answer(words, source):
-    """The text and the status that the program gives for words and a source."""
+def answer(words, source, seconds=None):
+    """The text and the status that the program gives for words and a source; `subprocess.TimeoutExpired` after so many seconds."""
     try:
-        done = subprocess.run([path(), *words], input=source.encode("latin-1", "replace"), stdout=subprocess.PIPE)
+        done = subprocess.run([path(), *words], input=source.encode("latin-1", "replace"), stdout=subprocess.PIPE, timeout=seconds)
     except OSError as error:
         raise Problem(f"{path()} cannot be run: {error.strerror}; build it by ./tagymelur, or name it by TAGYMELUR=PATH", 2) from None
     return done.stdout.decode("latin-1"), done.returncode

@@ -1,6 +1,6 @@
 -- What is kept of a conversion to a base moves the address of a part to that of its base.
 use Rattle.std.proofs.Common.{◌≡◌, ℕ, zero, suc, ◌+◌, ◌<◌, Some, List, [], ◌∷◌, length, refl, ap, sym, ◌∙◌, arith, pos}
-use Rattle.abi_calls.proofs.Bases.{seen_base}
+use Rattle.abi_steps.proofs.Bases.{seen_base}
 use Rattle.abi_calls.specs.Shown.{IsSeenFrom}
 use Rattle.abi_dispatch.proofs.Bounds.{vbase_small}
 use Rattle.abi_dispatch.proofs.Numbers.{number_word, offset_word, small_word}

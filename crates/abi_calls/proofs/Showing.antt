@@ -4,19 +4,16 @@ use Rattle.abi_calls.specs.Shown.{ShowsViews}
 use Rattle.abi_stands.specs.Columns.{ColumnsStand}
 use Rattle.abi_stands.specs.Goings.{ArePlanned, Going}
 use Rattle.abi_stands.specs.Worlds.{IsWorld, World, classes_in}
-use Rattle.abi_steps.proofs.Bases.{under}
+use Rattle.abi_steps.proofs.Bases.{under, seen_from}
 use Rattle.abi_steps.proofs.Seen.{in_sight}
 use Rattle.abi_steps.specs.Statements.{AreSeen}
 use Rattle.byte_machine.specs.Running.{Running}
 use Rattle.path_model.specs.Typed.{AllSettled}
 use Rattle.path_model.specs.Values.{Objects}
-use Rattle.path_plan.proofs.Around.{settled}
-use Rattle.path_plan.specs.Places.{part}
 
 pub shows_views : (w : World) (s : Objects) (goings : List Going) (b : Running) → IsWorld w → ColumnsStand w s b.memory b.objects b.heap b.notes → ArePlanned w s.classes s.phases goings → AllSettled (classes_in w) s → AreSeen (classes_in w) s → ShowsViews w s b.memory
 shows_views w s goings b world columns planned settled seen = record {
   of = λ p c made unclosed ready within dynamic.
-      let u = under w s b world columns p c (in_sight w s goings p c planned settled seen made ready) made unclosed within dynamic in
-      record { view = part p.object p.owner u.sight.at; view_class = u.sight.class; complete = u.sight.complete; stands = u.standing; inner = u.inner; valid = u.valid; of_class = u.of_class; is = u.is };
+      seen_from w s b p c (under w s b world columns p c (in_sight w s goings p c planned settled seen made ready) made unclosed within dynamic);
   is_view = λ p c made unclosed ready within dynamic. (under w s b world columns p c (in_sight w s goings p c planned settled seen made ready) made unclosed within dynamic).sight.is_view;
 }

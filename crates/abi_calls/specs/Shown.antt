@@ -1,32 +1,18 @@
 -- What virtual pointers in memory show of the views of a state.
 use Rattle.std.specs.Prelude.{◌≡◌, false, Some}
 use Rattle.cxx_hierarchy.specs.declared.records.ClassId.{ClassId}
-use Rattle.cxx_subobject.specs.declared.Subobject.{Subobject}
-use Rattle.cxx_subobject.specs.Subobjects.{IsSubobject, class_of}
 use Rattle.cxx_subobject.specs.Locations.{ObjectPart}
-use Rattle.path_model.specs.Values.{Value, Objects, inner_part}
+use Rattle.path_model.specs.Values.{Value, Objects}
 use Rattle.path_model.specs.TypedStates.{IsPartMade}
 use Rattle.path_model.specs.Uses.{view_of}
 use Rattle.path_model.specs.Rules.{names, is_unready, is_outside}
 use Rattle.abi_primary.specs.Kinds.{IsDynamic}
-use Rattle.abi_parts.specs.Heaps.{Heap}
 use Rattle.byte_memory.specs.Store.{Store}
 use Rattle.abi_stands.specs.Worlds.{World, classes_in}
 use Rattle.abi_stands.specs.Words.{heap_of}
-use Rattle.abi_views.specs.Views.{IsStandingView}
+pub use Rattle.abi_steps.specs.Seen.{IsSeenFrom}
 
--- the part p, of class c, is a subobject of a view whose virtual pointers stand in memory
-pub record IsSeenFrom (w : World) (g : Heap) (memory : Store) (p : ObjectPart) (c : ClassId) : Type 0 where
-  pub view : ObjectPart
-  pub view_class : ClassId
-  pub complete : ClassId
-  pub stands : IsStandingView w g memory view view_class complete
-  pub inner : Subobject
-  pub valid : IsSubobject (classes_in w) view_class inner
-  pub of_class : class_of inner ≡ Some c
-  pub is : inner_part view inner ≡ p
-
--- so is each dynamic part of an open object that is ready and within the view of its complete object
+-- each dynamic part of an open object that is ready and within the view of its complete object is seen from a view, which is that one
 pub record ShowsViews (w : World) (s : Objects) (memory : Store) : Type 0 where
   pub of : (p : ObjectPart) (c : ClassId) → IsPartMade (classes_in w) s.classes p c → s.is_closed p.object ≡ false → is_unready s p ≡ false → is_outside (classes_in w) s p ≡ false → IsDynamic (classes_in w) c → IsSeenFrom w (heap_of s.classes memory.regions) memory p c
   pub is_view : (p : ObjectPart) (c : ClassId) (made : IsPartMade (classes_in w) s.classes p c) (opened : s.is_closed p.object ≡ false) (ready : is_unready s p ≡ false) (within : is_outside (classes_in w) s p ≡ false) (dynamic : IsDynamic (classes_in w) c) →

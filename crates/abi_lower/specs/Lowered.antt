@@ -6,7 +6,7 @@ use Rattle.cxx_program.specs.declared.statement.Converted.{Converted}
 use Rattle.cxx_program.specs.declared.statement.TypedRight.{TypedRight}
 use Rattle.cxx_program.specs.declared.statement.TypedRight.TheVariants.{Call as CallRight}
 use Rattle.cxx_program.specs.declared.statement.TypedKind.{TypedKind}
-use Rattle.cxx_program.specs.declared.statement.TypedKind.TheVariants.{Declare, Assign, Copy, Call}
+use Rattle.cxx_program.specs.declared.statement.TypedKind.TheVariants.{Declare, Assign, Call}
 use Rattle.cxx_program.specs.declared.statement.TypedStatement.{TypedStatement}
 use Rattle.cxx_program.specs.declared.program.TypedBody.{TypedBody}
 use Rattle.path_plan.specs.Plans.{Form}
@@ -21,14 +21,9 @@ use Rattle.abi_ops.specs.declared.routines.Course.{Course}
 use Rattle.abi_lower.specs.Items.{Kind, AtBegin, AtReady, AtInit, AtBody, AtDone, AtEnding, AtBases, AtEnd, Item, Does, Shares, Inherits, Holds}
 use Rattle.abi_lower.specs.Blocks.{Place, AtStatement, AtEvent, items, first_place, statement_ops, closing_ops, event_block}
 
--- a copy has no block yet
-abbrev pub is_lowered : TypedKind → Bool
-is_lowered (Copy to from c) = false
-is_lowered other = true
-
 abbrev pub statement_block : Setup → (Place → ℕ) → Routine → TypedBody → ℕ → Option TypedStatement → Option Block
 statement_block x at r body n None = if nat_eq n (length body.statements) then Some (record { ops = closing_ops x at r; line = body.close_line }) else None
-statement_block x at r body n (Some statement) = if is_lowered statement.kind then Some (record { ops = statement_ops x at r body n statement; line = statement.line }) else None
+statement_block x at r body n (Some statement) = Some (record { ops = statement_ops x at r body n statement; line = statement.line })
 
 abbrev pub body_block : Setup → (Place → ℕ) → Routine → ℕ → Option TypedBody → Option Block
 body_block x at r n None = None

@@ -13,8 +13,8 @@ use foundation::NoMemory;
 use path_model::DumpLeaf;
 use std::alloc::Global;
 
-/// Sorts items by their places, each of which is below the size of the object.
-fn sort_by_place(items: &mut Vec<Item>, size: u32) -> Result<(), NoMemory>
+/// Sorts items by their places, each of which is below the size of the object. Errors: want of memory.
+pub fn sort_by_place(items: &mut Vec<Item>, size: u32) -> Result<(), NoMemory>
     requires { (item : Item) → Contains items.old.items item → item.place < size }
     ensures { OnOk result (items.new.items ≡ by_place size items.old.items) }
 {
@@ -47,8 +47,13 @@ fn append_item(alloc: Global, text: &mut Vec<u8>, item: &Item) -> Result<(), NoM
 }
 
 /// Puts the lines of items at the end of a text, from a place to the end of the object: each behind the gap before it, and the
-/// gap behind the last one.
-fn append_lines(alloc: Global, text: &mut Vec<u8>, end: u32, items: &[Item]) -> Result<(), NoMemory>
+/// gap behind the last one. Errors: want of memory.
+pub fn append_lines(
+    alloc: Global,
+    text: &mut Vec<u8>,
+    end: u32,
+    items: &[Item],
+) -> Result<(), NoMemory>
     requires { (item : Item) → Contains items.now item → item.place + item.size < 2 ^ 32 }
     ensures { OnOk result (text.new.items ≡ text.old.items ++ lines_from end 0 items.now) }
 {

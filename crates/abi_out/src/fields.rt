@@ -26,8 +26,8 @@ fn append_before(text: &mut Vec<u8>, name: &[u8]) -> Result<(), NoMemory>
     }
 }
 
-/// Puts the subobject that declares a field at the end of a text.
-fn append_declarer(
+/// Puts the subobject that declares a field at the end of a text, as it stands before the name of the field. Errors: want of memory.
+pub fn append_declarer(
     alloc: Global,
     text: &mut Vec<u8>,
     h: &Hierarchy,
@@ -60,8 +60,8 @@ fn append_index(
     }
 }
 
-/// Puts an element of a member at the end of a text.
-fn append_element(
+/// Puts an element of a member at the end of a text. Errors: want of memory.
+pub fn append_element(
     alloc: Global,
     text: &mut Vec<u8>,
     member: Option<&Member<ClassId>>,
@@ -126,7 +126,7 @@ pub(crate) fn append_field(
 }
 
 /// The type of a member that is a number or a pointer, or an array of them.
-fn value_type(member: Option<&Member<ClassId>>) -> Option<&ValueType<ClassId>>
+pub fn value_type(member: Option<&Member<ClassId>>) -> Option<&ValueType<ClassId>>
     ensures { option_copied result ≡ value_type (option_copied member.entry) }
 {
     match member {

@@ -46,7 +46,8 @@ fn append_byte(text: &mut Vec<u8>, byte: u8) -> Result<(), NoMemory>
     Ok(())
 }
 
-fn append_bytes(text: &mut Vec<u8>, bytes: &[u8]) -> Result<(), NoMemory>
+/// Puts bytes as hexadecimal digits at the end of a text. Errors: want of memory.
+pub fn append_bytes(text: &mut Vec<u8>, bytes: &[u8]) -> Result<(), NoMemory>
     ensures { OnOk result (text.new.items ≡ text.old.items ++ flat_map byte_text bytes.now) }
 {
     for byte in bytes {
@@ -55,8 +56,8 @@ fn append_bytes(text: &mut Vec<u8>, bytes: &[u8]) -> Result<(), NoMemory>
     Ok(())
 }
 
-/// Puts so many unset bytes at the end of a text.
-fn append_unset(text: &mut Vec<u8>, size: u32) -> Result<(), NoMemory>
+/// Puts so many unset bytes at the end of a text. Errors: want of memory.
+pub fn append_unset(text: &mut Vec<u8>, size: u32) -> Result<(), NoMemory>
     ensures { OnOk result (text.new.items ≡ text.old.items ++ unset_text size) }
 {
     for _ in 0..size {
@@ -187,8 +188,8 @@ fn pointer_item(alloc: Global, h: &Hierarchy, pointer: TablePointer) -> Result<I
     })
 }
 
-/// Puts virtual pointers behind other items.
-fn push_pointers(
+/// Puts virtual pointers behind other items. Errors: want of memory.
+pub fn push_pointers(
     alloc: Global,
     h: &Hierarchy,
     items: &mut Vec<Item>,

@@ -32,7 +32,7 @@ fn size_of(ty: Scalar) -> u32
 }
 
 /// The bytes of a number or a pointer.
-pub(crate) fn size_of_value(ty: &ValueType<ClassId>) -> u32
+pub fn size_of_value(ty: &ValueType<ClassId>) -> u32
     ensures is { result ≡ size_of_value ty.now }
     ensures few { result ≤ 8 }
 {
@@ -54,11 +54,7 @@ fn size_of_type<L: SoundLayout>(h: &Hierarchy, layout: &L, ty: &FieldType<ClassI
 }
 
 /// The member of a number of a class.
-pub(crate) fn member_at<'a>(
-    h: &'a Hierarchy,
-    d: Option<ClassId>,
-    m: u32,
-) -> Option<&'a Member<ClassId>>
+pub fn member_at<'a>(h: &'a Hierarchy, d: Option<ClassId>, m: u32) -> Option<&'a Member<ClassId>>
     ensures { option_copied result ≡ member_at h.now d m }
 {
     match d {

@@ -19,7 +19,8 @@ use foundation::NoMemory;
 use path_model::Out;
 use std::alloc::Global;
 
-fn append_signed(alloc: Global, text: &mut Vec<u8>, number: i128) -> Result<(), NoMemory>
+/// Puts the decimal digits of a number at the end of a text, behind `-` where it is below 0. Errors: want of memory.
+pub fn append_signed(alloc: Global, text: &mut Vec<u8>, number: i128) -> Result<(), NoMemory>
     ensures { OnOk result (text.new.items ≡ text.old.items ++ signed_decimal number) }
 {
     let digits = number.to_string(alloc)?;

@@ -15,14 +15,16 @@ use cxx_subobject::{Root, Subobject};
 use foundation::NoMemory;
 use std::alloc::Global;
 
-pub(crate) fn append(text: &mut Vec<u8>, piece: &[u8]) -> Result<(), NoMemory>
+/// Puts a piece at the end of a text. Errors: want of memory.
+pub fn append(text: &mut Vec<u8>, piece: &[u8]) -> Result<(), NoMemory>
     ensures { OnOk result (text.new.items ≡ text.old.items ++ piece.now) }
 {
     text.extend_from_slice(piece)?;
     Ok(())
 }
 
-pub(crate) fn append_number(alloc: Global, text: &mut Vec<u8>, number: u32) -> Result<(), NoMemory>
+/// Puts the decimal digits of a number at the end of a text. Errors: want of memory.
+pub fn append_number(alloc: Global, text: &mut Vec<u8>, number: u32) -> Result<(), NoMemory>
     ensures { OnOk result (text.new.items ≡ text.old.items ++ decimal number) }
 {
     let digits = number.to_string(alloc)?;
@@ -30,8 +32,8 @@ pub(crate) fn append_number(alloc: Global, text: &mut Vec<u8>, number: u32) -> R
     Ok(())
 }
 
-/// Puts the name of a class at the end of a text.
-pub(crate) fn append_class(text: &mut Vec<u8>, h: &Hierarchy, c: ClassId) -> Result<(), NoMemory>
+/// Puts the name of a class at the end of a text, and nothing where there is no such class. Errors: want of memory.
+pub fn append_class(text: &mut Vec<u8>, h: &Hierarchy, c: ClassId) -> Result<(), NoMemory>
     ensures { OnOk result (text.new.items ≡ text.old.items ++ name_of h.now c) }
 {
     if c.0 >= h.len() {
@@ -113,8 +115,8 @@ fn scalar_text(ty: Scalar) -> &'static [u8]
     }
 }
 
-/// Puts the type of a number or a pointer at the end.
-pub(crate) fn append_value_type(
+/// Puts the type of a number or a pointer at the end. Errors: want of memory.
+pub fn append_value_type(
     text: &mut Vec<u8>,
     h: &Hierarchy,
     ty: &ValueType<ClassId>,
@@ -155,12 +157,8 @@ fn append_member_name(text: &mut Vec<u8>, h: &Hierarchy, f: FunctionId) -> Resul
     Ok(())
 }
 
-/// Puts a function at the end of a text, behind its class.
-pub(crate) fn append_function(
-    text: &mut Vec<u8>,
-    h: &Hierarchy,
-    f: FunctionId,
-) -> Result<(), NoMemory>
+/// Puts a function at the end of a text, behind its class. Errors: want of memory.
+pub fn append_function(text: &mut Vec<u8>, h: &Hierarchy, f: FunctionId) -> Result<(), NoMemory>
     ensures { OnOk result (text.new.items ≡ text.old.items ++ function_text h.now f) }
 {
     append_class(text, h, f.class)?;

@@ -1,24 +1,22 @@
 -- The end of a body of a plan: a constructor is done, and a destructor goes on to the members.
-use Rattle.std.proofs.Common.{◌≡◌, ◌⊎◌, inl, inr, ⊎_elim, ℕ, true, false, Option, Some, None, List, [], ◌∷◌, ◌++◌, refl, ap, subst, sym, ◌∙◌}
+use Rattle.std.proofs.Common.{◌≡◌, ◌⊎◌, inl, inr, ⊎_elim, true, false, Some, None, List, [], ◌∷◌, ◌++◌, refl, ap, subst, sym, ◌∙◌}
 use Rattle.cxx_hierarchy.specs.declared.records.ClassId.{ClassId}
 use Rattle.cxx_program.specs.declared.program.Owner.{Owner}
 use Rattle.cxx_program.specs.declared.program.Owner.TheVariants.{Constructor, Destructor}
-use Rattle.path_plan.specs.Phases.{Body}
+use Rattle.path_plan.specs.Phases.{Event, Body, part_of}
 use Rattle.path_plan.specs.Views.{Fits}
 use Rattle.path_model.specs.declared.outs.Out.{Out}
 use Rattle.path_model.specs.States.{State, Running as PathRunning, Planned, Frame as PathFrame, InBody, InPlan, with_frames}
 use Rattle.path_model.specs.Effects.{Goes}
-use Rattle.path_model.specs.Steps.{objects_after, event_outs, event_step}
+use Rattle.path_model.specs.Steps.{event_step}
 use Rattle.path_model.specs.Runs.{Moves, open_count}
-use Rattle.abi_lower.specs.Blocks.{plan_tail, event_block, closing_ops}
+use Rattle.abi_lower.specs.Blocks.{plan_tail, closing_ops}
 use Rattle.abi_lower.specs.Items.{Item, Does, event_of}
 use Rattle.abi_lower.specs.Lowered.{IsEnd}
 use Rattle.abi_lower.specs.declared.items.Kind.TheVariants.{AtBody, AtDone}
 use Rattle.abi_ops.specs.Setups.{PlanCode, plan_owner}
 use Rattle.abi_ops.specs.declared.routines.Course.{Course}
 use Rattle.abi_ops.specs.declared.routines.Course.TheVariants.{Constructs, Destroys, Deletes}
-use Rattle.byte_memory.specs.Store.{Store}
-use Rattle.byte_shadow.specs.Shadows.{Notes}
 use Rattle.byte_machine.specs.declared.turn.RawOut.{RawOut}
 use Rattle.byte_machine.specs.Frames.{Frame}
 use Rattle.byte_machine.specs.Running.{Running}
@@ -29,20 +27,19 @@ use Rattle.abi_stands.specs.Words.{heap_of}
 use Rattle.abi_stands.specs.Goings.{Going, at_left, opened, AreOf, ArePlanned, events_left}
 use Rattle.abi_stands.specs.Frames.{Numbers, awaits_body, IsPlanFrame, IsInner, IsOuter, RunsBody, WaitInPlan, Behind, StandInPlan, StandOver, BodyStands}
 use Rattle.abi_stands.specs.Agrees.{ReadAs, Agrees}
-use Rattle.abi_stands.specs.Stands.{Stands}
+use Rattle.abi_steps.specs.Statements.{BeginsAt}
 use Rattle.abi_stands.proofs.Objects.{objects_laid}
-use Rattle.abi_plans.specs.Turns.{InPlanBody, IsTop, Leaves}
+use Rattle.abi_plans.specs.Turns.{InPlanBody, IsPlanTurn, IsTop, IsTurn}
 use Rattle.abi_plans.proofs.Events.{next_event}
-use Rattle.abi_plans.specs.Events.{IsAfter, now}
 use Rattle.abi_plans.proofs.Steps.{low_itself}
 use Rattle.abi_plans.proofs.Left.{AreLeft}
 use Rattle.abi_plans.proofs.Opened.{Holding}
 use Rattle.abi_plans.proofs.Planned.{at_next, planned_body}
 use Rattle.abi_plans.proofs.Bodies.{constructor_left, destructor_left, deleting_left, body_once}
-use Rattle.abi_plans.proofs.Tops.{elements_move, top_moves}
+use Rattle.abi_plans.proofs.Tops.{elements_move, top_moves, top_steps}
 use Rattle.abi_plans.proofs.Tails.{leads_tail}
 use Rattle.abi_plans.proofs.Owned.{owns_first, opened_more, opened_of}
-use Rattle.abi_plans.proofs.PlanTurns.{IsTurn, owned_by, plan_turn}
+use Rattle.abi_plans.proofs.PlanTurns.{owned_by, turn_of}
 use Rattle.abi_plans.proofs.PlanBlocks.{events_next}
 
 constructs : (course : Course) (d c : ClassId) → plan_owner course d ≡ Constructor c → course ≡ Constructs
@@ -79,12 +76,12 @@ body_top w at g fb p path under gs b bs rest runs tail is kind = record {
   kind = ⊎_elim (λ i. inl i) (λ o. inr (record { is_call = o.0.is_call; again = o.0.again; class = o.0.class; made = o.0.made; part = o.0.part; keeps = o.0.keeps }, o.1)) kind;
 }
 
-pub in_plan_body : (w : World) (at : Numbers) → IsWorld w → (s : State) (fb : PathRunning) (p : Planned) (path : List PathFrame) → s.frames ≡ InBody fb ∷ InPlan p ∷ path → (course : Course) (c : ClassId) → fb.owner ≡ plan_owner course c → (r : Running)
-    → Stands w at s r.memory r.objects r.heap r.notes r.globals (r.top ∷ r.below) r.calls → InPlanBody w at s fb p path r
-in_plan_body w at world s fb p path frames_are course c owner r stands =
+pub in_plan_body : (w : World) (at : Numbers) → IsWorld w → (s : State) (fb : PathRunning) (p : Planned) (path : List PathFrame) → s.frames ≡ InBody fb ∷ InPlan p ∷ path → (course : Course) (c : ClassId) → fb.owner ≡ plan_owner course c → (r : Running) (begins : BeginsAt w at s r) → InPlanBody w at s fb p path r begins
+in_plan_body w at world s fb p path frames_are course c owner r begins =
+    let stands = begins.stands in
     let g = heap_of s.objects.classes r.memory.regions in
     let gs = stands.frames.goings in
-    let over = frames_in_plan w at g fb p path gs (r.top ∷ r.below) course c owner (subst (λ (fs : List PathFrame). StandOver w at g None fs gs (r.top ∷ r.below)) frames_are stands.frames.frames) in
+    let over = frames_in_plan w at g fb p path gs (begins.top ∷ r.below) course c owner (subst (λ (fs : List PathFrame). StandOver w at g None fs gs (begins.top ∷ r.below)) frames_are stands.frames.frames) in
     let parts = over.1.0 in
     let runs = over.1.1.1.0 in
     let rest = over.1.1.0 in
@@ -97,65 +94,66 @@ in_plan_body w at world s fb p path frames_are course c owner r stands =
     let left_are = events_next w world f AtBody runs.left parts.own owns.others (Body over.0 ∷ p.events) runs.at_body owns.own_is parts.events_are in
     let courses : AreOf p.is_building (f ∷ owns.others) = subst (λ (l : List Going). AreOf p.is_building l) owns.own_is parts.course in
     let under = Behind parts.lower (StandOver w at g None path) in
+    let below = owns.others ++ parts.lower in
+    let stepped = top_steps w at g p path under (at_left f []) below begins.top r.below (body_top w at g fb p path under gs begins.top r.below rest runs below (sym owns.tail_is) over.1.1.1.1) in
     record {
       f = f;
       left = runs.left;
       others = owns.others;
       lower = parts.lower;
       owner = runs.owner;
+      block = runs.body.block;
       planned = subst (λ (h : Going). ArePlanned w s.objects.classes s.objects.phases (h ∷ (owns.others ++ parts.lower))) at_it planned;
       events = cc (left_are);
       course = courses.0;
       courses = courses.1;
-      top = body_top w at g fb p path under gs r.top r.below rest runs (owns.others ++ parts.lower) (sym owns.tail_is) over.1.1.1.1;
+      top = subst (λ (b : Frame). IsTop w at g p path under (at_left f []) below b r.below) (sym begins.stepped) stepped;
     }
 
 -- the end of a constructor's body is the turn of its last event
-pub constructor_turn : (w : World) (at : Numbers) → IsWorld w → (s : State) (fb : PathRunning) (p : Planned) (path : List PathFrame) → s.frames ≡ InBody fb ∷ InPlan p ∷ path → (c : ClassId) → fb.owner ≡ Constructor c → (r : Running) → r.opened ≡ [] → r.outs ≡ []
-    → Stands w at s r.memory r.objects r.heap r.notes r.globals (r.top ∷ r.below) r.calls → (inside : InPlanBody w at s fb p path r) → Fits (classes_in w) s.objects.phases (event_of AtDone inside.f.part) → s.objects.is_closed inside.f.part.object ≡ false
+pub constructor_turn : (w : World) (at : Numbers) → IsWorld w → (s : State) (fb : PathRunning) (p : Planned) (path : List PathFrame) → s.frames ≡ InBody fb ∷ InPlan p ∷ path → (c : ClassId) → fb.owner ≡ Constructor c → (r : Running) (begins : BeginsAt w at s r)
+    → (inside : InPlanBody w at s fb p path r begins) → (e : Event) (es : List Event) → p.events ≡ e ∷ es → Fits (classes_in w) s.objects.phases e → s.objects.is_closed (part_of e).object ≡ false
     → (inside.f.course ≡ Constructs) × (IsTurn w at s p path inside.f AtDone [] inside.others inside.lower r) × (p.events ≡ event_of AtDone inside.f.part ∷ events_left w (opened w inside.f [] inside.others))
-constructor_turn w at world s fb p path frames_are c owner r none quiet stands inside fits is_open =
+constructor_turn w at world s fb p path frames_are c owner r begins inside e es events fits is_open =
+    let stands = begins.stands in
     let f = inside.f in
     let course : f.course ≡ Constructs = constructs f.course f.class c (sym inside.owner ∙ owner) in
     let left : inside.left ≡ Does AtDone ∷ [] = constructor_left w.setup f.form f.class inside.left (subst (λ k. IsEnd w.setup k f.form f.class (Does AtBody ∷ inside.left)) course inside.planned.going.0.ends) in
+    let left_are = inside.events ∙ (ap (λ (xs : List Item). events_left w (opened w f xs inside.others)) left ∙ next_event w world.hierarchy f AtDone [] inside.others) in
+    let event : e ≡ event_of AtDone f.part = let same : e ∷ es ≡ event_of AtDone f.part ∷ events_left w (opened w f [] inside.others) = sym events ∙ left_are in cc (same) in
     let planned = planned_body w world.hierarchy s.objects.classes s.objects.phases f inside.left (inside.others ++ inside.lower) inside.planned in (
       course,
       record {
         planned = subst (λ (xs : List Item). ArePlanned w s.objects.classes s.objects.phases (opened w f xs (inside.others ++ inside.lower))) left planned;
-        fits = fits;
-        is_open = is_open;
+        fits = subst (λ (x : Event). Fits (classes_in w) s.objects.phases x) event fits;
+        is_open = ap (λ (x : Event). s.objects.is_closed (part_of x).object) (sym event) ∙ is_open;
         columns = stands.columns;
         globals = stands.globals;
         calls = stands.frames.calls ∙ (ap open_count frames_are ∙ no_call fb p path Constructs c owner);
-        opened = none;
-        outs = quiet;
+        opened = begins.opened;
+        outs = begins.silent;
         course = inside.course;
         courses = inside.courses;
         top = inside.top;
       },
-      inside.events ∙ (ap (λ (xs : List Item). events_left w (opened w f xs inside.others)) left ∙ next_event w world.hierarchy f AtDone [] inside.others),
+      left_are,
     )
 
-pub constructor_closes : (w : World) (at : Numbers) → IsWorld w → (s : State) (fb : PathRunning) (p : Planned) (path : List PathFrame) → s.frames ≡ InBody fb ∷ InPlan p ∷ path → (c : ClassId) → fb.owner ≡ Constructor c → (r : Running) → r.opened ≡ [] → r.outs ≡ []
-    → Stands w at s r.memory r.objects r.heap r.notes r.globals (r.top ∷ r.below) r.calls → (inside : InPlanBody w at s fb p path r) → Fits (classes_in w) s.objects.phases (event_of AtDone inside.f.part) → s.objects.is_closed inside.f.part.object ≡ false
-    → (s' : State) (told : List Out) → event_step w.setup.program s p path p.events ≡ Goes s' told
-    → ((registers : List (Option ℕ)) (memory : Store) (notes : Notes) (outs : List RawOut) → IsAfter w at (objects_after w.setup.program s.objects (event_of AtDone inside.f.part)) r (event_outs s.objects (event_of AtDone inside.f.part)) memory notes outs
-    → Leaves w at (heap_of s.objects.classes r.memory.regions) p path (Behind inside.lower (StandOver w at (heap_of s.objects.classes r.memory.regions) None path)) inside.f [] (inside.others ++ inside.lower) (now r registers memory notes outs) (Agrees w at (Moves s' told)))
-    → LeadsBlock (fixed w) (closing_ops w.setup at (PlanCode inside.f.course inside.f.form inside.f.class)) r (Agrees w at (Moves s' told))
-constructor_closes w at world s fb p path frames_are c owner r none quiet stands inside fits is_open s' told step leaves =
+pub constructor_closes : (w : World) (at : Numbers) → IsWorld w → (s : State) (fb : PathRunning) (p : Planned) (path : List PathFrame) → s.frames ≡ InBody fb ∷ InPlan p ∷ path → (c : ClassId) → fb.owner ≡ Constructor c → (r : Running) (begins : BeginsAt w at s r)
+    → (inside : InPlanBody w at s fb p path r begins) → (e : Event) (es : List Event) → p.events ≡ e ∷ es → Fits (classes_in w) s.objects.phases e → s.objects.is_closed (part_of e).object ≡ false
+    → (s' : State) (told : List Out) → event_step w.setup.program s p path p.events ≡ Goes s' told → (inside.f.course ≡ Constructs) × IsPlanTurn w at s p path inside.f AtDone [] inside.others inside.lower r s' told
+constructor_closes w at world s fb p path frames_are c owner r begins inside e es events fits is_open s' told step =
     let f = inside.f in
-    let turn = constructor_turn w at world s fb p path frames_are c owner r none quiet stands inside fits is_open in
+    let turn = constructor_turn w at world s fb p path frames_are c owner r begins inside e es events fits is_open in
     let es = events_left w (opened w f [] inside.others) in
     let next : event_step w.setup.program s p path (event_of AtDone f.part ∷ es) ≡ Goes s' told = ap (event_step w.setup.program s p path) (sym turn.2) ∙ step in
-    subst (λ k. LeadsBlock (fixed w) (closing_ops w.setup at (PlanCode k f.form f.class)) r (Agrees w at (Moves s' told))) (sym turn.0)
-    (subst (λ k. LeadsBlock (fixed w) (event_block w.setup at k f.form f.class AtDone []) r (Agrees w at (Moves s' told))) turn.0
-    (plan_turn w at world s p path f AtDone [] inside.others inside.lower r turn.1 es refl s' told next leaves))
+    (turn.0, turn_of w at world s p path f AtDone [] inside.others inside.lower r turn.1 es refl s' told next)
 
 -- a destructor's body goes on to the members of its part
-destructor_tail : (w : World) (at : Numbers) → IsWorld w → (s : State) (fb : PathRunning) (p : Planned) (path : List PathFrame) → s.frames ≡ InBody fb ∷ InPlan p ∷ path → (r : Running) → r.opened ≡ [] → r.outs ≡ []
-    → Stands w at s r.memory r.objects r.heap r.notes r.globals (r.top ∷ r.below) r.calls → (inside : InPlanBody w at s fb p path r)
+destructor_tail : (w : World) (at : Numbers) → IsWorld w → (s : State) (fb : PathRunning) (p : Planned) (path : List PathFrame) → s.frames ≡ InBody fb ∷ InPlan p ∷ path → (r : Running) (begins : BeginsAt w at s r) → (inside : InPlanBody w at s fb p path r begins)
     → LeadsBlock (fixed w) (plan_tail w.setup at inside.f.course inside.f.form inside.f.class inside.left) r (Agrees w at (Moves (with_frames s (InPlan p ∷ path)) []))
-destructor_tail w at world s fb p path frames_are r none quiet stands inside =
+destructor_tail w at world s fb p path frames_are r begins inside =
+    let stands = begins.stands in
     let f = inside.f in
     let left = inside.left in
     let below = inside.others ++ inside.lower in
@@ -167,7 +165,7 @@ destructor_tail w at world s fb p path frames_are r none quiet stands inside =
     let under = Behind inside.lower (StandOver w at g None path) in
     let once : awaits_body left ≡ false = body_once w.setup f.course f.form f.class left going.ends in
     let top = top_moves w at g p path under (at_left f []) left below r.top r.below r.top.registers r.top.block (λ e. absurd (let off : true ≡ false = sym e ∙ once in cc (off))) (low_itself w (PlanCode f.course f.form f.class) r.top.registers) inside.top in
-    leads_tail w at world g laid p path under (Agrees w at (Moves (with_frames s (InPlan p ∷ path)) [])) f below r none holds inside.planned.going.1 left false false behind top
+    leads_tail w at world g laid p path under (Agrees w at (Moves (with_frames s (InPlan p ∷ path)) [])) f below r begins.opened holds inside.planned.going.1 left false false behind top
     (λ above b bs wait. (
       record {
         columns = stands.columns;
@@ -179,16 +177,15 @@ destructor_tail w at world s fb p path frames_are r none quiet stands inside =
           calls = stands.frames.calls ∙ (ap open_count frames_are ∙ no_call fb p path f.course f.class inside.owner);
         };
       },
-      subst (λ (o : List RawOut). ReadAs w at g o []) (sym quiet) tt,
+      subst (λ (o : List RawOut). ReadAs w at g o []) (sym begins.silent) tt,
       refl,
     ))
-    (λ last o rest. absurd (subst (λ (xs : List Item). AreLeft w.setup f.course f.form f.class false xs) last behind))
+    (λ last frame o rest. absurd (subst (λ (xs : List Item). AreLeft w.setup f.course f.form f.class false xs) last behind))
 
-pub destructor_closes : (w : World) (at : Numbers) → IsWorld w → (s : State) (fb : PathRunning) (p : Planned) (path : List PathFrame) → s.frames ≡ InBody fb ∷ InPlan p ∷ path → (c : ClassId) → fb.owner ≡ Destructor c → (r : Running) → r.opened ≡ [] → r.outs ≡ []
-    → Stands w at s r.memory r.objects r.heap r.notes r.globals (r.top ∷ r.below) r.calls → (inside : InPlanBody w at s fb p path r)
+pub destructor_closes : (w : World) (at : Numbers) → IsWorld w → (s : State) (fb : PathRunning) (p : Planned) (path : List PathFrame) → s.frames ≡ InBody fb ∷ InPlan p ∷ path → (c : ClassId) → fb.owner ≡ Destructor c → (r : Running) (begins : BeginsAt w at s r) → (inside : InPlanBody w at s fb p path r begins)
     → LeadsBlock (fixed w) (closing_ops w.setup at (PlanCode inside.f.course inside.f.form inside.f.class)) r (Agrees w at (Moves (with_frames s (InPlan p ∷ path)) []))
-destructor_closes w at world s fb p path frames_are c owner r none quiet stands inside =
-    by inside.f.course (sym inside.owner ∙ owner) inside.planned.going.0.ends (destructor_tail w at world s fb p path frames_are r none quiet stands inside)
+destructor_closes w at world s fb p path frames_are c owner r begins inside =
+    by inside.f.course (sym inside.owner ∙ owner) inside.planned.going.0.ends (destructor_tail w at world s fb p path frames_are r begins inside)
   where
     by : (course : Course) → plan_owner course inside.f.class ≡ Destructor c → IsEnd w.setup course inside.f.form inside.f.class (Does AtBody ∷ inside.left)
         → LeadsBlock (fixed w) (plan_tail w.setup at course inside.f.form inside.f.class inside.left) r (Agrees w at (Moves (with_frames s (InPlan p ∷ path)) []))

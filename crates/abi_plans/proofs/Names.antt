@@ -155,7 +155,7 @@ one_group h l keeps groups are i j a b at there same =
         let r = get_within (names_to h (length h)) k (let less = slice_get_within groups k g e in let size = are.size in omega arith) in
         r.1 ∙ ap (λ (name : GroupName). Some name) (sym (are.each k r.0 g r.1 e).is)
 
-has_names : (h : Classes) (n : ℕ) (c : ClassId) (name : GroupName) → c.0 < n → Has (names_of h c) name → Has (names_to h n) name
+pub has_names : (h : Classes) (n : ℕ) (c : ClassId) (name : GroupName) → c.0 < n → Has (names_of h c) name → Has (names_to h n) name
 has_names h zero c name less has = absurd (omega arith)
 has_names h (suc n) c name less has = ⊎_elim
     (λ same. has_right (names_to h n) (names_of h (record { 0 = n })) name (subst (λ (d : ClassId). Has (names_of h d) name) (same_class c (record { 0 = n }) same) has))

@@ -1,5 +1,5 @@
 -- Where a plan is on top of a state, the frame on top of the byte state is at its next event, whose block agrees with the step.
-use Rattle.std.proofs.Common.{◌≡◌, ◌<◌, true, false, Some, None, List, [], ◌∷◌, ◌++◌, length, refl, ap, subst, sym, ◌∙◌}
+use Rattle.std.proofs.Common.{◌≡◌, ◌<◌, true, false, Some, None, List, ◌∷◌, ◌++◌, length, refl, ap, subst, sym, ◌∙◌}
 use Rattle.std.specs.Prelude.{slice_get, if◌then◌else◌}
 use Rattle.cxx_hierarchy.specs.declared.records.ClassId.{ClassId}
 use Rattle.cxx_subobject.specs.Locations.{ObjectPart}
@@ -21,18 +21,19 @@ use Rattle.abi_ops.specs.Routines.{IsCourse, has_body}
 use Rattle.abi_ops.specs.Setups.{PlanCode, body_in}
 use Rattle.abi_ops.specs.declared.routines.Course.{Course}
 use Rattle.byte_code.specs.declared.code.Block.{Block}
+use Rattle.byte_machine.specs.Frames.{Frame}
 use Rattle.byte_machine.specs.Running.{Running}
 use Rattle.abi_stands.specs.Worlds.{World, IsWorld, classes_in}
 use Rattle.abi_stands.specs.Words.{heap_of}
 use Rattle.abi_stands.specs.Goings.{Going, at_left, opened, AreOf, ArePlanned, events_left}
 use Rattle.abi_stands.specs.Frames.{Numbers, awaits_body, WaitInPlan, Behind, StandOver}
-use Rattle.abi_stands.specs.Stands.{Stands}
-use Rattle.abi_plans.specs.Turns.{IsPlanBlock}
+use Rattle.abi_steps.specs.Statements.{BeginsAt}
+use Rattle.abi_plans.specs.Turns.{IsTop, IsTurn, IsPlanBlock}
 use Rattle.abi_plans.proofs.Events.{next_event}
 use Rattle.abi_plans.proofs.Steps.{low_itself}
-use Rattle.abi_plans.proofs.Tops.{top_of, top_moves}
+use Rattle.abi_plans.proofs.Tops.{top_of, top_moves, top_steps}
 use Rattle.abi_plans.proofs.Owned.{owns_first}
-use Rattle.abi_plans.proofs.PlanTurns.{IsTurn, plan_turn}
+use Rattle.abi_plans.proofs.PlanTurns.{turn_of}
 
 pub event_part : (k : Kind) (p : ObjectPart) → part_of (event_of k p) ≡ p
 event_part AtBegin p = refl
@@ -87,7 +88,7 @@ events_next w world f k left own others es is own_is events =
     at_it ∙ next_event w world.hierarchy f k left others
 
 -- a turn from a state with a plan on top
-pub record HasTurn (w : World) (at : Numbers) (s : State) (p : Planned) (path : List PathFrame) (r : Running) (e : Event) (es : List Event) : Type 0 where
+pub record HasTurn (w : World) (at : Numbers) (s : State) (p : Planned) (path : List PathFrame) (r : Running) (begins : BeginsAt w at s r) (e : Event) (es : List Event) : Type 0 where
   pub f : Going
   pub k : Kind
   pub left : List Item
@@ -96,16 +97,17 @@ pub record HasTurn (w : World) (at : Numbers) (s : State) (p : Planned) (path : 
   pub turn : IsTurn w at s p path f k left others lower r
   pub event : e ≡ event_of k f.part
   pub events : es ≡ events_left w (opened w f left others)
-  pub block : r.top.block ≡ at (next_place f.course f.form f.class (Does k ∷ left))
+  pub block : begins.top.block ≡ at (next_place f.course f.form f.class (Does k ∷ left))
   pub course : IsCourse f.course f.form
   pub ends : IsEnd w.setup f.course f.form f.class (Does k ∷ left)
 
-pub has_turn : (w : World) (at : Numbers) → IsWorld w → (s : State) (p : Planned) (path : List PathFrame) → s.frames ≡ InPlan p ∷ path → (r : Running) → r.opened ≡ [] → r.outs ≡ [] → Stands w at s r.memory r.objects r.heap r.notes r.globals (r.top ∷ r.below) r.calls
-    → (e : Event) (es : List Event) → p.events ≡ e ∷ es → Fits (classes_in w) s.objects.phases e → s.objects.is_closed (part_of e).object ≡ false → HasTurn w at s p path r e es
-has_turn w at world s p path frames_are r none quiet stands e es events fits is_open =
+pub has_turn : (w : World) (at : Numbers) → IsWorld w → (s : State) (p : Planned) (path : List PathFrame) → s.frames ≡ InPlan p ∷ path → (r : Running) (begins : BeginsAt w at s r)
+    → (e : Event) (es : List Event) → p.events ≡ e ∷ es → Fits (classes_in w) s.objects.phases e → s.objects.is_closed (part_of e).object ≡ false → HasTurn w at s p path r begins e es
+has_turn w at world s p path frames_are r begins e es events fits is_open =
+    let stands = begins.stands in
     let g = heap_of s.objects.classes r.memory.regions in
     let gs = stands.frames.goings in
-    let over : StandOver w at g None (InPlan p ∷ path) gs (r.top ∷ r.below) = subst (λ (fs : List PathFrame). StandOver w at g None fs gs (r.top ∷ r.below)) frames_are stands.frames.frames in
+    let over : StandOver w at g None (InPlan p ∷ path) gs (begins.top ∷ r.below) = subst (λ (fs : List PathFrame). StandOver w at g None fs gs (begins.top ∷ r.below)) frames_are stands.frames.frames in
     let parts = over.0 in
     let wait = over.1 in
     let runs = wait.1.0 in
@@ -122,8 +124,9 @@ has_turn w at world s p path frames_are r none quiet stands e es events fits is_
     let event : e ≡ event_of k f.part = cc (left_are) in
     let courses : AreOf p.is_building (f ∷ owns.others) = subst (λ (l : List Going). AreOf p.is_building l) owns.own_is parts.course in
     let under = Behind parts.lower (StandOver w at g None path) in
-    let there : WaitInPlan w at g p path (f ∷ (owns.others ++ parts.lower)) (r.top ∷ r.below) under = subst (λ (l : List Going). WaitInPlan w at g p path l (r.top ∷ r.below) under) all_are wait in
-    let top = top_of w at g p path under f (owns.others ++ parts.lower) r.top r.below there in
+    let there : WaitInPlan w at g p path (f ∷ (owns.others ++ parts.lower)) (begins.top ∷ r.below) under = subst (λ (l : List Going). WaitInPlan w at g p path l (begins.top ∷ r.below) under) all_are wait in
+    let stepped = top_steps w at g p path under f (owns.others ++ parts.lower) begins.top r.below (top_of w at g p path under f (owns.others ++ parts.lower) begins.top r.below there) in
+    let top : IsTop w at g p path under f (owns.others ++ parts.lower) r.top r.below = subst (λ (b : Frame). IsTop w at g p path under f (owns.others ++ parts.lower) b r.below) (sym begins.stepped) stepped in
     record {
       f = f;
       k = k;
@@ -137,8 +140,8 @@ has_turn w at world s p path frames_are r none quiet stands e es events fits is_
         columns = stands.columns;
         globals = stands.globals;
         calls = stands.frames.calls ∙ ap open_count frames_are;
-        opened = none;
-        outs = quiet;
+        opened = begins.opened;
+        outs = begins.silent;
         course = courses.0;
         courses = courses.1;
         top = top_moves w at g p path under f left (owns.others ++ parts.lower) r.top r.below r.top.registers r.top.block (λ awaits. ap awaits_body going.is ∙ awaits_more k left awaits) (low_itself w (PlanCode f.course f.form f.class) r.top.registers) top;
@@ -150,10 +153,10 @@ has_turn w at world s p path frames_are r none quiet stands e es events fits is_
       ends = subst (λ (xs : List Item). IsEnd w.setup f.course f.form f.class xs) going.is going.ends;
     }
 
-pub plan_block : (w : World) (at : Numbers) → IsWorld w → (s : State) (p : Planned) (path : List PathFrame) → s.frames ≡ InPlan p ∷ path → (r : Running) → r.opened ≡ [] → r.outs ≡ [] → Stands w at s r.memory r.objects r.heap r.notes r.globals (r.top ∷ r.below) r.calls
-    → (e : Event) (es : List Event) → p.events ≡ e ∷ es → Fits (classes_in w) s.objects.phases e → s.objects.is_closed (part_of e).object ≡ false → (s' : State) (told : List Out) → event_step w.setup.program s p path (e ∷ es) ≡ Goes s' told → IsPlanBlock w at s p path r s' told
-plan_block w at world s p path frames_are r none quiet stands e es events fits is_open s' told step =
-    let has = has_turn w at world s p path frames_are r none quiet stands e es events fits is_open in
+pub plan_block : (w : World) (at : Numbers) → IsWorld w → (s : State) (p : Planned) (path : List PathFrame) → s.frames ≡ InPlan p ∷ path → (r : Running) (begins : BeginsAt w at s r)
+    → (e : Event) (es : List Event) → p.events ≡ e ∷ es → Fits (classes_in w) s.objects.phases e → s.objects.is_closed (part_of e).object ≡ false → (s' : State) (told : List Out) → event_step w.setup.program s p path (e ∷ es) ≡ Goes s' told → IsPlanBlock w at s p path r begins s' told
+plan_block w at world s p path frames_are r begins e es events fits is_open s' told step =
+    let has = has_turn w at world s p path frames_are r begins e es events fits is_open in
     let next = step_is w.setup.program s p path has.k has.f.part es s' told (ap (λ (x : Event). event_step w.setup.program s p path (x ∷ es)) (sym has.event) ∙ step) in
     record {
       f = has.f;
@@ -164,7 +167,8 @@ plan_block w at world s p path frames_are r none quiet stands e es events fits i
       block = has.block ∙ ap at (own_place has.f.course has.f.form has.f.class has.k has.left next.other);
       course = has.course;
       ends = has.ends;
-      leads = λ leaves. plan_turn w at world s p path has.f has.k has.left has.others has.lower r has.turn es has.events s' told next.next leaves;
+      events = events ∙ (ap (λ (x : Event). x ∷ es) has.event ∙ ap (λ (xs : List Event). event_of has.k has.f.part ∷ xs) has.events);
+      turn = turn_of w at world s p path has.f has.k has.left has.others has.lower r has.turn es has.events s' told next.next;
     }
 
 -- and that block stands in the code

@@ -1,12 +1,11 @@
 -- A turn of a plan: the block of its next event agrees with the step of the subobject machine.
-use Rattle.std.proofs.Common.{◌≡◌, ℕ, ◌<◌, false, Option, Some, None, List, [], ◌∷◌, ◌++◌, length, map, refl, ap, subst, sym, ◌∙◌, arith}
+use Rattle.std.proofs.Common.{◌≡◌, ℕ, ◌<◌, Option, Some, None, List, [], ◌∷◌, ◌++◌, length, map, refl, ap, subst, sym, ◌∙◌, arith}
 use Rattle.cxx_hierarchy.specs.declared.records.ClassId.{ClassId}
 use Rattle.cxx_subobject.specs.Locations.{ObjectPart}
 use Rattle.cxx_program.specs.declared.operand.Conversion.TheVariants.{Same as ToSame}
 use Rattle.cxx_program.specs.declared.program.Owner.{Owner}
 use Rattle.cxx_program.specs.declared.program.TypedBody.{TypedBody}
 use Rattle.path_plan.specs.Phases.{Event, Begin, Ready, Init, Body, Done, Ending, Bases, End, after}
-use Rattle.path_plan.specs.Views.{Fits}
 use Rattle.path_model.specs.declared.outs.Out.{Out}
 use Rattle.path_model.specs.Outs.{class_or_first}
 use Rattle.path_model.specs.Values.{Pointer}
@@ -32,12 +31,11 @@ use Rattle.byte_machine.specs.Leads.{LeadsBlock}
 use Rattle.abi_parts.specs.Heaps.{Heap}
 use Rattle.abi_stands.specs.Worlds.{World, IsWorld, classes_in, fixed}
 use Rattle.abi_stands.specs.Words.{heap_of, register_of}
-use Rattle.abi_stands.specs.Columns.{ColumnsStand}
-use Rattle.abi_stands.specs.Goings.{Going, at_left, opened, builds, AreOf, AreGoing, ArePlanned, events_left}
+use Rattle.abi_stands.specs.Goings.{Going, at_left, opened, AreOf, AreGoing, ArePlanned, events_left}
 use Rattle.abi_stands.specs.Frames.{Numbers, WaitInPlan, OwnsParts, Behind, StandOver}
 use Rattle.abi_stands.specs.Agrees.{ReadAs, Agrees}
 use Rattle.abi_plans.specs.Events.{IsEvent, IsAfter, now}
-use Rattle.abi_plans.specs.Turns.{IsTop, Leaves}
+use Rattle.abi_plans.specs.Turns.{IsTurn, IsPlanTurn, Leaves}
 use Rattle.abi_plans.proofs.Planned.{planned_step}
 use Rattle.abi_plans.proofs.EventBlocks.{leads_event}
 use Rattle.abi_plans.proofs.Owned.{opened_more, opened_of, some_own, waits_same}
@@ -60,20 +58,6 @@ first_left w x others k left e es is events = let at_it : e ∷ es ≡ events_le
 
 some_left : (w : World) (x : Going) (others : List Going) (k : Kind) (left : List Item) → x.left ≡ Does k ∷ left → [] ≡ events_left w (x ∷ others) → ⊥
 some_left w x others k left is events = let at_it : [] ≡ events_left w (at_left x (Does k ∷ left) ∷ others) = subst (λ (xs : List Item). [] ≡ events_left w (at_left x xs ∷ others)) is events in cc (at_it)
-
--- a turn of a plan: f is on top, at its event k; others are the other parts of the plan, and lower those of the plans below
-pub record IsTurn (w : World) (at : Numbers) (s : State) (p : Planned) (path : List PathFrame) (f : Going) (k : Kind) (left : List Item) (others lower : List Going) (r : Running) : Type 0 where
-  pub planned : ArePlanned w s.objects.classes s.objects.phases (at_left f (Does k ∷ left) ∷ (others ++ lower))
-  pub fits : Fits (classes_in w) s.objects.phases (event_of k f.part)
-  pub is_open : s.objects.is_closed f.part.object ≡ false
-  pub columns : ColumnsStand w s.objects r.memory r.objects r.heap r.notes
-  pub globals : r.globals ≡ map (register_of w (heap_of s.objects.classes r.memory.regions)) s.globals
-  pub calls : r.calls ≡ open_count (InPlan p ∷ path)
-  pub opened : r.opened ≡ []
-  pub outs : r.outs ≡ []
-  pub course : builds f.course ≡ p.is_building
-  pub courses : AreOf p.is_building others
-  pub top : IsTop w at (heap_of s.objects.classes r.memory.regions) p path (Behind lower (StandOver w at (heap_of s.objects.classes r.memory.regions) None path)) (at_left f left) (others ++ lower) r.top r.below
 
 -- the event, from what is known of the turn
 turn_event : (w : World) (at : Numbers) (s : State) (p : Planned) (path : List PathFrame) (f : Going) (k : Kind) (left : List Item) (others lower : List Going) (r : Running) → IsTurn w at s p path f k left others lower r → IsEvent w s.objects.classes s.objects.phases f k left (others ++ lower)
@@ -221,3 +205,13 @@ module _ (w : World) (at : Numbers) (world : IsWorld w) (s : State) (p : Planned
   plan_turn es events s' told next leaves =
       leads_event w at world p path under (Agrees w at (Moves s' told)) s.objects f k left (others ++ lower) (turn_event w at s p path f k left others lower r turn) r turn.opened turn.is_open turn.columns turn.top
       (λ registers memory notes outs then. (λ above b bs wait. by_next registers memory notes outs then s' told es events next above b bs wait, leaves registers memory notes outs then))
+
+-- with the events that are left said by the parts
+pub turn_of : (w : World) (at : Numbers) → IsWorld w → (s : State) (p : Planned) (path : List PathFrame) (f : Going) (k : Kind) (left : List Item) (others lower : List Going) (r : Running) → IsTurn w at s p path f k left others lower r
+    → (es : List Event) → es ≡ events_left w (opened w f left others) → (s' : State) (told : List Out) → resumed w.setup.program (with_objects s (objects_after w.setup.program s.objects (event_of k f.part))) p path (event_outs s.objects (event_of k f.part)) es ≡ Goes s' told
+    → IsPlanTurn w at s p path f k left others lower r s' told
+turn_of w at world s p path f k left others lower r turn es events s' told next = record {
+  turn = turn;
+  next = ap (resumed w.setup.program (with_objects s (objects_after w.setup.program s.objects (event_of k f.part))) p path (event_outs s.objects (event_of k f.part))) (sym events) ∙ next;
+  leads = λ leaves. plan_turn w at world s p path f k left others lower r turn es events s' told next leaves;
+}

@@ -11,7 +11,7 @@ use Rattle.byte_memory.specs.Cells.{byte_of}
 use Rattle.byte_code.specs.declared.op.Op.TheVariants.{Return as ReturnOp}
 use Rattle.byte_machine.specs.declared.turn.MachineTurn.{MachineTurn}
 use Rattle.byte_machine.specs.declared.turn.MachineTurn.TheVariants.{Went}
-use Rattle.byte_machine.specs.Frames.{Frame, Kept, next_element, nothing_kept}
+use Rattle.byte_machine.specs.Frames.{Frame, Kept, next_element}
 use Rattle.byte_machine.specs.Running.{Running, Returned, moved}
 use Rattle.byte_machine.specs.Calls.{operand, result_moved, left_calls, moved_by_word}
 use Rattle.byte_machine.specs.Leads.{Leads, Ends}
@@ -27,6 +27,12 @@ use Rattle.abi_stands.specs.Frames.{Numbers, IsPlanFrame, IsAtNext, AreElements,
 use Rattle.abi_plans.specs.Turns.{IsTop}
 use Rattle.abi_plans.proofs.Noted.{Made, at_part}
 use Rattle.abi_plans.proofs.Opens.{first_at, start_untouched}
+
+-- a result to which nothing is added
+pub result_stays : (w : World) (r : Running) (this : ℕ) → (this ≡ 0 → ⊥) → this < 2 ^ 41 → r.top.kept.vbase ≡ 0 → r.top.kept.add ≡ 0 → result_moved (fixed w) r (Some this) ≡ Some (Some this)
+result_stays w r this some low vbase add =
+    moved_result (fixed w) r this this some (ap (moved_by_word w.image r.memory this) vbase)
+    ∙ (ap (λ n. Some (Some (moved this n))) add ∙ let none : moved this 0 ≡ this = omega arith in ap (λ n. Some (Some n)) none)
 
 module _ (w : World) (at : Numbers) (world : IsWorld w) (g : Heap) (laid : IsLaid (classes_in w) w.setup.rows g) (p : Planned) (path : List PathFrame) (under : List Going → List Frame → Type 0) where
   abbrev element_at : Going → Going → Going
@@ -82,14 +88,9 @@ module _ (w : World) (at : Numbers) (world : IsWorld w) (g : Heap) (laid : IsLai
       (subst (λ (k : Kept). Ends (fixed w) Q (record r { top = taker; below = bs; calls = left_calls r }) (Returned k.finish)) (sym inner.kept)
       (leads_end (fixed w) (subst (λ n. Q (record r { top = taker; below = bs; calls = n }) Went) (sym same) go)))
 
-  result_stays : (r : Running) (this : ℕ) → (this ≡ 0 → ⊥) → this < 2 ^ 41 → r.top.kept ≡ nothing_kept → result_moved (fixed w) r (Some this) ≡ Some (Some this)
-  result_stays r this some low kept =
-      moved_result (fixed w) r this this some (ap (λ (k : Kept). moved_by_word w.image r.memory this k.vbase) kept)
-      ∙ (ap (λ (k : Kept). Some (Some (moved this k.add))) kept ∙ let none : moved this 0 ≡ this = omega arith in ap (λ n. Some (Some n)) none)
-
   leads_leave : (Q : Running → MachineTurn → Type 0) (course : Course) (r : Running) (this : ℕ) (taker : Frame) (bs : List Frame) → r.opened ≡ [] → r.top.again ≡ 0 → byte_of r.top.registers 0 ≡ Some this → (this ≡ 0 → ⊥) → this < 2 ^ 41 → r.below ≡ taker ∷ bs → IsInner r.top
       → Q (record r { top = taker; below = bs }) Went → Leads (fixed w) (plan_return course ∷ []) r (Ends (fixed w) Q)
-  leads_leave Q Constructs r this taker bs opened last this_is some low below_is inner go = leads_back Q r (Some 0) (Some this) taker bs opened last this_is (result_stays r this some low inner.kept) below_is inner go
+  leads_leave Q Constructs r this taker bs opened last this_is some low below_is inner go = leads_back Q r (Some 0) (Some this) taker bs opened last this_is (result_stays w r this some low (ap (λ (k : Kept). k.vbase) inner.kept) (ap (λ (k : Kept). k.add) inner.kept)) below_is inner go
   leads_leave Q Destroys r this taker bs opened last this_is some low below_is inner go = leads_back Q r None None taker bs opened last refl refl below_is inner go
   leads_leave Q Deletes r this taker bs opened last this_is some low below_is inner go = leads_back Q r None None taker bs opened last refl refl below_is inner go
 

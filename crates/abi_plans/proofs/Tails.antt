@@ -60,12 +60,12 @@ module _ (w : World) (at : Numbers) (world : IsWorld w) (g : Heap) (laid : IsLai
   pub leads_tail : (Q : Running → MachineTurn → Type 0) (f : Going) (below : List Going) (r : Running) → r.opened ≡ [] → (holds : Holding w g.classes f below) → AreGoing w g.classes below → (left : List Item) (stop bases : Bool) → Choice stop (left ≡ []) (AreLeft w.setup f.course f.form f.class bases left)
       → IsTop w at g p path under (at_left f left) below r.top r.below
       → ((above : List Frame) (b : Frame) (bs : List Frame) → WaitInPlan w at g p path (opened w f left below) (above ++ b ∷ bs) under → Q (record r { opened = above; top = b; below = bs }) Went)
-      → (left ≡ [] → IsOuter w g p (at_left f left) path r.top → under below r.below → Leads (fixed w) (plan_return f.course ∷ []) r (Ends (fixed w) Q))
+      → (left ≡ [] → IsPlanFrame w at g (at_left f left) below r.top → IsOuter w g p (at_left f left) path r.top → under below r.below → Leads (fixed w) (plan_return f.course ∷ []) r (Ends (fixed w) Q))
       → Leads (fixed w) (plan_tail w.setup at f.course f.form f.class left) r (Ends (fixed w) Q)
   leads_tail Q f below r none holds are [] stop bases behind top go outer =
       leads_plan_return w at world g laid p path under Q (at_left f []) below r none holds.made are top
       (λ b bs wait. subst (λ (o : List Frame). Q (record r { opened = o; top = b; below = bs }) Went) (sym none) (go [] b bs wait))
-      (λ o rest. outer refl o rest)
+      (λ o rest. outer refl top.frame o rest)
   leads_tail Q f below r none holds are (i ∷ left) stop bases behind top go outer =
       let block = at (next_place f.course f.form f.class (i ∷ left)) in
       let there = jumping block r in

@@ -4,12 +4,14 @@ use Rattle.path_model.specs.States.{Planned, Frame as PathFrame}
 use Rattle.abi_lower.specs.Items.{Item}
 use Rattle.abi_ops.specs.Setups.{PlanCode}
 use Rattle.byte_machine.specs.Frames.{Frame}
+use Rattle.byte_machine.specs.Turn.{stepping}
 use Rattle.abi_parts.specs.Heaps.{Heap}
 use Rattle.abi_stands.specs.Worlds.{World}
 use Rattle.abi_stands.specs.Goings.{Going, at_left}
 use Rattle.abi_stands.specs.Frames.{Numbers, AreUntouched, awaits_body, IsPlanFrame, IsAtNext, AreElements, IsOuter, WaitInPlan}
 use Rattle.abi_plans.specs.Events.{KeepsLow}
 use Rattle.abi_plans.specs.Turns.{IsTop}
+use Rattle.abi_plans.proofs.Steps.{low_itself}
 
 module _ (w : World) (at : Numbers) (g : Heap) (p : Planned) (path : List PathFrame) (under : List Going → List Frame → Type 0) where
   pub top_of : (f : Going) (below : List Going) (b : Frame) (bs : List Frame) → WaitInPlan w at g p path (f ∷ below) (b ∷ bs) under → IsTop w at g p path under f below b bs
@@ -73,3 +75,7 @@ module _ (w : World) (at : Numbers) (g : Heap) (p : Planned) (path : List PathFr
     again = elements_move f left b.again b.stride top.more top.again;
     kind = ⊎_elim (λ i. inl (record { kept = i.0.kept; is_call = i.0.is_call }, i.1)) (λ o. inr (record { is_call = o.0.is_call; again = o.0.again; class = o.0.class; made = o.0.made; part = o.0.part; keeps = o.0.keeps }, o.1)) top.kind;
   }
+
+  -- the frame that runs a block has stepped to the block behind
+  pub top_steps : (f : Going) (below : List Going) (b : Frame) (bs : List Frame) → IsTop w at g p path under f below b bs → IsTop w at g p path under f below (stepping b) bs
+  top_steps f below b bs top = top_moves f f.left below b bs b.registers (b.block + 1) (λ awaits. awaits) (low_itself w (PlanCode f.course f.form f.class) b.registers) top

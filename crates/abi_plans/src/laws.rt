@@ -36,8 +36,9 @@ ghost use Rattle.abi_stands.specs.Goings.{Going, going, at_left, opened, inner_o
 ghost use Rattle.abi_stands.specs.Frames.{Numbers, awaits_body, Behind, StandOver};
 ghost use Rattle.abi_stands.specs.Agrees.{Agrees};
 ghost use Rattle.abi_stands.specs.Stands.{Stands};
-ghost use Rattle.abi_plans.specs.Events.{IsEvent, complete_of, Runs, IsAfter, now, HasHappened};
-ghost use Rattle.abi_plans.specs.Turns.{Leaves, IsPlanBlock, InPlanBody};
+ghost use Rattle.abi_plans.specs.Events.{IsEvent, complete_of, Runs, HasHappened};
+ghost use Rattle.abi_steps.specs.Statements.{BeginsAt};
+ghost use Rattle.abi_plans.specs.Turns.{IsPlanTurn, IsPlanBlock, InPlanBody};
 
 /// Where the part on top is at an own event that fits, the parts that are then opened stand for the phases and stacks after it
 /// (`event`); and so after its body, which changes none (`body`).
@@ -83,30 +84,25 @@ pub fn events_keep_the_columns()
         → Leads (fixed w) (event_then w.setup f.course f.form f.class k []) r (HasHappened w at f (objects_after w.setup.program s (event_of k f.part)) r (event_outs s (event_of k f.part))) }
 {}
 
-/// Where a plan is on top of a state, and a byte state stands for it, the frame on top is at the block of the plan's next event,
-/// and that block agrees with the step of the subobject machine (`block`): what it leads to stands for the state after it, be the
-/// next event of the same plan, or a body. Where the plan of the heap object ends, its return to who waits for the object is left
-/// open (`Leaves`). The block stands in the code, unless a body has it (`there`).
+/// Where a plan is on top of a state, and a block begins in a byte state that stands for it, the frame on top is at the block of
+/// the plan's next event, and that block agrees with the step of the subobject machine (`block`): what it leads to stands for the
+/// state after it, be the next event of the same plan, or a body. Where the plan of the heap object ends, its return to who waits
+/// for the object is left open (`Leaves`). The block stands in the code, unless a body has it (`there`).
 pub fn plans_agree()
-    ensures block { (w : World) (at : Numbers) → IsWorld w → (s : State) (p : Planned) (path : List PathFrame) → s.frames ≡ InPlan p ∷ path → (r : Running) → r.opened ≡ [] → r.outs ≡ [] → Stands w at s r.memory r.objects r.heap r.notes r.globals (r.top ∷ r.below) r.calls
-        → (e : Event) (es : List Event) → p.events ≡ e ∷ es → Fits (classes_in w) s.objects.phases e → s.objects.is_closed (part_of e).object ≡ false → (s' : State) (told : List Out) → event_step w.setup.program s p path (e ∷ es) ≡ Goes s' told → IsPlanBlock w at s p path r s' told }
+    ensures block { (w : World) (at : Numbers) → IsWorld w → (s : State) (p : Planned) (path : List PathFrame) → s.frames ≡ InPlan p ∷ path → (r : Running) (begins : BeginsAt w at s r)
+        → (e : Event) (es : List Event) → p.events ≡ e ∷ es → Fits (classes_in w) s.objects.phases e → s.objects.is_closed (part_of e).object ≡ false → (s' : State) (told : List Out) → event_step w.setup.program s p path (e ∷ es) ≡ Goes s' told → IsPlanBlock w at s p path r begins s' told }
     ensures there { (w : World) → (world : IsWorld w) → (course : Course) (form : Form) (c : ClassId) (k : Kind) (left : List Item) → c.0 < length (classes_in w) → IsCourse course form → IsEnd w.setup course form c (Does k ∷ left) → is_own (has_body (body_in w.setup (PlanCode course form c))) k ≡ true
         → slice_get w.code.blocks (world.lowered.at (AtEvent course form c (Does k ∷ left))) ≡ Some (record { ops = event_block w.setup world.lowered.at course form c k left; line = 0 }) }
 {}
 
 /// Where a body of a plan is on top, the frame on top runs the plan of a part (`body`). The block at the end of a constructor's
-/// body agrees with the step of its last event (`constructor`), and the block at the end of a destructor's body opens the parts
-/// that follow (`destructor`).
+/// body is that of its last event, and agrees with the step (`constructor`); the block at the end of a destructor's body opens
+/// the parts that follow (`destructor`).
 pub fn bodies_of_plans_close()
-    ensures body { (w : World) (at : Numbers) → IsWorld w → (s : State) (fb : PathRunning) (p : Planned) (path : List PathFrame) → s.frames ≡ InBody fb ∷ InPlan p ∷ path → (course : Course) (c : ClassId) → fb.owner ≡ plan_owner course c → (r : Running)
-        → Stands w at s r.memory r.objects r.heap r.notes r.globals (r.top ∷ r.below) r.calls → InPlanBody w at s fb p path r }
-    ensures constructor { (w : World) (at : Numbers) → IsWorld w → (s : State) (fb : PathRunning) (p : Planned) (path : List PathFrame) → s.frames ≡ InBody fb ∷ InPlan p ∷ path → (c : ClassId) → fb.owner ≡ Constructor c → (r : Running) → r.opened ≡ [] → r.outs ≡ []
-        → Stands w at s r.memory r.objects r.heap r.notes r.globals (r.top ∷ r.below) r.calls → (inside : InPlanBody w at s fb p path r) → Fits (classes_in w) s.objects.phases (event_of AtDone inside.f.part) → s.objects.is_closed inside.f.part.object ≡ false
-        → (s' : State) (told : List Out) → event_step w.setup.program s p path p.events ≡ Goes s' told
-        → ((registers : List (Option ℕ)) (memory : Store) (notes : Notes) (outs : List RawOut) → IsAfter w at (objects_after w.setup.program s.objects (event_of AtDone inside.f.part)) r (event_outs s.objects (event_of AtDone inside.f.part)) memory notes outs
-        → Leaves w at (heap_of s.objects.classes r.memory.regions) p path (Behind inside.lower (StandOver w at (heap_of s.objects.classes r.memory.regions) None path)) inside.f [] (inside.others ++ inside.lower) (now r registers memory notes outs) (Agrees w at (Moves s' told)))
-        → LeadsBlock (fixed w) (closing_ops w.setup at (PlanCode inside.f.course inside.f.form inside.f.class)) r (Agrees w at (Moves s' told)) }
-    ensures destructor { (w : World) (at : Numbers) → IsWorld w → (s : State) (fb : PathRunning) (p : Planned) (path : List PathFrame) → s.frames ≡ InBody fb ∷ InPlan p ∷ path → (c : ClassId) → fb.owner ≡ Destructor c → (r : Running) → r.opened ≡ [] → r.outs ≡ []
-        → Stands w at s r.memory r.objects r.heap r.notes r.globals (r.top ∷ r.below) r.calls → (inside : InPlanBody w at s fb p path r)
+    ensures body { (w : World) (at : Numbers) → IsWorld w → (s : State) (fb : PathRunning) (p : Planned) (path : List PathFrame) → s.frames ≡ InBody fb ∷ InPlan p ∷ path → (course : Course) (c : ClassId) → fb.owner ≡ plan_owner course c → (r : Running) (begins : BeginsAt w at s r) → InPlanBody w at s fb p path r begins }
+    ensures constructor { (w : World) (at : Numbers) → IsWorld w → (s : State) (fb : PathRunning) (p : Planned) (path : List PathFrame) → s.frames ≡ InBody fb ∷ InPlan p ∷ path → (c : ClassId) → fb.owner ≡ Constructor c → (r : Running) (begins : BeginsAt w at s r)
+        → (inside : InPlanBody w at s fb p path r begins) → (e : Event) (es : List Event) → p.events ≡ e ∷ es → Fits (classes_in w) s.objects.phases e → s.objects.is_closed (part_of e).object ≡ false
+        → (s' : State) (told : List Out) → event_step w.setup.program s p path p.events ≡ Goes s' told → (inside.f.course ≡ Constructs) × IsPlanTurn w at s p path inside.f AtDone [] inside.others inside.lower r s' told }
+    ensures destructor { (w : World) (at : Numbers) → IsWorld w → (s : State) (fb : PathRunning) (p : Planned) (path : List PathFrame) → s.frames ≡ InBody fb ∷ InPlan p ∷ path → (c : ClassId) → fb.owner ≡ Destructor c → (r : Running) (begins : BeginsAt w at s r) → (inside : InPlanBody w at s fb p path r begins)
         → LeadsBlock (fixed w) (closing_ops w.setup at (PlanCode inside.f.course inside.f.form inside.f.class)) r (Agrees w at (Moves (with_frames s (InPlan p ∷ path)) [])) }
 {}

@@ -33,6 +33,8 @@ use Rattle.abi_ops.specs.declared.uses.Used.TheVariants.{Follows, Guards, Views,
 use Rattle.abi_ops.specs.Uses.{reads, arrow_used, views_if}
 use Rattle.abi_ops.specs.PlaceOps.{place_ops, place_used, place_type}
 use Rattle.abi_ops.specs.Arguments.{Block, free, argument_front, argument_used, argument_ops}
+use Rattle.abi_copies.specs.CopyTests.{copy_front, copy_used}
+use Rattle.abi_copies.specs.CopyOps.{copy_ops}
 use Rattle.abi_statements.specs.Rights.{right_front, right_used, right_ops, call_front, call_used, call_ops, unused}
 
 abbrev pub print_as : Option (ValueType ClassId) → PrintAs
@@ -93,7 +95,7 @@ abbrev pub kind_front : Block → ℕ → TypedKind → List Op
 kind_front b spare (Declare n v) = declared_front b spare n v
 kind_front b spare (Assign variable v) = right_front b v.right
 kind_front b spare (Write place a) = operand_ops (free b 0) place.pointer ++ argument_front a (free b 1)
-kind_front b spare (Copy to from c) = []
+kind_front b spare (Copy to from c) = copy_front b to from
 kind_front b spare (Call call) = call_front b call
 kind_front b spare (Delete p c) = operand_ops (free b 0) p
 kind_front b spare (If p other behind) = operand_ops (free b 0) p
@@ -109,7 +111,7 @@ abbrev pub kind_used : Block → TypedKind → List Used
 kind_used b (Declare n v) = declared_used b v
 kind_used b (Assign variable v) = right_used b v.right v.conversion
 kind_used b (Write place a) = place_used b.x b.scope place (free b 0) ++ argument_used b a (free b 1)
-kind_used b (Copy to from c) = []
+kind_used b (Copy to from c) = copy_used b to from c
 kind_used b (Call call) = call_used b call
 kind_used b (Delete p c) =
     reads b.scope (free b 0) p
@@ -133,7 +135,7 @@ kind_ops b at r to n next (Declare m v) = declared_ops b at m v ++ (Jump (to nex
 kind_ops b at r to n next (Assign variable v) = right_ops b at variable v.right v.conversion ++ (Jump (to next) ∷ [])
 kind_ops b at r to n next (Write place a) =
     ops_of (place_ops b.x place (free b 2) (operand_register (free b 0) place.pointer)) ++ (ops_of (argument_ops b a (free b 3) (free b 1)) ++ (Store (free b 3) (free b 2) 0 (value_width (place_type b.x place)) ∷ Jump (to next) ∷ []))
-kind_ops b at r to n next (Copy p q c) = []
+kind_ops b at r to n next (Copy p q c) = copy_ops b p q c ++ (Jump (to next) ∷ [])
 kind_ops b at r to n next (Call call) = call_ops b at call (unused b.x call.function) ++ (Jump (to next) ∷ [])
 kind_ops b at r to n next (Delete p c) = delete_op b at (is_virtual b.x.h (destructor_of b.x.h c)) c (operand_register (free b 0) p) ∷ Jump (to next) ∷ []
 kind_ops b at r to n next (If p other behind) = Jump (to (block_at other behind next)) ∷ JumpIf (operand_register (free b 0) p) (to (block_at (n + 1) other next)) ∷ []

@@ -14,6 +14,7 @@ ghost use Rattle.abi_statements.specs.invariants.Fits.{FitsDeclared, FitsKind};
 use crate::calls::{push_call_front, push_call_used};
 use crate::deletes::is_virtual_end;
 use crate::right_uses::{push_right_front, push_right_used};
+use abi_copies::covers::{push_copy_front, push_copy_used};
 use abi_ops::arguments::push_argument_used;
 use abi_ops::operands::{local_register, operand_register, push_operand};
 use abi_ops::places::push_place_used;
@@ -69,7 +70,8 @@ pub fn push_kind_front<L: SoundLayout>(
             push_operand(ops, first, place.pointer)?;
             push_operand(ops, site.free(1), a.operand)?;
         }
-        TypedKind::Copy(_, _, _) | TypedKind::Return(None) => {}
+        TypedKind::Copy(to, from, _) => push_copy_front(ops, site, *to, *from)?,
+        TypedKind::Return(None) => {}
         TypedKind::Call(call) => push_call_front(ops, site, call)?,
         TypedKind::Return(Some(a)) => push_operand(ops, first, a.operand)?,
         TypedKind::Delete(p, _)
@@ -204,7 +206,8 @@ pub fn push_kind_used<L: SoundLayout>(
         TypedKind::Declare(_, Some(v)) | TypedKind::Assign(_, v) => {
             push_right_used(uses, site, &v.right, &v.conversion)?;
         }
-        TypedKind::Declare(_, None) | TypedKind::Copy(_, _, _) | TypedKind::Return(None) => {}
+        TypedKind::Declare(_, None) | TypedKind::Return(None) => {}
+        TypedKind::Copy(to, from, c) => push_copy_used(uses, site, *to, *from, *c)?,
         TypedKind::Write(place, a) => push_write_used(uses, site, place, a)?,
         TypedKind::Call(call) => push_call_used(uses, site, call)?,
         TypedKind::Delete(p, c) => push_delete_used(uses, site, *p, *c)?,

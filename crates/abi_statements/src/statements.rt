@@ -17,6 +17,7 @@ use crate::calls::{push_call, result_class, unused};
 use crate::deletes::push_delete;
 use crate::flows::{Flow, block_at, operand_print, push_jump, target};
 use crate::rights::push_right;
+use abi_copies::copies::push_copy;
 use abi_ops::arguments::push_argument;
 use abi_ops::operands::{operand_register, push_done};
 use abi_ops::places::{place_width, push_place};
@@ -150,6 +151,27 @@ fn push_write<L: SoundLayout>(
         offset: 0,
         width: place_width(site, place),
     })?;
+    push_jump(ops, flow)?;
+    Ok(())
+}
+
+/// Copies one object to another.
+fn push_copy_of<L: SoundLayout>(
+    ops: &mut OpList,
+    site: &Site<L>,
+    flow: Flow,
+    to: TypedOperand,
+    from: TypedOperand,
+    c: ClassId,
+) -> Result<(), NoMemory>
+    requires layout { L.lays_out site.now.layout.now site.now.h.now }
+    requires site { IsSite site.now.h.now (L.rows site.now.layout.now) site.now.slots.now site.now.body.now }
+    requires room { flow.base + flow.next < 2 ^ 32 }
+    requires operands { FitsOperand to × FitsOperand from }
+    requires known { c.0 < length site.now.h.now }
+    ensures { OnOk result (ops.new ≡ ops.old ++ kind_ops (block_in (setup site.now.h.now (L.rows site.now.layout.now) site.now.program.now) site.now.body.now) (start_by (setup site.now.h.now (L.rows site.now.layout.now) site.now.program.now) site.now.numbers.now) (routine_of site.now.body.now.owner) (λ m. flow.base + m) flow.number flow.next (Copy to from c)) }
+{
+    push_copy(ops, site, to, from, c)?;
     push_jump(ops, flow)?;
     Ok(())
 }
@@ -355,7 +377,7 @@ pub fn push_kind<L: SoundLayout>(
         TypedKind::Declare(n, Some(v)) => push_begin(ops, site, flow, *n, v)?,
         TypedKind::Assign(variable, v) => push_assign(ops, site, flow, *variable, v)?,
         TypedKind::Write(place, a) => push_write(ops, site, flow, place, a)?,
-        TypedKind::Copy(_, _, _) => {}
+        TypedKind::Copy(to, from, c) => push_copy_of(ops, site, flow, *to, *from, *c)?,
         TypedKind::Call(call) => push_call_only(ops, site, flow, call)?,
         TypedKind::Delete(p, c) => push_delete_of(ops, site, flow, *p, *c)?,
         TypedKind::If(p, other, behind) => {

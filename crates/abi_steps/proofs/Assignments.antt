@@ -82,15 +82,15 @@ module _ {statement : TypedStatement} (scene : Scene statement) (n : ℕ) (t : V
   open scene use {w, at, s, f, below, body, b}
 
   -- the locals then
-  abbrev unset : List Value
+  abbrev pub unset : List Value
   unset = set f.locals n Unset
 
-  sees_unset : IsTypedSight (classes_in w) (scope scene) (sight s (body_on f unset f.next))
+  pub sees_unset : IsTypedSight (classes_in w) (scope scene) (sight s (body_on f unset f.next))
   sees_unset =
       let a = sees scene in
       record { globals = a.globals; locals = values_set (classes_in w) s.objects.classes f.locals body.locals n t Unset a.locals there tt; this = a.this; leaves = a.leaves }
 
-  count_unset : length unset ≡ length body.locals
+  pub count_unset : length unset ≡ length body.locals
   count_unset = length-set f.locals n Unset ∙ locals_count scene
 
   -- the first op of a declaration
@@ -107,7 +107,7 @@ module _ {statement : TypedStatement} (scene : Scene statement) (n : ℕ) (t : V
       (rest (set b.top.registers (n + 1) (byte_of b.top.registers (length body.locals + 1))) (subst (λ (o : Option ℕ). HasVariables w (here scene) (body_on f unset next) (set b.top.registers (n + 1) o)) (sym spare) set_variables))
 
 -- nothing is asked of no use
-none_asked : (h : Classes) (s : Objects) → first_broken h s (sorted []) ≡ None
+pub none_asked : (h : Classes) (s : Objects) → first_broken h s (sorted []) ≡ None
 unfolding sorted
 none_asked h s = refl
 

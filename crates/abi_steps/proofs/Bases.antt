@@ -19,6 +19,7 @@ use Rattle.abi_slots.proofs.Dynamics.{dynamic_whole}
 use Rattle.abi_slots.specs.Listing.{vbase_number}
 use Rattle.abi_slots.specs.Slots.{word_number}
 use Rattle.byte_memory.specs.Cells.{byte_of}
+use Rattle.byte_memory.specs.Store.{Store}
 use Rattle.byte_code.specs.declared.op.Op.{Op}
 use Rattle.byte_code.specs.declared.op.Op.TheVariants.{Does}
 use Rattle.byte_code.specs.declared.op.Finish.TheVariants.{Add}
@@ -43,6 +44,7 @@ use Rattle.abi_stands.proofs.Objects.{objects_laid}
 use Rattle.abi_stands.proofs.InView.{view_pointers}
 use Rattle.abi_stands.proofs.Moved.{moved_to_part}
 use Rattle.abi_steps.specs.Registers.{at_registers, Wrote}
+use Rattle.abi_steps.specs.Seen.{IsSeenFrom}
 use Rattle.abi_steps.proofs.Registers.{set_here, wrote_set, wrote_again}
 use Rattle.abi_steps.proofs.Seen.{IsInSight}
 
@@ -54,6 +56,16 @@ pub record IsUnder (w : World) (s : Objects) (b : Running) (p : ObjectPart) (c :
   pub valid : IsSubobject (classes_in w) sight.class inner
   pub of_class : class_of inner ≡ Some c
   pub is : inner_part (part p.object p.owner sight.at) inner ≡ p
+
+abbrev pub seen_from : (w : World) (s : Objects) (b : Running) (p : ObjectPart) (c : ClassId) → IsUnder w s b p c → IsSeenFrom w (heap_of s.classes b.memory.regions) b.memory p c
+seen_from w s b p c u = record { view = part p.object p.owner u.sight.at; view_class = u.sight.class; complete = u.sight.complete; stands = u.standing; inner = u.inner; valid = u.valid; of_class = u.of_class; is = u.is }
+
+-- from where a part stands in a view, a word of its table leads to a virtual base
+pub seen_base : (w : World) (g : Heap) (memory : Store) (p : ObjectPart) (c v : ClassId) → IsSeenFrom w g memory p c → HasVirtualBase (classes_in w) c v →
+    MovesTo w.image memory (address (classes_in w) (places_in w) g p) (word_bytes (word_number (vbase_number (classes_in w) (places_in w) c v))) (address (classes_in w) (places_in w) g (shared_part p v))
+seen_base w g memory p c v seen has =
+    subst (λ q. MovesTo w.image memory (address (classes_in w) (places_in w) g q) (word_bytes (word_number (vbase_number (classes_in w) (places_in w) c v))) (address (classes_in w) (places_in w) g (shared_part q v))) seen.is
+    (told_vbase w g memory seen.view seen.view_class seen.complete seen.stands seen.inner c v seen.valid seen.of_class has)
 
 module _ (w : World) (s : Objects) (b : Running) (world : IsWorld w) (columns : ColumnsStand w s b.memory b.objects b.heap b.notes) where
   abbrev g : Heap
@@ -88,12 +100,6 @@ module _ (w : World) (s : Objects) (b : Running) (world : IsWorld w) (columns : 
         is = ap (λ (x : Subobject). part p.object p.owner x) (sym joined);
       }
 
-  -- a word of its table leads to a virtual base
-  to_shared : (p : ObjectPart) (c v : ClassId) → IsUnder w s b p c → HasVirtualBase (classes_in w) c v → MovesTo w.image b.memory (address (classes_in w) (places_in w) g p) (word_bytes (word_number (vbase_number (classes_in w) (places_in w) c v))) (address (classes_in w) (places_in w) g (shared_part p v))
-  to_shared p c v a has =
-      subst (λ (q : ObjectPart). MovesTo w.image b.memory (address (classes_in w) (places_in w) g q) (word_bytes (word_number (vbase_number (classes_in w) (places_in w) c v))) (address (classes_in w) (places_in w) g (shared_part p v))) a.is
-      (told_vbase w g b.memory (part p.object p.owner a.sight.at) a.sight.class a.sight.complete a.standing a.inner c v a.valid a.of_class has)
-
   -- the ops lead from the address of a part to that of a base; where the way goes through a virtual base, the part is seen
   module _ (P : Running → Stop → Type 0) where
     pub leads_plain : {ops : List Op} (p q : ObjectPart) (c d : ClassId) (by to from : ℕ) (old : List (Option ℕ)) → IsPartMade (classes_in w) s.classes p c → IsPartMade (classes_in w) s.classes q d → byte_of old from ≡ Some (address (classes_in w) (places_in w) g p) → to < length old
@@ -107,7 +113,7 @@ module _ (w : World) (s : Objects) (b : Running) (world : IsWorld w) (columns : 
         leads_add (fixed w) to from by (address (classes_in w) (places_in w) g p) has (λ e. omega arith) inside
         (rest _ (wrote_set b old to (Some (moved (address (classes_in w) (places_in w) g p) by))) (set_here b old to (Some (moved (address (classes_in w) (places_in w) g p) by)) inside ∙ ap (λ (n : ℕ). Some n) to_part))
 
-    pub leads_base : {ops : List Op} (p : ObjectPart) (c d : ClassId) (i : Subobject) (to from : ℕ) (old : List (Option ℕ)) → IsPartMade (classes_in w) s.classes p c → IsSubobject (classes_in w) c i → class_of i ≡ Some d → (is_shared i ≡ true → IsUnder w s b p c) → byte_of old from ≡ Some (address (classes_in w) (places_in w) g p) → to < length old
+    pub leads_base : {ops : List Op} (p : ObjectPart) (c d : ClassId) (i : Subobject) (to from : ℕ) (old : List (Option ℕ)) → IsPartMade (classes_in w) s.classes p c → IsSubobject (classes_in w) c i → class_of i ≡ Some d → (is_shared i ≡ true → IsSeenFrom w g b.memory p c) → byte_of old from ≡ Some (address (classes_in w) (places_in w) g p) → to < length old
         → ((new : List (Option ℕ)) → Wrote to old new → byte_of new to ≡ Some (address (classes_in w) (places_in w) g (inner_part p i)) → Leads (fixed w) ops (at_registers b new) P)
         → Leads (fixed w) (ops_of (base_ops w.setup c i to from) ++ ops) (at_registers b old) P
     leads_base p c d _ to from old made (whole path leads) of_class seen has inside rest =
@@ -119,7 +125,7 @@ module _ (w : World) (s : Objects) (b : Running) (world : IsWorld w) (columns : 
         let h = classes_in w in
         let laid = objects_laid w s b.memory.regions b.objects b.heap world columns.objects in
         let some = part_positive h w.setup.rows g p c laid made in
-        let a = to_shared p c v (seen refl) at in
+        let a = seen_base w g b.memory p c v (seen refl) at in
         let there = shared_made h g p c v made at in
         let word : Option ℕ = Some (moved (address h (places_in w) g p) a.by) in
         let mid = slice_set old to word in

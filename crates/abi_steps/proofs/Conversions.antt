@@ -37,13 +37,14 @@ use Rattle.abi_stands.specs.Worlds.{World, IsWorld, classes_in, places_in, fixed
 use Rattle.abi_stands.specs.Words.{heap_of, register_of}
 use Rattle.abi_stands.specs.Columns.{ColumnsStand}
 use Rattle.abi_steps.specs.Registers.{at_registers, Wrote}
+use Rattle.abi_steps.specs.Seen.{IsSeenFrom}
 use Rattle.abi_steps.proofs.Numbers.{number_converted}
 use Rattle.abi_steps.proofs.Registers.{set_here, wrote_set, wrote_again}
-use Rattle.abi_steps.proofs.Bases.{IsUnder, leads_base}
+use Rattle.abi_steps.proofs.Bases.{leads_base}
 
 -- where a pointer is moved through a virtual base, its part is seen
 abbrev pub IsSure : World → Objects → Running → Value → Conversion → Type 0
-IsSure w s b v c = (p : ObjectPart) (k : ClassId) (i : Subobject) → v ≡ Pointer p → c ≡ ToBase i → is_shared i ≡ true → IsPartMade (classes_in w) s.classes p k → IsSubobject (classes_in w) k i → IsUnder w s b p k
+IsSure w s b v c = (p : ObjectPart) (k : ClassId) (i : Subobject) → v ≡ Pointer p → c ≡ ToBase i → is_shared i ≡ true → IsPartMade (classes_in w) s.classes p k → IsSubobject (classes_in w) k i → IsSeenFrom w (heap_of s.classes b.memory.regions) b.memory p k
 
 module _ (w : World) (s : Objects) (b : Running) (world : IsWorld w) (columns : ColumnsStand w s b.memory b.objects b.heap b.notes) (P : Running → Stop → Type 0) where
   abbrev g : Heap
@@ -72,7 +73,7 @@ module _ (w : World) (s : Objects) (b : Running) (world : IsWorld w) (columns : 
       (put_there to (slice_set old to (Some 0)) (Some 0) (Some 0) (subst (λ (n : ℕ). to < n) (sym (wrote_set b old to (Some 0)).size) inside) refl (λ new wrote is. rest new (wrote_again to old (slice_set old to (Some 0)) new (wrote_set b old to (Some 0)) wrote) is)))
 
   -- a pointer to a base
-  pub leads_pointer : {ops : List Op} (v : Value) (c d : ClassId) (i : Subobject) (to from : ℕ) (old : List (Option ℕ)) → IsSubobject (classes_in w) c i → class_of i ≡ Some d → ((p : ObjectPart) → v ≡ Pointer p → is_shared i ≡ true → IsPartMade (classes_in w) s.classes p c → IsUnder w s b p c)
+  pub leads_pointer : {ops : List Op} (v : Value) (c d : ClassId) (i : Subobject) (to from : ℕ) (old : List (Option ℕ)) → IsSubobject (classes_in w) c i → class_of i ≡ Some d → ((p : ObjectPart) → v ≡ Pointer p → is_shared i ≡ true → IsPartMade (classes_in w) s.classes p c → IsSeenFrom w g b.memory p c)
       → IsValue (classes_in w) s.classes v (PointerType c) → byte_of old from ≡ register_of w g v → to < length old → Then ops to old (register_of w g (moved_to_base i v)) → Leads (fixed w) (ops_of (base_ops w.setup c i to from) ++ ops) (at_registers b old) P
   leads_pointer Unset c d i to from old valid of_class sure typed has inside rest = unset_moved c i i.root to from old has inside rest
   leads_pointer (Number z) c d i to from old valid of_class sure typed has inside rest = absurd typed

@@ -34,7 +34,7 @@ cast_given h c d _ (cast_up _ _ i proper) = (d, proper)
 cast_given h c d _ (cast_down _ _ i proper root known) = tt
 cast_given h c d _ (cast_dynamic _ _ polymorphic known) = tt
 
-way_given : (h : Classes) (c k : ClassId) (i : Option Subobject) → IsTypedWay h c i k → IsWay h c i
+pub way_given : (h : Classes) (c k : ClassId) (i : Option Subobject) → IsTypedWay h c i k → IsWay h c i
 way_given h c k None way = tt
 way_given h c k (Some i) way = way.valid
 

@@ -26,6 +26,7 @@ pub mod PlaceTests
 pub mod Places
 pub mod PlaceFronts
 pub mod ReadRight
+pub mod ArgumentLeads
 pub mod WriteStep
 pub mod CheckedTaken
 pub mod AddressRight
@@ -35,3 +36,9 @@ pub mod RunningParts
 pub mod CastRights
 pub mod PlainCasts
 pub mod DynamicCast
+pub mod PointerRight
+pub mod DownChecks
+pub mod DownCast
+pub mod ObjectChecks
+pub mod DumpStep
+pub mod PlainSteps

@@ -26,13 +26,14 @@ module _ (w : World) (s : State) (f : Body) (below : List PathFrame) (body : Typ
   abbrev pub effect_here : Next
   effect_here = effect (classes_in w) w.setup.program (with_frames s (InBody entry ∷ below)) entry below f.next statement
 
-  step_is : step (classes_in w) w.setup.program s ≡ unless (refusal (classes_in w) (sight s entry) (wanted entry) statement.kind) statement.line effect_here
+  -- its step, its limit, and both
+  pub step_is : step (classes_in w) w.setup.program s ≡ unless (refusal (classes_in w) (sight s entry) (wanted entry) statement.kind) statement.line effect_here
   step_is = ap (frame_step (classes_in w) w.setup.program s) next.frames ∙ ap (body_step (classes_in w) w.setup.program s f below) next.there ∙ ap (in_body (classes_in w) w.setup.program s f below body) next.here
 
-  limit_is : limit_at (places_in w).size w.setup.program s ≡ limit_of (places_in w).size s (demand_of (sight s f) statement.kind)
+  pub limit_is : limit_at (places_in w).size w.setup.program s ≡ limit_of (places_in w).size s (demand_of (sight s f) statement.kind)
   limit_is = ap (frame_limit (places_in w).size w.setup.program s) next.frames ∙ ap (body_limit (places_in w).size s f) next.there ∙ ap (statement_limit (places_in w).size s f) next.here
 
-  move_is : IsTyped (classes_in w) (sight s entry) (wanted entry) statement.kind → move_in w s ≡ move_by (unless (staged (classes_in w) (sight s entry) (wanted entry) statement.kind) statement.line effect_here) (limit_of (places_in w).size s (demand_of (sight s f) statement.kind))
+  pub move_is : IsTyped (classes_in w) (sight s entry) (wanted entry) statement.kind → move_in w s ≡ move_by (unless (staged (classes_in w) (sight s entry) (wanted entry) statement.kind) statement.line effect_here) (limit_of (places_in w).size s (demand_of (sight s f) statement.kind))
   move_is typed =
       ap (λ o. move_by o (limit_at (places_in w).size w.setup.program s)) step_is ∙ ap (move_by (unless (refusal (classes_in w) (sight s entry) (wanted entry) statement.kind) statement.line effect_here)) limit_is
       ∙ ap (λ o. move_by (unless o statement.line effect_here) (limit_of (places_in w).size s (demand_of (sight s f) statement.kind))) (staged_refuses (classes_in w) (sight s entry) (wanted entry) statement.kind world.hierarchy next.settled typed)
@@ -41,7 +42,10 @@ module _ (w : World) (s : State) (f : Body) (below : List PathFrame) (body : Typ
   pub move_refused : (rule : Undefined) → IsTyped (classes_in w) (sight s entry) (wanted entry) statement.kind → staged (classes_in w) (sight s entry) (wanted entry) statement.kind ≡ Some rule → move_in w s ≡ IsRefused rule statement.line
   move_refused rule typed e = move_is typed ∙ ap (λ o. move_by (unless o statement.line effect_here) (limit_of (places_in w).size s (demand_of (sight s f) statement.kind))) e
 
-  -- none refuses it, and it asks for nothing
+  -- none refuses it
+  pub move_asks : IsTyped (classes_in w) (sight s entry) (wanted entry) statement.kind → staged (classes_in w) (sight s entry) (wanted entry) statement.kind ≡ None → move_in w s ≡ move_by effect_here (limit_of (places_in w).size s (demand_of (sight s f) statement.kind))
+  move_asks typed e = move_is typed ∙ ap (λ o. move_by (unless o statement.line effect_here) (limit_of (places_in w).size s (demand_of (sight s f) statement.kind))) e
+
+  -- and it asks for nothing
   pub move_fine : IsTyped (classes_in w) (sight s entry) (wanted entry) statement.kind → staged (classes_in w) (sight s entry) (wanted entry) statement.kind ≡ None → demand_of (sight s f) statement.kind ≡ asks_nothing → move_in w s ≡ move_by effect_here None
-  move_fine typed e asks =
-      move_is typed ∙ ap (λ o. move_by (unless o statement.line effect_here) (limit_of (places_in w).size s (demand_of (sight s f) statement.kind))) e ∙ ap (λ d. move_by effect_here (limit_of (places_in w).size s d)) asks
+  move_fine typed e asks = move_asks typed e ∙ ap (λ d. move_by effect_here (limit_of (places_in w).size s d)) asks

@@ -44,7 +44,7 @@ use Rattle.abi_steps.specs.Statements.{AreSeen}
 use Rattle.abi_steps.proofs.Registers.{set_here, wrote_set, wrote_again}
 use Rattle.abi_steps.proofs.Useds.{shared_dynamic}
 use Rattle.abi_steps.proofs.Seen.{in_sight}
-use Rattle.abi_steps.proofs.Bases.{under, leads_base, leads_plain}
+use Rattle.abi_steps.proofs.Bases.{under, seen_from, leads_base, leads_plain}
 use Rattle.abi_steps.proofs.Rights.{ops_append}
 
 -- what a path needs of the tests of its place: no view and no member on it is refused
@@ -62,8 +62,8 @@ module _ (w : World) (s : Objects) (b : Running) (goings : List Going) (world : 
       → Leads (fixed w) (ops_of (base_ops w.setup c i r r) ++ ops) (at_registers b old) P
   to_base_part p c d i r old made open_there fine valid of_class clear has inside rest =
       leads_base w s b world columns P p c d i r r old made valid of_class
-      (λ through. under w s b world columns p c (in_sight w s goings p c planned settled seen made fine) made open_there
-      (clear (Views (Pointer p)) (subst (λ (x : Bool). Has (views x (Pointer p)) (Views (Pointer p))) (sym through) (inl refl)) OutsideView) (shared_dynamic (classes_in w) c i valid through))
+      (λ through. seen_from w s b p c (under w s b world columns p c (in_sight w s goings p c planned settled seen made fine) made open_there
+      (clear (Views (Pointer p)) (subst (λ (x : Bool). Has (views x (Pointer p)) (Views (Pointer p))) (sym through) (inl refl)) OutsideView) (shared_dynamic (classes_in w) c i valid through)))
       has inside rest
 
   -- so many bytes behind a part, below the limit of addresses

@@ -46,7 +46,8 @@ use Rattle.abi_steps.proofs.Tests.{along_append}
 use Rattle.abi_steps.proofs.Checks.{heap, laid, part_some, idle_unset, idle_null}
 use Rattle.abi_steps.proofs.Useds.{TellsViews, shared_dynamic, passed, open_read, along_views, along_arrow}
 
-plain_root : (h : Classes) (c : ClassId) (i : Subobject) → IsSubobject h c i → is_shared i ≡ false → i.root ≡ Whole
+-- a way through no virtual base
+pub plain_root : (h : Classes) (c : ClassId) (i : Subobject) → IsSubobject h c i → is_shared i ≡ false → i.root ≡ Whole
 plain_root h c _ (whole path leads) e = refl
 plain_root h c _ (shared v path has leads) e = absurd (let f : true ≡ false = e in cc)
 

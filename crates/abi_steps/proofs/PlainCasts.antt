@@ -33,6 +33,7 @@ use Rattle.abi_steps.specs.Tests.{Along, nothing, tested}
 use Rattle.abi_steps.proofs.Registers.{leads_grouped, set_here, wrote_set, variables_kept}
 use Rattle.abi_steps.proofs.Tests.{along_append}
 use Rattle.abi_steps.proofs.Useds.{shared_dynamic, operand_class_is, guarded, open_read, along_reads, along_views}
+use Rattle.abi_steps.proofs.Bases.{seen_from}
 use Rattle.abi_steps.proofs.Conversions.{leads_pointer}
 use Rattle.abi_steps.proofs.Scenes.{Scene, here, scope, block}
 use Rattle.abi_steps.proofs.Finish.{Reaches, to_next}
@@ -114,6 +115,6 @@ module _ {statement : TypedStatement} (scene : Scene statement) (locals : List V
         subst (λ (q : ClassId). Leads (fixed w) ((ops_of (base_ops w.setup q i to from) ++ ops_of (checked_taken (block scene) variable (Some (cast_class (Up i) (class_at (block scene) x))) c (free (block scene) 2) to)) ++ jump) (at_registers b new) (Reaches scene)) (sym (class_at_is k.from k.has))
         (leads_grouped (fixed w) (ops_of (base_ops w.setup k.from i to from)) (ops_of (checked_taken (block scene) variable (Some (cast_class (Up i) (class_at (block scene) x))) c (free (block scene) 2) to)) jump
         (leads_pointer w s.objects b scene.world scene.begins.stands.columns (Reaches scene) v k.from k.to i to from new up_proper.valid up_proper.class
-        (λ p is through made. seen_under scene v k.from (seen_part scene locals x k.from us p is made (shared_dynamic h k.from i up_proper.valid through) none (inl refl) (inr (inl refl)) (subst (λ (y : Bool). Has (Reads v ∷ Guards v ∷ views y v) (Views v)) (sym through) (inr (inr (inl refl))))) p is)
+        (λ p is through made. seen_from w s.objects b p k.from (seen_under scene v k.from (seen_part scene locals x k.from us p is made (shared_dynamic h k.from i up_proper.valid through) none (inl refl) (inr (inl refl)) (subst (λ (y : Bool). Has (Reads v ∷ Guards v ∷ views y v) (Views v)) (sym through) (inr (inr (inl refl))))) p is))
         (cast_reads scene locals variable (Up i) x c take) has (free_in scene locals new 1 (omega arith) kept)
         (λ last wrote is. cast_taken scene locals variable (Up i) x c take last none (inl refl) fine (variables_kept w (here scene) (body_on f locals f.next) to new last (free_of scene locals 1 take.count) kept wrote) is))))

@@ -37,7 +37,7 @@ use Rattle.abi_steps.proofs.Registers.{IsFree, variables_kept}
 use Rattle.abi_steps.proofs.Tests.{unbroken}
 use Rattle.abi_steps.proofs.Useds.{TellsViews, shared_dynamic}
 use Rattle.abi_steps.proofs.Seen.{in_sight, tells_views}
-use Rattle.abi_steps.proofs.Bases.{under}
+use Rattle.abi_steps.proofs.Bases.{under, seen_from}
 use Rattle.abi_steps.proofs.Conversions.{IsSure, leads_converted}
 use Rattle.abi_steps.proofs.After.{state_on}
 use Rattle.abi_steps.proofs.Moves.{move_in}
@@ -64,8 +64,8 @@ module _ {statement : TypedStatement} (scene : Scene statement) where
       let outside = unbroken (fixed w) b (Reaches scene) h s.objects us (Views v) OutsideView (none OutsideView) (within (Views v) asked) in
       let ready = unbroken (fixed w) b (Reaches scene) h s.objects us (Guards v) NotReady (none NotReady) (within (Guards v) guards) in
       let fine = subst (λ (x : Value). names (is_unready s.objects) x ≡ false) is ready in
-      under w s.objects b scene.world scene.begins.stands.columns p k (in_sight w s.objects (top scene).goings p k (top scene).planned scene.next.settled scene.next.seen made fine) made
-      (subst (λ (x : Value). names (λ q. s.objects.is_closed q.object) x ≡ false) is open_there) (subst (λ (x : Value). names (is_outside h s.objects) x ≡ false) is outside) (shared_dynamic h k i valid through)
+      seen_from w s.objects b p k (under w s.objects b scene.world scene.begins.stands.columns p k (in_sight w s.objects (top scene).goings p k (top scene).planned scene.next.settled scene.next.seen made fine) made
+      (subst (λ (x : Value). names (λ q. s.objects.is_closed q.object) x ≡ false) is open_there) (subst (λ (x : Value). names (is_outside h s.objects) x ≡ false) is outside) (shared_dynamic h k i valid through))
 
   -- a variable takes a right side; the locals are those that the right side sees
   pub record Taking (locals : List Value) (variable : Variable) (x : Converted) : Type 0 where

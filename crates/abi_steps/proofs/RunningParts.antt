@@ -1,5 +1,5 @@
 -- What runs in an object is one of its parts.
-use Rattle.std.proofs.Common.{◌≡◌, ℕ, Bool, true, false, Some, List, [], ◌∷◌, ⊎_elim, refl, sym, ◌∙◌, subst}
+use Rattle.std.proofs.Common.{◌≡◌, ℕ, Some, List, [], ◌∷◌, ⊎_elim, refl, sym, ◌∙◌, subst}
 use Rattle.std.specs.Prelude.{◌&&◌, if◌then◌else◌}
 use Rattle.foundation.proofs.Members.{Has}
 use Rattle.foundation.proofs.Truth.{split}
@@ -10,13 +10,9 @@ use Rattle.path_plan.specs.Places.{part, same_owner}
 use Rattle.path_plan.proofs.Same.{owner_same}
 use Rattle.path_model.specs.Values.{Objects}
 use Rattle.path_model.specs.TypedStates.{IsPartMade}
-use Rattle.path_model.proofs.TypedViews.{AreRunningParts}
+use Rattle.path_model.proofs.TypedViews.{AreRunningParts, both_right}
 use Rattle.abi_stands.specs.Worlds.{World, classes_in}
 use Rattle.abi_stands.specs.Goings.{Going, has_begun, stack_in, AreGoing, ArePlanned}
-
-both_right : (a b : Bool) → (a && b) ≡ true → b ≡ true
-both_right true b e = e
-both_right false b e = absurd (cc)
 
 stacked_made : (w : World) (classes : List ClassId) (fs : List Going) (k : ℕ) (o : List Step) (x : Subobject) → AreGoing w classes fs → Has (stack_in fs k o) x → (e : ClassId) × IsPartMade (classes_in w) classes (part k o x) e
 stacked_made w classes [] k o x going has = absurd has

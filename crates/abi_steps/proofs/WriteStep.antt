@@ -1,26 +1,23 @@
 -- `p->m = x;`
-use Rattle.std.proofs.Common.{◌≡◌, ℕ, ◌<◌, false, Option, Some, None, List, [], ◌∷◌, ◌++◌, length, inl, inr, refl, ap, sym, ◌∙◌, subst, arith}
+use Rattle.std.proofs.Common.{◌≡◌, ℕ, false, Option, Some, None, List, [], ◌∷◌, ◌++◌, inl, refl, ap, sym, ◌∙◌, subst, arith}
 use Rattle.std.proofs.Math.Nat.{add-zero}
-use Rattle.foundation.proofs.Members.{Has, has_left, has_right}
+use Rattle.foundation.proofs.Members.{has_left, has_right}
 use Rattle.cxx_hierarchy.specs.declared.records.ClassId.{ClassId}
 use Rattle.cxx_hierarchy.specs.declared.records.FieldType.TheVariants.{Value as ValueField}
 use Rattle.cxx_hierarchy.specs.declared.records.ValueType.{ValueType}
 use Rattle.cxx_hierarchy.specs.declared.records.ValueType.TheVariants.{Pointer as PointerType}
 use Rattle.cxx_hierarchy.specs.Classes.{Classes}
 use Rattle.cxx_program.specs.declared.operand.Argument.{Argument}
-use Rattle.cxx_program.specs.declared.operand.Conversion.{Conversion}
-use Rattle.cxx_program.specs.declared.operand.Conversion.TheVariants.{Number as ToNumber, Null as ToNull, Same as ToSame, Base as ToBase}
 use Rattle.abi_stands.specs.Columns.{ColumnsStand}
 use Rattle.cxx_program.specs.declared.statement.TypedKind.TheVariants.{Write}
 use Rattle.cxx_program.specs.declared.statement.TypedPlace.{TypedPlace}
 use Rattle.cxx_program.specs.declared.statement.TypedStatement.{TypedStatement}
-use Rattle.cxx_program.specs.Typed.{Scope, IsTyped, writes, IsPlace, IsArgument, a_value, a_null}
-use Rattle.path_rules.specs.declared.Undefined.{Undefined}
-use Rattle.path_rules.specs.declared.Undefined.TheVariants.{Dangling, Unset as UnsetUse}
-use Rattle.path_model.specs.Values.{Value, Unset, Number, Null, Pointer, Sight, value, converted, argument_value}
+use Rattle.cxx_program.specs.Typed.{Scope, IsTyped, writes, IsPlace, IsArgument}
+use Rattle.path_rules.specs.declared.Undefined.TheVariants.{Unset as UnsetUse}
+use Rattle.path_model.specs.Values.{Value, Sight, value, argument_value}
 use Rattle.path_model.specs.Places.{leaf_at}
 use Rattle.path_model.specs.Uses.{Use, Reads, argument_uses, place_uses}
-use Rattle.path_model.specs.Rules.{is_unset, is_broken, refused as refused_by}
+use Rattle.path_model.specs.Rules.{is_unset, refused as refused_by}
 use Rattle.path_model.specs.Order.{asked_place}
 use Rattle.path_model.specs.States.{sight, wanted}
 use Rattle.path_model.specs.Effects.{written, leaf_set}
@@ -31,7 +28,6 @@ use Rattle.path_model.proofs.Statements.{statement_answers}
 use Rattle.path_model.proofs.TypedValues.{operand_typed, argument_typed}
 use Rattle.byte_memory.specs.Cells.{byte_of}
 use Rattle.byte_memory.specs.Store.{store_of}
-use Rattle.byte_code.specs.declared.op.Op.{Op}
 use Rattle.byte_code.specs.declared.op.Op.TheVariants.{Store, Jump}
 use Rattle.byte_machine.specs.Running.{moved}
 use Rattle.byte_machine.specs.Leads.{Leads, LeadsBlock}
@@ -40,8 +36,8 @@ use Rattle.byte_machine.proofs.CheckLeads.{Reached}
 use Rattle.byte_machine.proofs.ValueLeads.{leads_store}
 use Rattle.byte_machine.proofs.ControlLeads.{leads_jump}
 use Rattle.abi_lower.specs.Blocks.{statement_ops}
-use Rattle.abi_ops.specs.Arguments.{free, argument_front, argument_used, argument_ops}
-use Rattle.abi_ops.specs.Operands.{operand_ops, operand_register, ops_of, converted_ops}
+use Rattle.abi_ops.specs.Arguments.{free, argument_front, argument_used}
+use Rattle.abi_ops.specs.Operands.{operand_ops, operand_register}
 use Rattle.abi_ops.specs.PlaceOps.{place_used}
 use Rattle.abi_ops.specs.Setups.{value_width}
 use Rattle.abi_sound.specs.Places.{size_of_value}
@@ -58,20 +54,20 @@ use Rattle.abi_stands.proofs.Ranges.{value_bytes}
 use Rattle.abi_stands.proofs.Reached.{leaf_open}
 use Rattle.abi_stands.proofs.Registers.{stored_word}
 use Rattle.abi_stands.proofs.Values.{word_some}
-use Rattle.abi_steps.specs.Registers.{at_registers, Wrote, body_on}
+use Rattle.abi_steps.specs.Registers.{at_registers, body_on}
 use Rattle.abi_steps.proofs.Registers.{leads_grouped, variables_kept, variables_on}
 use Rattle.abi_steps.proofs.Operands.{leads_operand, operand_kept, operand_apart}
 use Rattle.abi_steps.proofs.Tests.{leads_checks, along_append, unbroken}
-use Rattle.abi_steps.proofs.Useds.{class_of_type, along_argument}
+use Rattle.abi_steps.proofs.Useds.{along_argument}
 use Rattle.abi_steps.proofs.PlaceTests.{along_place}
-use Rattle.abi_steps.proofs.Conversions.{leads_converted, leads_null}
+use Rattle.abi_steps.proofs.ArgumentLeads.{argument_set, leads_argument}
 use Rattle.abi_steps.proofs.Givens.{value_of}
 use Rattle.abi_steps.proofs.Scenes.{Scene, top, here, scope, block, sees, variables, kind_typed, is_free, free_apart}
 use Rattle.abi_steps.proofs.Finish.{Reaches, to_next, refused, finished}
 use Rattle.abi_steps.proofs.Taken.{silent}
 use Rattle.abi_steps.proofs.After.{state_on}
 use Rattle.abi_steps.proofs.Moves.{move_in, move_fine, move_refused}
-use Rattle.abi_steps.proofs.Rights.{tells, sure, free_in}
+use Rattle.abi_steps.proofs.Rights.{tells, free_in}
 use Rattle.abi_steps.proofs.OperandRight.{argument_type}
 use Rattle.abi_steps.proofs.Places.{IsAimed, aimed_among, leads_place, IsLeaf, leaf_of}
 
@@ -83,23 +79,6 @@ record IsWritten (h : Classes) (e : Scope) (place : TypedPlace) (a : Argument) :
 
 written_typed : (h : Classes) (e : Scope) (place : TypedPlace) (a : Argument) → IsTyped h e (Write place a) → IsWritten h e place a
 written_typed h e _ _ (writes place a t is argument_there) = record { type = t; place_typed = is; argument_is = argument_there }
-
--- what is set stays so when it is converted
-argument_set : (h : Classes) (e : Scope) (see : Sight) (a : Argument) (t : ValueType ClassId) → IsArgument h e a t → is_unset (value see a.operand) ≡ false → is_unset (argument_value see a) ≡ false
-argument_set h e see _ _ (a_value a s t has to) set = by_conversion a.conversion (value see a.operand) set
-  where
-    by_conversion : (c : Conversion) (v : Value) → is_unset v ≡ false → is_unset (converted v c) ≡ false
-    by_conversion (ToNumber k) Unset f = f
-    by_conversion (ToNumber k) (Number z) f = refl
-    by_conversion (ToNumber k) Null f = refl
-    by_conversion (ToNumber k) (Pointer p) f = refl
-    by_conversion ToNull v f = refl
-    by_conversion ToSame v f = f
-    by_conversion (ToBase i) Unset f = f
-    by_conversion (ToBase i) (Number z) f = refl
-    by_conversion (ToBase i) Null f = refl
-    by_conversion (ToBase i) (Pointer p) f = refl
-argument_set h e see _ _ (a_null d) set = refl
 
 module _ (place : TypedPlace) (a : Argument) (line next : ℕ) (scene : Scene (record { kind = Write place a; line = line; next = next })) where
   open scene use {w, at, s, f, below, body, b}
@@ -115,19 +94,6 @@ module _ (place : TypedPlace) (a : Argument) (line next : ℕ) (scene : Scene (r
 
   abbrev uses : List Use
   uses = asked_place v place ++ argument_uses see a
-
-  -- the value of the argument, converted into a register
-  converts : {ops : List Op} (x : Argument) (t : ValueType ClassId) (new : List (Option ℕ)) (to : ℕ) → IsArgument (classes_in w) (scope scene) x t → ((u : Use) → Has (argument_uses see x) u → Has uses u) → ((r : Undefined) → is_broken (classes_in w) s.objects uses r ≡ false) → byte_of new (operand_register (free (block scene) 1) x.operand) ≡ register_of w (here scene) (value see x.operand) → to < length new
-      → ((last : List (Option ℕ)) → Wrote to new last → byte_of last to ≡ register_of w (here scene) (argument_value see x) → Leads (fixed w) ops (at_registers b last) (Reaches scene))
-      → Leads (fixed w) (ops_of (argument_ops (block scene) x to (free (block scene) 1)) ++ ops) (at_registers b new) (Reaches scene)
-  converts {ops} _ _ new to (a_value x t u has conversion) within none word inside rest =
-      let h = classes_in w in
-      let y = value see x.operand in
-      let open_there = unbroken (fixed w) b (Reaches scene) h s.objects uses (Reads y) Dangling (none Dangling) (within (Reads y) (inl refl)) in
-      subst (λ (k : Option ClassId). Leads (fixed w) (ops_of (converted_ops w.setup k x.conversion to (operand_register (free (block scene) 1) x.operand)) ++ ops) (at_registers b new) (Reaches scene)) (sym (class_of_type (scope scene) x.operand t has))
-      (leads_converted w s.objects b scene.world scene.begins.stands.columns (Reaches scene) y t u x.conversion to (operand_register (free (block scene) 1) x.operand) new conversion
-      (sure scene y x.conversion uses none (λ q there. within q (inr there)) open_there) (operand_typed h (scope scene) see (sees scene) x.operand t has) word inside rest)
-  converts {ops} _ _ new to (a_null d) within none word inside rest = leads_null w s.objects b scene.world scene.begins.stands.columns (Reaches scene) to (free (block scene) 1) new word inside rest
 
   -- the value is stored, and control goes on
   stores : (new : List (Option ℕ)) (t : ValueType ClassId) (k : IsAimed scene v place) → IsLeaf scene v place t k → IsValue (classes_in w) s.objects.classes (argument_value see a) t → is_unset (argument_value see a) ≡ false → HasVariables w (here scene) f new
@@ -186,7 +152,7 @@ module _ (place : TypedPlace) (a : Argument) (line next : ℕ) (scene : Scene (r
       leads_place scene v place k.place_typed.class (leaf_address h (places_in w) g (leaf_at aim.part place)) (free (block scene) 2) from new aim k.place_typed.path k.place_typed.of_class leaf.sum leaf.low pointer_word (free_in scene f.locals new 2 (omega arith) still)
       (λ third wrote is. let after = variables_kept w g f (free (block scene) 2) new third (is_free scene 2) still wrote in
       let argument_word = wrote.other (operand_register second a.operand) (λ same. operand_apart w s f e a.operand t.0 second (free (block scene) 2) (sees scene) t.1 (is_free scene 2) (free_apart scene 1 2 (λ q. omega arith)) same) ∙ read'.word in
-      converts a k.type third (free (block scene) 3) k.argument_is (λ u there. has_right (asked_place v place) (argument_uses see a) u there) none argument_word (free_in scene f.locals third 3 (omega arith) after)
+      leads_argument scene f.locals uses a k.type (free (block scene) 3) second third (sees scene) k.argument_is (λ u there. has_right (asked_place v place) (argument_uses see a) u there) none argument_word (free_in scene f.locals third 3 (omega arith) after)
       (λ last wrote' is'. let last_variables = variables_kept w g f (free (block scene) 3) third last (is_free scene 3) after wrote' in
       subst (λ (type : ValueType ClassId). Leads (fixed w) (Store (free (block scene) 3) (free (block scene) 2) 0 (value_width type) ∷ Jump (to_next scene next) ∷ []) (at_registers b last) (Reaches scene)) (sym leaf.type_is)
       (stores last k.type aim leaf (argument_typed h e see (sees scene) a k.type k.argument_is) (argument_set h e see a k.type k.argument_is set) last_variables

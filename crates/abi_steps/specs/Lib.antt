@@ -1,3 +1,4 @@
 pub mod Registers
 pub mod Tests
 pub mod Statements
+pub mod Seen

@@ -16,9 +16,9 @@ use Rattle.cxx_program.specs.Typed.{IsTypedProgram}
 use Rattle.path_plan.specs.Plans.{upto}
 use Rattle.path_model.specs.States.{is_body}
 use Rattle.path_model.specs.Runs.{Ran, Ending, Done, UndefinedAt, OutOfSteps, LimitMet, WentWrong, run_of}
-use Rattle.path_run.specs.declared.run.End.{End}
-use Rattle.path_run.specs.declared.run.End.TheVariants as ends
-use Rattle.path_run.specs.Told.{told, told_by, passes, ending_of}
+use Rattle.abi_told.specs.declared.ending.End.{End}
+use Rattle.abi_told.specs.declared.ending.End.TheVariants as ends
+use Rattle.abi_told.specs.Told.{told, told_by, passes, ending_of}
 use Rattle.abi_sound.specs.declared.class_layout.ClassLayout.{ClassLayout}
 use Rattle.abi_sound.specs.Places.{Places, places_of}
 use Rattle.abi_layout.specs.Layouts.{IsLaid}

@@ -15,9 +15,9 @@ use Rattle.cxx_simple.specs.declared.program.SimpleProgram.{SimpleProgram}
 use Rattle.cxx_simple.specs.Main.{MainResolves}
 use Rattle.simple_model.specs.Runs.{Ran, Ending, Done as IsDone, UndefinedAt, OutOfSteps as IsOutOfSteps, LimitMet, run_of}
 use Rattle.path_rules.specs.Rules.{undefined_no}
-use Rattle.path_run.specs.declared.run.End.{End}
-use Rattle.path_run.specs.declared.run.End.TheVariants as ends
-use Rattle.path_run.specs.Told.{told, ending_of}
+use Rattle.abi_told.specs.declared.ending.End.{End}
+use Rattle.abi_told.specs.declared.ending.End.TheVariants as ends
+use Rattle.abi_told.specs.Told.{told, ending_of}
 use Rattle.abi_sound.specs.declared.class_layout.ClassLayout.{ClassLayout}
 use Rattle.abi_sound.specs.Places.{places_of}
 use Rattle.abi_tables.specs.declared.tables.ClassTables.{ClassTables}

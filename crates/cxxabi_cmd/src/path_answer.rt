@@ -11,9 +11,10 @@ use crate::command::Command;
 use crate::reply::{Reply, line_alone};
 use crate::status::{Status, last_line_of, number_of};
 use crate::verdict::Accepted;
+use abi_told::End;
 use cxx_hierarchy::Rule;
 use foundation::NoMemory;
-use path_run::{End, PathRun, run_paths};
+use path_run::{PathRun, run_paths};
 use std::alloc::Global;
 
 // The status of an end.

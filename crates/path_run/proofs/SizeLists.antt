@@ -11,12 +11,6 @@ use Rattle.path_machine.specs.invariants.Steps.{size_in}
 abbrev pub row_size : ClassLayout → ℕ
 row_size row = row.size
 
-pub taken_all : {X : Type 0} (xs : List X) (n : ℕ) → length xs ≤ n → take n xs ≡ xs
-taken_all [] zero le = refl
-taken_all [] (suc n) le = refl
-taken_all (x ∷ xs) zero le = absurd (omega arith)
-taken_all (x ∷ xs) (suc n) le = ap (λ ys. x ∷ ys) (taken_all xs n (omega arith))
-
 sized : (rows : List ClassLayout) (n : ℕ) → get_or (map row_size rows) n 0 ≡ size_of_row (slice_get rows n)
 sized [] n = refl
 sized (row ∷ rows) zero = refl

@@ -13,12 +13,11 @@ use Rattle.path_machine.specs.declared.state.PathState.{PathState}
 use Rattle.path_machine.specs.Turns.{IsAtStep, IsInRun, HasEnded, TurnAgrees, taken_by, budget_of, ended_with}
 use Rattle.abi_sound.specs.Places.{Places}
 use Rattle.abi_out.specs.OutTexts.{printed, text_of}
-use Rattle.path_run.specs.declared.run.End.{End}
-use Rattle.path_run.specs.declared.run.End.TheVariants.{Done, Undefined, OutOfSteps, Limit}
-use Rattle.path_run.specs.Told.{ending_of, passes, text_at, text_limit, told}
-use Rattle.path_run.specs.invariants.Going.{IsGoing, IsRun, IsTurned, end_by}
-use Rattle.path_run.proofs.Ends.{small_passes, told_to, told_whole}
-use Rattle.path_run.proofs.Texts.{text_append}
+use Rattle.abi_told.specs.declared.ending.End.{End}
+use Rattle.abi_told.specs.declared.ending.End.TheVariants.{Done, Undefined, OutOfSteps, Limit}
+use Rattle.abi_told.specs.Told.{IsRun, ending_of, text_at, text_limit, told}
+use Rattle.path_run.specs.invariants.Going.{IsGoing, IsTurned, end_by}
+use Rattle.abi_told.proofs.Lines.{IsTextOf, ends_with, lines_pass, lines_stand}
 
 -- what a step that was taken gives
 pub record HasGoneOn (h : Classes) (l : Places) (program : TypedProgram) (before after : PathState) (telling : List Out) : Type 0 where
@@ -55,27 +54,13 @@ over h l program before after telling (Refused rule line) end_is (outs, budget, 
 over h l program before after telling NoSteps end_is (outs, budget, ended, same) e in_run = over_by h l program before after end_is OutOfSteps NoSteps outs budget ended in_run (λ x. x.ending) (let f : Some OutOfSteps ≡ Some end_is = e in cc)
 over h l program before after telling (LimitTurn limit) end_is (outs, budget, ended, same) e in_run = over_by h l program before after end_is (Limit limit) (LimitTurn limit) outs budget ended in_run (λ x. x.ending) (let f : Some (Limit limit) ≡ Some end_is = e in cc)
 
+-- the text of the steps taken
+text_so_far : (h : Classes) (l : Places) (program : TypedProgram) (before : PathState) (text : List ℕ) → IsGoing h l program before text → IsTextOf h l program (taken_by before) text
+text_so_far h l program before text goes = record { text_is = goes.text_is; small = goes.small; room = goes.room }
+
 -- the run has ended with the text so far
 pub ends_run : (h : Classes) (l : Places) (program : TypedProgram) (before : PathState) (text : List ℕ) (end_is : End) → IsGoing h l program before text → Over h l program before end_is → IsRun h l program (budget_of before) text end_is
-ends_run h l program before text end_is goes last =
-    let steps = budget_of before in
-    let ran = run_of h l.size program steps in
-    let text_all : text_of h l (printed ran.outs) ≡ text = ap (λ (xs : List Out). text_of h l (printed xs)) last.outs ∙ sym goes.text_is in
-    let whole = told_whole h l program steps (subst (λ (t : List ℕ). length t ≤ text_limit) (sym text_all) goes.small) in
-    record {
-      text_is = sym text_all ∙ sym (ap (λ t. t.text) whole);
-      ending = sym last.ending ∙ sym (ap (λ t. t.ending) whole);
-    }
-
-one_more : (n : ℕ) → n + 1 ≡ suc n
-one_more n = omega arith
-
--- the text with the lines of the next step
-lines_behind : (h : Classes) (l : Places) (program : TypedProgram) (n : ℕ) (text lines : List ℕ) (telling : List Out) → text ≡ text_at h l program n → telling ≡ outs_in (move h l.size program (state_at h l.size program n)) → lines ≡ text_of h l (printed telling) → text ++ lines ≡ text_at h l program (n + 1)
-lines_behind h l program n text lines telling is tells adds =
-    ap (λ (t : List ℕ). t ++ lines) is
-    ∙ (ap (λ (t : List ℕ). text_at h l program n ++ t) (adds ∙ ap (λ (xs : List Out). text_of h l (printed xs)) tells)
-    ∙ (sym (text_append h l (outs_at h l.size program n) (outs_in (move h l.size program (state_at h l.size program n)))) ∙ ap (text_at h l program) (sym (one_more n))))
+ends_run h l program before text end_is goes last = ends_with h l program (taken_by before) text (budget_of before) end_is (text_so_far h l program before text goes) last.outs last.ending
 
 -- the lines pass the limit
 pub passes_limit : (h : Classes) (l : Places) (program : TypedProgram) (before after : PathState) (text lines : List ℕ) (telling : List Out) → IsGoing h l program before text → HasGoneOn h l program before after telling → IsInRun h l.size program after (ended_with after)
@@ -83,34 +68,21 @@ pub passes_limit : (h : Classes) (l : Places) (program : TypedProgram) (before a
 passes_limit h l program before after text lines telling goes step in_run adds long =
     let n = taken_by before in
     let new : IsAtStep h l.size program after = subst (IsInRun h l.size program after) step.going in_run in
-    let all = lines_behind h l program n text lines telling goes.text_is step.tells adds in
-    let size = sym (length-append text lines) ∙ ap length all in
-    let passed : passes h l program n ≡ true = lt-ltb text_limit (length (text_at h l program (n + 1))) (omega (arith, size, long)) in
     let within : n + 1 ≤ budget_of before = let a = new.within in let b = step.taken in let c = step.budget in omega (arith, a, b, c) in
-    let whole = told_to h l program n (budget_of before) (subst (λ (k : ℕ). IsRunning h l.size program k) step.taken new.running) within goes.room passed in
-    record {
-      text_is = goes.text_is ∙ sym (ap (λ t. t.text) whole);
-      ending = sym (ap (λ t. t.ending) whole);
-    }
-
-room_more : (h : Classes) (l : Places) (program : TypedProgram) (n : ℕ) → ((k : ℕ) → k < n → passes h l program k ≡ false) → length (text_at h l program (n + 1)) ≤ text_limit → (k : ℕ) → k < n + 1 → passes h l program k ≡ false
-room_more h l program n room small k lt = ⊎_elim (λ less. room k less) (λ ge. let same : k ≡ n = omega (arith, lt, ge) in ap (passes h l program) same ∙ small_passes h l program n small) (cases_lt k n)
+    lines_pass h l program n text (budget_of before) lines (text_so_far h l program before text goes) (subst (λ (k : ℕ). IsRunning h l.size program k) step.taken new.running) within (record { telling = telling; tells = step.tells; are = adds }) long
 
 -- the lines stand behind the text
 pub goes_on : (h : Classes) (l : Places) (program : TypedProgram) (before after : PathState) (text lines new : List ℕ) (telling : List Out) → IsGoing h l program before text → HasGoneOn h l program before after telling → IsInRun h l.size program after (ended_with after)
     → lines ≡ text_of h l (printed telling) → length text + length lines ≤ text_limit → new ≡ text ++ lines → IsTurned h l program before after new
 goes_on h l program before after text lines new telling goes step in_run adds few puts =
-    let n = taken_by before in
-    let all : new ≡ text_at h l program (n + 1) = puts ∙ lines_behind h l program n text lines telling goes.text_is step.tells adds in
-    let size = ap length puts ∙ length-append text lines in
-    let small : length new ≤ text_limit = omega (arith, size, few) in
+    let more = lines_stand h l program (taken_by before) text lines new (text_so_far h l program before text goes) (record { telling = telling; tells = step.tells; are = adds }) few puts in
     record {
       goes = record {
         at_step = subst (IsInRun h l.size program after) step.going in_run;
         going = step.going;
-        text_is = all ∙ ap (text_at h l program) (sym step.taken);
-        small = small;
-        room = λ k lt. room_more h l program n goes.room (subst (λ (t : List ℕ). length t ≤ text_limit) all small) k (subst (λ (m : ℕ). k < m) step.taken lt);
+        text_is = more.text_is ∙ ap (text_at h l program) (sym step.taken);
+        small = more.small;
+        room = λ k lt. more.room k (subst (λ (m : ℕ). k < m) step.taken lt);
       };
       taken = step.taken;
       budget = step.budget;

@@ -2,10 +2,9 @@
 //!
 //! It turns a `PathState` until an answer ends the run, and puts the lines of each step behind those before. What is told in a
 //! trace alone has no line. A step whose lines would pass the limit on the text leaves none of them, and ends the run.
-//! This crate owns the text and the end of a run with the limit on its text (`told`, in `specs/Told.antt`): all that the run
-//! prints and how it ends, or what stands before the first step that passes the limit.
 //!
-//! The layer above may rely on `run_paths`: its text and its end are those, over whatever sound layout. Only want of memory is
+//! The layer above may rely on `run_paths`: its text and its end are those of the run with the limit on its text (`told` of
+//! `abi_told`), over whatever sound layout. Only want of memory is
 //! an error. Places and sizes come from the layout, and all else from the model of a run (`path_model`).
 #![tactic(auto)]
 
@@ -14,4 +13,4 @@ pub mod run;
 mod sizes;
 mod turn;
 
-pub use crate::run::{End, PathRun, run_paths};
+pub use crate::run::{PathRun, run_paths};

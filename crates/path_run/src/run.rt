@@ -7,35 +7,21 @@ ghost use Rattle.path_model.specs.States.{is_body};
 ghost use Rattle.path_machine.specs.invariants.Setups.{IsSetup};
 ghost use Rattle.path_machine.specs.invariants.Steps.{size_in};
 ghost use Rattle.abi_sound.specs.Places.{places_of};
-ghost use Rattle.path_run.specs.Told.{told, ending_of};
-ghost use Rattle.path_run.specs.invariants.Going.{IsRun};
+ghost use Rattle.abi_told.specs.Told.{IsRun, told, ending_of};
 
 use crate::sizes::sizes_of;
 use crate::turn::turn;
 use abi_sound::SoundLayout;
-use cxx_hierarchy::{Hierarchy, LimitNo};
+use abi_told::End;
+use cxx_hierarchy::Hierarchy;
 use cxx_overrider::Overriders;
 use cxx_program::TypedProgram;
 use foundation::{NoMemory, Sequence};
 use path_bodies::BodyIndex;
 use path_machine::{PathState, Run};
 use path_numbers::Numbers;
-use path_rules::Undefined;
 use path_values::World;
 use std::alloc::Global;
-
-/// How a run ends.
-#[derive(Clone, Copy, Debug, PartialEq, Eq)]
-pub enum End {
-    /// `main` ran to its end.
-    Done,
-    /// A step is undefined, with the line of its statement.
-    Undefined(Undefined, u32),
-    /// All steps of the budget were taken.
-    OutOfSteps,
-    /// A limit was met.
-    Limit(LimitNo),
-}
 
 /// The lines that a run printed, and how it ended.
 #[derive(Drop)]

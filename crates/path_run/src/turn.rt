@@ -8,8 +8,8 @@ ghost use Rattle.abi_sound.specs.Places.{places_of};
 ghost use Rattle.path_run.specs.invariants.Going.{IsGoing, Turned, end_by};
 
 use crate::lines::append_printed;
-use crate::run::End;
 use abi_sound::SoundLayout;
+use abi_told::End;
 use cxx_hierarchy::LimitNo;
 use foundation::{NoMemory, Sequence};
 use path_machine::{PathState, Run};

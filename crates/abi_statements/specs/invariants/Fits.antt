@@ -90,7 +90,7 @@ abbrev pub FitsKind : Classes → Scope → (most n : ℕ) → TypedKind → Typ
 FitsKind h e most n (Declare m v) = (m < most_locals) × FitsDeclared h e v
 FitsKind h e most n (Assign variable v) = FitsVariable variable × FitsConverted h e v
 FitsKind h e most n (Write place a) = FitsPlace h place × FitsArgument h e a
-FitsKind h e most n (Copy to from c) = Unit {0}
+FitsKind h e most n (Copy to from c) = FitsOperand to × FitsOperand from × (c.0 < length h)
 FitsKind h e most n (CallKind call) = FitsCall h e call
 FitsKind h e most n (Delete p c) = FitsOperand p × (c.0 < length h)
 FitsKind h e most n (If p other behind) = FitsOperand p × (n < most) × (other ≤ most) × (behind ≤ most)

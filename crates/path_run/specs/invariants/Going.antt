@@ -7,9 +7,9 @@ use Rattle.path_model.specs.declared.outs.Turn.TheVariants.{Went, Ended as Ended
 use Rattle.path_machine.specs.declared.state.PathState.{PathState}
 use Rattle.path_machine.specs.Turns.{IsAtStep, taken_by, budget_of, ended_with}
 use Rattle.abi_sound.specs.Places.{Places}
-use Rattle.path_run.specs.declared.run.End.{End}
-use Rattle.path_run.specs.declared.run.End.TheVariants.{Done, Undefined, OutOfSteps, Limit}
-use Rattle.path_run.specs.Told.{ending_of, passes, text_at, text_limit, told}
+use Rattle.abi_told.specs.declared.ending.End.{End}
+use Rattle.abi_told.specs.declared.ending.End.TheVariants.{Done, Undefined, OutOfSteps, Limit}
+use Rattle.abi_told.specs.Told.{IsRun, passes, text_at, text_limit}
 
 -- the end that an answer is; none of a step that was taken
 abbrev pub end_by : Turn → Option End
@@ -26,11 +26,6 @@ pub record IsGoing (h : Classes) (l : Places) (program : TypedProgram) (state : 
   pub text_is : text ≡ text_at h l program (taken_by state)
   pub small : length text ≤ text_limit
   pub room : (k : ℕ) → k < taken_by state → passes h l program k ≡ false
-
--- the run of so many steps has this text and this end
-pub record IsRun (h : Classes) (l : Places) (program : TypedProgram) (steps : ℕ) (text : List ℕ) (end_is : End) : Type 0 where
-  pub text_is : text ≡ (told h l program steps).text
-  pub ending : ending_of end_is ≡ (told h l program steps).ending
 
 -- one step more, with its lines
 pub record IsTurned (h : Classes) (l : Places) (program : TypedProgram) (before after : PathState) (text : List ℕ) : Type 0 where

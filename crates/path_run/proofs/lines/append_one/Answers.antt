@@ -1,6 +1,6 @@
 use Rattle.std.proofs.Common.{◌∙◌, sym}
 use Rattle.abi_sound.specs.Places.{places_of}
-use Rattle.path_run.proofs.Texts.{line_printed, line_traced}
+use Rattle.abi_told.proofs.Texts.{line_printed, line_traced}
 use Rattle.path_run.proofs.lines.append_one.Goals as goal
 
 pub returns-then-is_traced : goal.returns-then-is_traced

@@ -1,6 +1,6 @@
 use Rattle.std.proofs.Common.{sym}
 use Rattle.abi_sound.specs.Places.{places_of}
-use Rattle.path_run.proofs.Texts.{text_all, text_more}
+use Rattle.abi_told.proofs.Texts.{text_all, text_more}
 use Rattle.path_run.proofs.lines.append_printed.Goals as goal
 
 pub append_one-requires-clause-told : goal.append_one-requires-clause-told

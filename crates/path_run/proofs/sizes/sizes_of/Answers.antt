@@ -1,6 +1,7 @@
 use Rattle.std.proofs.Common.{◌≡◌, ◌≤◌, ◌∙◌, ℕ, List, ◌++◌, ◌∷◌, [], map, length, arith, ap}
 use Rattle.abi_out.proofs.Steps.{map_one_more}
-use Rattle.path_run.proofs.SizeLists.{row_size, sizes_are, taken_all}
+use Rattle.abi_told.proofs.Texts.{taken_all}
+use Rattle.path_run.proofs.SizeLists.{row_size, sizes_are}
 use Rattle.path_run.proofs.sizes.sizes_of.Goals as goal
 
 pub layout-requires : goal.layout-requires

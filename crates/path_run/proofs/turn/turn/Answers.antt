@@ -4,8 +4,8 @@ use Rattle.path_model.specs.declared.outs.Out.{Out}
 use Rattle.path_machine.specs.Turns.{ended_with, taken_by}
 use Rattle.path_machine.specs.invariants.Steps.{size_in}
 use Rattle.abi_sound.specs.Places.{places_of}
-use Rattle.path_run.specs.Told.{text_limit}
-use Rattle.path_run.proofs.Telling.{steps_told}
+use Rattle.abi_told.specs.Told.{text_limit}
+use Rattle.abi_told.proofs.Telling.{steps_told}
 use Rattle.path_run.proofs.Turning.{agrees_at, ends_run, goes_on, in_run_at, lines_are, over, passes_limit, stands_at, went}
 use Rattle.path_run.proofs.turn.turn.Goals as goal
 

@@ -1,0 +1,12 @@
+//! Blocks of calls, of returns and of the ends of bodies agree with the steps of the subobject machine.
+//!
+//! A call is the statement itself, or the right side of a declaration or of an assignment. Its block reads and tests what the call
+//! uses, opens the frame of the function that runs, and tells the call; or the least rule refuses it, or limit 10 stops it. A return
+//! gives its result to the body that waits, which may be refused too; that of `main`, and the end of its body, end the run. The end of
+//! a function with a result is refused by rule 11. No return stands in the body of a constructor or of a destructor.
+//!
+//! The layer above may rely on the lemmas of `proofs/`: `call_does`, `declared_call_does` and `assigned_call_does` (`CallStatements`);
+//! `return_does` (`ReturnStatements`), where the found conversion of the body on top keeps numbers, as it does in each state of a run
+//! (`found_moves` of `Founds`); `function_closes` and `main_closes` over a body that is at its end (`AtEnd` of `Closings`). Calls and
+//! returns over running states are proved in abi_calls, the frame of a statement in abi_steps.
+#![tactic(auto)]

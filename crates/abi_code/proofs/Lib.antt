@@ -1,0 +1,16 @@
+pub mod Starts
+pub mod ListedRoutines
+pub mod Blocks
+pub mod Placing
+pub mod Fits
+pub mod FitsStatements
+pub mod ClassSteps
+pub mod Counted
+pub mod RowSteps
+pub mod SameOps
+pub mod BodySites
+pub mod PlanRuns
+pub mod RunSteps
+pub mod FrameRegisters
+pub mod ClassLimits
+pub mod FewBlocks

@@ -1,0 +1,84 @@
+-- One element and one member more is tested.
+use Rattle.std.proofs.Common.{◌≡◌, ℕ, zero, suc, ◌+◌, ◌*◌, ◌<◌, Bool, Some, List, [], ◌∷◌, ◌++◌, ap, sym, ◌∙◌, arith, append_assoc}
+use Rattle.std.specs.Prelude.{slice_get}
+use Rattle.std.specs.List.{flat_map}
+use mathlib.Core.Path.{fun_ext}
+use Rattle.cxx_hierarchy.specs.declared.records.ClassId.{ClassId}
+use Rattle.cxx_hierarchy.specs.declared.records.Member.{Member}
+use Rattle.cxx_hierarchy.specs.declared.records.FieldType.{FieldType}
+use Rattle.cxx_hierarchy.specs.declared.records.FieldType.TheVariants.{Object}
+use Rattle.cxx_hierarchy.specs.Classes.{members_of}
+use Rattle.cxx_hierarchy.specs.Declarations.{elements_of}
+use Rattle.path_plan.specs.Plans.{upto}
+use Rattle.abi_sound.specs.Locations.{size_of_type, element_place}
+use Rattle.abi_ops.specs.declared.uses.Used.{Used}
+use Rattle.abi_ops.specs.declared.uses.Used.TheVariants.{Guards}
+use Rattle.abi_ops.specs.Setups.{Setup, places}
+use Rattle.cxx_search.specs.Searches.{has_virtual_base}
+use Rattle.cxx_program.specs.declared.operand.TypedOperand.{TypedOperand}
+use Rattle.abi_ops.specs.Arguments.{Block, free}
+use Rattle.abi_ops.specs.Operands.{operand_register}
+use Rattle.abi_ops.specs.Uses.{arrow_used, views_if}
+use Rattle.abi_copies.specs.CopyTests.{element_used, member_used, covered_used, copy_used}
+use Rattle.abi_copies.specs.invariants.Pushes.{CoversElements, CoversMember, CoversMembers, CoversOwn}
+use Rattle.abi_copies.proofs.Pushed.{numbers_flat}
+use Rattle.abi_copies.proofs.CopySteps.{elements_there}
+
+pub elements_next : (x : Setup) (r : ℕ) (d : ClassId) (start stride i at : ℕ) (old mid asked new : List Used) → at ≡ start + i * stride → CoversElements x r d start stride i old mid → asked ≡ mid ++ Guards r at d.0 ∷ [] → CoversOwn x r d at asked new → CoversElements x r d start stride (i + 1) old new
+elements_next x r d start stride i at old mid asked new is before guards more = record { adds = of_number }
+  where
+    of_number : (n : ℕ) → d.0 < n → new ≡ old ++ flat_map (λ i. Guards r (start + i * stride) d.0 ∷ covered_used x r n d (start + i * stride)) (upto (i + 1))
+    of_number zero low = absurd (omega arith)
+    of_number (suc n) low =
+        let give = λ (k : ℕ). Guards r k d.0 ∷ covered_used x r (suc n) d k in
+        let last : new ≡ mid ++ give (start + i * stride) =
+        more.adds n (omega arith) ∙ (ap (λ (l : List Used). l ++ covered_used x r (suc n) d at) guards ∙ (append_assoc mid (Guards r at d.0 ∷ []) (covered_used x r (suc n) d at) ∙ ap (λ (k : ℕ). mid ++ give k) is)) in
+        numbers_flat (λ i. give (start + i * stride)) i old mid new (before.adds (suc n) low) last
+
+pub objects_tested : (x : Setup) (r : ℕ) (b d : ClassId) (member : Member ClassId) (start stride count : ℕ) (old new : List Used) → member.ty ≡ Object d → stride ≡ size_of_type (places x) member.ty → count ≡ elements_of member.count → d.0 < b.0
+    → CoversElements x r d start stride count old new → CoversMember x r b member start old new
+objects_tested x r b d member start stride count old new ty size many below added = record {
+  adds = λ n low.
+      added.adds n (omega arith)
+      ∙ ap (λ (k : ℕ). old ++ flat_map (λ i. Guards r (start + i * k) d.0 ∷ covered_used x r n d (start + i * k)) (upto count)) size
+      ∙ ap (λ (k : ℕ). old ++ flat_map (λ i. Guards r (start + i * size_of_type (places x) member.ty) d.0 ∷ covered_used x r n d (start + i * size_of_type (places x) member.ty)) (upto k)) many
+      ∙ ap (λ (u : FieldType ClassId). old ++ element_used (covered_used x r n) r (λ i. start + i * size_of_type (places x) member.ty) (upto (elements_of member.count)) u) (sym ty);
+}
+
+pub tested_next : (x : Setup) (r : ℕ) (b : ClassId) (offset start m : ℕ) (member : Member ClassId) (old mid new : List Used) → slice_get (members_of x.h b) m ≡ Some member → start ≡ offset + (places x).member b m
+    → CoversMembers x r b offset m old mid → CoversMember x r b member start mid new → CoversMembers x r b offset (m + 1) old new
+tested_next x r b offset start m member old mid new there is before more = record {
+  adds = λ n low.
+      let give = λ (k : ℕ). member_used (covered_used x r n) r (λ i. offset + element_place x.h (places x) (Some b) k i) (slice_get (members_of x.h b) k) in
+      let last : new ≡ mid ++ give m =
+      more.adds n low
+      ∙ ap (λ (at : ℕ → ℕ). mid ++ element_used (covered_used x r n) r at (upto (elements_of member.count)) member.ty) (fun_ext (elements_there x b offset start m member there is))
+      ∙ ap (λ o. mid ++ member_used (covered_used x r n) r (λ i. offset + element_place x.h (places x) (Some b) m i) o) (sym there) in
+      numbers_flat give m old mid new (before.adds n low) last;
+}
+
+joined : (old mid new first rest : List Used) → mid ≡ old ++ first → new ≡ mid ++ rest → new ≡ old ++ (first ++ rest)
+joined old mid new first rest e f = f ∙ (ap (λ (l : List Used). l ++ rest) e ∙ append_assoc old first rest)
+
+-- all tests of class c's own members, as the definition counts classes
+own_covered : (x : Setup) (r : ℕ) (c : ClassId) (old new : List Used) → CoversOwn x r c 0 old new → new ≡ old ++ covered_used x r (c.0 + 1) c 0
+own_covered x r c old new covers = let next : suc c.0 ≡ c.0 + 1 = omega arith in covers.adds c.0 (omega arith) ∙ ap (λ (n : ℕ). old ++ covered_used x r n c 0) next
+
+-- all tests of a copy
+pub all_tested : (b : Block) (to from : TypedOperand) (c : ClassId) (read again first second : ℕ) (needed : Bool) (old one two three four five new : List Used) → read ≡ free b 0 → again ≡ free b 1 → first ≡ operand_register read to → second ≡ operand_register again from → needed ≡ has_virtual_base b.x.h c
+    → one ≡ old ++ arrow_used b.scope read to c → two ≡ one ++ arrow_used b.scope again from c → three ≡ two ++ views_if needed first 0 c → four ≡ three ++ views_if needed second 0 c → CoversOwn b.x first c 0 four five → CoversOwn b.x second c 0 five new → new ≡ old ++ copy_used b to from c
+all_tested b to from c read again first second needed old one two three four five new is_read is_again is_first is_second is_needed e1 e2 e3 e4 e5 e6 =
+    let give = λ (r q f s : ℕ) (z : Bool).
+    arrow_used b.scope r to c ++ (arrow_used b.scope q from c ++ (views_if z f 0 c ++ (views_if z s 0 c ++ (covered_used b.x f (c.0 + 1) c 0 ++ covered_used b.x s (c.0 + 1) c 0)))) in
+    let cover_to = covered_used b.x first (c.0 + 1) c 0 in
+    let cover_from = covered_used b.x second (c.0 + 1) c 0 in
+    let views_to = views_if needed first 0 c in
+    let views_from = views_if needed second 0 c in
+    let covered : new ≡ four ++ (cover_to ++ cover_from) = joined four five new cover_to cover_from (own_covered b.x first c four five e5) (own_covered b.x second c five new e6) in
+    let seen : new ≡ two ++ (views_to ++ (views_from ++ (cover_to ++ cover_from))) = joined two three new views_to (views_from ++ (cover_to ++ cover_from)) e3 (joined three four new views_from (cover_to ++ cover_from) e4 covered) in
+    let whole : new ≡ old ++ give read again first second needed = joined old one new (arrow_used b.scope read to c) _ e1 (joined one two new (arrow_used b.scope again from c) _ e2 seen) in
+    whole ∙ (ap (λ (z : Bool). old ++ give read again first second z) is_needed
+    ∙ (ap (λ (f : ℕ). old ++ give read again f second (has_virtual_base b.x.h c)) (is_first ∙ ap (λ (r : ℕ). operand_register r to) is_read)
+    ∙ (ap (λ (s : ℕ). old ++ give read again (operand_register (free b 0) to) s (has_virtual_base b.x.h c)) (is_second ∙ ap (λ (r : ℕ). operand_register r from) is_again)
+    ∙ (ap (λ (r : ℕ). old ++ give r again (operand_register (free b 0) to) (operand_register (free b 1) from) (has_virtual_base b.x.h c)) is_read
+    ∙ ap (λ (q : ℕ). old ++ give (free b 0) q (operand_register (free b 0) to) (operand_register (free b 1) from) (has_virtual_base b.x.h c)) is_again))))

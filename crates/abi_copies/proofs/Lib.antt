@@ -1,0 +1,4 @@
+pub mod Pushed
+pub mod CopySteps
+pub mod CoverSteps
+pub mod Near

@@ -1,0 +1,3 @@
+pub mod CopyTests
+pub mod CopyOps
+pub mod invariants

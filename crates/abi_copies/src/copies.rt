@@ -1,0 +1,205 @@
+//! The copies of the leaves of a part.
+
+ghost use Rattle.std.specs.Prelude.{◌≡◌, ◌<◌, ◌≤◌, ◌+◌, ◌*◌, ◌^◌, ◌++◌, ℕ, OnOk, length, map, Some, slice_get};
+ghost use Rattle.cxx_hierarchy.specs.declared.records.ClassId.{ClassId};
+ghost use Rattle.cxx_hierarchy.specs.Classes.{members_of};
+ghost use Rattle.cxx_subobject.specs.Subobjects.{class_of};
+ghost use Rattle.cxx_subobject.specs.Preorder.{preorder};
+ghost use Rattle.path_plan.specs.Plans.{upto};
+ghost use Rattle.byte_code.specs.declared.op.Op.TheVariants.{Copy};
+ghost use Rattle.abi_sound.specs.Places.{places_of};
+ghost use Rattle.abi_ops.specs.Setups.{setup};
+ghost use Rattle.abi_ops.specs.Arguments.{block_in};
+ghost use Rattle.abi_ops.specs.invariants.Fits.{IsSite, FitsBase, FitsOperand};
+ghost use Rattle.abi_copies.specs.CopyOps.{subobject_copies, copy_ops};
+ghost use Rattle.abi_copies.specs.invariants.Fits.{FitsObject, FitsMember, FitsOwn};
+ghost use Rattle.abi_copies.specs.invariants.Pushes.{AddsObjects, AddsMember, AddsOwn, AddsObject};
+
+use crate::distances::{Elements, Sides, type_bytes, value_bytes};
+use abi_ops::operands::{operand_register, push_base, push_done};
+use abi_ops::sites::Site;
+use abi_sound::{SoundLayout, member_place};
+use byte_code::{Op, OpList};
+use cxx_hierarchy::{ClassId, FieldType, Member};
+use cxx_program::TypedOperand;
+use cxx_subobject::{Subobject, class_of, list_subobjects};
+use foundation::{NoMemory, Sequence};
+
+/// The class of a subobject; the first one where there is none.
+fn class_or_first(base: &Subobject) -> ClassId
+    ensures { (d : ClassId) → class_of base.now ≡ Some d → result ≡ d }
+{
+    match class_of(base) {
+        Some(d) => d,
+        None => ClassId(0),
+    }
+}
+
+/// Copies elements that are numbers or pointers, of so many bytes.
+fn push_values(
+    ops: &mut OpList,
+    sides: Sides,
+    elements: Elements,
+    bytes: u8,
+) -> Result<(), NoMemory>
+    requires { (i : ℕ) → i < elements.count → elements.start + i * elements.stride < 2 ^ 21 }
+    ensures { OnOk result (ops.new ≡ ops.old ++ map (λ i. Copy sides.to sides.from (elements.start + i * elements.stride) bytes) (upto elements.count)) }
+{
+    for i in 0..elements.count {
+        ops.push(Op::Copy {
+            to: sides.to,
+            from: sides.from,
+            offset: elements.place(i),
+            bytes,
+        })?;
+    }
+    Ok(())
+}
+
+/// Copies the leaves of elements that are objects of class d.
+#[cycle(copies)]
+fn push_objects<L: SoundLayout>(
+    ops: &mut OpList,
+    site: &Site<L>,
+    sides: Sides,
+    d: ClassId,
+    elements: Elements,
+) -> Result<(), NoMemory>
+    requires layout { L.lays_out site.now.layout.now site.now.h.now }
+    requires site { IsSite site.now.h.now (L.rows site.now.layout.now) site.now.slots.now site.now.body.now }
+    requires known { d.0 < length site.now.h.now }
+    requires fits { (i : ℕ) → i < elements.count → FitsObject site.now.h.now (places_of site.now.h.now (L.rows site.now.layout.now)) d (elements.start + i * elements.stride) }
+    ensures { OnOk result (AddsObjects (setup site.now.h.now (L.rows site.now.layout.now) site.now.program.now) sides d elements.start elements.stride elements.count ops.old ops.new) }
+{
+    let bases = list_subobjects(site.alloc, site.h, d)?;
+    for i in 0..elements.count {
+        push_object(ops, site, sides, d, bases.as_slice(), elements.place(i))?;
+    }
+    Ok(())
+}
+
+/// Copies the leaves of a member of class b, of which the first element lies so many bytes behind the registers.
+#[cycle(copies)]
+fn push_member<L: SoundLayout>(
+    ops: &mut OpList,
+    site: &Site<L>,
+    sides: Sides,
+    b: ClassId,
+    member: &Member<ClassId>,
+    start: u32,
+) -> Result<(), NoMemory>
+    requires layout { L.lays_out site.now.layout.now site.now.h.now }
+    requires site { IsSite site.now.h.now (L.rows site.now.layout.now) site.now.slots.now site.now.body.now }
+    requires known { b.0 < length site.now.h.now }
+    requires fits { FitsMember site.now.h.now (places_of site.now.h.now (L.rows site.now.layout.now)) b member.now start }
+    ensures { OnOk result (AddsMember (setup site.now.h.now (L.rows site.now.layout.now) site.now.program.now) sides b member.now start ops.old ops.new) }
+{
+    let elements = Elements {
+        start,
+        stride: type_bytes(site, &member.ty),
+        count: member.elements(),
+    };
+    match &member.ty {
+        FieldType::Value(ty) => push_values(ops, sides, elements, value_bytes(ty)),
+        FieldType::Object(d) => push_objects(ops, site, sides, *d, elements),
+    }
+}
+
+/// Copies the leaves of the members that class b declares, of a subobject so many bytes behind the registers.
+#[cycle(copies)]
+fn push_own<L: SoundLayout>(
+    ops: &mut OpList,
+    site: &Site<L>,
+    sides: Sides,
+    b: ClassId,
+    offset: u32,
+) -> Result<(), NoMemory>
+    requires layout { L.lays_out site.now.layout.now site.now.h.now }
+    requires site { IsSite site.now.h.now (L.rows site.now.layout.now) site.now.slots.now site.now.body.now }
+    requires known { b.0 < length site.now.h.now }
+    requires fits { FitsOwn site.now.h.now (places_of site.now.h.now (L.rows site.now.layout.now)) b offset }
+    ensures { OnOk result (AddsOwn (setup site.now.h.now (L.rows site.now.layout.now) site.now.program.now) sides b offset ops.old ops.new) }
+{
+    let members = site.h.class(b).members.as_slice();
+    for (m, member) in members.iter().enumerate() {
+        let start = offset + member_place(site.layout, b, m as u32);
+        push_member(ops, site, sides, b, member, start)?;
+    }
+    Ok(())
+}
+
+/// Copies the leaves of a complete object of class d, so many bytes behind the registers, by the list of its subobjects.
+#[cycle(copies)]
+fn push_object<L: SoundLayout>(
+    ops: &mut OpList,
+    site: &Site<L>,
+    sides: Sides,
+    d: ClassId,
+    bases: &[Subobject],
+    offset: u32,
+) -> Result<(), NoMemory>
+    requires layout { L.lays_out site.now.layout.now site.now.h.now }
+    requires site { IsSite site.now.h.now (L.rows site.now.layout.now) site.now.slots.now site.now.body.now }
+    requires known { d.0 < length site.now.h.now }
+    requires listed { bases.now ≡ preorder site.now.h.now d }
+    requires fits { FitsObject site.now.h.now (places_of site.now.h.now (L.rows site.now.layout.now)) d offset }
+    ensures { OnOk result (AddsObject (setup site.now.h.now (L.rows site.now.layout.now) site.now.program.now) sides d offset ops.old ops.new) }
+{
+    for base in bases {
+        let start = offset + site.layout.place(site.h, d, base);
+        push_own(ops, site, sides, class_or_first(base), start)?;
+    }
+    Ok(())
+}
+
+/// Copies the leaves of the own members of a subobject of two parts of class c, of which the registers have the addresses.
+fn push_subobject<L: SoundLayout>(
+    ops: &mut OpList,
+    site: &Site<L>,
+    parts: Sides,
+    c: ClassId,
+    base: &Subobject,
+) -> Result<(), NoMemory>
+    requires layout { L.lays_out site.now.layout.now site.now.h.now }
+    requires site { IsSite site.now.h.now (L.rows site.now.layout.now) site.now.slots.now site.now.body.now }
+    requires base { FitsBase site.now.h.now c base.now }
+    ensures { OnOk result (ops.new ≡ ops.old ++ subobject_copies (block_in (setup site.now.h.now (L.rows site.now.layout.now) site.now.program.now) site.now.body.now) parts.to parts.from c base.now) }
+{
+    let sides = Sides {
+        to: site.free(2),
+        from: site.free(3),
+    };
+    let mut list = Sequence::new(site.alloc);
+    push_base(&mut list, site, c, base, sides.to, parts.to)?;
+    push_base(&mut list, site, c, base, sides.from, parts.from)?;
+    push_done(ops, list.as_slice())?;
+    push_own(ops, site, sides, class_or_first(base), 0)?;
+    Ok(())
+}
+
+/// Copies each leaf of one part of class c to the same leaf of another one, by the operands that point to them.
+///
+/// Errors: want of memory.
+pub fn push_copy<L: SoundLayout>(
+    ops: &mut OpList,
+    site: &Site<L>,
+    to: TypedOperand,
+    from: TypedOperand,
+    c: ClassId,
+) -> Result<(), NoMemory>
+    requires layout { L.lays_out site.now.layout.now site.now.h.now }
+    requires site { IsSite site.now.h.now (L.rows site.now.layout.now) site.now.slots.now site.now.body.now }
+    requires known { c.0 < length site.now.h.now }
+    requires operands { FitsOperand to × FitsOperand from }
+    ensures { OnOk result (ops.new ≡ ops.old ++ copy_ops (block_in (setup site.now.h.now (L.rows site.now.layout.now) site.now.program.now) site.now.body.now) to from c) }
+{
+    let parts = Sides {
+        to: operand_register(site.free(0), to),
+        from: operand_register(site.free(1), from),
+    };
+    let bases = list_subobjects(site.alloc, site.h, c)?;
+    for base in bases.as_slice() {
+        push_subobject(ops, site, parts, c, base)?;
+    }
+    Ok(())
+}

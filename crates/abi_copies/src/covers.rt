@@ -1,0 +1,155 @@
+//! What a copy reads and tests: both pointers, and the class members that it covers.
+
+ghost use Rattle.std.specs.Prelude.{◌≡◌, ◌<◌, ◌≤◌, ◌+◌, ◌*◌, ◌^◌, ◌++◌, ℕ, OnOk, length};
+ghost use Rattle.cxx_hierarchy.specs.declared.records.ClassId.{ClassId};
+ghost use Rattle.cxx_search.specs.Searches.{has_virtual_base as has_virtual_base_of};
+ghost use Rattle.abi_sound.specs.Places.{places_of};
+ghost use Rattle.abi_ops.specs.Setups.{setup};
+ghost use Rattle.abi_ops.specs.Arguments.{block_in};
+ghost use Rattle.abi_ops.specs.invariants.Fits.{IsSite, FitsOperand};
+ghost use Rattle.abi_copies.specs.CopyTests.{copy_front, copy_used};
+ghost use Rattle.abi_copies.specs.invariants.Fits.{FitsObject, FitsMember, FitsOwn};
+ghost use Rattle.abi_copies.specs.invariants.Pushes.{CoversElements, CoversMember, CoversOwn};
+
+use crate::distances::{Elements, type_bytes};
+use abi_ops::operands::{operand_register, push_operand};
+use abi_ops::reads::{push_arrow, push_guards, push_views_if};
+use abi_ops::sites::Site;
+use abi_ops::uses::UseList;
+use abi_sound::{SoundLayout, member_place};
+use byte_code::OpList;
+use cxx_hierarchy::{ClassId, FieldType, Member};
+use cxx_program::TypedOperand;
+use foundation::NoMemory;
+
+/// Reads both pointers.
+///
+/// Errors: want of memory.
+pub fn push_copy_front<L: SoundLayout>(
+    ops: &mut OpList,
+    site: &Site<L>,
+    to: TypedOperand,
+    from: TypedOperand,
+) -> Result<(), NoMemory>
+    requires site { IsSite site.now.h.now (L.rows site.now.layout.now) site.now.slots.now site.now.body.now }
+    requires operands { FitsOperand to × FitsOperand from }
+    ensures { OnOk result (ops.new ≡ ops.old ++ copy_front (block_in (setup site.now.h.now (L.rows site.now.layout.now) site.now.program.now) site.now.body.now) to from) }
+{
+    push_operand(ops, site.free(0), to)?;
+    push_operand(ops, site.free(1), from)?;
+    Ok(())
+}
+
+/// Whether a class has a virtual base.
+fn has_virtual_base<L: SoundLayout>(site: &Site<L>, c: ClassId) -> bool
+    requires layout { L.lays_out site.now.layout.now site.now.h.now }
+    requires known { c.0 < length site.now.h.now }
+    ensures { result ≡ has_virtual_base_of site.now.h.now c }
+{
+    site.layout.layout(c).virtual_bases.len() > 0
+}
+
+/// Tests elements that are objects of class d, and the class members inside them.
+#[cycle(covers)]
+fn push_elements_used<L: SoundLayout>(
+    uses: &mut UseList,
+    site: &Site<L>,
+    r: u32,
+    d: ClassId,
+    elements: Elements,
+) -> Result<(), NoMemory>
+    requires layout { L.lays_out site.now.layout.now site.now.h.now }
+    requires site { IsSite site.now.h.now (L.rows site.now.layout.now) site.now.slots.now site.now.body.now }
+    requires known { d.0 < length site.now.h.now }
+    requires fits { (i : ℕ) → i < elements.count → FitsObject site.now.h.now (places_of site.now.h.now (L.rows site.now.layout.now)) d (elements.start + i * elements.stride) }
+    ensures { OnOk result (CoversElements (setup site.now.h.now (L.rows site.now.layout.now) site.now.program.now) r d elements.start elements.stride elements.count uses.old uses.new) }
+{
+    for i in 0..elements.count {
+        let distance = elements.place(i);
+        push_guards(uses, r, distance as u64, d)?;
+        push_covered(uses, site, r, d, distance)?;
+    }
+    Ok(())
+}
+
+/// Tests a member of class b, of which the first element lies so many bytes behind a register.
+#[cycle(covers)]
+fn push_member_used<L: SoundLayout>(
+    uses: &mut UseList,
+    site: &Site<L>,
+    r: u32,
+    b: ClassId,
+    member: &Member<ClassId>,
+    start: u32,
+) -> Result<(), NoMemory>
+    requires layout { L.lays_out site.now.layout.now site.now.h.now }
+    requires site { IsSite site.now.h.now (L.rows site.now.layout.now) site.now.slots.now site.now.body.now }
+    requires known { b.0 < length site.now.h.now }
+    requires fits { FitsMember site.now.h.now (places_of site.now.h.now (L.rows site.now.layout.now)) b member.now start }
+    ensures { OnOk result (CoversMember (setup site.now.h.now (L.rows site.now.layout.now) site.now.program.now) r b member.now start uses.old uses.new) }
+{
+    match &member.ty {
+        FieldType::Value(_) => Ok(()),
+        FieldType::Object(d) => {
+            let elements = Elements {
+                start,
+                stride: type_bytes(site, &member.ty),
+                count: member.elements(),
+            };
+            push_elements_used(uses, site, r, *d, elements)
+        }
+    }
+}
+
+/// Tests the class members that class c declares, and those in them, of an object so many bytes behind a register.
+#[cycle(covers)]
+fn push_covered<L: SoundLayout>(
+    uses: &mut UseList,
+    site: &Site<L>,
+    r: u32,
+    c: ClassId,
+    offset: u32,
+) -> Result<(), NoMemory>
+    requires layout { L.lays_out site.now.layout.now site.now.h.now }
+    requires site { IsSite site.now.h.now (L.rows site.now.layout.now) site.now.slots.now site.now.body.now }
+    requires known { c.0 < length site.now.h.now }
+    requires fits { FitsOwn site.now.h.now (places_of site.now.h.now (L.rows site.now.layout.now)) c offset }
+    ensures { OnOk result (CoversOwn (setup site.now.h.now (L.rows site.now.layout.now) site.now.program.now) r c offset uses.old uses.new) }
+{
+    let members = site.h.class(c).members.as_slice();
+    for (m, member) in members.iter().enumerate() {
+        let start = offset + member_place(site.layout, c, m as u32);
+        push_member_used(uses, site, r, c, member, start)?;
+    }
+    Ok(())
+}
+
+/// Tests both pointers to parts of class c, and the class members that a copy covers.
+///
+/// Errors: want of memory.
+pub fn push_copy_used<L: SoundLayout>(
+    uses: &mut UseList,
+    site: &Site<L>,
+    to: TypedOperand,
+    from: TypedOperand,
+    c: ClassId,
+) -> Result<(), NoMemory>
+    requires layout { L.lays_out site.now.layout.now site.now.h.now }
+    requires site { IsSite site.now.h.now (L.rows site.now.layout.now) site.now.slots.now site.now.body.now }
+    requires known { c.0 < length site.now.h.now }
+    requires operands { FitsOperand to × FitsOperand from }
+    ensures { OnOk result (uses.new ≡ uses.old ++ copy_used (block_in (setup site.now.h.now (L.rows site.now.layout.now) site.now.program.now) site.now.body.now) to from c) }
+{
+    let read = site.free(0);
+    let again = site.free(1);
+    let first = operand_register(read, to);
+    let second = operand_register(again, from);
+    let needs_view = has_virtual_base(site, c);
+    push_arrow(uses, site, read, to, c)?;
+    push_arrow(uses, site, again, from, c)?;
+    push_views_if(uses, needs_view, first, 0, c)?;
+    push_views_if(uses, needs_view, second, 0, c)?;
+    push_covered(uses, site, first, c, 0)?;
+    push_covered(uses, site, second, c, 0)?;
+    Ok(())
+}

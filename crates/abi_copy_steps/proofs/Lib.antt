@@ -1,0 +1,10 @@
+pub mod SameParts
+pub mod CopiedValues
+pub mod LeafCopies
+pub mod Threes
+pub mod CopiedLeaves
+pub mod LeafRuns
+pub mod SubobjectRuns
+pub mod CoverTests
+pub mod Pairs
+pub mod CopyStep

@@ -1,0 +1,4 @@
+pub mod LeafRows
+pub mod RawDumps
+pub mod RawTexts
+pub mod Reads

@@ -1,0 +1,53 @@
+-- What has to be known of what a run tells, so that its text is read from memory.
+use Rattle.std.specs.Prelude.{◌≡◌, ℕ, ◌+◌, false, Some, List, [], ◌∷◌, map, slice_get}
+use Rattle.cxx_hierarchy.specs.declared.records.ClassId.{ClassId}
+use Rattle.cxx_hierarchy.specs.declared.records.ValueType.{ValueType}
+use Rattle.path_plan.specs.Whole.{whole_part}
+use Rattle.path_model.specs.declared.outs.DumpLeaf.{DumpLeaf}
+use Rattle.path_model.specs.declared.outs.Out.{Out}
+use Rattle.path_model.specs.declared.outs.Out.TheVariants.{Number, Pointer, TypeName, Dump, Call, Built, Ending}
+use Rattle.path_model.specs.Values.{Leaf, Objects}
+use Rattle.path_model.specs.Outs.{dump_leaf}
+use Rattle.path_model.specs.Places.{leaves_of}
+use Rattle.path_model.specs.TypedStates.{IsLeafMade, IsValue}
+use Rattle.abi_ops.specs.Routines.{IsRoutine}
+use Rattle.abi_ops.specs.Setups.{FunctionCode}
+use Rattle.abi_stands.specs.Worlds.{World, classes_in}
+use Rattle.abi_out.specs.OutTexts.{IsTold, is_traced}
+
+-- leaves hold values of their types
+pub record HasTypedLeaves (w : World) (s : Objects) : Type 0 where
+  pub leaf : (a : Leaf) (t : ValueType ClassId) → IsLeafMade (classes_in w) s.classes a t → IsValue (classes_in w) s.classes (s.leaf a) t
+
+-- a dump tells the leaves of an open object, as they are
+pub record IsDumpOf (w : World) (s : Objects) (number : ℕ) (c : ClassId) (leaves : List DumpLeaf) : Type 0 where
+  pub object : ℕ
+  pub number_is : number ≡ object + 1
+  pub class : slice_get s.classes object ≡ Some c
+  pub is_open : s.is_closed object ≡ false
+  pub leaves_are : leaves ≡ map (dump_leaf s) (leaves_of (classes_in w) c (whole_part object c))
+
+-- a dump is one of the state, and a called function has a body
+abbrev pub IsOf : World → Objects → Out → Type 0
+IsOf w s (Number z) = Unit {0}
+IsOf w s (Pointer at) = Unit {0}
+IsOf w s (TypeName c) = Unit {0}
+IsOf w s (Dump number c leaves) = IsDumpOf w s number c leaves
+IsOf w s (Call f at) = IsRoutine w.setup (FunctionCode f)
+IsOf w s (Built c at) = Unit {0}
+IsOf w s (Ending c at) = Unit {0}
+
+-- what is told names parts that are there, and is of the state
+pub record IsToldOf (w : World) (s : Objects) (out : Out) : Type 0 where
+  pub told : IsTold (classes_in w) out
+  pub of : IsOf w s out
+
+-- each of them is
+abbrev pub AreToldOf : World → Objects → List Out → Type 0
+AreToldOf w s [] = Unit {0}
+AreToldOf w s (out ∷ outs) = IsToldOf w s out × AreToldOf w s outs
+
+-- each of them that is printed without a trace too
+abbrev pub ArePrintedOf : World → Objects → List Out → Type 0
+ArePrintedOf w s [] = Unit {0}
+ArePrintedOf w s (out ∷ outs) = (is_traced out ≡ false → IsToldOf w s out) × ArePrintedOf w s outs

@@ -1,0 +1,10 @@
+pub mod Growing
+pub mod Held
+pub mod PlansOpened
+pub mod ObjectStands
+pub mod NewSteps
+pub mod DeleteChecks
+pub mod Idle
+pub mod FinalEnds
+pub mod DeletingEntries
+pub mod DeleteSteps

@@ -1,0 +1,10 @@
+pub mod Closings
+pub mod Orders
+pub mod Wholes
+pub mod Last
+pub mod Waiting
+pub mod Finished
+pub mod Leaves
+pub mod EventTurns
+pub mod BodyTurns
+pub mod Reached

@@ -1,0 +1,14 @@
+pub mod Appends
+pub mod FirstTables
+pub mod WordLimits
+pub mod BlockSums
+pub mod WalkPoints
+pub mod PartItems
+pub mod Known
+pub mod Distances
+pub mod TableSteps
+pub mod PathEnds
+pub mod Lefts
+pub mod OpeningNumbers
+pub mod Putting
+pub mod InitConstants

@@ -1,0 +1,23 @@
+-- What is left of a plan, as code has it, and the numbers of the blocks at which routines begin.
+use Rattle.std.specs.Prelude.{◌≡◌, ℕ, List}
+use Rattle.cxx_hierarchy.specs.declared.records.ClassId.{ClassId}
+use Rattle.path_plan.specs.Plans.{Form}
+use Rattle.abi_slots.specs.declared.code_numbers.CodeRow.{CodeRow}
+use Rattle.abi_ops.specs.Setups.{Setup, Routine}
+use Rattle.abi_ops.specs.Routines.{IsRoutine, start_by}
+use Rattle.abi_ops.specs.declared.routines.Course.{Course}
+use Rattle.abi_lower.specs.declared.items.Item.{Item as ItemCode}
+use Rattle.abi_lower.specs.Items.{Item}
+use Rattle.abi_lower.specs.Blocks.{Place, first_place}
+use Rattle.abi_lower.specs.Lowered.{IsEnd}
+use Rattle.abi_lower.specs.invariants.ItemCodes.{item_codes}
+
+-- the codes are those of an end of a plan
+pub record AreLeft (x : Setup) (course : Course) (form : Form) (c : ClassId) (codes : List ItemCode) : Type 0 where
+  pub left : List Item
+  pub is : codes ≡ item_codes left
+  pub end : IsEnd x course form c left
+
+-- each routine of the program begins at the block that the numbers of code give
+pub record StartsBy (x : Setup) (at : Place → ℕ) (numbers : List CodeRow) : Type 0 where
+  pub each : (r : Routine) → IsRoutine x r → at (first_place x r) ≡ start_by x numbers r

@@ -1,0 +1,235 @@
+//! The ops of the own events of plans.
+
+ghost use Rattle.std.specs.Prelude.{◌≡◌, ◌<◌, ◌+◌, ◌^◌, ◌++◌, ◌∷◌, [], List, None, OnOk, Some, length};
+ghost use Rattle.std.specs.Option.{option_copied};
+ghost use Rattle.path_bodies.specs.Places.{IsIndexOf};
+ghost use Rattle.path_model.specs.States.{init_of};
+ghost use Rattle.path_plan.specs.Plans.{Form as FormOf};
+ghost use Rattle.byte_code.specs.declared.op.Op.TheVariants.{Begin, SetPhase, SetView, Trace};
+ghost use Rattle.byte_code.specs.declared.op.Phase.TheVariants.{InBases, ReadyEnding};
+ghost use Rattle.byte_code.specs.declared.op.TraceKind.TheVariants.{Ending};
+ghost use Rattle.abi_ops.specs.Setups.{PlanCode, Setup, body_in, free_register, locals_in, plan_owner, setup};
+ghost use Rattle.abi_ops.specs.Operands.{converted_ops};
+ghost use Rattle.abi_sound.specs.declared.class_layout.ClassLayout.{ClassLayout};
+ghost use Rattle.abi_lower.specs.Blocks.{back_then, event_then, init_then, whose_of};
+ghost use Rattle.abi_lower.specs.invariants.ItemCodes.{form_of};
+ghost use Rattle.abi_pointers.specs.PlanSites.{HasFewLocals, IsPlanSite};
+ghost use Rattle.abi_pointers.specs.Settings.{ArePointers};
+ghost use Rattle.abi_pointers.specs.invariants.Constants.{IsConstant, IsPlain};
+
+use crate::hands::whose;
+use crate::plan_sites::PlanSite;
+use crate::pointers::{ClassPointers, push_pointers};
+use abi_lower::items::{Form, Kind};
+use abi_ops::operands::push_operand;
+use abi_ops::places::leaf_width;
+use abi_ops::routines::Course;
+use abi_ops::widths::{WORD, kind_of_number};
+use abi_sound::{SoundLayout, member_place};
+use byte_code::{Finish, NumberKind, Op, OpList, Phase, TraceKind};
+use cxx_hierarchy::ClassId;
+use cxx_program::{Conversion, Owner, TypedBody, TypedInit};
+use foundation::NoMemory;
+
+/// The owner of the body that a plan runs.
+fn owner_of(course: Course, c: ClassId) -> Owner
+    ensures { result ≡ plan_owner course c }
+{
+    match course {
+        Course::Constructs => Owner::Constructor(c),
+        Course::Destroys | Course::Deletes => Owner::Destructor(c),
+    }
+}
+
+/// How many locals a body has, if there is one.
+fn local_count(body: Option<&TypedBody>) -> usize
+    ensures { result ≡ locals_in (option_copied body.entry) }
+{
+    match body {
+        None => 0,
+        Some(body) => body.locals.len(),
+    }
+}
+
+/// The first register that is free for the ops of a block of a plan.
+fn free<L>(site: &PlanSite<L>, course: Course, c: ClassId) -> u32
+    requires index { IsIndexOf site.now.program.now site.now.index.now }
+    requires few { HasFewLocals site.now.program.now }
+    ensures is { (rows : List ClassLayout) (form : FormOf) → result ≡ free_register (body_in (setup site.now.h.now rows site.now.program.now) (PlanCode course form c)) 0 }
+    ensures small { result < 2 ^ 31 + 2 }
+{
+    let body = site.index.body(site.program, owner_of(course, c));
+    local_count(body) as u32 + 2
+}
+
+/// What makes a value of a member from a constant.
+fn converted(conversion: &Conversion, to: u32, from: u32) -> Finish
+    requires { IsPlain conversion.now }
+    ensures { (x : Setup) → converted_ops x None conversion.now to from ≡ result ∷ [] }
+{
+    match conversion {
+        Conversion::Number(scalar) => Finish::Convert {
+            to,
+            from,
+            kind: kind_of_number(*scalar),
+        },
+        Conversion::Null => Finish::Convert {
+            to,
+            from,
+            kind: NumberKind::Bytes(WORD),
+        },
+        Conversion::Same => Finish::Move { to, from },
+        Conversion::Base(_) => unreachable!(),
+    }
+}
+
+/// Puts the ops of an initializer behind others, which stores a constant in member `m` of class `c`.
+///
+/// Errors: want of memory.
+fn push_constant<L: SoundLayout>(
+    ops: &mut OpList,
+    site: &PlanSite<L>,
+    course: Course,
+    c: ClassId,
+    m: u32,
+    init: &TypedInit,
+) -> Result<(), NoMemory>
+    requires layout { L.lays_out site.now.layout.now site.now.h.now }
+    requires site { IsPlanSite (setup site.now.h.now (L.rows site.now.layout.now) site.now.program.now) site.now.slots.now site.now.index.now site.now.tables.now }
+    requires known { c.0 < length site.now.h.now }
+    requires constant { IsConstant init.now }
+    ensures { OnOk result ((form : FormOf) → ops.new ≡ ops.old ++ init_then (setup site.now.h.now (L.rows site.now.layout.now) site.now.program.now) course form c m (Some init.now) []) }
+{
+    let value = free(site, course, c);
+    push_operand(ops, value, init.operand)?;
+    ops.push(Op::Does(converted(&init.conversion, value + 1, value)))?;
+    ops.push(Op::Store {
+        from: value + 1,
+        base: 0,
+        offset: member_place(site.layout, c, m),
+        width: leaf_width(site.h, c, m),
+    })?;
+    Ok(())
+}
+
+/// Puts the ops of the initializer of a member behind others, if it has one.
+///
+/// Errors: want of memory.
+fn push_init<L: SoundLayout>(
+    ops: &mut OpList,
+    site: &PlanSite<L>,
+    course: Course,
+    c: ClassId,
+    m: u32,
+) -> Result<(), NoMemory>
+    requires layout { L.lays_out site.now.layout.now site.now.h.now }
+    requires site { IsPlanSite (setup site.now.h.now (L.rows site.now.layout.now) site.now.program.now) site.now.slots.now site.now.index.now site.now.tables.now }
+    requires known { c.0 < length site.now.h.now }
+    ensures { OnOk result ((form : FormOf) → ops.new ≡ ops.old ++ init_then (setup site.now.h.now (L.rows site.now.layout.now) site.now.program.now) course form c m (init_of site.now.program.now c m) []) }
+{
+    match site.index.initializer(site.program, c, m) {
+        None => {}
+        Some(init) => push_constant(ops, site, course, c, m, init)?,
+    }
+    Ok(())
+}
+
+/// Puts the op behind others by which a base gives the view back.
+///
+/// Errors: want of memory.
+fn push_back(ops: &mut OpList, form: Form) -> Result<(), NoMemory>
+    ensures { OnOk result (ops.new ≡ ops.old ++ back_then (form_of form) []) }
+{
+    match form {
+        Form::InFull => {}
+        Form::AsBase => ops.push(Op::ViewBack)?,
+    }
+    Ok(())
+}
+
+/// Puts the op behind others that puts a part into a phase.
+///
+/// Errors: want of memory.
+fn push_phase(ops: &mut OpList, c: ClassId, phase: Phase) -> Result<(), NoMemory>
+    ensures { OnOk result (ops.new ≡ ops.old ++ SetPhase c.0 phase ∷ []) }
+{
+    ops.push(Op::SetPhase { class: c.0, phase })?;
+    Ok(())
+}
+
+/// Puts the ops behind others by which a part begins.
+///
+/// Errors: want of memory.
+fn push_begin(ops: &mut OpList, form: Form, c: ClassId) -> Result<(), NoMemory>
+    ensures { OnOk result (ops.new ≡ ops.old ++ Begin c.0 (whose_of (form_of form)) ∷ SetPhase c.0 InBases ∷ SetView c.0 (whose_of (form_of form)) ∷ []) }
+{
+    ops.push(Op::Begin {
+        class: c.0,
+        owner: whose(form),
+    })?;
+    push_phase(ops, c, Phase::InBases)?;
+    ops.push(Op::SetView {
+        class: c.0,
+        owner: whose(form),
+    })?;
+    Ok(())
+}
+
+/// Puts the ops behind others by which the destruction of a part begins, its virtual pointers aside.
+///
+/// Errors: want of memory.
+fn push_ending(ops: &mut OpList, form: Form, c: ClassId) -> Result<(), NoMemory>
+    ensures { OnOk result (ops.new ≡ ops.old ++ SetPhase c.0 ReadyEnding ∷ SetView c.0 (whose_of (form_of form)) ∷ Trace (Ending c.0) ∷ []) }
+{
+    push_phase(ops, c, Phase::ReadyEnding)?;
+    ops.push(Op::SetView {
+        class: c.0,
+        owner: whose(form),
+    })?;
+    ops.push(Op::Trace(TraceKind::Ending(c.0)))?;
+    Ok(())
+}
+
+/// Puts the ops of an own event of a plan of class `c` behind others.
+///
+/// Errors: want of memory.
+pub fn push_event<L: SoundLayout>(
+    ops: &mut OpList,
+    site: &PlanSite<L>,
+    pointers: &ClassPointers,
+    course: Course,
+    form: Form,
+    c: ClassId,
+    kind: Kind,
+) -> Result<(), NoMemory>
+    requires layout { L.lays_out site.now.layout.now site.now.h.now }
+    requires site { IsPlanSite (setup site.now.h.now (L.rows site.now.layout.now) site.now.program.now) site.now.slots.now site.now.index.now site.now.tables.now }
+    requires pointers { ArePointers (setup site.now.h.now (L.rows site.now.layout.now) site.now.program.now) c pointers.now }
+    requires known { c.0 < length site.now.h.now }
+    ensures { OnOk result (ops.new ≡ ops.old ++ event_then (setup site.now.h.now (L.rows site.now.layout.now) site.now.program.now) course (form_of form) c kind []) }
+{
+    match kind {
+        Kind::AtBegin => push_begin(ops, form, c)?,
+        Kind::AtReady => {
+            push_pointers(ops, pointers, form)?;
+            push_phase(ops, c, Phase::ReadyBuilding)?;
+        }
+        Kind::AtInit(m) => push_init(ops, site, course, c, m)?,
+        Kind::AtBody => {}
+        Kind::AtDone => {
+            push_phase(ops, c, Phase::Complete)?;
+            push_back(ops, form)?;
+            ops.push(Op::Trace(TraceKind::Built(c.0)))?;
+        }
+        Kind::AtEnding => {
+            push_pointers(ops, pointers, form)?;
+            push_ending(ops, form, c)?;
+        }
+        Kind::AtBases => push_phase(ops, c, Phase::EndingBases)?,
+        Kind::AtEnd => {
+            push_phase(ops, c, Phase::Ended)?;
+            push_back(ops, form)?;
+        }
+    }
+    Ok(())
+}

@@ -1,0 +1,115 @@
+//! The subobjects of a class, and which of them have a virtual pointer of their own.
+
+ghost use Rattle.std.specs.Prelude.{◌≡◌, ◌<◌, false, true, All, Some, get_or, length};
+ghost use Rattle.cxx_hierarchy.specs.declared.records.ClassId.{ClassId};
+ghost use Rattle.cxx_subobject.specs.Subobjects.{class_of};
+ghost use Rattle.abi_sound.specs.Places.{places_of};
+ghost use Rattle.abi_slots.specs.Listing.{is_direct, is_shared_root};
+ghost use Rattle.abi_vtt.specs.Vtts.{ends_in_primary, is_proper_at, needs_word};
+ghost use Rattle.abi_ops.specs.Setups.{setup};
+ghost use Rattle.abi_lower.specs.Blocks.{is_set_apart};
+ghost use Rattle.abi_pointers.specs.PlanSites.{IsPlanSite};
+
+use crate::plan_sites::PlanSite;
+use abi_count::has_virtual;
+use abi_primary::Primary;
+use abi_sound::SoundLayout;
+use cxx_hierarchy::{ClassId, Hierarchy};
+use cxx_subobject::{Root, Subobject, class_of};
+
+/// The class of a subobject.
+pub(crate) fn class_at(s: &Subobject) -> ClassId
+    requires { (d : ClassId) × (class_of s.now ≡ Some d) }
+    ensures { class_of s.now ≡ Some result }
+{
+    match class_of(s) {
+        Some(class) => class,
+        None => unreachable!(),
+    }
+}
+
+/// Whether the primary base is this one, and not virtual.
+fn is_direct(primary: Primary, b: ClassId) -> bool
+    ensures { result ≡ is_direct primary b }
+{
+    match primary {
+        Primary::None => false,
+        Primary::Direct(d) => d.0 == b.0,
+        Primary::Virtual(_) => false,
+    }
+}
+
+/// Whether the last class of a path is the non-virtual primary base of the one before it.
+fn ends_in_primary<L: SoundLayout>(h: &Hierarchy, layout: &L, path: &[ClassId]) -> bool
+    requires layout { L.lays_out layout.now h.now }
+    requires known { All (λ (c : ClassId). c.0 < length h.now) path.now }
+    ensures { result ≡ ends_in_primary (places_of h.now (L.rows layout.now)) path.now }
+{
+    match path {
+        [] => false,
+        [_] => false,
+        [c, d] => is_direct(layout.layout(*c).primary, *d),
+        [_, path @ ..] => ends_in_primary(h, layout, path),
+    }
+}
+
+/// Whether a subobject is a base, and not the whole.
+fn is_proper(s: &Subobject) -> bool
+    ensures { result ≡ is_proper_at s.now.root s.now.path }
+{
+    match s.root {
+        Root::Whole => s.path.len() > 1,
+        Root::Shared(_) => true,
+    }
+}
+
+/// Whether a root is that of a virtual base.
+fn is_shared(root: Root) -> bool
+    ensures { result ≡ is_shared_root root }
+{
+    match root {
+        Root::Whole => false,
+        Root::Shared(_) => true,
+    }
+}
+
+/// The flag of a class, and false behind the end.
+fn flag_of(flags: &[bool], d: ClassId) -> bool
+    ensures { result ≡ get_or flags.now d.0 false }
+{
+    match flags.get(d.0 as usize) {
+        Some(flag) => *flag,
+        None => false,
+    }
+}
+
+/// Whether a subobject of class `d` has a virtual pointer that no other one sets: it is dynamic, and not the non-virtual primary
+/// base of the subobject that directly derives it.
+pub(crate) fn is_set_apart<L: SoundLayout>(site: &PlanSite<L>, s: &Subobject, d: ClassId) -> bool
+    requires layout { L.lays_out site.now.layout.now site.now.h.now }
+    requires site { IsPlanSite (setup site.now.h.now (L.rows site.now.layout.now) site.now.program.now) site.now.slots.now site.now.index.now site.now.tables.now }
+    requires class { class_of s.now ≡ Some d }
+    requires known { d.0 < length site.now.h.now }
+    requires path { All (λ (c : ClassId). c.0 < length site.now.h.now) s.now.path }
+    ensures { result ≡ is_set_apart (setup site.now.h.now (L.rows site.now.layout.now) site.now.program.now) s.now }
+{
+    if !flag_of(site.tables.dynamic.as_slice(), d) {
+        return false;
+    }
+    !ends_in_primary(site.h, site.layout, s.path.as_slice())
+}
+
+/// Whether a subobject of class `d` that is set apart has a word in the sub-VTT: a base that has virtual bases or lies below one
+/// (Itanium C++ ABI 2.6.2).
+pub(crate) fn needs_word<L: SoundLayout>(site: &PlanSite<L>, s: &Subobject, d: ClassId) -> bool
+    requires layout { L.lays_out site.now.layout.now site.now.h.now }
+    requires class { class_of s.now ≡ Some d }
+    requires known { d.0 < length site.now.h.now }
+    requires apart { is_set_apart (setup site.now.h.now (L.rows site.now.layout.now) site.now.program.now) s.now ≡ true }
+    ensures { result ≡ needs_word site.now.h.now (places_of site.now.h.now (L.rows site.now.layout.now)) s.now }
+{
+    if !is_proper(s) {
+        return false;
+    }
+    has_virtual(site.h, site.layout, d) || is_shared(s.root)
+}

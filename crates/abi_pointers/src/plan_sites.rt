@@ -1,0 +1,21 @@
+//! What the ops of plans are found by.
+
+use crate::class_tables::ClassTables;
+use abi_slots::{CodeNumbers, Slots};
+use cxx_hierarchy::Hierarchy;
+use cxx_program::TypedProgram;
+use path_bodies::BodyIndex;
+use std::alloc::Global;
+
+/// The classes with their layout, their words and tables, the program with the places of its bodies, and the numbers of code.
+#[derive(Drop)]
+pub struct PlanSite<'a, L> {
+    pub alloc: Global,
+    pub h: &'a Hierarchy,
+    pub layout: &'a L,
+    pub slots: &'a Slots,
+    pub numbers: &'a CodeNumbers,
+    pub program: &'a TypedProgram,
+    pub index: &'a BodyIndex,
+    pub tables: &'a ClassTables,
+}

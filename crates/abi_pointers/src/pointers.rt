@@ -1,0 +1,112 @@
+//! The virtual pointers of a class.
+
+ghost use Rattle.std.specs.Prelude.{◌≡◌, ◌<◌, ◌++◌, ◌∷◌, [], IfOk, OnOk, List, length, map};
+ghost use Rattle.cxx_hierarchy.specs.declared.records.ClassId.{ClassId};
+ghost use Rattle.cxx_subobject.specs.declared.Subobject.{Subobject};
+ghost use Rattle.cxx_subobject.specs.Subobjects.{IsSubobject};
+ghost use Rattle.byte_code.specs.declared.op.Op.TheVariants.{SetTable};
+ghost use Rattle.path_plan.specs.Plans.{AsBase, InFull};
+ghost use Rattle.abi_sound.specs.Places.{places_of};
+ghost use Rattle.abi_ops.specs.Setups.{Setup, setup};
+ghost use Rattle.abi_lower.specs.Blocks.{pointers_then};
+ghost use Rattle.abi_lower.specs.invariants.ItemCodes.{form_of};
+ghost use Rattle.abi_pointers.specs.PlanSites.{IsPlanSite};
+ghost use Rattle.abi_pointers.specs.Settings.{ArePointers, settings_of};
+ghost use Rattle.abi_pointers.specs.invariants.Walks.{IsAtPart, IsPast};
+
+use crate::parts::{class_at, is_set_apart};
+use crate::plan_sites::PlanSite;
+use crate::settings::{base_setting, full_setting};
+use crate::walks::{Walk, passed, point_of, start};
+use abi_lower::items::Form;
+use abi_sound::SoundLayout;
+use byte_code::{Op, OpList, Setting};
+use cxx_hierarchy::ClassId;
+use cxx_subobject::{Subobject, list_subobjects};
+use foundation::{NoMemory, Sequence};
+
+/// A list of settings.
+pub type SettingList = Sequence<Setting>;
+
+/// How the virtual pointers of a class are set, in the preorder of its subobjects: in a complete object, and in a base.
+#[derive(Drop)]
+pub struct ClassPointers {
+    pub(crate) in_full: SettingList,
+    pub(crate) as_base: SettingList,
+}
+
+/// Puts the settings of a subobject behind others, where it is set apart, and goes on behind it.
+///
+/// Errors: want of memory.
+fn visit<L: SoundLayout>(
+    site: &PlanSite<L>,
+    c: ClassId,
+    s: &Subobject,
+    walk: &mut Walk,
+    made: &mut ClassPointers,
+) -> Result<(), NoMemory>
+    requires layout { L.lays_out site.now.layout.now site.now.h.now }
+    requires site { IsPlanSite (setup site.now.h.now (L.rows site.now.layout.now) site.now.program.now) site.now.slots.now site.now.index.now site.now.tables.now }
+    requires known { c.0 < length site.now.h.now }
+    requires valid { IsSubobject site.now.h.now c s.now }
+    requires at { IsAtPart site.now.h.now (places_of site.now.h.now (L.rows site.now.layout.now)) c s.now walk.old }
+    ensures in_full { OnOk result (made.new.in_full ≡ made.old.in_full ++ settings_of (setup site.now.h.now (L.rows site.now.layout.now) site.now.program.now) InFull c (s.now ∷ [])) }
+    ensures as_base { OnOk result (made.new.as_base ≡ made.old.as_base ++ settings_of (setup site.now.h.now (L.rows site.now.layout.now) site.now.program.now) AsBase c (s.now ∷ [])) }
+    ensures walk { OnOk result ((before : List Subobject) → IsPast site.now.h.now (places_of site.now.h.now (L.rows site.now.layout.now)) c before walk.old → IsPast site.now.h.now (places_of site.now.h.now (L.rows site.now.layout.now)) c (before ++ s.now ∷ []) walk.new) }
+{
+    let d = class_at(s);
+    if is_set_apart(site, s, d) {
+        let point = point_of(site, c, walk, s, d);
+        made.in_full.push(full_setting(site, c, s, point))?;
+        made.as_base.push(base_setting(site, c, s, point)?)?;
+        *walk = passed(site, *walk, s, d);
+    }
+    Ok(())
+}
+
+impl ClassPointers {
+    /// The settings of a class. Time goes with its subobjects and the lengths of their paths.
+    ///
+    /// Errors: want of memory.
+    pub fn new<L: SoundLayout>(site: &PlanSite<L>, c: ClassId) -> Result<ClassPointers, NoMemory>
+        requires layout { L.lays_out site.now.layout.now site.now.h.now }
+        requires site { IsPlanSite (setup site.now.h.now (L.rows site.now.layout.now) site.now.program.now) site.now.slots.now site.now.index.now site.now.tables.now }
+        requires known { c.0 < length site.now.h.now }
+        ensures { IfOk result (ArePointers (setup site.now.h.now (L.rows site.now.layout.now) site.now.program.now) c) }
+    {
+        site.h.keeps();
+        let list = list_subobjects(site.alloc, site.h, c)?;
+        let mut walk = start(site, c);
+        let mut made = ClassPointers {
+            in_full: Sequence::new(site.alloc),
+            as_base: Sequence::new(site.alloc),
+        };
+        for s in list.as_slice() {
+            visit(site, c, s, &mut walk, &mut made)?;
+        }
+        Ok(made)
+    }
+}
+
+/// Puts the ops of some settings behind others.
+fn push_settings(ops: &mut OpList, settings: &[Setting]) -> Result<(), NoMemory>
+    ensures { OnOk result (ops.new ≡ ops.old ++ map SetTable settings.now) }
+{
+    for setting in settings {
+        ops.push(Op::SetTable(*setting))?;
+    }
+    Ok(())
+}
+
+/// Puts the ops behind others that set all virtual pointers of a part, by the settings of its class.
+///
+/// Errors: want of memory.
+pub fn push_pointers(ops: &mut OpList, pointers: &ClassPointers, form: Form) -> Result<(), NoMemory>
+    ensures { OnOk result ((x : Setup) (c : ClassId) → ArePointers x c pointers.now → ops.new ≡ ops.old ++ pointers_then x (form_of form) c []) }
+{
+    match form {
+        Form::InFull => push_settings(ops, pointers.in_full.as_slice())?,
+        Form::AsBase => push_settings(ops, pointers.as_base.as_slice())?,
+    }
+    Ok(())
+}

@@ -1,0 +1,124 @@
+-- What the turns of a run make: its text, its end, and the machine that they leave.
+use Rattle.std.proofs.Common.{◌≡◌, ℕ, ◌+◌, ◌<◌, ◌≤◌, inl, inr, Some, List, [], ◌++◌, length, refl, sym, ap, subst, ◌∙◌, arith}
+use Rattle.std.specs.Prelude.{◌⊎◌}
+use Rattle.cxx_hierarchy.specs.declared.stop.LimitNo.TheVariants.{L9}
+use Rattle.path_model.specs.Runs.{IsRunning, outs_in, run_of}
+use Rattle.byte_code.specs.declared.code.Code.{Code}
+use Rattle.byte_code.specs.declared.code.ImageBytes.{ImageBytes}
+use Rattle.byte_machine.specs.declared.turn.MachineTurn.{MachineTurn}
+use Rattle.byte_machine.specs.declared.turn.MachineTurn.TheVariants.{Went, Ended, Refused, OutOfSteps as NoSteps, Limit as LimitTurn}
+use Rattle.byte_machine.specs.declared.turn.RawOut.{RawOut}
+use Rattle.byte_machine.specs.Running.{Fixed}
+use Rattle.byte_machine.specs.Turn.{State as Bytes, Turns, fixed_of, kept_answer}
+use Rattle.byte_machine.proofs.TurnLeads.{answer_kept}
+use Rattle.foundation.proofs.Members.{Has}
+use Rattle.abi_lines.specs.RawTexts.{HasText}
+use Rattle.abi_ops.specs.Setups.{Setup, places}
+use Rattle.abi_slots.specs.declared.code_numbers.CodeRow.{CodeRow}
+use Rattle.abi_told.specs.declared.ending.End.{End}
+use Rattle.abi_told.specs.declared.ending.End.TheVariants.{Done, Undefined, OutOfSteps, Limit}
+use Rattle.abi_told.specs.Told.{IsRun, text_limit}
+use Rattle.abi_told.proofs.Lines.{AreLinesOf, IsTextOf, lines_pass, lines_stand}
+use Rattle.abi_refine.specs.Agreed.{Agreed, move_after}
+use Rattle.abi_refine.specs.Endings.{counted_by, turn_of}
+use Rattle.abi_refine.specs.Executions.{lines_in}
+use Rattle.abi_refine.specs.Reaches.{ReachesWith, further, by_answer, by_length, Executes}
+use Rattle.abi_refine.proofs.EndNumbers.{same_end}
+use Rattle.abi_refine.proofs.Going.{Going, HasGone, IsEndOf, gone, one_more, over, run_ended, stands_on}
+use Rattle.abi_refine.proofs.TurnLines.{turn_lines, turn_texts}
+
+-- the answer that ends a run is no step
+no_step : (e : End) → turn_of e ≡ Went → ⊥
+no_step Done is = cc
+no_step (Undefined rule line) is = cc
+no_step OutOfSteps is = cc
+no_step (Limit limit) is = cc
+
+kept_end : (e : End) → kept_answer (turn_of e) ≡ Some (turn_of e)
+kept_end Done = refl
+kept_end (Undefined rule line) = refl
+kept_end OutOfSteps = refl
+kept_end (Limit limit) = refl
+
+-- a machine with the same image, code and room
+pub fixed_same : (image image' : ImageBytes) (code code' : Code) (parts parts' : ℕ) → image ≡ image' → code ≡ code' → parts ≡ parts' → fixed_of image code parts ≡ fixed_of image' code' parts'
+fixed_same image image' code code' parts parts' a b c = ap (λ i. fixed_of i code parts) a ∙ (ap (λ k. fixed_of image' k parts) b ∙ ap (fixed_of image' code') c)
+
+module _ (x : Setup) (code : Code) (numbers : List CodeRow) (f : Fixed) (first b b' : Bytes) (text : List ℕ) (told : List RawOut) (turn : MachineTurn) (going : Going x code numbers f (lines_in x) first b text) (agreed : Agreed x code numbers f (move_after x b.taken) b b' told turn) (turned : Turns f code b [] b' told turn) where
+  -- the turn went on, or it ended the run
+  decided : (t : MachineTurn) → turn ≡ t → (turn ≡ Went) ⊎ ((e : End) × (turn ≡ turn_of e))
+  decided Went is = inl is
+  decided Ended is = inr (let r = over x code numbers f (lines_in x) first b b' text told turn going (λ w. let g : Ended ≡ Went = sym is ∙ w in cc (g)) agreed in (r.0, r.1.answer))
+  decided (Refused rule line) is = inr (let r = over x code numbers f (lines_in x) first b b' text told turn going (λ w. let g : Refused rule line ≡ Went = sym is ∙ w in cc (g)) agreed in (r.0, r.1.answer))
+  decided NoSteps is = inr (let r = over x code numbers f (lines_in x) first b b' text told turn going (λ w. let g : NoSteps ≡ Went = sym is ∙ w in cc (g)) agreed in (r.0, r.1.answer))
+  decided (LimitTurn limit) is = inr (let r = over x code numbers f (lines_in x) first b b' text told turn going (λ w. let g : LimitTurn limit ≡ Went = sym is ∙ w in cc (g)) agreed in (r.0, r.1.answer))
+
+  pub answers : (turn ≡ Went) ⊎ ((e : End) × (turn ≡ turn_of e))
+  answers = decided turn refl
+
+  -- an answer ended the run
+  module _ (e : End) (is : turn_of e ≡ turn) where
+    its_end : IsEndOf x code numbers f (lines_in x) first b turn e
+    its_end =
+        let r = over x code numbers f (lines_in x) first b b' text told turn going (λ went. no_step e (is ∙ went)) agreed in
+        subst (λ (y : End). IsEndOf x code numbers f (lines_in x) first b turn y) (same_end r.0 e (sym r.1.answer ∙ sym is)) r.1
+
+    pub ends_run : IsRun x.h (places x) x.program first.left text e
+    ends_run = run_ended x code numbers f (lines_in x) first b text turn e going its_end
+
+    by_end : Turns f code b [] b' told (turn_of e)
+    by_end = subst (λ (t : MachineTurn). Turns f code b [] b' told t) (sym is) turned
+
+    pub ends_executing : Executes f code (lines_in x) first b' text e
+    ends_executing = record { mid = b; reaches = going.reaches; ends = by_answer b' told e by_end }
+
+    pub ends_answered : b'.answer ≡ Some (turn_of e)
+    ends_answered = answer_kept f code b b' [] told (turn_of e) by_end (kept_end e)
+
+    pub ends_counted : (steps counted : ℕ) → steps ≡ b.taken → counted ≡ counted_by steps e → counted ≡ (run_of x.h (places x).size x.program first.left).steps
+    ends_counted steps counted same by_steps = by_steps ∙ (ap (λ n. counted_by n e) same ∙ sym its_end.steps)
+
+  -- the turn went on
+  module _ (is : turn ≡ Went) where
+    went : HasGone x code numbers f (lines_in x) first b b' told
+    went = gone x code numbers f (lines_in x) first b b' told turn is agreed
+
+    by_step : Turns f code b [] b' told Went
+    by_step = subst (λ (t : MachineTurn). Turns f code b [] b' told t) is turned
+
+    its_lines : (lines : List ℕ) → lines ≡ lines_in x b' told → AreLinesOf x.h (places x) x.program b.taken text lines
+    its_lines lines are = record { telling = went.outs; tells = sym (ap outs_in went.moves); are = are ∙ turn_lines x code numbers f b.taken went.new went.outs went.moves b' told went.went }
+
+    runs_on : IsRunning x.h (places x).size x.program (b.taken + 1)
+    runs_on = one_more x code numbers f (lines_in x) first b b' told went going.running
+
+    within : b.taken + 1 ≤ first.left
+    within = let c = went.counts.left in let t = going.total in omega (arith, c, t)
+
+    -- its lines pass the limit
+    pub passes_run : (lines : List ℕ) → lines ≡ lines_in x b' told → text_limit < length text + length lines → IsRun x.h (places x) x.program first.left text (Limit L9)
+    passes_run lines are long = lines_pass x.h (places x) x.program b.taken text first.left lines going.text_is runs_on within (its_lines lines are) long
+
+    pub passes_executing : (lines : List ℕ) → lines ≡ lines_in x b' told → text_limit < length text + length lines → Executes f code (lines_in x) first b' text (Limit L9)
+    passes_executing lines are long = record { mid = b; reaches = going.reaches; ends = by_length b' told by_step (subst (λ (ls : List ℕ). text_limit < length text + length ls) are long) }
+
+    -- they stand behind the text
+    pub goes_on : (lines new : List ℕ) → lines ≡ lines_in x b' told → length text + length lines ≤ text_limit → new ≡ text ++ lines → Going x code numbers f (lines_in x) first b' new
+    goes_on lines new are few puts =
+        let more = lines_stand x.h (places x) x.program b.taken text lines new going.text_is (its_lines lines are) few puts in
+        record {
+          stands = stands_on x code numbers f (lines_in x) first b b' told went;
+          running = subst (λ n. IsRunning x.h (places x).size x.program n) (sym went.counts.taken) runs_on;
+          total = let c = went.counts.left in let t = going.total in let k = went.counts.taken in omega (arith, c, t, k);
+          text_is = subst (λ n. IsTextOf x.h (places x) x.program n new) (sym went.counts.taken) more;
+          reaches = subst (λ (t : List ℕ). ReachesWith f code (lines_in x) first b' t) (sym (puts ∙ ap (λ (ls : List ℕ). text ++ ls) are)) (further b b' text told going.reaches by_step);
+        }
+
+    pub less_left : b'.left < b.left
+    less_left = let c = went.counts.left in omega (arith, c)
+
+    pub more_taken : b'.taken ≡ b.taken + 1
+    more_taken = went.counts.taken
+
+    pub texts_told : (raw : RawOut) → Has told raw → HasText x.h b'.objects raw
+    texts_told raw has = turn_texts x code numbers f b.taken went.new went.outs went.moves b' told went.went raw has

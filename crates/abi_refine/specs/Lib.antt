@@ -1,0 +1,5 @@
+pub mod Standing
+pub mod Agreed
+pub mod Endings
+pub mod Reaches
+pub mod Executions

@@ -1,0 +1,26 @@
+-- When a byte state stands for a state of a program, over some tables in the image of a machine and the code that it runs.
+use Rattle.std.specs.Prelude.{◌≡◌, ℕ, true, Some, List, slice_get}
+use Rattle.cxx_program.specs.declared.program.Owner.{Owner}
+use Rattle.cxx_program.specs.declared.program.TypedBody.{TypedBody}
+use Rattle.cxx_program.specs.declared.program.TypedProgram.{TypedProgram}
+use Rattle.cxx_program.specs.declared.statement.TypedStatement.{TypedStatement}
+use Rattle.path_model.specs.States.{State, body_of}
+use Rattle.path_model.specs.Runs.{state_at}
+use Rattle.byte_code.specs.declared.code.Code.{Code}
+use Rattle.byte_machine.specs.Running.{Fixed}
+use Rattle.byte_machine.specs.Turn.{State as Bytes}
+use Rattle.abi_ops.specs.Setups.{Setup, places}
+use Rattle.abi_slots.specs.declared.code_numbers.CodeRow.{CodeRow}
+use Rattle.abi_stands.specs.Worlds.{World}
+use Rattle.abi_stands.specs.Stands.{StandsFor}
+use Rattle.abi_world.specs.Worlds.{IsWorldOf}
+
+-- a byte state stands for a state, in some such world
+pub record StandsIn (x : Setup) (code : Code) (numbers : List CodeRow) (f : Fixed) (s : State) (b : Bytes) : Type 0 where
+  pub world : World
+  pub is : IsWorldOf x code numbers f world
+  pub stands : StandsFor world is.world.lowered.at s b
+
+-- the state of a program after n steps, with the sizes of its layout
+abbrev pub state_after : Setup → ℕ → State
+state_after x n = state_at x.h (places x).size x.program n

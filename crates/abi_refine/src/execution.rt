@@ -1,0 +1,84 @@
+//! A program, built and run on the byte machine.
+
+ghost use Rattle.std.specs.Prelude.{◌≡◌, ◌≤◌, true, Some, IfOk};
+ghost use Rattle.cxx_hierarchy.specs.declared.stop.LimitNo.TheVariants.{L9};
+ghost use Rattle.cxx_overrider.specs.Overriders.{AreOverriders};
+ghost use Rattle.cxx_program.specs.Typed.{IsTypedProgram};
+ghost use Rattle.path_model.specs.States.{is_body};
+ghost use Rattle.path_model.specs.Runs.{run_of};
+ghost use Rattle.abi_sound.specs.Places.{places_of};
+ghost use Rattle.abi_count.specs.Counts.{all_words, most_words};
+ghost use Rattle.abi_ops.specs.Setups.{setup};
+ghost use Rattle.abi_code.specs.Bounds.{IsSmall};
+ghost use Rattle.abi_told.specs.Told.{told, ending_of};
+ghost use Rattle.byte_machine.specs.MachineState.{code_of, image_of, state_of};
+ghost use Rattle.abi_refine.specs.Executions.{IsExecution};
+
+use crate::run::{Ran, run_machine};
+use abi_slots::CodeNumbers;
+use abi_sound::SoundLayout;
+use abi_told::End;
+use abi_world::{Built, build};
+use byte_machine::Machine;
+use byte_memory::FlatMemory;
+use cxx_hierarchy::Hierarchy;
+use cxx_overrider::Overriders;
+use cxx_program::TypedProgram;
+use foundation::{NoMemory, Sequence};
+use std::alloc::Global;
+
+/// The most inheritance subobjects that a class may have: a cast has room for so many.
+const MOST_SUBOBJECTS: usize = 1024;
+
+/// What a run printed, its steps and how it ended; and the machine that ran it, with the numbers of its functions.
+#[derive(Drop)]
+pub struct Execution {
+    pub text: Sequence<u8>,
+    pub steps: u32,
+    pub end: End,
+    pub numbers: CodeNumbers,
+    pub machine: Machine<FlatMemory>,
+}
+
+/// Builds a typed program that has a `main`, and runs it on the byte machine for at most so many steps.
+///
+/// The machine has the tables, the code and the memory of the program, and no path of a subobject; the text and the end of its run
+/// are those of the subobject machine's. Where the text passes its limit, `steps` are those whose lines stand in it.
+///
+/// Errors: want of memory.
+pub fn execute<L: SoundLayout>(
+    alloc: Global,
+    h: &Hierarchy,
+    overriders: &Overriders,
+    layout: &L,
+    program: &TypedProgram,
+    steps: u32,
+) -> Result<Execution, NoMemory>
+    requires layout { L.lays_out layout.now h.now }
+    requires overriders { AreOverriders h.now overriders.now }
+    requires words { all_words h.now (places_of h.now (L.rows layout.now)) ≤ most_words }
+    requires typed { IsTypedProgram h.now program.now }
+    requires main { is_body program.now.main ≡ true }
+    requires small { IsSmall program.now }
+    requires budget { steps ≤ 4000000 }
+    ensures text { IfOk result (λ run. run.text ≡ (told h.now (places_of h.now (L.rows layout.now)) program.now steps).text) }
+    ensures end { IfOk result (λ run. ending_of run.end ≡ (told h.now (places_of h.now (L.rows layout.now)) program.now steps).ending) }
+    ensures steps { IfOk result (λ run. (run.end ≡ End.Limit L9 → ⊥) → run.steps ≡ (run_of h.now (places_of h.now (L.rows layout.now)).size program.now steps).steps) }
+    ensures machine { IfOk result (λ run. IsExecution (setup h.now (L.rows layout.now) program.now) steps run.numbers (code_of run.machine) (image_of run.machine) (state_of run.machine) run.text run.end) }
+{
+    let Built {
+        code,
+        numbers,
+        image,
+    } = build(alloc, h, overriders, layout, program)?;
+    let memory = FlatMemory::new(alloc);
+    let mut machine = Machine::new(alloc, memory, image, code, MOST_SUBOBJECTS, steps)?;
+    let Ran { text, steps, end } = run_machine(alloc, h, layout, program, &numbers, &mut machine)?;
+    Ok(Execution {
+        text: Sequence::from_vec(text),
+        steps,
+        end,
+        numbers,
+        machine,
+    })
+}

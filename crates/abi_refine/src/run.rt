@@ -1,0 +1,153 @@
+//! A whole run.
+
+ghost use Rattle.std.specs.Prelude.{◌≡◌, ◌≤◌, ◌++◌, ◌∷◌, [], false, Contains, IfOk, OnOk};
+ghost use Rattle.cxx_hierarchy.specs.declared.stop.LimitNo.TheVariants.{L9};
+ghost use Rattle.path_model.specs.Runs.{run_of};
+ghost use Rattle.byte_machine.specs.MachineState.{code_of, image_of, parts_of, fixed_in, state_of, has_failed};
+ghost use Rattle.abi_lines.specs.RawTexts.{HasText, printed};
+ghost use Rattle.abi_ops.specs.Setups.{setup, places};
+ghost use Rattle.abi_told.specs.Told.{IsRun};
+ghost use Rattle.abi_refine.specs.Endings.{counted_by, turn_of};
+ghost use Rattle.abi_refine.specs.Executions.{lines_in};
+ghost use Rattle.abi_refine.specs.Reaches.{Executes};
+ghost use Rattle.abi_refine.specs.Standing.{StandsIn, state_after};
+
+use crate::ending::end_of;
+use crate::law::turn;
+use abi_lines::{append_raw, is_traced};
+use abi_slots::CodeNumbers;
+use abi_sound::SoundLayout;
+use abi_told::End;
+use byte_machine::{Machine, RawOut};
+use byte_memory::Memory;
+use cxx_hierarchy::{Hierarchy, LimitNo};
+use cxx_program::TypedProgram;
+use foundation::{NoMemory, Sequence};
+use std::alloc::Global;
+
+/// The bytes that the text of a run may have.
+const TEXT_LIMIT: usize = 16777216;
+
+/// The text of a run, the number of its steps, and how it ended.
+#[derive(Drop)]
+pub struct Ran {
+    pub text: Vec<u8>,
+    pub steps: u32,
+    pub end: End,
+}
+
+/// Puts the text of one thing that a turn told, read on the machine that it left, at the end of a text, unless it is told in a trace
+/// alone.
+///
+/// Errors: want of memory.
+fn append_one<M: Memory, L: SoundLayout>(
+    alloc: Global,
+    h: &Hierarchy,
+    layout: &L,
+    _program: &TypedProgram,
+    machine: &Machine<M>,
+    text: &mut Vec<u8>,
+    raw: RawOut,
+) -> Result<(), NoMemory>
+    requires layout { L.lays_out layout.now h.now }
+    requires has_text { HasText h.now (state_of machine.now).objects raw }
+    ensures { OnOk result (text.new.items ≡ text.old.items ++ lines_in (setup h.now (L.rows layout.now) _program.now) (state_of machine.now) (raw ∷ [])) }
+{
+    if is_traced(raw) {
+        return Ok(());
+    }
+    append_raw(alloc, h, layout, &[], machine, text, raw)?;
+    Ok(())
+}
+
+/// Puts the lines of what a turn told and is printed, read on the machine that it left, at the end of a text.
+///
+/// Errors: want of memory.
+fn append_lines<M: Memory, L: SoundLayout>(
+    alloc: Global,
+    h: &Hierarchy,
+    layout: &L,
+    program: &TypedProgram,
+    machine: &Machine<M>,
+    text: &mut Vec<u8>,
+    outs: &[RawOut],
+) -> Result<(), NoMemory>
+    requires layout { L.lays_out layout.now h.now }
+    requires has_text { (raw : RawOut) → Contains outs.now raw → HasText h.now (state_of machine.now).objects raw }
+    ensures { OnOk result (text.new.items ≡ text.old.items ++ lines_in (setup h.now (L.rows layout.now) program.now) (state_of machine.now) outs.now) }
+{
+    for out in outs {
+        append_one(alloc, h, layout, program, machine, text, *out)?;
+    }
+    Ok(())
+}
+
+/// Turns a machine, over whatever memory, that stands for the start of a program until an answer ends the run, or its text passes
+/// the limit.
+///
+/// Errors: want of memory.
+pub fn run_machine<M: Memory, L: SoundLayout>(
+    alloc: Global,
+    h: &Hierarchy,
+    layout: &L,
+    program: &TypedProgram,
+    numbers: &CodeNumbers,
+    machine: &mut Machine<M>,
+) -> Result<Ran, NoMemory>
+    requires layout { L.lays_out layout.now h.now }
+    requires stands { StandsIn (setup h.now (L.rows layout.now) program.now) (code_of machine.old) numbers.now (fixed_in machine.old) (state_after (setup h.now (L.rows layout.now) program.now) 0) (state_of machine.old) }
+    requires first { (state_of machine.old).taken ≡ 0 }
+    requires budget { (state_of machine.old).left ≤ 4000000 }
+    requires ready { has_failed machine.old ≡ false }
+    ensures run { IfOk result (λ ran. let x = setup h.now (L.rows layout.now) program.now in IsRun x.h (places x) x.program (state_of machine.old).left ran.text.items ran.end) }
+    ensures executes { IfOk result (λ ran. Executes (fixed_in machine.old) (code_of machine.old) (lines_in (setup h.now (L.rows layout.now) program.now)) (state_of machine.old) (state_of machine.new) ran.text.items ran.end) }
+    ensures ended { IfOk result (λ ran. (ran.end ≡ End.Limit L9 → ⊥) → (state_of machine.new).answer ≡ Some (turn_of ran.end)) }
+    ensures steps { IfOk result (λ ran. (ran.end ≡ End.Limit L9 → ⊥) → let x = setup h.now (L.rows layout.now) program.now in ran.steps ≡ (run_of x.h (places x).size x.program (state_of machine.old).left).steps) }
+    ensures code { code_of machine.new ≡ code_of machine.old }
+    ensures image { image_of machine.new ≡ image_of machine.old }
+    ensures parts { parts_of machine.new ≡ parts_of machine.old }
+{
+    let mut text = Vec::new(alloc);
+    let mut steps = 0u32;
+    loop {
+        let mut outs = Sequence::new(alloc);
+        let answer = turn(h, layout, program, numbers, machine, &mut outs)?;
+        match end_of(answer) {
+            Some(end) => {
+                let steps = counted(steps, end);
+                return Ok(Ran { text, steps, end });
+            }
+            None => {}
+        }
+        let mut lines = Vec::new(alloc);
+        append_lines(
+            alloc,
+            h,
+            layout,
+            program,
+            machine,
+            &mut lines,
+            outs.as_slice(),
+        )?;
+        if text.len() + lines.len() > TEXT_LIMIT {
+            return Ok(Ran {
+                text,
+                steps,
+                end: End::Limit(LimitNo::L9),
+            });
+        }
+        text.extend_from_slice(&lines)?;
+        steps += 1;
+    }
+}
+
+/// The steps of a run that ends behind so many: the end of `main` is one more.
+fn counted(steps: u32, end: End) -> u32
+    requires { steps ≤ 4000000 }
+    ensures { result ≡ counted_by steps end }
+{
+    match end {
+        End::Done => steps + 1,
+        _ => steps,
+    }
+}

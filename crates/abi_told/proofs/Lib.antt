@@ -1,0 +1,6 @@
+pub mod Leaves
+pub mod Outs
+pub mod Telling
+pub mod Texts
+pub mod Ends
+pub mod Lines

@@ -1,0 +1,46 @@
+-- The text of what is told, piece by piece.
+use Rattle.std.proofs.Common.{◌≡◌, ◌∙◌, ℕ, ◌+◌, ◌<◌, ◌≤◌, true, false, List, [], ◌∷◌, ◌++◌, get_or, take, length, refl, ap, sym, append_assoc, add-one, arith, zero, suc}
+use Rattle.std.specs.Prelude.{not, if◌then◌else◌}
+use Rattle.std.proofs.lemmas.List.{append-nil}
+use Rattle.std.proofs.Math.Seq.{take-suc}
+use Rattle.foundation.proofs.Truth.{split}
+use Rattle.cxx_hierarchy.specs.Classes.{Classes}
+use Rattle.path_model.specs.declared.outs.Out.{Out}
+use Rattle.abi_sound.specs.Places.{Places}
+use Rattle.abi_out.specs.OutTexts.{is_traced, out_text, printed, text_of}
+
+pub taken_all : {X : Type 0} (xs : List X) (n : ℕ) → length xs ≤ n → take n xs ≡ xs
+taken_all [] zero le = refl
+taken_all [] (suc n) le = refl
+taken_all (x ∷ xs) zero le = absurd (omega arith)
+taken_all (x ∷ xs) (suc n) le = ap (λ ys. x ∷ ys) (taken_all xs n (omega arith))
+
+-- the line of one out behind a text, or none
+
+pub line_traced : (h : Classes) (l : Places) (x : Out) (old : List ℕ) → is_traced x ≡ true → old ≡ old ++ text_of h l (printed (x ∷ []))
+line_traced h l x old e = sym (ap (λ q. old ++ text_of h l (if not q then x ∷ [] else [])) e ∙ append-nil old)
+
+pub line_printed : (h : Classes) (l : Places) (x : Out) (old new : List ℕ) → is_traced x ≡ false → new ≡ old ++ out_text h l x → new ≡ old ++ text_of h l (printed (x ∷ []))
+line_printed h l x old new e puts = puts ∙ ap (λ (t : List ℕ). old ++ t) (sym (ap (λ q. text_of h l (if not q then x ∷ [] else [])) e ∙ append-nil (out_text h l x)))
+
+-- outs behind others
+pub text_append : (h : Classes) (l : Places) (xs ys : List Out) → text_of h l (printed (xs ++ ys)) ≡ text_of h l (printed xs) ++ text_of h l (printed ys)
+text_append h l [] ys = refl
+text_append h l (x ∷ xs) ys = split (not (is_traced x)) (λ q. text_of h l (if q then x ∷ printed (xs ++ ys) else printed (xs ++ ys)) ≡ text_of h l (if q then x ∷ printed xs else printed xs) ++ text_of h l (printed ys))
+    (λ _. ap (λ (t : List ℕ). out_text h l x ++ t) (text_append h l xs ys) ∙ sym (append_assoc (out_text h l x) (text_of h l (printed xs)) (text_of h l (printed ys))))
+    (λ _. text_append h l xs ys)
+
+-- one out more
+pub text_more : (h : Classes) (l : Places) (old text more : List ℕ) (outs : List Out) (i : ℕ) (x : Out) → i < length outs → x ≡ get_or outs i x → text ≡ old ++ text_of h l (printed (take i outs)) → more ≡ text ++ text_of h l (printed (x ∷ []))
+    → more ≡ old ++ text_of h l (printed (take (i + 1) outs))
+text_more h l old text more outs i x lt is so adds =
+    let next : take i outs ++ (get_or outs i x ∷ []) ≡ take (i + 1) outs = rw add-one (sym (take-suc outs i x lt)) in
+    let longer : take i outs ++ x ∷ [] ≡ take (i + 1) outs = ap (λ (y : Out). take i outs ++ y ∷ []) is ∙ next in
+    adds
+    ∙ (ap (λ (t : List ℕ). t ++ text_of h l (printed (x ∷ []))) so
+    ∙ (append_assoc old (text_of h l (printed (take i outs))) (text_of h l (printed (x ∷ [])))
+    ∙ ap (λ (t : List ℕ). old ++ t) (sym (text_append h l (take i outs) (x ∷ [])) ∙ ap (λ (xs : List Out). text_of h l (printed xs)) longer)))
+
+-- all outs
+pub text_all : (h : Classes) (l : Places) (old text : List ℕ) (outs : List Out) (i : ℕ) → length outs ≤ i → text ≡ old ++ text_of h l (printed (take i outs)) → text ≡ old ++ text_of h l (printed outs)
+text_all h l old text outs i le so = so ∙ ap (λ (xs : List Out). old ++ text_of h l (printed xs)) (taken_all outs i le)

@@ -1,0 +1,4 @@
+pub mod Statements
+pub mod StatementKinds
+pub mod Ends
+pub mod Turns

@@ -1,0 +1,6 @@
+pub mod AllTables
+pub mod Named
+pub mod Codes
+pub mod Known
+pub mod Infos
+pub mod Worlds

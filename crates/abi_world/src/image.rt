@@ -1,0 +1,59 @@
+//! The image of the tables of all classes.
+
+ghost use Rattle.std.specs.Prelude.{◌≡◌, ◌<◌, ◌+◌, ◌^◌, true, IfOk, length};
+ghost use Rattle.cxx_overrider.specs.Overriders.{AreOverriders};
+ghost use Rattle.cxx_program.specs.Typed.{IsTypedProgram};
+ghost use Rattle.abi_sound.specs.Places.{places_of};
+ghost use Rattle.abi_slots.specs.Slots.{AreSlots};
+ghost use Rattle.abi_ops.specs.Setups.{setup};
+ghost use Rattle.abi_world.specs.Made.{AreNumbered, HasImage};
+
+use crate::tables::program_tables;
+use abi_image::encode;
+use abi_slots::{CodeNumbers, Slots};
+use abi_sound::SoundLayout;
+use byte_code::ImageBytes;
+use cxx_hierarchy::Hierarchy;
+use cxx_overrider::Overriders;
+use cxx_program::TypedProgram;
+use foundation::NoMemory;
+use std::alloc::Global;
+
+/// An address that no byte of an image reaches: no memory has so many bytes.
+const END: u64 = 1 << 48;
+
+/// Whether all bytes of an image lie below `END`.
+fn is_small(image: &ImageBytes) -> bool
+    ensures { result ≡ true → image.now.base + length image.now.bytes < 2 ^ 63 }
+{
+    image.base < END && (image.bytes.len() as u64) < END
+}
+
+/// The image of the tables of all classes, whose entries run code of these numbers.
+///
+/// Errors: want of memory.
+pub fn program_image<L: SoundLayout>(
+    alloc: Global,
+    h: &Hierarchy,
+    overriders: &Overriders,
+    layout: &L,
+    slots: &Slots,
+    program: &TypedProgram,
+    numbers: &CodeNumbers,
+) -> Result<ImageBytes, NoMemory>
+    requires layout { L.lays_out layout.now h.now }
+    requires overriders { AreOverriders h.now overriders.now }
+    requires slots { AreSlots h.now (places_of h.now (L.rows layout.now)) slots.now }
+    requires typed { IsTypedProgram h.now program.now }
+    requires numbered { AreNumbered (setup h.now (L.rows layout.now) program.now) numbers.now }
+    ensures { IfOk result (HasImage h.now (places_of h.now (L.rows layout.now)) numbers.now) }
+{
+    h.keeps();
+    let _program = program;
+    let tables = program_tables(alloc, h, overriders, layout, slots)?;
+    let image = encode(alloc, &tables.groups, &tables.vtts, &tables.infos, numbers)?;
+    if is_small(&image.bytes) {
+        return Ok(image.bytes);
+    }
+    Err(NoMemory)
+}

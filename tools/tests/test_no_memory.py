@@ -1,0 +1,130 @@
+"""tools/no-memory on small C programs: what passes, each way to fail, and what cannot be tried."""
+import os
+import shutil
+import stat
+import subprocess
+import tempfile
+import unittest
+
+import support
+
+# Four allocations, one of each kind; no stream of the C library is used, since it would make more of them.
+CAREFUL = r"""
+#include <stdlib.h>
+#include <string.h>
+#include <unistd.h>
+
+static void say(const char *text) { if (write(1, text, strlen(text)) < 0) exit(7); }
+static void *sure(void *block) { if (block == NULL) { FAILED; } return block; }
+
+int main(int count, char **words) {
+    char *input = sure(malloc(100));
+    ssize_t size = read(0, input, 99);
+    input[size < 0 ? 0 : size] = 0;
+    input = sure(realloc(input, 4000));
+    char *more = sure(calloc(10, 10));
+    void *aligned = NULL;
+    if (posix_memalign(&aligned, 64, 64) != 0)
+        sure(NULL);
+    say("taken: ");
+    say(count > 1 ? words[1] : "nothing");
+    say(input);
+    free(input);
+    free(more);
+    free(aligned);
+    return 3;
+}
+"""
+
+# The second block is one that the program can do without.
+SPARING = r"""
+#include <stdlib.h>
+#include <unistd.h>
+
+int main(void) {
+    char *block = malloc(8), *other = malloc(8);
+    if (block == NULL)
+        return 8;
+    free(other);
+    return write(1, "5\n", 2) == 2 ? 0 : 7;
+}
+"""
+
+
+@support.needs("gcc")
+class NoMemory(unittest.TestCase):
+    def setUp(self):
+        self.top = tempfile.mkdtemp()
+        self.addCleanup(shutil.rmtree, self.top)
+
+    def compiled(self, text, *flags):
+        source, program = os.path.join(self.top, "program.c"), os.path.join(self.top, "program")
+        with open(source, "w", encoding="utf-8") as file:
+            file.write(text)
+        subprocess.run(["gcc", "-std=c11", "-D_GNU_SOURCE", *flags, "-o", program, source], check=True, stderr=subprocess.DEVNULL)
+        return program
+
+    def tried(self, program, *words):
+        return support.run("no-memory", *words, text=" in\n", environment=dict(os.environ, TAGYMELUR=program))
+
+    def failing(self, what, *words):
+        """What is told of a program that does this where an allocation is refused."""
+        done = self.tried(self.compiled(CAREFUL.replace("FAILED", what)), *words, "run")
+        self.assertEqual((done.returncode, done.stderr), (1, ""))
+        return done.stdout.splitlines()
+
+    def test_each_allocation_is_refused(self):
+        done = self.tried(self.compiled(CAREFUL.replace("FAILED", "exit(8)")), "run")
+        self.assertEqual((done.returncode, done.stderr), (0, ""))
+        self.assertEqual(done.stdout, "4 allocations refused: 4 times want of memory, 0 times the right text, 0 times neither\n")
+
+    def test_some_of_them(self):
+        program = self.compiled(CAREFUL.replace("FAILED", "exit(8)"))
+        self.assertIn("3 allocations refused: 3 times", self.tried(program, "--first", "2", "run").stdout)
+        self.assertIn("2 allocations refused: 2 times", self.tried(program, "--first", "2", "--every", "2", "--", "paths", "--steps", "9").stdout)
+
+    def test_a_program_that_can_do_without(self):
+        done = self.tried(self.compiled(SPARING), "run")
+        self.assertEqual((done.returncode, done.stderr), (0, ""))
+        self.assertEqual(done.stdout, "2 allocations refused: 1 times want of memory, 1 times the right text, 0 times neither\n")
+
+    def test_each_wrong_answer(self):
+        last = "4 allocations refused: 0 times want of memory, 0 times the right text, 4 times neither"
+        for what, told in [
+            ('say("5\\n"); exit(0)', "status 0 and another text"),
+            ('say("part"); exit(8)', "status 8, but 4 bytes were written"),
+            ("exit(6)", "status 6 and another text"),
+            ('say("taken: run in\\n"); exit(0)', "status 0 and the right text"),
+            ("abort()", "ended by signal 6"),
+        ]:
+            self.assertEqual(self.failing(what), [f"allocation {number}: {told}" for number in range(1, 5)] + [last])
+
+    def test_a_program_that_hangs(self):
+        self.assertEqual(self.failing("for (;;) pause()", "--seconds", "1", "--first", "4")[0], "allocation 4: no answer after 1 seconds")
+
+    def test_it_stops_after_ten(self):
+        text = r"#include <stdlib.h>" "\nint main(void) { int all = 0; for (int i = 0; i < 50; i++) { void *volatile block = malloc(9); all += block != NULL; } return all == 50 ? 0 : 1; }\n"
+        done = self.tried(self.compiled(text), "run")
+        self.assertEqual(done.returncode, 1)
+        self.assertEqual(len(done.stdout.splitlines()), 12)
+        self.assertIn("10 wrong answers; no more allocations are refused\n", done.stdout)
+
+    def test_what_cannot_be_tried(self):
+        script = os.path.join(self.top, "script")
+        with open(script, "w", encoding="utf-8") as file:
+            file.write("#!/bin/sh\necho 5\n")
+        os.chmod(script, stat.S_IRWXU)
+        idle = self.compiled("int main(void) { return 0; }\n")
+        for program, words, told in [(script, ["run"], "is no binary"), ("/nowhere/tagymelur", ["run"], "cannot be read"), (idle, ["run"], "could be refused"), (idle, [], "WORDS"), (idle, ["--every", "0", "run"], "no number above 0")]:
+            done = self.tried(program, *words)
+            self.assertEqual((done.returncode, done.stdout), (2, ""), words)
+            self.assertIn(told, done.stderr)
+            self.assertNotIn("Traceback", done.stderr)
+        hungry = self.compiled("int main(void) { return 8; }\n")
+        self.assertIn("ends with status 8 where no allocation is refused", self.tried(hungry, "run").stderr)
+
+    @support.needs_program
+    def test_the_program_itself(self):
+        with open(os.path.join(support.TOOLS, "..", "examples", "diamond.cpp"), encoding="utf-8") as file:
+            done = support.run("no-memory", "layout", "D", text=file.read())
+        self.assertEqual((done.returncode, done.stderr), (0, ""), done.stdout)
