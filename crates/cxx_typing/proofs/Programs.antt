@@ -31,16 +31,16 @@ use Rattle.cxx_typing.proofs.Bodies.{IsTypedOf, typed_owner, body_typed, main_ty
 use Rattle.cxx_typing.proofs.Owners.{AreOwners, owners_of_bodies, inits_fit}
 
 -- what a source resolves to, by its parts
-record IsMadeOf (h : Classes) (source : SourceText) (result : TypedProgram) : Type 0 where
-  globals : List Entry
-  bodies : List TypedBody
-  main : Option TypedBody
-  globals_made : in_turn (global_of h) [] source.globals ≡ Ok globals
-  bodies_made : in_turn (body_of h globals) [] source.bodies ≡ Ok bodies
-  main_made : main_of h globals source.main ≡ Ok main
-  same : program globals main bodies ≡ result
+pub record IsMadeOf (h : Classes) (source : SourceText) (result : TypedProgram) : Type 0 where
+  pub globals : List Entry
+  pub bodies : List TypedBody
+  pub main : Option TypedBody
+  pub globals_made : in_turn (global_of h) [] source.globals ≡ Ok globals
+  pub bodies_made : in_turn (body_of h globals) [] source.bodies ≡ Ok bodies
+  pub main_made : main_of h globals source.main ≡ Ok main
+  pub same : program globals main bodies ≡ result
 
-made_of : (h : Classes) (source : SourceText) (result : TypedProgram) → program_of h source ≡ Ok result → IsMadeOf h source result
+pub made_of : (h : Classes) (source : SourceText) (result : TypedProgram) → program_of h source ≡ Ok result → IsMadeOf h source result
 unfolding program_of
 made_of h source result w =
     let n = source.main_place in

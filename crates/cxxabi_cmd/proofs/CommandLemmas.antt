@@ -3,7 +3,7 @@ use Rattle.std.proofs.Common.{◌≡◌, ℕ, ◌<◌, ◌≤◌, true, false, O
 use Rattle.std.specs.Prelude.{IfOk, MatchOption}
 use Rattle.foundation.specs.declared.memory.NoMemory.{NoMemory as Want}
 use Rattle.cxxabi_cmd.specs.declared.command.Command.{Command}
-use Rattle.cxxabi_cmd.specs.Commands.{Says, check, run, layout, layout_of, tables, tables_of, paths, paths_within, IsCommand, is_option}
+use Rattle.cxxabi_cmd.specs.Commands.{Says, check, run, run_within, layout, layout_of, tables, tables_of, paths, paths_within, IsCommand, is_option}
 use Rattle.cxxabi_cmd.specs.invariants.Replies.{HasFewSteps}
 
 one_item : {X Y : Type 0} (f : X → Y) (xs : List X) (x : X) → 1 ≤ length xs → length xs < 2 → x ≡ get_or xs 0 x → map f xs ≡ f x ∷ []
@@ -30,7 +30,8 @@ says_words f xs x y bytes word name some few first second value is other =
 -- a command of words gives few steps
 pub few_said : (words : List (List ℕ)) (c : Command) → Says words c → HasFewSteps c
 few_said _ _ check = tt
-few_said _ _ run = tt
+few_said _ _ run = omega arith
+few_said _ _ (run_within word steps is) = is.most
 few_said _ _ layout = tt
 few_said _ _ (layout_of name plain) = tt
 few_said _ _ tables = tt
@@ -44,6 +45,7 @@ both_ways a b one off on = let clash : false ≡ true = sym off ∙ ap is_option
 option_no_command : (words : List (List ℕ)) (first name : List ℕ) (c : Command) → Says words c → words ≡ first ∷ name ∷ [] → is_option name ≡ true → ⊥
 option_no_command _ first name _ check same option = cc
 option_no_command _ first name _ run same option = cc
+option_no_command _ first name _ (run_within word steps is) same option = cc
 option_no_command _ first name _ layout same option = cc
 option_no_command _ first name _ (layout_of other plain) same option = both_ways other name (cc) plain option
 option_no_command _ first name _ tables same option = cc

@@ -19,6 +19,7 @@ use Rattle.cxx_program.specs.declared.program.TypedProgram.{TypedProgram}
 use Rattle.cxx_resolve.specs.Programs.{program_of, HasFewStatements}
 use Rattle.cxx_resolve.proofs.Counted.{statements_are_few}
 use Rattle.cxx_resolve.specs.Stops.{Fails}
+use Rattle.cxxabi_cmd.proofs.TreeCounts.{source_weight, most_weight, statements_together}
 use Rattle.cxxabi_cmd.specs.Verdict.{AreLexemes, IsSource, IsFirstFault, HasNoFault, HasManyWords, HasFewWords, Verdict, Stops, Accepts, by_text, by_records, by_classes, by_bodies, by_words, accepted}
 
 -- what the reader of sources gives
@@ -56,6 +57,10 @@ classes_stop text tokens bad source h e cover reads passes either = ⊎_elim (λ
 pub few_statements : (text : List ℕ) (tokens : List Token) (bad : Option ℕ) (source : SourceText) → length tokens ≤ max_text_bytes + 1 → Reads text tokens bad source → HasFewStatements (2 ^ 32) source
 few_statements text tokens bad source few reads =
     statements_are_few text source (lexemes text source_start tokens bad) reads.0 (2 ^ 32) reads.1 (let size = length-lexemes text source_start tokens bad in omega (arith, few, size))
+
+-- together they have no more than the text has lexemes
+pub few_together : (text : List ℕ) (tokens : List Token) (bad : Option ℕ) (source : SourceText) → length tokens ≤ max_text_bytes + 1 → Reads text tokens bad source → source_weight source ≤ most_weight
+few_together text tokens bad source few reads = let size = length-lexemes text source_start tokens bad in omega (arith, few, size, statements_together reads.1)
 
 -- a stop that is no want of memory is the answer
 fails : (e : Stop) (answer : Result TypedProgram Stop) → Fails e answer → (e ≡ stop.NoMemory) ⊎ (answer ≡ Err e)

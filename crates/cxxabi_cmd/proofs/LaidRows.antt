@@ -1,5 +1,5 @@
 -- The layout of the classes of an accepted source, and whether the words of its tables are within the limit.
-use Rattle.std.proofs.Common.{◌≡◌, ◌⊎◌, ⊎_elim, inl, inr, List, length, ap, subst, arith}
+use Rattle.std.proofs.Common.{◌≡◌, ◌≤◌, ◌⊎◌, ⊎_elim, inl, inr, List, length, ap, subst, arith}
 use Rattle.std.proofs.lemmas.Bool.{cases_lt}
 use Rattle.cxx_hierarchy.specs.Classes.{Classes}
 use Rattle.cxx_hierarchy.specs.Hierarchies.{IsHierarchy}
@@ -40,6 +40,11 @@ sound_rows h rows keeps nothing laid =
     (λ well. subst (λ (r : List ClassLayout). IsSoundLayout h r) (laid_is_one h well.0 rows keeps (well_laid h well.0 well.1) laid) (rules_are_sound h well.0 keeps well.1))
     (λ stops. absurd (first_or_none h stops.0 (layout_first h stops.0 keeps (no_meaning h nothing) stops.1) nothing))
     (layout_or_stop h (length h) keeps (omega arith))
+
+-- the words over any layout are within the limit
+pub few_words : (h : Classes) (rows : List ClassLayout) → IsHierarchy h → IsLaid h rows → HasFewWords h → all_words h (places_of h rows) ≤ most_words
+few_words h rows keeps laid few =
+    subst (λ (r : List ClassLayout). all_words h (places_of h r) ≤ most_words) (laid_is_one h few.rows rows keeps few.laid laid) few.few
 
 -- the words are more than the limit, or they are not
 pub many_or_few : (h : Classes) → IsHierarchy h → HasManyWords h → HasFewWords h → ⊥

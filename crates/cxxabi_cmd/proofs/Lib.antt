@@ -3,10 +3,13 @@ pub mod CommandLemmas
 pub mod OutputLemmas
 pub mod ReplyLemmas
 pub mod AnswerLemmas
-pub mod PathAnswers
+pub mod RunAnswers
 pub mod StepLemmas
 pub mod MeaningFaults
 pub mod ClassFaults
+pub mod WalkCounts
+pub mod TreeCounts
+pub mod SmallPrograms
 pub mod Judging
 pub mod Accepting
 pub mod LaidRows
@@ -15,7 +18,7 @@ pub mod ListLemmas
 pub mod ViewNames
 pub mod OneFault
 pub mod OneVerdict
-pub mod OneProgram
+pub mod SameMains
 pub mod OneOutput
 pub mod SomeCommand
 pub mod SomeFault

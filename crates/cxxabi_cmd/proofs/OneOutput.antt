@@ -4,29 +4,28 @@ use Rattle.std.specs.Prelude.{slice_get, Some, Contains, ◌==◌, if◌then◌e
 use Rattle.cxx_text.specs.OneToken.{decimal as value_of}
 use Rattle.cxx_hierarchy.specs.declared.records.ClassId.{ClassId}
 use Rattle.cxx_hierarchy.specs.declared.stop.Stop.{Stop}
-use Rattle.cxx_hierarchy.specs.declared.stop.Rule.TheVariants.{Syntax, UnknownName}
+use Rattle.cxx_hierarchy.specs.declared.stop.Rule.TheVariants.{UnknownName}
 use Rattle.cxx_hierarchy.specs.Classes.{Class, Classes, class_names}
 use Rattle.cxx_hierarchy.specs.Hierarchies.{IsHierarchy}
 use Rattle.cxx_syntax.specs.declared.tree.BodyTree.{BodyTree}
 use Rattle.cxx_syntax.specs.declared.source_text.SourceText.{SourceText}
 use Rattle.cxx_syntax.specs.SameSources.{SameSource}
 use Rattle.cxx_program.specs.declared.program.TypedProgram.{TypedProgram}
-use Rattle.cxx_simple.specs.declared.program.SimpleProgram.{SimpleProgram}
 use Rattle.abi_sound.specs.declared.class_layout.ClassLayout.{ClassLayout}
 use Rattle.abi_layout.specs.Layouts.{IsLaid}
 use Rattle.foundation.proofs.Places.{contains_at}
 use Rattle.cxxabi_cmd.specs.declared.command.Command.{Command}
 use Rattle.cxxabi_cmd.specs.declared.command.Command.TheVariants.{Check, Run, Layout, LayoutOf, Tables, TablesOf, Paths}
 use Rattle.cxxabi_cmd.specs.declared.listing.Listing.{Listing}
-use Rattle.cxxabi_cmd.specs.Commands.{Says, check, run, layout, layout_of, tables, tables_of, paths, paths_within, budget}
+use Rattle.cxxabi_cmd.specs.Commands.{Says, check, run, run_within, layout, layout_of, tables, tables_of, paths, paths_within, budget, RunsMain, on_bytes, on_paths}
 use Rattle.cxxabi_cmd.specs.Verdict.{Stops, Accepts, HasNoFault}
 use Rattle.cxxabi_cmd.specs.declared.status.Status.TheVariants.{Refused}
-use Rattle.cxxabi_cmd.specs.Output.{Output, usage, too_long, stopped, yielded, Yields, counted, no_main, not_taken, ran, no_main_by_paths, ran_by_paths, IsPathsAnswer, unknown_class, listed, Lists, whole, too_much, AsksFor, all_layouts, one_layout, all_tables, one_tables, AsksForName, named_layout, named_tables, AreTexts, IsProgram, Answer, line_alone, text_answer, count_answer, status_of_stop, run_answer, run_by}
+use Rattle.cxxabi_cmd.specs.Output.{Output, usage, too_long, stopped, yielded, Yields, counted, no_main, ran, IsRunAnswer, unknown_class, listed, Lists, whole, too_much, AsksFor, all_layouts, one_layout, all_tables, one_tables, AsksForName, named_layout, named_tables, AreTexts, Answer, line_alone, text_answer, count_answer, status_of_stop}
 use Rattle.cxxabi_cmd.proofs.OneVerdict.{one_verdict}
-use Rattle.cxxabi_cmd.proofs.OneProgram.{main_missing_left, main_missing_right, program_left, program_right, one_program}
+use Rattle.cxxabi_cmd.proofs.SameMains.{main_missing_left, main_missing_right}
 use Rattle.cxxabi_cmd.proofs.Accepting.{accepted_keeps, accepted_fine}
 use Rattle.cxxabi_cmd.proofs.LaidRows.{laid_is_one, sound_rows}
-use Rattle.cxxabi_cmd.proofs.PathAnswers.{one_answer}
+use Rattle.cxxabi_cmd.proofs.RunAnswers.{one_answer}
 use Rattle.cxxabi_cmd.proofs.Listed.{OneTables, AreKnown, one_texts, asked_known}
 
 -- the class of a name
@@ -48,18 +47,19 @@ first_byte ((byte ∷ bytes) ∷ words) = byte
 
 -- the command of a word, by its first byte
 abbrev by_byte : ℕ → Command
-by_byte byte = if byte == 99 then Check else (if byte == 114 then Run else (if byte == 108 then Layout else (if byte == 116 then Tables else Paths budget)))
+by_byte byte = if byte == 99 then Check else (if byte == 114 then Run budget else (if byte == 108 then Layout else (if byte == 116 then Tables else Paths budget)))
 
 -- the command of words, where they ask for one
 abbrev asked_by : List (List ℕ) → Command
 asked_by [] = Check
 asked_by (word ∷ []) = by_byte (first_byte (word ∷ []))
 asked_by (word ∷ name ∷ []) = if first_byte (word ∷ []) == 108 then LayoutOf name else TablesOf name
-asked_by (word ∷ option ∷ digits ∷ rest) = Paths (value_of digits)
+asked_by (word ∷ option ∷ digits ∷ rest) = if first_byte (word ∷ []) == 114 then Run (value_of digits) else Paths (value_of digits)
 
 asked : (words : List (List ℕ)) (c : Command) → Says words c → asked_by words ≡ c
 asked _ _ check = refl
 asked _ _ run = refl
+asked _ _ (run_within digits steps is) = ap Run (sym is.value)
 asked _ _ layout = refl
 asked _ _ (layout_of name plain) = refl
 asked _ _ tables = refl
@@ -71,103 +71,71 @@ asked _ _ (paths_within digits steps is) = ap Paths (sym is.value)
 pub says_one : (a b : List (List ℕ)) (c d : Command) → Says a c → Says b d → a ≡ b → c ≡ d
 says_one a b c d one other same = sym (asked a c one) ∙ ap asked_by same ∙ asked b d other
 
-one_run : (s t : SourceText) (h : Classes) (p q : SimpleProgram) (rows others : List ClassLayout) → IsHierarchy h → SameSource s t → IsProgram s h p → IsProgram t h q → IsLaid h rows → IsLaid h others →
-    run_answer h rows (run_by h rows p) ≡ run_answer h others (run_by h others q)
-one_run s t h p q rows others keeps same one other laid laid' =
-    ap (λ (r : List ClassLayout). run_answer h r (run_by h r p)) (laid_is_one h rows others keeps laid laid')
-    ∙ ap (λ (x : SimpleProgram). run_answer h others (run_by h others x)) (one_program s t h p q keeps same one other)
+-- a command that runs `main` asks for no listing, and has one number of steps
+no_listing : (h : Classes) (c d : Command) (steps : ℕ) (listing : Listing) (classes : List ClassId) → RunsMain c steps → AsksFor h d listing classes → c ≡ d → ⊥
+no_listing h _ _ _ _ _ (on_bytes steps) all_layouts same = cc
+no_listing h _ _ _ _ _ (on_bytes steps) (one_layout name c at) same = cc
+no_listing h _ _ _ _ _ (on_bytes steps) all_tables same = cc
+no_listing h _ _ _ _ _ (on_bytes steps) (one_tables name c at) same = cc
+no_listing h _ _ _ _ _ (on_paths steps) all_layouts same = cc
+no_listing h _ _ _ _ _ (on_paths steps) (one_layout name c at) same = cc
+no_listing h _ _ _ _ _ (on_paths steps) all_tables same = cc
+no_listing h _ _ _ _ _ (on_paths steps) (one_tables name c at) same = cc
 
--- neither `check` nor `run` nor `paths` asks for a listing
-no_check : (h : Classes) (c : Command) (listing : Listing) (classes : List ClassId) → AsksFor h c listing classes → Check ≡ c → ⊥
-no_check h _ _ _ all_layouts same = cc
-no_check h _ _ _ (one_layout name c at) same = cc
-no_check h _ _ _ all_tables same = cc
-no_check h _ _ _ (one_tables name c at) same = cc
+no_name : (c d : Command) (steps : ℕ) (name : List ℕ) → RunsMain c steps → AsksForName d name → c ≡ d → ⊥
+no_name _ _ _ _ (on_bytes steps) (named_layout name) same = cc
+no_name _ _ _ _ (on_bytes steps) (named_tables name) same = cc
+no_name _ _ _ _ (on_paths steps) (named_layout name) same = cc
+no_name _ _ _ _ (on_paths steps) (named_tables name) same = cc
 
-no_run : (h : Classes) (c : Command) (listing : Listing) (classes : List ClassId) → AsksFor h c listing classes → Run ≡ c → ⊥
-no_run h _ _ _ all_layouts same = cc
-no_run h _ _ _ (one_layout name c at) same = cc
-no_run h _ _ _ all_tables same = cc
-no_run h _ _ _ (one_tables name c at) same = cc
+no_check : (c : Command) (steps : ℕ) → RunsMain c steps → c ≡ Check → ⊥
+no_check _ _ (on_bytes steps) same = cc
+no_check _ _ (on_paths steps) same = cc
 
-no_paths : (h : Classes) (c : Command) (listing : Listing) (classes : List ClassId) (steps : ℕ) → AsksFor h c listing classes → Paths steps ≡ c → ⊥
-no_paths h _ _ _ steps all_layouts same = cc
-no_paths h _ _ _ steps (one_layout name c at) same = cc
-no_paths h _ _ _ steps all_tables same = cc
-no_paths h _ _ _ steps (one_tables name c at) same = cc
+steps_same : (c d : Command) (m n : ℕ) → RunsMain c m → RunsMain d n → c ≡ d → m ≡ n
+steps_same _ _ _ _ (on_bytes m) (on_bytes n) same = cc
+steps_same _ _ _ _ (on_bytes m) (on_paths n) same = absurd (cc)
+steps_same _ _ _ _ (on_paths m) (on_bytes n) same = absurd (cc)
+steps_same _ _ _ _ (on_paths m) (on_paths n) same = cc
 
-unnamed_check : (c : Command) (name : List ℕ) → AsksForName c name → Check ≡ c → ⊥
-unnamed_check _ _ (named_layout name) same = cc
-unnamed_check _ _ (named_tables name) same = cc
+-- neither does `check`
+unlisted : (h : Classes) (c : Command) (listing : Listing) (classes : List ClassId) → AsksFor h c listing classes → Check ≡ c → ⊥
+unlisted h _ _ _ all_layouts same = cc
+unlisted h _ _ _ (one_layout name c at) same = cc
+unlisted h _ _ _ all_tables same = cc
+unlisted h _ _ _ (one_tables name c at) same = cc
 
-unnamed_run : (c : Command) (name : List ℕ) → AsksForName c name → Run ≡ c → ⊥
-unnamed_run _ _ (named_layout name) same = cc
-unnamed_run _ _ (named_tables name) same = cc
-
-unnamed_paths : (c : Command) (name : List ℕ) (steps : ℕ) → AsksForName c name → Paths steps ≡ c → ⊥
-unnamed_paths _ _ steps (named_layout name) same = cc
-unnamed_paths _ _ steps (named_tables name) same = cc
+unnamed : (c : Command) (name : List ℕ) → AsksForName c name → Check ≡ c → ⊥
+unnamed _ _ (named_layout name) same = cc
+unnamed _ _ (named_tables name) same = cc
 
 -- what `check` answers
 checks : (size : ℕ) (t : SourceText) (h : Classes) (typed : TypedProgram) (d : Command) (b : Answer) → Yields size t h typed d b → Check ≡ d → count_answer h ≡ b
 checks size t h typed _ _ counted same = refl
-checks size t h typed _ _ (no_main none) same = absurd (cc)
-checks size t h typed _ _ (not_taken tree main nothing) same = absurd (cc)
-checks size t h typed _ _ (ran q rows is laid) same = absurd (cc)
-checks size t h typed _ _ (no_main_by_paths steps none) same = absurd (cc)
-checks size t h typed _ _ (ran_by_paths steps tree rows answer main laid is) same = absurd (cc)
-checks size t h typed _ _ (unknown_class command name asks none) same = absurd (unnamed_check command name asks same)
-checks size t h typed _ _ (listed command listing classes answer asks lists) same = absurd (no_check h command listing classes asks same)
+checks size t h typed _ _ (no_main command steps runs none) same = absurd (no_check command steps runs (sym same))
+checks size t h typed _ _ (ran command steps tree rows answer runs main laid is) same = absurd (no_check command steps runs (sym same))
+checks size t h typed _ _ (unknown_class command name asks none) same = absurd (unnamed command name asks same)
+checks size t h typed _ _ (listed command listing classes answer asks lists) same = absurd (unlisted h command listing classes asks same)
 
--- what `run` answers
-data Runs (size : ℕ) (t : SourceText) (h : Classes) : Answer → Type 0 where
-  is_missing : t.main ≡ None → Runs size t h (line_alone (Refused UnknownName size))
-  is_other : (tree : BodyTree) → t.main ≡ Some tree → ((program : SimpleProgram) → IsProgram t h program → ⊥) → Runs size t h (line_alone (Refused Syntax 0))
-  is_told : (q : SimpleProgram) (rows : List ClassLayout) → IsProgram t h q → IsLaid h rows → Runs size t h (run_answer h rows (run_by h rows q))
+-- what a command answers that runs `main`
+data Runs (size : ℕ) (t : SourceText) (h : Classes) (typed : TypedProgram) (c : Command) (steps : ℕ) : Answer → Type 0 where
+  is_missing : t.main ≡ None → Runs size t h typed c steps (line_alone (Refused UnknownName size))
+  is_ended : (tree : BodyTree) (rows : List ClassLayout) (answer : Answer) → t.main ≡ Some tree → IsLaid h rows → IsRunAnswer h rows typed steps answer → Runs size t h typed c steps answer
 
-runs : (size : ℕ) (t : SourceText) (h : Classes) (typed : TypedProgram) (d : Command) (b : Answer) → Yields size t h typed d b → Run ≡ d → Runs size t h b
-runs size t h typed _ _ counted same = absurd (cc)
-runs size t h typed _ _ (no_main none) same = is_missing none
-runs size t h typed _ _ (not_taken tree main nothing) same = is_other tree main nothing
-runs size t h typed _ _ (ran q rows is laid) same = is_told q rows is laid
-runs size t h typed _ _ (no_main_by_paths steps none) same = absurd (cc)
-runs size t h typed _ _ (ran_by_paths steps tree rows answer main laid is) same = absurd (cc)
-runs size t h typed _ _ (unknown_class command name asks none) same = absurd (unnamed_run command name asks same)
-runs size t h typed _ _ (listed command listing classes answer asks lists) same = absurd (no_run h command listing classes asks same)
+runs : (size : ℕ) (t : SourceText) (h : Classes) (typed : TypedProgram) (c d : Command) (n : ℕ) (b : Answer) → RunsMain c n → Yields size t h typed d b → c ≡ d → Runs size t h typed c n b
+runs size t h typed c _ n _ given counted same = absurd (no_check c n given same)
+runs size t h typed c _ n _ given (no_main command steps does none) same = is_missing none
+runs size t h typed c _ n _ given (ran command steps tree rows answer does main laid is) same =
+    is_ended tree rows answer main laid (subst (λ (m : ℕ). IsRunAnswer h rows typed m answer) (sym (steps_same c command n steps given does same)) is)
+runs size t h typed c _ n _ given (unknown_class command name names none) same = absurd (no_name c command n name given names same)
+runs size t h typed c _ n _ given (listed command listing classes answer asks lists) same = absurd (no_listing h c command n listing classes given asks same)
 
-runs_same : (size : ℕ) (s t : SourceText) (h : Classes) (a b : Answer) → IsHierarchy h → SameSource s t → Runs size s h a → Runs size t h b → a ≡ b
-runs_same size s t h _ _ keeps same (is_missing none) (is_missing none') = refl
-runs_same size s t h _ _ keeps same (is_missing none) (is_other tree main nothing) = absurd (main_missing_left s.main t.main tree same.main none main)
-runs_same size s t h _ _ keeps same (is_missing none) (is_told q rows is laid) = absurd (main_missing_left s.main t.main is.tree same.main none is.main)
-runs_same size s t h _ _ keeps same (is_other tree main nothing) (is_missing none) = absurd (main_missing_right s.main t.main tree same.main none main)
-runs_same size s t h _ _ keeps same (is_other tree main nothing) (is_other tree' main' nothing') = refl
-runs_same size s t h _ _ keeps same (is_other tree main nothing) (is_told q rows is laid) = absurd (nothing q (program_left s t h q same is))
-runs_same size s t h _ _ keeps same (is_told p rows is laid) (is_missing none) = absurd (main_missing_right s.main t.main is.tree same.main none is.main)
-runs_same size s t h _ _ keeps same (is_told p rows is laid) (is_other tree main nothing) = absurd (nothing p (program_right s t h p same is))
-runs_same size s t h _ _ keeps same (is_told p rows is laid) (is_told q rows' is' laid') = one_run s t h p q rows rows' keeps same is is' laid laid'
-
--- what `paths` answers
-data RunsByPaths (size : ℕ) (t : SourceText) (h : Classes) (typed : TypedProgram) (steps : ℕ) : Answer → Type 0 where
-  is_mainless : t.main ≡ None → RunsByPaths size t h typed steps (line_alone (Refused UnknownName size))
-  is_ended : (tree : BodyTree) (rows : List ClassLayout) (answer : Answer) → t.main ≡ Some tree → IsLaid h rows → IsPathsAnswer h rows typed steps answer → RunsByPaths size t h typed steps answer
-
-path_runs : (size : ℕ) (t : SourceText) (h : Classes) (typed : TypedProgram) (steps : ℕ) (d : Command) (b : Answer) → Yields size t h typed d b → Paths steps ≡ d → RunsByPaths size t h typed steps b
-path_runs size t h typed steps _ _ counted same = absurd (cc)
-path_runs size t h typed steps _ _ (no_main none) same = absurd (cc)
-path_runs size t h typed steps _ _ (not_taken tree main nothing) same = absurd (cc)
-path_runs size t h typed steps _ _ (ran q rows is laid) same = absurd (cc)
-path_runs size t h typed steps _ _ (no_main_by_paths count none) same = is_mainless none
-path_runs size t h typed steps _ _ (ran_by_paths count tree rows answer main laid is) same =
-    let one : count ≡ steps = cc in is_ended tree rows answer main laid (subst (λ (n : ℕ). IsPathsAnswer h rows typed n answer) one is)
-path_runs size t h typed steps _ _ (unknown_class command name asks none) same = absurd (unnamed_paths command name steps asks same)
-path_runs size t h typed steps _ _ (listed command listing classes answer asks lists) same = absurd (no_paths h command listing classes steps asks same)
-
-path_runs_same : (size : ℕ) (s t : SourceText) (h : Classes) (typed : TypedProgram) (steps : ℕ) (a b : Answer) → IsHierarchy h → SameSource s t → RunsByPaths size s h typed steps a → RunsByPaths size t h typed steps b → a ≡ b
-path_runs_same size s t h typed steps _ _ keeps same (is_mainless none) (is_mainless none') = refl
-path_runs_same size s t h typed steps _ _ keeps same (is_mainless none) (is_ended tree rows b main laid is) = absurd (main_missing_left s.main t.main tree same.main none main)
-path_runs_same size s t h typed steps _ _ keeps same (is_ended tree rows a main laid is) (is_mainless none) = absurd (main_missing_right s.main t.main tree same.main none main)
-path_runs_same size s t h typed steps _ _ keeps same (is_ended tree rows a main laid is) (is_ended tree' rows' b main' laid' is') =
-    one_answer h rows typed steps a b is (subst (λ (r : List ClassLayout). IsPathsAnswer h r typed steps b) (sym (laid_is_one h rows rows' keeps laid laid')) is')
+runs_same : (size : ℕ) (s t : SourceText) (h : Classes) (typed : TypedProgram) (c : Command) (n : ℕ) (a b : Answer) → IsHierarchy h → SameSource s t → Runs size s h typed c n a → Runs size t h typed c n b → a ≡ b
+runs_same size s t h typed c n _ _ keeps same (is_missing none) (is_missing none') = refl
+runs_same size s t h typed c n _ _ keeps same (is_missing none) (is_ended tree rows b main laid is) = absurd (main_missing_left s.main t.main tree same.main none main)
+runs_same size s t h typed c n _ _ keeps same (is_ended tree rows a main laid is) (is_missing none) = absurd (main_missing_right s.main t.main tree same.main none main)
+runs_same size s t h typed c n _ _ keeps same (is_ended tree rows a main laid is) (is_ended tree' rows' b main' laid' is') =
+    one_answer h rows typed n a b is (subst (λ (r : List ClassLayout). IsRunAnswer h r typed n b) (sym (laid_is_one h rows rows' keeps laid laid')) is')
 
 -- one list of classes is asked for
 number_same : (a b : ClassId) → a.0 ≡ b.0 → a ≡ b
@@ -234,12 +202,9 @@ lists_same law h listing classes _ _ keeps fine known (too_much rows text laid a
 
 -- what is answered where classes are listed
 lists : OneTables → (size : ℕ) (s t : SourceText) (h : Classes) (typed : TypedProgram) (c d : Command) (l : Listing) (xs : List ClassId) (a b : Answer) → IsHierarchy h → HasNoFault h → AsksFor h c l xs → Lists h l xs a → Yields size t h typed d b → c ≡ d → a ≡ b
-lists law size s t h typed c _ l xs a _ keeps fine asks is counted same = absurd (no_check h c l xs asks (sym same))
-lists law size s t h typed c _ l xs a _ keeps fine asks is (no_main none) same = absurd (no_run h c l xs asks (sym same))
-lists law size s t h typed c _ l xs a _ keeps fine asks is (not_taken tree main nothing) same = absurd (no_run h c l xs asks (sym same))
-lists law size s t h typed c _ l xs a _ keeps fine asks is (ran q rows program laid) same = absurd (no_run h c l xs asks (sym same))
-lists law size s t h typed c _ l xs a _ keeps fine asks is (no_main_by_paths steps none) same = absurd (no_paths h c l xs steps asks (sym same))
-lists law size s t h typed c _ l xs a _ keeps fine asks is (ran_by_paths steps tree rows answer main laid is') same = absurd (no_paths h c l xs steps asks (sym same))
+lists law size s t h typed c _ l xs a _ keeps fine asks is counted same = absurd (unlisted h c l xs asks (sym same))
+lists law size s t h typed c _ l xs a _ keeps fine asks is (no_main command steps runs none) same = absurd (no_listing h command c steps l xs runs asks (sym same))
+lists law size s t h typed c _ l xs a _ keeps fine asks is (ran command steps tree rows answer runs main laid is') same = absurd (no_listing h command c steps l xs runs asks (sym same))
 lists law size s t h typed c _ l xs a _ keeps fine asks is (unknown_class command name names none) same = absurd (not_unknown h command c name l xs names asks (sym same) none)
 lists law size s t h typed c _ l xs a _ keeps fine asks is (listed command listing classes answer asks' is') same =
     let e = asks_same h c command l listing xs classes keeps asks asks' same in
@@ -247,24 +212,18 @@ lists law size s t h typed c _ l xs a _ keeps fine asks is (listed command listi
     (subst (λ (m : Listing). Lists h m xs answer) (sym e.0) (subst (λ (ys : List ClassId). Lists h listing ys answer) (sym e.1) is'))
 
 unknown : (size : ℕ) (t : SourceText) (h : Classes) (typed : TypedProgram) (c d : Command) (name : List ℕ) (b : Answer) → AsksForName c name → (Contains (class_names h) name → ⊥) → Yields size t h typed d b → c ≡ d → line_alone (Refused UnknownName size) ≡ b
-unknown size t h typed c _ name _ names none counted same = absurd (unnamed_check c name names (sym same))
-unknown size t h typed c _ name _ names none (no_main empty) same = absurd (unnamed_run c name names (sym same))
-unknown size t h typed c _ name _ names none (not_taken tree main nothing) same = absurd (unnamed_run c name names (sym same))
-unknown size t h typed c _ name _ names none (ran q rows is laid) same = absurd (unnamed_run c name names (sym same))
-unknown size t h typed c _ name _ names none (no_main_by_paths steps empty) same = absurd (unnamed_paths c name steps names (sym same))
-unknown size t h typed c _ name _ names none (ran_by_paths steps tree rows answer main laid is) same = absurd (unnamed_paths c name steps names (sym same))
+unknown size t h typed c _ name _ names none counted same = absurd (unnamed c name names (sym same))
+unknown size t h typed c _ name _ names none (no_main command steps runs empty) same = absurd (no_name command c steps name runs names (sym same))
+unknown size t h typed c _ name _ names none (ran command steps tree rows answer runs main laid is) same = absurd (no_name command c steps name runs names (sym same))
 unknown size t h typed c _ name _ names none (unknown_class command name' names' none') same = refl
 unknown size t h typed c _ name _ names none (listed command listing classes answer asks is) same = absurd (not_unknown h c command name listing classes names asks same none)
 
 -- a command answers one thing to sources that say the same
 pub one_yield : OneTables → (size : ℕ) (s t : SourceText) (h : Classes) (typed : TypedProgram) (c d : Command) (a b : Answer) → IsHierarchy h → HasNoFault h → SameSource s t → Yields size s h typed c a → Yields size t h typed d b → c ≡ d → a ≡ b
 one_yield law size s t h typed _ d _ b keeps fine same counted y e = checks size t h typed d b y e
-one_yield law size s t h typed _ d _ b keeps fine same (no_main none) y e = runs_same size s t h _ b keeps same (is_missing none) (runs size t h typed d b y e)
-one_yield law size s t h typed _ d _ b keeps fine same (not_taken tree main nothing) y e = runs_same size s t h _ b keeps same (is_other tree main nothing) (runs size t h typed d b y e)
-one_yield law size s t h typed _ d _ b keeps fine same (ran p rows is laid) y e = runs_same size s t h _ b keeps same (is_told p rows is laid) (runs size t h typed d b y e)
-one_yield law size s t h typed _ d _ b keeps fine same (no_main_by_paths steps none) y e = path_runs_same size s t h typed steps _ b keeps same (is_mainless none) (path_runs size t h typed steps d b y e)
-one_yield law size s t h typed _ d _ b keeps fine same (ran_by_paths steps tree rows answer main laid is) y e =
-    path_runs_same size s t h typed steps answer b keeps same (is_ended tree rows answer main laid is) (path_runs size t h typed steps d b y e)
+one_yield law size s t h typed _ d _ b keeps fine same (no_main command steps asked none) y e = runs_same size s t h typed command steps _ b keeps same (is_missing none) (runs size t h typed command d steps b asked y e)
+one_yield law size s t h typed _ d _ b keeps fine same (ran command steps tree rows answer asked main laid is) y e =
+    runs_same size s t h typed command steps answer b keeps same (is_ended tree rows answer main laid is) (runs size t h typed command d steps b asked y e)
 one_yield law size s t h typed _ d _ b keeps fine same (unknown_class command name names none) y e = unknown size t h typed command d name b names none y e
 one_yield law size s t h typed _ d _ b keeps fine same (listed command listing classes answer asks is) y e = lists law size s t h typed command d listing classes answer b keeps fine asks is y e
 

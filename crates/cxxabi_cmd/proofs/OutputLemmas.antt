@@ -61,7 +61,7 @@ pub limit_machine : (r : Result Reply Want) (bytes : List ℕ) (command : Comman
     IfOk r (λ reply. (words : List (List ℕ)) (all : List ℕ) → Says words command → bytes ≡ take 262145 all → HandsOut words all (machine_of reply))
 limit_machine (Ok reply) bytes command none long =
     λ words all says same. subst (λ (m : Option Seen). HandsOut words all m) (sym none)
-    (λ h rows program has. absurd (let short = has.short in let size : length bytes ≡ length (take 262145 all) = ap length same in omega (arith, size, length-take 262145 all)))
+    (λ h rows program steps has. absurd (let short = has.short in let size : length bytes ≡ length (take 262145 all) = ap length same in omega (arith, size, length-take 262145 all)))
 limit_machine (Err e) bytes command none long = none
 
 -- the machine for a text that was read whole
@@ -73,7 +73,7 @@ read_machine (Err e) bytes command hands short = hands
 
 -- no machine where the words are no command
 pub usage_machine : (words : List (List ℕ)) (bytes : List ℕ) (reply : Reply) → machine_of reply ≡ None → (IsCommand words → ⊥) → HandsOut words bytes (machine_of reply)
-usage_machine words bytes reply none no_command = subst (λ (m : Option Seen). HandsOut words bytes m) (sym none) (λ h rows program has. no_command (Run, has.asked))
+usage_machine words bytes reply none no_command = subst (λ (m : Option Seen). HandsOut words bytes m) (sym none) (λ h rows program steps has. no_command (Run steps, has.asked))
 
 -- what was read is what the source told
 pub told_bytes : (remaining : Option (List ℕ)) (text bytes : List ℕ) → IfSome remaining (λ all. text ≡ take 262145 all) → remaining ≡ Some bytes → text ≡ take 262145 bytes

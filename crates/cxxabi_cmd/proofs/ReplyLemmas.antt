@@ -10,21 +10,19 @@ use Rattle.cxx_hierarchy.specs.Classes.{Classes, class_names}
 use Rattle.cxx_syntax.specs.declared.tree.BodyTree.{BodyTree}
 use Rattle.cxx_syntax.specs.declared.source_text.SourceText.{SourceText}
 use Rattle.cxx_program.specs.declared.program.TypedProgram.{TypedProgram}
-use Rattle.abi_layout.specs.Layouts.{IsLaid}
 use Rattle.cxxabi_cmd.specs.declared.command.Command.{Command}
 use Rattle.cxxabi_cmd.specs.declared.command.Command.TheVariants.{Run}
 use Rattle.cxxabi_cmd.specs.declared.reply.Reply.{Reply}
 use Rattle.cxxabi_cmd.specs.Commands.{Says}
 use Rattle.cxxabi_cmd.specs.Verdict.{Verdict, Stops, Accepts}
 use Rattle.cxxabi_cmd.specs.Handed.{Seen, HandsOut}
-use Rattle.cxxabi_cmd.specs.Output.{Answer, AsksFor, AsksForName, IsProgram, Output, stopped, yielded, Yields, counted, no_main, not_taken, ran, no_main_by_paths, ran_by_paths, unknown_class, listed, Lists, whole, too_much, IsAnswered, line_alone, status_of_stop, run_by}
+use Rattle.cxxabi_cmd.specs.Output.{Answer, AsksFor, AsksForName, Output, stopped, yielded, Yields, counted, no_main, ran, unknown_class, listed, Lists, whole, too_much, IsAnswered, line_alone, status_of_stop}
 use Rattle.cxxabi_cmd.specs.declared.listing.Listing.{Listing}
 use Rattle.cxxabi_cmd.specs.invariants.Listings.{ListsName, is_unknown, is_class}
 use Rattle.cxxabi_cmd.specs.invariants.Replies.{answer_of, machine_of, HandsBy}
-use Rattle.cxxabi_cmd.proofs.AnswerLemmas.{answered_end}
-use Rattle.cxxabi_cmd.proofs.PathAnswers.{paths_answered}
+use Rattle.cxxabi_cmd.proofs.RunAnswers.{run_answered}
 use Rattle.cxxabi_cmd.proofs.OneOutput.{says_one}
-use Rattle.cxxabi_cmd.proofs.OneProgram.{program_left}
+use Rattle.cxxabi_cmd.proofs.SameMains.{HasTree, main_there}
 use Rattle.cxxabi_cmd.proofs.OneVerdict.{one_verdict}
 
 -- the listing of all classes, and of the class of a name
@@ -48,10 +46,6 @@ pub is_missing : (m : Option BodyTree) (b : Bool) → is_some m ≡ not b → b 
 is_missing None b is on = refl
 is_missing (Some tree) b is on = absurd (let clash : true ≡ false = is ∙ ap not on in cc)
 
-pub record HasTree (m : Option BodyTree) : Type 0 where
-  pub tree : BodyTree
-  pub is : m ≡ Some tree
-
 pub is_there : (m : Option BodyTree) (b : Bool) → is_some m ≡ not b → b ≡ false → HasTree m
 is_there None b is off = absurd (let clash : false ≡ true = is ∙ ap not off in cc)
 is_there (Some tree) b is off = record { tree = tree; is = refl }
@@ -63,11 +57,8 @@ lists_answered h listing classes _ (too_much rows text laid are long) = tt
 
 yields_answered : (size : ℕ) (source : SourceText) (h : Classes) (typed : TypedProgram) (command : Command) (a : Answer) → Yields size source h typed command a → IsAnswered a.status
 yields_answered size source h typed _ _ counted = tt
-yields_answered size source h typed _ _ (no_main empty) = tt
-yields_answered size source h typed _ _ (not_taken tree main nothing) = tt
-yields_answered size source h typed _ _ (ran program rows is laid) = answered_end (run_by h rows program).ending
-yields_answered size source h typed _ _ (no_main_by_paths steps empty) = tt
-yields_answered size source h typed _ _ (ran_by_paths steps tree rows answer main laid is) = paths_answered h rows typed steps answer is
+yields_answered size source h typed _ _ (no_main command steps runs empty) = tt
+yields_answered size source h typed _ _ (ran command steps tree rows answer runs main laid is) = run_answered h rows typed steps answer is
 yields_answered size source h typed _ _ (unknown_class command name names empty) = tt
 yields_answered size source h typed _ _ (listed command listing classes answer asks lists) = lists_answered h listing classes answer lists
 
@@ -83,20 +74,26 @@ accepted_output (Ok reply) size bytes source h typed command is same short verdi
 accepted_output (Err w) size bytes source h typed command is same short verdict = is
 
 -- the machine for an accepted source
-hands : (words : List (List ℕ)) (bytes : List ℕ) (source : SourceText) (h : Classes) (typed : TypedProgram) (command : Command) (m : Option Seen) → HandsBy command source h m → length bytes ≤ 262144 → Verdict bytes (Accepts source h typed) → Says words command → HandsOut words bytes m
-hands words bytes source h typed command None nothing short verdict says = λ k rows program has.
-    let same = one_verdict bytes (Accepts source h typed) (Accepts has.is_run.source k has.is_run.typed) verdict has.is_run.accepted in
-    let here : IsProgram has.is_run.source h program = subst (λ (x : Classes). IsProgram has.is_run.source x program) (sym same.1) has.is_run.is_program in
-    nothing (says_one words words command Run says has.asked refl) program rows (program_left source has.is_run.source h program same.0 here) (subst (λ (x : Classes). IsLaid x rows) (sym same.1) has.is_run.laid)
+hands : (words : List (List ℕ)) (bytes : List ℕ) (source : SourceText) (h : Classes) (typed : TypedProgram) (command : Command) (m : Option Seen) → HandsBy command source h typed m → length bytes ≤ 262144 → Verdict bytes (Accepts source h typed) → Says words command → HandsOut words bytes m
+hands words bytes source h typed command None nothing short verdict says = λ k rows program steps has.
+    let is = has.is_run in
+    let same = one_verdict bytes (Accepts source h typed) (Accepts is.source k program) verdict is.accepted in
+    let there = main_there source.main is.source.main is.tree same.0.main is.main in
+    nothing steps there.tree (says_one words words command (Run steps) says has.asked refl) there.is
 hands words bytes source h typed command (Some m) run short verdict says = record {
   h = h;
-  rows = run.1.rows;
-  program = run.1.program;
-  has_run = record { asked = subst (λ (c : Command). Says words c) run.0 says; short = short; is_run = record { source = source; typed = typed; accepted = verdict; is_program = run.1.is_program; laid = run.1.laid } };
-  is_machine = run.1.is_machine;
+  rows = run.rows;
+  program = typed;
+  steps = run.steps;
+  has_run = record {
+    asked = subst (λ (c : Command). Says words c) run.asked says;
+    short = short;
+    is_run = record { source = source; accepted = verdict; tree = run.tree; main = run.main; laid = run.laid };
+  };
+  is_machine = run.is_machine;
 }
 
-pub accepted_machine : (r : Result Reply Want) (bytes : List ℕ) (source : SourceText) (h : Classes) (typed : TypedProgram) (command : Command) → IfOk r (λ reply. HandsBy command source h (machine_of reply)) → length bytes ≤ 262144 → Verdict bytes (Accepts source h typed) →
+pub accepted_machine : (r : Result Reply Want) (bytes : List ℕ) (source : SourceText) (h : Classes) (typed : TypedProgram) (command : Command) → IfOk r (λ reply. HandsBy command source h typed (machine_of reply)) → length bytes ≤ 262144 → Verdict bytes (Accepts source h typed) →
     IfOk r (λ reply. (words : List (List ℕ)) → Says words command → HandsOut words bytes (machine_of reply))
 accepted_machine (Ok reply) bytes source h typed command is short verdict = λ words says. hands words bytes source h typed command (machine_of reply) is short verdict says
 accepted_machine (Err w) bytes source h typed command is short verdict = is
@@ -112,7 +109,7 @@ stopped_output (Ok reply) bytes command s is either short =
 stopped_output (Err w) bytes command s is either short = is
 
 stopped_hands : (words : List (List ℕ)) (bytes : List ℕ) (s : Stop) (m : Option Seen) → m ≡ None → Verdict bytes (Stops s) → HandsOut words bytes m
-stopped_hands words bytes s m same verdict = subst (λ (n : Option Seen). HandsOut words bytes n) (sym same) (λ h rows program has. one_verdict bytes (Stops s) (Accepts has.is_run.source h has.is_run.typed) verdict has.is_run.accepted)
+stopped_hands words bytes s m same verdict = subst (λ (n : Option Seen). HandsOut words bytes n) (sym same) (λ h rows program steps has. one_verdict bytes (Stops s) (Accepts has.is_run.source h program) verdict has.is_run.accepted)
 
 pub stopped_machine : (r : Result Reply Want) (bytes : List ℕ) (command : Command) (s : Stop) → IfOk r (λ reply. IsStopped s reply) → IfOk r (λ reply. machine_of reply ≡ None) → (s ≡ stop.NoMemory) ⊎ Verdict bytes (Stops s) →
     IfOk r (λ reply. (words : List (List ℕ)) → Says words command → HandsOut words bytes (machine_of reply))

@@ -6,7 +6,7 @@ use Rattle.cxx_text.specs.Bytes.{is_digit}
 use Rattle.cxx_text.specs.OneToken.{decimal as value_of}
 use Rattle.cxxabi_cmd.specs.declared.command.Command.{Command}
 use Rattle.cxxabi_cmd.specs.declared.command.Command.TheVariants.{Check, Run, Layout, LayoutOf, Tables, TablesOf, Paths}
-use Rattle.cxxabi_cmd.specs.Commands.{Says, check, run, layout, layout_of, tables, tables_of, paths, paths_within, IsStepCount, IsCommand, is_option, budget, most_steps}
+use Rattle.cxxabi_cmd.specs.Commands.{Says, check, run, run_within, layout, layout_of, tables, tables_of, paths, paths_within, IsStepCount, IsCommand, is_option, budget, most_steps}
 
 -- two numbers are one, or they are not
 same_number : (a b : ℕ) → (a ≡ b) ⊎ (a ≡ b → ⊥)
@@ -26,6 +26,7 @@ same_text (x ∷ xs) (y ∷ ys) =
 plain_name : (words : List (List ℕ)) (c : Command) (first name : List ℕ) → Says words c → words ≡ first ∷ name ∷ [] → ((first ≡ codes "layout") ⊎ (first ≡ codes "tables")) × (is_option name ≡ false)
 plain_name _ _ first name check same = absurd (cc)
 plain_name _ _ first name run same = absurd (cc)
+plain_name _ _ first name (run_within word steps is) same = absurd (cc)
 plain_name _ _ first name layout same = absurd (cc)
 plain_name _ _ first name (layout_of other plain) same =
     let one : other ≡ name = cc in
@@ -39,7 +40,7 @@ plain_name _ _ first name (paths_within word steps is) same = absurd (cc)
 
 -- three words that are a command
 record AreCountWords (first second third : List ℕ) : Type 0 where
-  paths_word : first ≡ codes "paths"
+  runs_word : (first ≡ codes "run") ⊎ (first ≡ codes "paths")
   option_word : second ≡ codes "--steps"
   steps : ℕ
   count : IsStepCount third steps
@@ -47,6 +48,9 @@ record AreCountWords (first second third : List ℕ) : Type 0 where
 count_words : (words : List (List ℕ)) (c : Command) (first second third : List ℕ) → Says words c → words ≡ first ∷ second ∷ third ∷ [] → AreCountWords first second third
 count_words _ _ first second third check same = absurd (cc)
 count_words _ _ first second third run same = absurd (cc)
+count_words _ _ first second third (run_within word steps is) same =
+    let one : word ≡ third = cc in
+    record { runs_word = inl (cc); option_word = cc; steps = steps; count = subst (λ (w : List ℕ). IsStepCount w steps) one is }
 count_words _ _ first second third layout same = absurd (cc)
 count_words _ _ first second third (layout_of name plain) same = absurd (cc)
 count_words _ _ first second third tables same = absurd (cc)
@@ -54,7 +58,7 @@ count_words _ _ first second third (tables_of name plain) same = absurd (cc)
 count_words _ _ first second third paths same = absurd (cc)
 count_words _ _ first second third (paths_within word steps is) same =
     let one : word ≡ third = cc in
-    record { paths_word = cc; option_word = cc; steps = steps; count = subst (λ (w : List ℕ). IsStepCount w steps) one is }
+    record { runs_word = inr (cc); option_word = cc; steps = steps; count = subst (λ (w : List ℕ). IsStepCount w steps) one is }
 
 -- the third word says no number of steps, or it says one
 pub no_steps : (first second third bytes : List ℕ) → bytes ≡ third → ((steps : ℕ) → IsStepCount bytes steps → ⊥) → IsCommand (first ∷ second ∷ third ∷ []) → ⊥
@@ -62,15 +66,23 @@ no_steps first second third bytes same none command =
     let is = count_words (first ∷ second ∷ third ∷ []) command.0 first second third command.1 refl in
     none is.steps (subst (λ (w : List ℕ). IsStepCount w is.steps) (sym same) is.count)
 
-pub with_steps : (first second third bytes : List ℕ) (steps : ℕ) → first ≡ codes "paths" → second ≡ codes "--steps" → bytes ≡ third → IsStepCount bytes steps → Says (first ∷ second ∷ third ∷ []) (Paths steps)
-with_steps first second third bytes steps one two same count =
-    subst (λ (w : List ℕ). Says (w ∷ second ∷ third ∷ []) (Paths steps)) (sym one)
-    (subst (λ (w : List ℕ). Says (codes "paths" ∷ w ∷ third ∷ []) (Paths steps)) (sym two) (paths_within third steps (subst (λ (w : List ℕ). IsStepCount w steps) same count)))
+with_steps : (first second third word bytes : List ℕ) (steps : ℕ) (command : Command) → first ≡ word → second ≡ codes "--steps" → bytes ≡ third → IsStepCount bytes steps → (IsStepCount third steps → Says (word ∷ codes "--steps" ∷ third ∷ []) command) →
+    Says (first ∷ second ∷ third ∷ []) command
+with_steps first second third word bytes steps command one two same count says =
+    subst (λ (w : List ℕ). Says (w ∷ second ∷ third ∷ []) command) (sym one)
+    (subst (λ (w : List ℕ). Says (word ∷ w ∷ third ∷ []) command) (sym two) (says (subst (λ (w : List ℕ). IsStepCount w steps) same count)))
+
+pub run_with_steps : (first second third bytes : List ℕ) (steps : ℕ) → first ≡ codes "run" → second ≡ codes "--steps" → bytes ≡ third → IsStepCount bytes steps → Says (first ∷ second ∷ third ∷ []) (Run steps)
+run_with_steps first second third bytes steps one two same count = with_steps first second third (codes "run") bytes steps (Run steps) one two same count (run_within third steps)
+
+pub paths_with_steps : (first second third bytes : List ℕ) (steps : ℕ) → first ≡ codes "paths" → second ≡ codes "--steps" → bytes ≡ third → IsStepCount bytes steps → Says (first ∷ second ∷ third ∷ []) (Paths steps)
+paths_with_steps first second third bytes steps one two same count = with_steps first second third (codes "paths") bytes steps (Paths steps) one two same count (paths_within third steps)
 
 one_word : (words : List (List ℕ)) (word : List ℕ) → (word ≡ codes "check" → ⊥) → (word ≡ codes "run" → ⊥) → (word ≡ codes "layout" → ⊥) → (word ≡ codes "tables" → ⊥) → (word ≡ codes "paths" → ⊥) →
     (c : Command) → Says words c → words ≡ word ∷ [] → ⊥
 one_word _ word a b d e f _ check same = a (cc)
 one_word _ word a b d e f _ run same = b (cc)
+one_word _ word a b d e f _ (run_within digits steps is) same = cc
 one_word _ word a b d e f _ layout same = d (cc)
 one_word _ word a b d e f _ (layout_of name plain) same = cc
 one_word _ word a b d e f _ tables same = e (cc)
@@ -81,6 +93,7 @@ one_word _ word a b d e f _ (paths_within digits steps is) same = cc
 no_words : (words : List (List ℕ)) (c : Command) → Says words c → words ≡ [] → ⊥
 no_words _ _ check same = cc
 no_words _ _ run same = cc
+no_words _ _ (run_within word steps is) same = cc
 no_words _ _ layout same = cc
 no_words _ _ (layout_of name plain) same = cc
 no_words _ _ tables same = cc
@@ -91,6 +104,7 @@ no_words _ _ (paths_within digits steps is) same = cc
 more_words : (words : List (List ℕ)) (x y z w : List ℕ) (rest : List (List ℕ)) (c : Command) → Says words c → words ≡ x ∷ y ∷ z ∷ w ∷ rest → ⊥
 more_words _ x y z w rest _ check same = cc
 more_words _ x y z w rest _ run same = cc
+more_words _ x y z w rest _ (run_within word steps is) same = cc
 more_words _ x y z w rest _ layout same = cc
 more_words _ x y z w rest _ (layout_of name plain) same = cc
 more_words _ x y z w rest _ tables same = cc
@@ -101,7 +115,7 @@ more_words _ x y z w rest _ (paths_within digits steps is) same = cc
 one_by : (word : List ℕ) → IsCommand (word ∷ []) ⊎ (IsCommand (word ∷ []) → ⊥)
 one_by word =
     ⊎_elim (λ same. inl (Check, subst (λ (w : List ℕ). Says (w ∷ []) Check) (sym same) check))
-    (λ a. ⊎_elim (λ same. inl (Run, subst (λ (w : List ℕ). Says (w ∷ []) Run) (sym same) run))
+    (λ a. ⊎_elim (λ same. inl (Run budget, subst (λ (w : List ℕ). Says (w ∷ []) (Run budget)) (sym same) run))
     (λ b. ⊎_elim (λ same. inl (Layout, subst (λ (w : List ℕ). Says (w ∷ []) Layout) (sym same) layout))
     (λ d. ⊎_elim (λ same. inl (Tables, subst (λ (w : List ℕ). Says (w ∷ []) Tables) (sym same) tables))
     (λ e. ⊎_elim (λ same. inl (Paths budget, subst (λ (w : List ℕ). Says (w ∷ []) (Paths budget)) (sym same) paths))
@@ -149,21 +163,27 @@ some_count word =
     (λ other. inr (λ steps is. let clash : false ≡ true = sym other ∙ is.digits in cc))
     (cases_Bool (list_all is_digit word))
 
+said : (first second third : List ℕ) → IsCommand (first ∷ second ∷ third ∷ []) → AreCountWords first second third
+said first second third command = count_words (first ∷ second ∷ third ∷ []) command.0 first second third command.1 refl
+
+-- behind a word that runs `main`
+stepped_by : (first second third : List ℕ) → ((steps : ℕ) → second ≡ codes "--steps" → IsStepCount third steps → IsCommand (first ∷ second ∷ third ∷ [])) →
+    IsCommand (first ∷ second ∷ third ∷ []) ⊎ (IsCommand (first ∷ second ∷ third ∷ []) → ⊥)
+stepped_by first second third make =
+    ⊎_elim
+    (λ two. ⊎_elim (λ count. inl (make count.0 two count.1)) (λ none. inr (no_steps first second third third refl none)) (some_count third))
+    (λ other. inr (λ command. other (said first second third command).option_word))
+    (same_text second (codes "--steps"))
+
 three_by : (first second third : List ℕ) → IsCommand (first ∷ second ∷ third ∷ []) ⊎ (IsCommand (first ∷ second ∷ third ∷ []) → ⊥)
 three_by first second third =
     ⊎_elim
-    (λ one. ⊎_elim
-    (λ two. ⊎_elim
-    (λ count. inl (Paths count.0, with_steps first second third third count.0 one two refl count.1))
-    (λ none. inr (no_steps first second third third refl none))
-    (some_count third))
-    (λ other. inr (λ command. other (said command).option_word))
-    (same_text second (codes "--steps")))
-    (λ other. inr (λ command. other (said command).paths_word))
-    (same_text first (codes "paths"))
-  where
-    said : IsCommand (first ∷ second ∷ third ∷ []) → AreCountWords first second third
-    said command = count_words (first ∷ second ∷ third ∷ []) command.0 first second third command.1 refl
+    (λ one. stepped_by first second third (λ steps two count. (Run steps, run_with_steps first second third third steps one two refl count)))
+    (λ a. ⊎_elim
+    (λ one. stepped_by first second third (λ steps two count. (Paths steps, paths_with_steps first second third third steps one two refl count)))
+    (λ b. inr (λ command. ⊎_elim a b (said first second third command).runs_word))
+    (same_text first (codes "paths")))
+    (same_text first (codes "run"))
 
 -- words are those of a command, or of none
 pub some_command : (words : List (List ℕ)) → IsCommand words ⊎ (IsCommand words → ⊥)

@@ -1,5 +1,5 @@
 -- Words and the bytes of a source have an answer.
-use Rattle.std.proofs.Common.{◌≡◌, ℕ, zero, suc, ◌≤◌, ◌⊎◌, ⊎_elim, inl, inr, Option, Some, None, Result, Ok, Err, List, [], ◌∷◌, length, refl, sym, ◌∙◌, subst}
+use Rattle.std.proofs.Common.{◌≡◌, ℕ, zero, suc, ◌≤◌, ⊎_elim, Some, Result, Ok, Err, List, [], ◌∷◌, length, refl}
 use Rattle.std.specs.Prelude.{slice_get}
 use Rattle.std.specs.Option.{is_some}
 use Rattle.std.proofs.lemmas.Bool.{cases_lt}
@@ -9,20 +9,16 @@ use Rattle.cxx_some_reading.proofs.Runs.{some_source}
 use Rattle.cxx_hierarchy.specs.declared.records.ClassId.{ClassId}
 use Rattle.cxx_hierarchy.specs.declared.stop.Stop.{Stop}
 use Rattle.cxx_hierarchy.specs.declared.stop.Stop.TheVariants.{Limit as AtLimit}
-use Rattle.cxx_hierarchy.specs.declared.stop.Rule.TheVariants.{Syntax, UnknownName}
+use Rattle.cxx_hierarchy.specs.declared.stop.Rule.TheVariants.{UnknownName}
 use Rattle.cxx_hierarchy.specs.declared.stop.LimitNo.TheVariants.{L1, L7, L9}
 use Rattle.cxx_hierarchy.specs.Classes.{Classes, class_names}
 use Rattle.cxx_hierarchy.specs.ClassPass.{faults_of, first_of}
 use Rattle.cxx_hierarchy.specs.Hierarchies.{IsHierarchy}
 use Rattle.cxx_hierarchy.specs.Resolved.{resolved}
-use Rattle.cxx_syntax.specs.declared.tree.BodyTree.{BodyTree}
 use Rattle.cxx_syntax.specs.declared.source_text.SourceText.{SourceText}
 use Rattle.cxx_program.specs.declared.program.TypedProgram.{TypedProgram}
 use Rattle.cxx_program.specs.Typed.{IsTypedProgram}
-use Rattle.cxx_simple.specs.declared.program.SimpleProgram.{SimpleProgram}
 use Rattle.cxx_resolve.specs.Programs.{program_of}
-use Rattle.cxx_simple.specs.Main.{MainResolves}
-use Rattle.cxx_simple.proofs.MainDecisions.{some_program as main_or_none}
 use Rattle.path_model.specs.States.{is_body}
 use Rattle.abi_layout.proofs.rules.SomeLayout.{some_layout}
 use Rattle.foundation.proofs.Places.{place_of}
@@ -33,13 +29,13 @@ use Rattle.cxxabi_cmd.specs.declared.command.Command.TheVariants.{Check, Run, La
 use Rattle.cxxabi_cmd.specs.declared.listing.Listing.{Listing}
 use Rattle.cxxabi_cmd.specs.declared.listing.Listing.TheVariants.{OfLayout, OfTables}
 use Rattle.cxxabi_cmd.specs.declared.status.Status.TheVariants.{Refused, Usage, Limit}
-use Rattle.cxxabi_cmd.specs.Commands.{IsCommand}
+use Rattle.cxxabi_cmd.specs.Commands.{IsCommand, on_bytes, on_paths}
 use Rattle.cxxabi_cmd.specs.Verdict.{AreLexemes, IsSource, HasNoFault, Judgement, Verdict, Stops, Accepts, by_text, by_records, by_classes, by_bodies, by_words, accepted}
-use Rattle.cxxabi_cmd.specs.Output.{source_limit, text_limit, Answer, AsksFor, all_layouts, one_layout, all_tables, one_tables, AsksForName, named_layout, named_tables, IsProgram, Lists, whole, too_much, Yields, counted, no_main, not_taken, ran, unknown_class, listed, Output, usage, too_long, stopped, yielded, line_alone, count_answer, text_answer, status_of_stop, run_answer, run_by, numbered, first_classes}
+use Rattle.cxxabi_cmd.specs.Output.{source_limit, text_limit, Answer, AsksFor, all_layouts, one_layout, all_tables, one_tables, AsksForName, named_layout, named_tables, Lists, whole, too_much, Yields, counted, unknown_class, listed, Output, usage, too_long, stopped, yielded, line_alone, count_answer, text_answer, status_of_stop, numbered, first_classes}
 use Rattle.cxxabi_cmd.proofs.Accepting.{ProgramsAreTyped, source_keeps, accepted_keeps, accepted_fine, accepted_typed, accepted_main}
 use Rattle.cxxabi_cmd.proofs.LaidRows.{no_meaning, sound_rows, words_decided}
 use Rattle.cxxabi_cmd.proofs.Listed.{SomeTables, AreKnown, some_texts, asked_known}
-use Rattle.cxxabi_cmd.proofs.PathAnswers.{NeverWrong, yields_paths}
+use Rattle.cxxabi_cmd.proofs.RunAnswers.{NeverWrong, yields_runs}
 use Rattle.cxxabi_cmd.proofs.SomeCommand.{same_text, some_command}
 use Rattle.cxxabi_cmd.proofs.SomeFault.{IsDecided, some_fault}
 
@@ -119,52 +115,15 @@ yields_named law size source h typed command listing name keeps fine names asks 
 yields_named law size source h typed command listing name keeps fine names asks (nowhere none) =
     (line_alone (Refused UnknownName size), unknown_class command name names (λ has. let place = place_of (class_names h) name has in none place.0 place.1))
 
--- a source is a program, or it is none
-abbrev IsRunOrNot : SourceText → Classes → Type 0
-IsRunOrNot source h = ((program : SimpleProgram) × IsProgram source h program) ⊎ ((program : SimpleProgram) → IsProgram source h program → ⊥)
-
-no_globals : (source : SourceText) (h : Classes) → (source.globals ≡ [] → ⊥) → (program : SimpleProgram) → IsProgram source h program → ⊥
-no_globals source h other program is = other is.globals
-
-no_bodies : (source : SourceText) (h : Classes) → (source.bodies ≡ [] → ⊥) → (program : SimpleProgram) → IsProgram source h program → ⊥
-no_bodies source h other program is = other is.bodies
-
-is_nothing : {X : Type 0} (xs : List X) → (xs ≡ []) ⊎ (xs ≡ [] → ⊥)
-is_nothing [] = inl refl
-is_nothing (x ∷ xs) = inr (λ same. cc)
-
-other_tree : (source : SourceText) (h : Classes) (tree : BodyTree) → source.main ≡ Some tree → ((program : SimpleProgram) → MainResolves h tree program → ⊥) → (program : SimpleProgram) → IsProgram source h program → ⊥
-other_tree source h tree main none program is =
-    let one : is.tree ≡ tree = (let same : Some is.tree ≡ Some tree = sym is.main ∙ main in cc) in
-    none program (subst (λ (t : BodyTree). MainResolves h t program) one is.resolves)
-
-some_program : (source : SourceText) (h : Classes) (tree : BodyTree) → IsHierarchy h → source.main ≡ Some tree → IsRunOrNot source h
-some_program source h tree keeps main =
-    ⊎_elim
-    (λ globals. ⊎_elim
-    (λ bodies. ⊎_elim (λ found. inl (found.0, record { globals = globals; bodies = bodies; tree = tree; main = main; resolves = found.1 })) (λ none. inr (other_tree source h tree main none)) (main_or_none h keeps tree))
-    (λ other. inr (no_bodies source h other))
-    (is_nothing source.bodies))
-    (λ other. inr (no_globals source h other))
-    (is_nothing source.globals)
-
-yields_run : (size : ℕ) (source : SourceText) (h : Classes) (typed : TypedProgram) (main : Option BodyTree) → IsHierarchy h → source.main ≡ main → (answer : Answer) × Yields size source h typed Run answer
-yields_run size source h typed None keeps main = (line_alone (Refused UnknownName size), no_main main)
-yields_run size source h typed (Some tree) keeps main =
-    ⊎_elim
-    (λ found. let laid = some_layout h keeps in (run_answer h laid.0 (run_by h laid.0 found.0), ran found.0 laid.0 found.1 laid.1))
-    (λ none. (line_alone (Refused Syntax 0), not_taken tree main none))
-    (some_program source h tree keeps main)
-
 -- a command has an answer to an accepted source
 pub some_yield : SomeTables → NeverWrong → (size : ℕ) (source : SourceText) (h : Classes) (typed : TypedProgram) (command : Command) → IsHierarchy h → HasNoFault h → IsTypedProgram h typed → is_body typed.main ≡ is_some source.main → (answer : Answer) × Yields size source h typed command answer
 some_yield law right size source h typed Check keeps fine is main = (count_answer h, counted)
-some_yield law right size source h typed Run keeps fine is main = yields_run size source h typed source.main keeps refl
+some_yield law right size source h typed (Run steps) keeps fine is main = let laid = some_layout h keeps in yields_runs right size source h laid.0 typed (Run steps) steps source.main (on_bytes steps) keeps (no_meaning h fine) laid.1 is main refl
 some_yield law right size source h typed Layout keeps fine is main = yields_list law size source h typed Layout OfLayout (first_classes (length h)) keeps fine all_layouts
 some_yield law right size source h typed (LayoutOf name) keeps fine is main = yields_named law size source h typed (LayoutOf name) OfLayout name keeps fine (named_layout name) (one_layout name) (some_place (class_names h) name)
 some_yield law right size source h typed Tables keeps fine is main = yields_list law size source h typed Tables OfTables (first_classes (length h)) keeps fine all_tables
 some_yield law right size source h typed (TablesOf name) keeps fine is main = yields_named law size source h typed (TablesOf name) OfTables name keeps fine (named_tables name) (one_tables name) (some_place (class_names h) name)
-some_yield law right size source h typed (Paths steps) keeps fine is main = let laid = some_layout h keeps in yields_paths right size source h laid.0 typed steps source.main keeps (no_meaning h fine) laid.1 is main refl
+some_yield law right size source h typed (Paths steps) keeps fine is main = let laid = some_layout h keeps in yields_runs right size source h laid.0 typed (Paths steps) steps source.main (on_paths steps) keeps (no_meaning h fine) laid.1 is main refl
 
 output_by : SomeTables → ProgramsAreTyped → NeverWrong → (words : List (List ℕ)) (bytes : List ℕ) → IsCommand words → length bytes ≤ source_limit → (judgement : Judgement) → Verdict bytes judgement → (answer : Answer) × Output words bytes answer
 output_by law typing right words bytes command short (Stops stop) verdict = (line_alone (status_of_stop stop), stopped stop command short verdict)

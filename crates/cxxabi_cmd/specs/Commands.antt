@@ -31,13 +31,19 @@ pub record IsStepCount (word : List ℕ) (steps : ℕ) : Type 0 where
 -- the words of each command
 pub data Says : List (List ℕ) → Command → Type 0 where
   check : Says (codes "check" ∷ []) Check
-  run : Says (codes "run" ∷ []) Run
+  run : Says (codes "run" ∷ []) (Run budget)
+  run_within : (word : List ℕ) (steps : ℕ) → IsStepCount word steps → Says (codes "run" ∷ codes "--steps" ∷ word ∷ []) (Run steps)
   layout : Says (codes "layout" ∷ []) Layout
   layout_of : (name : List ℕ) → is_option name ≡ false → Says (codes "layout" ∷ name ∷ []) (LayoutOf name)
   tables : Says (codes "tables" ∷ []) Tables
   tables_of : (name : List ℕ) → is_option name ≡ false → Says (codes "tables" ∷ name ∷ []) (TablesOf name)
   paths : Says (codes "paths" ∷ []) (Paths budget)
   paths_within : (word : List ℕ) (steps : ℕ) → IsStepCount word steps → Says (codes "paths" ∷ codes "--steps" ∷ word ∷ []) (Paths steps)
+
+-- the command runs `main`, with at most so many steps
+pub data RunsMain : Command → ℕ → Type 0 where
+  on_bytes : (steps : ℕ) → RunsMain (Run steps) steps
+  on_paths : (steps : ℕ) → RunsMain (Paths steps) steps
 
 -- the words are those of some command
 abbrev pub IsCommand : List (List ℕ) → Type 0

@@ -3,7 +3,7 @@ use Rattle.std.specs.Prelude.{◌≡◌, ℕ, zero, suc, ◌<◌, ◌≤◌, Con
 use Rattle.std.specs.Fmt.{decimal}
 use Rattle.cxx_text.specs.Cover.{max_text_bytes}
 use Rattle.cxx_hierarchy.specs.declared.records.ClassId.{ClassId}
-use Rattle.cxx_hierarchy.specs.declared.stop.Rule.TheVariants.{Syntax, UnknownName}
+use Rattle.cxx_hierarchy.specs.declared.stop.Rule.TheVariants.{UnknownName}
 use Rattle.cxx_hierarchy.specs.declared.stop.LimitNo.TheVariants.{L1, L9}
 use Rattle.cxx_hierarchy.specs.declared.stop.Stop.{Stop}
 use Rattle.cxx_hierarchy.specs.declared.stop.Stop.TheVariants as stop
@@ -11,9 +11,6 @@ use Rattle.cxx_hierarchy.specs.Classes.{Classes, class_names}
 use Rattle.cxx_syntax.specs.declared.tree.BodyTree.{BodyTree}
 use Rattle.cxx_syntax.specs.declared.source_text.SourceText.{SourceText}
 use Rattle.cxx_program.specs.declared.program.TypedProgram.{TypedProgram}
-use Rattle.cxx_simple.specs.declared.program.SimpleProgram.{SimpleProgram}
-use Rattle.cxx_simple.specs.Main.{MainResolves}
-use Rattle.simple_model.specs.Runs.{Ran, Ending, Done as IsDone, UndefinedAt, OutOfSteps as IsOutOfSteps, LimitMet, run_of}
 use Rattle.path_rules.specs.Rules.{undefined_no}
 use Rattle.abi_told.specs.declared.ending.End.{End}
 use Rattle.abi_told.specs.declared.ending.End.TheVariants as ends
@@ -23,16 +20,15 @@ use Rattle.abi_sound.specs.Places.{places_of}
 use Rattle.abi_tables.specs.declared.tables.ClassTables.{ClassTables}
 use Rattle.abi_tables.specs.Tables.{AreClassTables}
 use Rattle.abi_layout.specs.Layouts.{IsLaid}
-use Rattle.abi_print.specs.Texts.{text_of}
 use Rattle.abi_print.specs.LayoutTexts.{layout_text}
 use Rattle.abi_print.specs.TableTexts.{tables_text}
 use Rattle.cxxabi_cmd.specs.declared.command.Command.{Command}
-use Rattle.cxxabi_cmd.specs.declared.command.Command.TheVariants.{Check, Run, Layout, LayoutOf, Tables, TablesOf, Paths}
+use Rattle.cxxabi_cmd.specs.declared.command.Command.TheVariants.{Check, Layout, LayoutOf, Tables, TablesOf}
 use Rattle.cxxabi_cmd.specs.declared.listing.Listing.{Listing}
 use Rattle.cxxabi_cmd.specs.declared.listing.Listing.TheVariants.{OfLayout, OfTables}
 use Rattle.cxxabi_cmd.specs.declared.status.Status.{Status}
 use Rattle.cxxabi_cmd.specs.declared.status.Status.TheVariants.{Done, Refused, Usage, Undefined, OutOfSteps, Limit, ReadFault, WriteFault, NoMemory}
-use Rattle.cxxabi_cmd.specs.Commands.{Says, IsCommand}
+use Rattle.cxxabi_cmd.specs.Commands.{Says, IsCommand, RunsMain}
 pub use Rattle.cxxabi_cmd.specs.Commands.{budget}
 use Rattle.cxxabi_cmd.specs.Statuses.{last_line}
 use Rattle.cxxabi_cmd.specs.Streams.{IsPartOf}
@@ -47,18 +43,11 @@ abbrev pub Tells : List (List ℕ) → Option (List ℕ) → List ℕ → Type 0
 Tells words remaining bytes = IsCommand words → remaining ≡ Some bytes
 
 -- the status of a run's end
-abbrev pub status_of : Ending → Status
-status_of IsDone = Done
-status_of (UndefinedAt rule line) = Undefined (undefined_no rule) line
-status_of IsOutOfSteps = OutOfSteps
-status_of (LimitMet limit) = Limit limit
-
--- the status of the end of a run on the machine of paths
-abbrev pub status_by : End → Status
-status_by ends.Done = Done
-status_by (ends.Undefined rule line) = Undefined (undefined_no rule) line
-status_by ends.OutOfSteps = OutOfSteps
-status_by (ends.Limit limit) = Limit limit
+abbrev pub status_of : End → Status
+status_of ends.Done = Done
+status_of (ends.Undefined rule line) = Undefined (undefined_no rule) line
+status_of ends.OutOfSteps = OutOfSteps
+status_of (ends.Limit limit) = Limit limit
 
 -- the bytes that a source may have (limit L1)
 abbrev pub source_limit : ℕ
@@ -67,9 +56,6 @@ source_limit = max_text_bytes
 -- the bytes that the text of a command may have (limit L9)
 abbrev pub text_limit : ℕ
 text_limit = 16777216
-
-abbrev pub run_by : Classes → List ClassLayout → SimpleProgram → Ran
-run_by h rows program = run_of h (places_of h rows).size program budget
 
 -- the text and the status of an answer
 pub record Answer : Type 0 where
@@ -80,18 +66,14 @@ pub record Answer : Type 0 where
 abbrev pub line_alone : Status → Answer
 line_alone status = record { text = last_line status budget; status = status }
 
--- what a run told, with the places of the layout, and then its last line
-abbrev pub run_answer : Classes → List ClassLayout → Ran → Answer
-run_answer h rows ran = record { text = text_of (places_of h rows).place ran.outs ++ last_line (status_of ran.ending) budget; status = status_of ran.ending }
-
 -- a text of a run, and then the last line of its end
 abbrev pub ended_answer : List ℕ → End → ℕ → Answer
-ended_answer text e steps = record { text = text ++ last_line (status_by e) steps; status = status_by e }
+ended_answer text e steps = record { text = text ++ last_line (status_of e) steps; status = status_of e }
 
--- what a run on the machine of paths told, with the places of the layout, and how it ended
-pub data IsPathsAnswer (h : Classes) (rows : List ClassLayout) (typed : TypedProgram) (steps : ℕ) : Answer → Type 0 where
+-- what a run told, with the places of the layout, and how it ended
+pub data IsRunAnswer (h : Classes) (rows : List ClassLayout) (typed : TypedProgram) (steps : ℕ) : Answer → Type 0 where
   ends_with : (e : End) → ending_of e ≡ (told h (places_of h rows) typed steps).ending →
-      IsPathsAnswer h rows typed steps (ended_answer (told h (places_of h rows) typed steps).text e steps)
+      IsRunAnswer h rows typed steps (ended_answer (told h (places_of h rows) typed steps).text e steps)
 
 -- the status of a source that is not accepted
 abbrev pub status_of_stop : Stop → Status
@@ -143,14 +125,6 @@ pub data AreTexts (h : Classes) (rows : List ClassLayout) (listing : Listing) : 
   no_texts : AreTexts h rows listing [] []
   more_texts : (c : ClassId) (classes : List ClassId) (text rest : List ℕ) → IsClassText h rows listing c text → AreTexts h rows listing classes rest → AreTexts h rows listing (c ∷ classes) (text ++ rest)
 
--- a source that has a main alone besides its classes, all of the form that is run, is this program
-pub record IsProgram (source : SourceText) (h : Classes) (program : SimpleProgram) : Type 0 where
-  pub globals : source.globals ≡ []
-  pub bodies : source.bodies ≡ []
-  pub tree : BodyTree
-  pub main : source.main ≡ Some tree
-  pub resolves : MainResolves h tree program
-
 -- what is answered where these classes are listed
 pub data Lists (h : Classes) (listing : Listing) (classes : List ClassId) : Answer → Type 0 where
   whole : (rows : List ClassLayout) (text : List ℕ) → IsLaid h rows → AreTexts h rows listing classes text → length text ≤ text_limit → Lists h listing classes (text_answer text)
@@ -159,14 +133,9 @@ pub data Lists (h : Classes) (listing : Listing) (classes : List ClassId) : Answ
 -- what a command answers to an accepted source of so many bytes, which resolves to this program
 pub data Yields (size : ℕ) (source : SourceText) (h : Classes) (typed : TypedProgram) : Command → Answer → Type 0 where
   counted : Yields size source h typed Check (count_answer h)
-  no_main : source.main ≡ None → Yields size source h typed Run (line_alone (Refused UnknownName size))
-  not_taken : (tree : BodyTree) → source.main ≡ Some tree → ((program : SimpleProgram) → IsProgram source h program → ⊥) →
-      Yields size source h typed Run (line_alone (Refused Syntax 0))
-  ran : (program : SimpleProgram) (rows : List ClassLayout) → IsProgram source h program → IsLaid h rows →
-      Yields size source h typed Run (run_answer h rows (run_by h rows program))
-  no_main_by_paths : (steps : ℕ) → source.main ≡ None → Yields size source h typed (Paths steps) (line_alone (Refused UnknownName size))
-  ran_by_paths : (steps : ℕ) (tree : BodyTree) (rows : List ClassLayout) (answer : Answer) → source.main ≡ Some tree → IsLaid h rows → IsPathsAnswer h rows typed steps answer →
-      Yields size source h typed (Paths steps) answer
+  no_main : (command : Command) (steps : ℕ) → RunsMain command steps → source.main ≡ None → Yields size source h typed command (line_alone (Refused UnknownName size))
+  ran : (command : Command) (steps : ℕ) (tree : BodyTree) (rows : List ClassLayout) (answer : Answer) → RunsMain command steps → source.main ≡ Some tree → IsLaid h rows →
+      IsRunAnswer h rows typed steps answer → Yields size source h typed command answer
   unknown_class : (command : Command) (name : List ℕ) → AsksForName command name → (Contains (class_names h) name → ⊥) → Yields size source h typed command (line_alone (Refused UnknownName size))
   listed : (command : Command) (listing : Listing) (classes : List ClassId) (answer : Answer) → AsksFor h command listing classes → Lists h listing classes answer → Yields size source h typed command answer
 

@@ -15,8 +15,8 @@ use std::alloc::Global;
 pub enum Command {
     /// Whether the source is accepted, and how many classes it has.
     Check,
-    /// A run of its `main`.
-    Run,
+    /// A run of its `main` on the byte machine, of at most so many steps.
+    Run(u32),
     /// The layout of all its classes.
     Layout,
     /// The layout of the class of a name.
@@ -75,6 +75,10 @@ fn command_of_three(first: &str, second: &str, third: &str) -> Option<Command>
     ensures { MatchOption result (IsCommand (first.now ∷ second.now ∷ third.now ∷ []) → ⊥) (Says (first.now ∷ second.now ∷ third.now ∷ [])) }
 {
     match first {
+        "run" => match second {
+            "--steps" => Some(Command::Run(steps_of(third.as_bytes())?)),
+            _ => None,
+        },
         "paths" => match second {
             "--steps" => Some(Command::Paths(steps_of(third.as_bytes())?)),
             _ => None,
@@ -92,7 +96,7 @@ pub(crate) fn command_of(alloc: Global, words: &[String]) -> Result<Option<Comma
     match words {
         [word] => match word.as_str() {
             "check" => Ok(Some(Command::Check)),
-            "run" => Ok(Some(Command::Run)),
+            "run" => Ok(Some(Command::Run(BUDGET))),
             "layout" => Ok(Some(Command::Layout)),
             "tables" => Ok(Some(Command::Tables)),
             "paths" => Ok(Some(Command::Paths(BUDGET))),

@@ -5,13 +5,13 @@ ghost use Rattle.cxxabi_cmd.specs.Output.{line_alone, count_answer};
 ghost use Rattle.cxxabi_cmd.specs.invariants.Replies.{answer_of, machine_of};
 
 use crate::status::{Status, last_line_of};
+use byte_machine::Machine;
 use byte_memory::FlatMemory;
 use cxx_hierarchy::Hierarchy;
 use foundation::NoMemory;
-use simple_machine::Machine;
 use std::alloc::Global;
 
-/// The steps that a run may take.
+/// The steps that a run may take where the words say none.
 pub(crate) const BUDGET: u32 = 1_000_000;
 
 // What is answered, and the machine of the run where there was one.

@@ -18,12 +18,12 @@ use crate::status::Status;
 use crate::verdict::judge;
 use crate::writing::write_text;
 use abi_tables::{one_tables, some_tables};
+use byte_machine::Machine;
 use byte_memory::FlatMemory;
 use cxx_hierarchy::{LimitNo, Stop};
 use cxx_typing::programs_are_typed;
 use foundation::NoMemory;
 use path_model::runs_are_typed;
-use simple_machine::Machine;
 use std::alloc::Global;
 
 // What is answered to a source that stops.

@@ -1,20 +1,18 @@
 //! Runs worked cases through the whole program and says which differ.
 //!
 //! Standard input has the cases: words, a source, and the text and the status that they are answered with. Each goes
-//! through `run_cxxabi` with a source and a sink over bytes, some of whose calls may fail. A case of `run` also goes
-//! through the calls below: a machine over a memory of this crate, which counts its stores, must tell the same text;
-//! and so does a case of `layout` with the name of a class. For each case that differs there is a line, and the last
-//! line has the counts, also of all stores of the runs that ended.
+//! through `run_cxxabi` with a source and a sink over bytes, some of whose calls may fail. A case of `run` or of `paths` goes
+//! through it by both words, since both machines give one answer; after `run` the byte machine is handed out. A case of
+//! `layout` with the name of a class also goes through the calls below. For each case that differs there is a line, and
+//! the last line has the counts.
 #![tactic(auto)]
 
 mod case;
 mod own_layout;
-mod own_machine;
 
 use case::{Case, next_case};
 use cxxabi_cmd::{BytesSink, BytesSource, run_cxxabi};
 use own_layout::is_layout;
-use own_machine::stores_for;
 use std::alloc::{AllocError, Global};
 use std::io::Read;
 
@@ -30,33 +28,47 @@ fn failing(alloc: Global, call: u64) -> Result<Vec<u64>, AllocError> {
     Ok(calls)
 }
 
-// Whether the program answers the case as it says.
-fn is_answered(alloc: Global, case: &Case) -> anyhow::Result<bool> {
+// Whether a machine is there afterwards, where the program answers these words as the case says; None where it does not.
+fn machine_after(alloc: Global, case: &Case, words: &[String]) -> anyhow::Result<Option<bool>> {
     let bytes = Vec::from_slice(alloc, case.source)?;
     let mut source = BytesSource::new(bytes, failing(alloc, case.failing_read)?);
     let mut sink = BytesSink::new(alloc, failing(alloc, case.failing_write)?);
     let Ok(()) = sink.reserve(ROOM) else {
-        return Ok(false);
+        return Ok(None);
     };
     let mut last = None;
-    let status = run_cxxabi(alloc, &case.words, &mut source, &mut sink, &mut last);
-    Ok(status.code() == case.status && sink.taken() == case.text)
+    let status = run_cxxabi(alloc, words, &mut source, &mut sink, &mut last);
+    let is_answer = status.code() == case.status && sink.taken() == case.text;
+    Ok(is_answer.then_some(last.is_some()))
 }
 
-// The stores of a run that ended, 0 for another case, and None where something is not as the case says.
-fn stores_of(alloc: Global, case: &Case) -> anyhow::Result<Option<u32>> {
-    if !is_answered(alloc, case)? {
-        return Ok(None);
+// The words with another first word.
+fn with_first(alloc: Global, first: &str, words: &[String]) -> Result<Vec<String>, AllocError> {
+    let mut list = Vec::new(alloc);
+    list.push(String::from_str(alloc, first)?)?;
+    for word in words.iter().skip(1) {
+        list.push(String::from_str(alloc, word.as_str())?)?;
     }
+    Ok(list)
+}
+
+// Whether both machines give the answer of the case, and the byte machine is handed out where a run came to its end.
+fn is_run(alloc: Global, case: &Case) -> anyhow::Result<bool> {
+    let by_bytes = machine_after(alloc, case, &with_first(alloc, "run", &case.words)?)?;
+    let by_paths = machine_after(alloc, case, &with_first(alloc, "paths", &case.words)?)?;
+    let ran = case.status == 0 || case.status == 3 || case.status == 4;
+    Ok(by_paths == Some(false) && by_bytes.is_some() && (by_bytes == Some(true) || !ran))
+}
+
+// Whether all is as the case says.
+fn is_right(alloc: Global, case: &Case) -> anyhow::Result<bool> {
     match case.words.as_slice() {
-        [word] if word.as_str() == "run" && (case.status == 0 || case.status == 3) => {
-            let told = stores_for(alloc, case.source, case.text, case.status);
-            Ok(told.map(|count| if case.status == 0 { count } else { 0 }))
-        }
+        [word, ..] if word.as_str() == "run" || word.as_str() == "paths" => is_run(alloc, case),
         [word, name] if word.as_str() == "layout" && case.status == 0 => {
-            Ok(is_layout(alloc, case.source, name.as_bytes(), case.text).then_some(0))
+            let answered = machine_after(alloc, case, &case.words)?.is_some();
+            Ok(answered && is_layout(alloc, case.source, name.as_bytes(), case.text))
         }
-        _ => Ok(Some(0)),
+        _ => Ok(machine_after(alloc, case, &case.words)?.is_some()),
     }
 }
 
@@ -67,22 +79,18 @@ fn main(rt: HostRuntime) -> anyhow::Result<()> {
     let mut rest = bytes.as_slice();
     let mut cases = 0u64;
     let mut differ = 0u64;
-    let mut stores = 0u64;
     while !rest.is_empty() {
         let Some((case, behind)) = next_case(alloc, rest)? else {
             println!(rt; "no case stands behind case {cases}")?;
             return Ok(());
         };
-        match stores_of(alloc, &case)? {
-            Some(count) => stores = stores.saturating_add(u64::from(count)),
-            None => {
-                println!(rt; "case {cases} differs")?;
-                differ = differ.saturating_add(1);
-            }
+        if !is_right(alloc, &case)? {
+            println!(rt; "case {cases} differs")?;
+            differ = differ.saturating_add(1);
         }
         cases = cases.saturating_add(1);
         rest = behind;
     }
-    println!(rt; "{cases} cases, {differ} differ, {stores} stores")?;
+    println!(rt; "{cases} cases, {differ} differ")?;
     Ok(())
 }

@@ -10,20 +10,24 @@ use Rattle.path_model.specs.States.{is_body}
 use Rattle.abi_sound.specs.declared.class_layout.ClassLayout.{ClassLayout}
 use Rattle.abi_sound.specs.Places.{places_of}
 use Rattle.abi_slots.specs.Slots.{AreSlots}
+use Rattle.abi_count.specs.Counts.{all_words, most_words}
 use Rattle.abi_layout.specs.AbiLayouts.{IsAbiLayout}
+use Rattle.abi_code.specs.Bounds.{IsSmall}
 use Rattle.cxxabi_cmd.specs.declared.listing.Listing.{Listing}
 use Rattle.cxxabi_cmd.specs.declared.status.Status.TheVariants.{Refused}
 use Rattle.cxxabi_cmd.specs.declared.verdict.Accepted.{Accepted}
 use Rattle.cxxabi_cmd.specs.Output.{Answer, IsClassText, AreTexts, Lists, line_alone, text_limit}
 
--- the layout, the final overriders, and what the classes list for their tables are those of the classes; the program is typed,
--- and has a main where the source has one
+-- the layout, the final overriders, and what the classes list for their tables are those of the classes, and the tables are within the
+-- limit; the program is typed, has a main where the source has one, and is small enough to be lowered
 pub record IsReady (accepted : Accepted) : Type 0 where
   pub layout : IsAbiLayout accepted.hierarchy accepted.layout
   pub overriders : AreOverriders accepted.hierarchy accepted.overriders
   pub slots : AreSlots accepted.hierarchy (places_of accepted.hierarchy accepted.layout) accepted.slots
   pub typed : IsTypedProgram accepted.hierarchy accepted.program
   pub main : is_body accepted.program.main ≡ is_some accepted.source.main
+  pub few_words : all_words accepted.hierarchy (places_of accepted.hierarchy accepted.layout) ≤ most_words
+  pub small : IsSmall accepted.program
 
 -- behind what was there stands the text of a class
 pub record IsAppended (h : Classes) (rows : List ClassLayout) (listing : Listing) (c : ClassId) (before after : List ℕ) : Type 0 where

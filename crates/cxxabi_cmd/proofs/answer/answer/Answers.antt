@@ -4,7 +4,7 @@ use Rattle.cxxabi_cmd.specs.declared.command.Command.{Command}
 use Rattle.cxxabi_cmd.specs.declared.command.Command.TheVariants.{Layout, LayoutOf, Tables, TablesOf}
 use Rattle.cxxabi_cmd.specs.declared.listing.Listing.TheVariants.{OfLayout, OfTables}
 use Rattle.cxxabi_cmd.specs.Output.{Yields, counted, count_answer, first_classes, all_layouts, one_layout, all_tables, one_tables, named_layout, named_tables}
-use Rattle.cxxabi_cmd.specs.invariants.Replies.{answer_of, HasFewSteps}
+use Rattle.cxxabi_cmd.specs.invariants.Replies.{answer_of, machine_of, HandsBy, HasFewSteps}
 use Rattle.cxxabi_cmd.proofs.AnswerLemmas.{yields, hands_none}
 use Rattle.cxxabi_cmd.proofs.ReplyLemmas.{yields_all, yields_one}
 use Rattle.cxxabi_cmd.proofs.answer.answer.Goals as goal
@@ -50,6 +50,23 @@ returns-in-TablesOf-clause-yields c =
     (subst (λ (n : List ℕ). IfOk c.list_one-in-TablesOf.result (λ reply. Yields c.args.size source h typed (TablesOf n) (answer_of reply))) c.as_slice-in-TablesOf.ensures
     (yields_one c.list_one-in-TablesOf.result c.args.size source h typed (TablesOf name) OfTables name (named_tables name) (one_tables name) c.list_one-in-TablesOf.ensures.lists))
 
+pub run_on_bytes-requires-clause-few : goal.run_on_bytes-requires-clause-few
+run_on_bytes-requires-clause-few c = subst HasFewSteps c.in-Run.is c.requires.few
+
+pub returns-in-Run-clause-yields : goal.returns-in-Run-clause-yields
+returns-in-Run-clause-yields c =
+    let h = c.args.accepted.now.hierarchy in
+    let source = c.args.accepted.now.source in
+    let typed = c.args.accepted.now.program in
+    subst (λ (d : Command). IfOk c.run_on_bytes.result (λ reply. Yields c.args.size source h typed d (answer_of reply))) (sym c.in-Run.is) c.run_on_bytes.ensures.yields
+
+pub returns-in-Run-clause-machine : goal.returns-in-Run-clause-machine
+returns-in-Run-clause-machine c =
+    let h = c.args.accepted.now.hierarchy in
+    let source = c.args.accepted.now.source in
+    let typed = c.args.accepted.now.program in
+    subst (λ (d : Command). IfOk c.run_on_bytes.result (λ reply. HandsBy d source h typed (machine_of reply))) (sym c.in-Run.is) c.run_on_bytes.ensures.machine
+
 pub run_on_paths-requires-clause-few : goal.run_on_paths-requires-clause-few
 run_on_paths-requires-clause-few c = subst HasFewSteps c.in-Paths.is c.requires.few
 
@@ -62,5 +79,5 @@ returns-in-Paths-clause-yields c =
 
 pub returns-in-Paths-clause-machine : goal.returns-in-Paths-clause-machine
 returns-in-Paths-clause-machine c =
-    hands_none c.run_on_paths.result c.args.command.now c.args.accepted.now.source c.args.accepted.now.hierarchy c.run_on_paths.ensures.machine
-    (λ asked program rows is laid. let clash = sym c.in-Paths.is ∙ asked in cc)
+    hands_none c.run_on_paths.result c.args.command.now c.args.accepted.now.source c.args.accepted.now.hierarchy c.args.accepted.now.program c.run_on_paths.ensures.machine
+    (λ steps tree asked main. let clash = sym c.in-Paths.is ∙ asked in cc)

@@ -8,7 +8,7 @@ pub returns-in-check : goal.returns-in-check
 returns-in-check c = subst (λ (w : List (List ℕ)). Says w Check) (sym (says_word string_bytes c.args.words.now c.word-item.result c.as_str.result.now _ c.in-len1.len_at_least c.in-len1.len_below c.word-item.is c.as_str.ensures.value c.in-check.is)) check
 
 pub returns-in-run : goal.returns-in-run
-returns-in-run c = subst (λ (w : List (List ℕ)). Says w Run) (sym (says_word string_bytes c.args.words.now c.word-item.result c.as_str.result.now _ c.in-len1.len_at_least c.in-len1.len_below c.word-item.is c.as_str.ensures.value c.in-run.is)) run
+returns-in-run c = subst (λ (w : List (List ℕ)). Says w (Run budget)) (sym (says_word string_bytes c.args.words.now c.word-item.result c.as_str.result.now _ c.in-len1.len_at_least c.in-len1.len_below c.word-item.is c.as_str.ensures.value c.in-run.is)) run
 
 pub returns-in-layout : goal.returns-in-layout
 returns-in-layout c = subst (λ (w : List (List ℕ)). Says w Layout) (sym (says_word string_bytes c.args.words.now c.word-item.result c.as_str.result.now _ c.in-len1.len_at_least c.in-len1.len_below c.word-item.is c.as_str.ensures.value c.in-layout.is)) layout

@@ -1,0 +1,138 @@
+//! What `run` and `paths` answer: what `main` prints on the byte machine, and on the machine of paths.
+
+ghost use Rattle.std.specs.Prelude.{◌≡◌, ◌≤◌, true, None, IfOk, MatchOption};
+ghost use Rattle.std.specs.Option.{option_map};
+ghost use Rattle.path_model.specs.States.{is_body};
+ghost use Rattle.cxxabi_cmd.specs.Commands.{most_steps};
+ghost use Rattle.cxxabi_cmd.specs.Output.{IsRunAnswer, Yields, ended_answer, status_of};
+ghost use Rattle.cxxabi_cmd.specs.Handed.{IsMachineOf, seen_of};
+ghost use Rattle.cxxabi_cmd.specs.invariants.Listings.{IsReady};
+ghost use Rattle.cxxabi_cmd.specs.invariants.Replies.{answer_of, machine_of, HandsBy};
+
+use crate::command::Command;
+use crate::reply::{Reply, line_alone};
+use crate::status::{Status, last_line_of, number_of};
+use crate::verdict::Accepted;
+use abi_refine::{Execution, execute};
+use abi_told::End;
+use byte_machine::Machine;
+use byte_memory::FlatMemory;
+use cxx_hierarchy::Rule;
+use foundation::{NoMemory, Sequence};
+use path_run::{PathRun, run_paths};
+use std::alloc::Global;
+
+// The status of an end.
+fn status_of(end: End) -> Status
+    ensures { result ≡ status_of end }
+{
+    match end {
+        End::Done => Status::Done,
+        End::Undefined(rule, line) => Status::Undefined(number_of(rule), line),
+        End::OutOfSteps => Status::OutOfSteps,
+        End::Limit(limit) => Status::Limit(limit),
+    }
+}
+
+// The text of a run of at most so many steps, and the last line of its end.
+fn ended(
+    alloc: Global,
+    text: Sequence<u8>,
+    end: End,
+    steps: u32,
+    machine: Option<Machine<FlatMemory>>,
+) -> Result<Reply, NoMemory>
+    ensures answer { IfOk result (λ reply. answer_of reply ≡ ended_answer text end steps) }
+    ensures machine { IfOk result (λ reply. machine_of reply ≡ option_map (λ m. seen_of m) machine) }
+{
+    let status = status_of(end);
+    let mut text = text.into_vec();
+    text.extend_from_slice(last_line_of(alloc, status, steps)?.as_bytes())?;
+    Ok(Reply {
+        text,
+        status,
+        machine,
+    })
+}
+
+// What is answered to a program that has a main, run on the byte machine.
+fn run_by_bytes(alloc: Global, steps: u32, accepted: &Accepted) -> Result<Reply, NoMemory>
+    requires ready { IsReady accepted.now }
+    requires main { is_body accepted.now.program.main ≡ true }
+    requires few { steps ≤ most_steps }
+    ensures answer { IfOk result (λ reply. IsRunAnswer accepted.now.hierarchy accepted.now.layout accepted.now.program steps (answer_of reply)) }
+    ensures machine { IfOk result (λ reply. MatchOption (machine_of reply) ⊥ (IsMachineOf accepted.now.hierarchy accepted.now.layout accepted.now.program steps)) }
+{
+    let execution = execute(
+        alloc,
+        &accepted.hierarchy,
+        &accepted.overriders,
+        &accepted.layout,
+        &accepted.program,
+        steps,
+    )?;
+    let Execution {
+        text,
+        end,
+        machine,
+        ..
+    } = execution;
+    let reply = ended(alloc, text, end, steps, Some(machine))?;
+    Ok(reply)
+}
+
+// What is answered to a program that has a main, run on the machine of paths.
+fn run_by_paths(alloc: Global, steps: u32, accepted: &Accepted) -> Result<Reply, NoMemory>
+    requires ready { IsReady accepted.now }
+    requires main { is_body accepted.now.program.main ≡ true }
+    requires few { steps ≤ most_steps }
+    ensures answer { IfOk result (λ reply. IsRunAnswer accepted.now.hierarchy accepted.now.layout accepted.now.program steps (answer_of reply)) }
+    ensures machine { IfOk result (λ reply. machine_of reply ≡ None) }
+{
+    let PathRun { text, end } = run_paths(
+        alloc,
+        &accepted.hierarchy,
+        &accepted.overriders,
+        &accepted.layout,
+        &accepted.program,
+        steps,
+    )?;
+    let reply = ended(alloc, text, end, steps, None)?;
+    Ok(reply)
+}
+
+/// What `run` answers to an accepted source of so many bytes, with a budget of steps.
+pub(crate) fn run_on_bytes(
+    alloc: Global,
+    size: u32,
+    steps: u32,
+    accepted: &Accepted,
+) -> Result<Reply, NoMemory>
+    requires ready { IsReady accepted.now }
+    requires few { steps ≤ most_steps }
+    ensures yields { IfOk result (λ reply. Yields size accepted.now.source accepted.now.hierarchy accepted.now.program (Command.Run steps) (answer_of reply)) }
+    ensures machine { IfOk result (λ reply. HandsBy (Command.Run steps) accepted.now.source accepted.now.hierarchy accepted.now.program (machine_of reply)) }
+{
+    if accepted.source.main.is_none() {
+        return line_alone(alloc, Status::Refused(Rule::UnknownName, size));
+    }
+    run_by_bytes(alloc, steps, accepted)
+}
+
+/// What `paths` answers to an accepted source of so many bytes, with a budget of steps.
+pub(crate) fn run_on_paths(
+    alloc: Global,
+    size: u32,
+    steps: u32,
+    accepted: &Accepted,
+) -> Result<Reply, NoMemory>
+    requires ready { IsReady accepted.now }
+    requires few { steps ≤ most_steps }
+    ensures yields { IfOk result (λ reply. Yields size accepted.now.source accepted.now.hierarchy accepted.now.program (Command.Paths steps) (answer_of reply)) }
+    ensures machine { IfOk result (λ reply. machine_of reply ≡ None) }
+{
+    if accepted.source.main.is_none() {
+        return line_alone(alloc, Status::Refused(Rule::UnknownName, size));
+    }
+    run_by_paths(alloc, steps, accepted)
+}

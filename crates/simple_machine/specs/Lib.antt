@@ -1,6 +1,0 @@
-pub mod Heap
-pub mod Effect
-pub mod invariants
-pub mod Runs
-pub mod Turn
-pub mod MachineState

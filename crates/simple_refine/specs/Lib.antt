@@ -1,3 +1,0 @@
-pub mod Agreed
-pub mod Reaches
-pub mod Endings
