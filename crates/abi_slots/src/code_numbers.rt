@@ -82,6 +82,13 @@ impl CodeNumbers {
         Ok(CodeNumbers { rows, table })
     }
 
+    /// The rows, in the order in which they were given.
+    pub fn rows(&self) -> &[CodeRow]
+        ensures { result.now ≡ self.now }
+    {
+        self.rows.as_slice()
+    }
+
     /// The number of the code of a form of a function; None exactly where no row has them.
     pub fn code(&self, f: FunctionId, kind: BlockKind) -> Option<u32>
         ensures { result ≡ code_of self.now f kind }
