@@ -23,7 +23,8 @@ use Rattle.abi_ops.specs.declared.routines.Course.{Course}
 use Rattle.abi_ops.specs.declared.routines.Course.TheVariants.{Constructs, Destroys, Deletes}
 use Rattle.abi_ops.specs.Setups.{Setup, Routine, MainCode, FunctionCode, PlanCode, body_in}
 use Rattle.abi_ops.specs.Routines.{has_body, IsCourse, IsRoutine, plan_function, function_of, plan_kind, kind_of}
-use Rattle.abi_code.specs.invariants.Numbers.{main_routines, owned_routines, plan_routines, class_ids, routines}
+use Rattle.abi_code.specs.invariants.Numbers.{main_routines, owned_routines, plain_routines, plan_routines, class_ids, routines}
+use Rattle.abi_code.specs.invariants.Codes.{is_plain as is_plain_code}
 use Rattle.abi_code.proofs.Starts.{AreApartForms}
 
 abbrev function_routines : List TypedBody → List Routine
@@ -105,6 +106,23 @@ class_only x r has = let from = from_flat_map plan_routines (class_ids (length x
 pub routine_only : (x : Setup) (r : Routine) → Has (routines x) r → IsRoutine x r
 unfolding routines
 routine_only x r has = ⊎_elim (λ a. main_only x x.program.main r refl a) (λ rest. ⊎_elim (λ b. function_only x r b) (λ d. class_only x r d) (has_cases (function_routines x.program.bodies) (class_routines (length x.h)) r rest)) (has_cases (main_routines x.program.main) _ r has)
+
+-- `main` and the functions
+
+pub plain_only : (x : Setup) (r : Routine) → Has (plain_routines x.program) r → IsRoutine x r
+plain_only x r has = ⊎_elim (λ a. main_only x x.program.main r refl a) (λ b. function_only x r b) (has_cases (main_routines x.program.main) (function_routines x.program.bodies) r has)
+
+main_plain : (main : Option TypedBody) (r : Routine) → Has (main_routines main) r → is_plain_code r ≡ true
+main_plain None r has = absurd has
+main_plain (Some body) r has = ⊎_elim (λ e. ap is_plain_code (sym e)) (λ none. absurd none) has
+
+pub plain_is : (program : TypedProgram) (r : Routine) → Has (plain_routines program) r → is_plain_code r ≡ true
+plain_is program r has = ⊎_elim (λ a. main_plain program.main r a) by_function (has_cases (main_routines program.main) (function_routines program.bodies) r has)
+  where
+    by_function : Has (function_routines program.bodies) r → is_plain_code r ≡ true
+    by_function b =
+        let from = from_flat_map (λ (body : TypedBody). owned_routines body.owner) program.bodies r b in
+        ap is_plain_code (sym (owned_only from.0.owner r from.2).2)
 
 -- each once
 

@@ -1,5 +1,5 @@
 -- The numbers of routines, one after the other.
-use Rattle.std.proofs.Common.{◌≡◌, ℕ, suc, ◌+◌, ◌<◌, ◌^◌, List, [], ◌∷◌, length, get_or, drop, ap, subst, sym, ◌∙◌, arith}
+use Rattle.std.proofs.Common.{◌≡◌, ℕ, suc, ◌+◌, ◌<◌, ◌^◌, true, List, [], ◌∷◌, length, get_or, drop, ap, subst, sym, ◌∙◌, arith}
 use Rattle.std.specs.List.{sum_by}
 use Rattle.std.proofs.Math.Seq.{drop-cons}
 use Rattle.std.proofs.lemmas.List.Sums.{sum_by-cons}
@@ -10,10 +10,10 @@ use Rattle.abi_ops.specs.Setups.{Setup, Routine}
 use Rattle.abi_ops.specs.Routines.{IsRoutine}
 use Rattle.abi_code.specs.declared.routines.Routine.{Routine as RoutineCode}
 use Rattle.abi_code.specs.declared.routines.Routine.TheVariants.{Main}
-use Rattle.abi_code.specs.invariants.Numbers.{routines, blocks_in, block_count, rows_from, code_rows}
-use Rattle.abi_code.specs.invariants.Codes.{routine_from, routines_from}
+use Rattle.abi_code.specs.invariants.Numbers.{plain_routines, routines, blocks_in, block_count, rows_from, code_rows}
+use Rattle.abi_code.specs.invariants.Codes.{routine_from, routines_from, is_plain}
 use Rattle.abi_code.specs.invariants.Lowerings.{Completes}
-use Rattle.abi_code.proofs.ListedRoutines.{routine_only}
+use Rattle.abi_code.proofs.ListedRoutines.{routine_only, plain_only, plain_is}
 
 completes_none : (x : Setup) (list : List Routine) → list ≡ routines x → Completes x [] 0 list
 unfolding code_rows block_count
@@ -39,7 +39,15 @@ pub room_next : (x : Setup) (rows : List CodeRow) (n : ℕ) (list : List Routine
 room_next x rows n list i low few before =
     completes_room x rows n (routine_from (get_or list i Main)) (routines_from (drop (i + 1) list)) few (subst (λ (l : List Routine). Completes x rows n l) (routine_next list i low) before)
 
+item_there : (list : List RoutineCode) (i : ℕ) (all : List Routine) → routines_from list ≡ all → i < length list → Has all (routine_from (get_or list i Main))
+item_there list i all is low =
+    subst (λ (l : List Routine). Has l (routine_from (get_or list i Main))) is (has_map routine_from list (get_or list i Main) (has_at list i (get_or list i Main) (slice_get-get_or list i Main low)))
+
 pub routine_item : (x : Setup) (list : List RoutineCode) (i : ℕ) → routines_from list ≡ routines x → i < length list → IsRoutine x (routine_from (get_or list i Main))
-routine_item x list i is low =
-    let has = has_map routine_from list (get_or list i Main) (has_at list i (get_or list i Main) (slice_get-get_or list i Main low)) in
-    routine_only x (routine_from (get_or list i Main)) (subst (λ (l : List Routine). Has l (routine_from (get_or list i Main))) is has)
+routine_item x list i is low = routine_only x (routine_from (get_or list i Main)) (item_there list i (routines x) is low)
+
+-- one of `main` and the functions
+pub plain_item : (x : Setup) (list : List RoutineCode) (i : ℕ) → routines_from list ≡ plain_routines x.program → i < length list → IsRoutine x (routine_from (get_or list i Main)) × (is_plain (routine_from (get_or list i Main)) ≡ true)
+plain_item x list i is low =
+    let has = item_there list i (plain_routines x.program) is low in
+    (plain_only x (routine_from (get_or list i Main)) has, plain_is x.program (routine_from (get_or list i Main)) has)

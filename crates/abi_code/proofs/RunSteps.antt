@@ -1,7 +1,8 @@
 -- What is known where the blocks of a routine are put behind others.
-use Rattle.std.proofs.Common.{◌≡◌, ℕ, ◌+◌, ◌<◌, ◌≤◌, ◌^◌, Bool, true, false, Option, Some, None, List, ◌++◌, length, get_or, drop, append_assoc, refl, ap, subst, sym, ◌∙◌, arith}
+use Rattle.std.proofs.Common.{◌≡◌, ℕ, ◌+◌, ◌<◌, ◌≤◌, ◌^◌, Bool, true, false, Option, Some, None, List, [], ◌∷◌, ◌++◌, length, get_or, drop, append_assoc, refl, ap, subst, sym, ◌∙◌, arith}
 use Rattle.std.specs.List.{flat_map, count_by}
-use Rattle.std.proofs.lemmas.List.{append-nil}
+use Rattle.std.proofs.lemmas.List.{append-nil, flat_map_more}
+use Rattle.std.proofs.lemmas.List.Concat.{flat_map-append}
 use Rattle.cxx_hierarchy.specs.declared.records.ClassId.{ClassId}
 use Rattle.cxx_hierarchy.specs.Classes.{Classes}
 use Rattle.cxx_overrider.specs.declared.FunctionId.{FunctionId}
@@ -28,9 +29,9 @@ use Rattle.abi_lower.specs.Blocks.{items}
 use Rattle.abi_lower.specs.invariants.ItemCodes.{form_of, item_codes}
 use Rattle.abi_code.specs.declared.routines.Routine.{Routine as RoutineCode}
 use Rattle.abi_code.specs.declared.routines.Routine.TheVariants.{Main, Plan}
-use Rattle.abi_code.specs.invariants.Numbers.{routines, own_events, blocks_in, block_count, code_rows, number_of}
+use Rattle.abi_code.specs.invariants.Numbers.{main_routines, owned_routines, plain_routines, built_routines, ended_routines, plan_routines, class_ids, routines, own_events, blocks_in, block_count, code_rows, number_of}
 use Rattle.abi_code.specs.invariants.Codes.{routine_from, routines_from, is_own_code, is_plain}
-use Rattle.abi_code.specs.invariants.Runs.{event_blocks, plan_blocks, statement_blocks, blocks_of_body, run, all_blocks}
+use Rattle.abi_code.specs.invariants.Runs.{event_blocks, plan_blocks, statement_blocks, blocks_of_body, run, class_blocks, all_blocks}
 use Rattle.abi_code.specs.invariants.Lowerings.{IsLowering, IsBodySite, RunsAt, IsPlanRun}
 use Rattle.abi_code.proofs.BodySites.{declares_known}
 use Rattle.abi_code.proofs.Counted.{same_test, plan_counted, blocks_some}
@@ -129,9 +130,35 @@ two_pieces old mid new first second whole e f g = f ∙ ap (λ (l : List Block).
 
 -- all routines
 
-pub blocks_none : (x : Setup) (list : List Routine) → list ≡ routines x → flat_map (run x) list ≡ all_blocks x
-unfolding all_blocks
-blocks_none x list is = ap (flat_map (run x)) is
+-- one routine more
+pub run_more : (x : Setup) (before : List Routine) (r : Routine) (old mid new : List Block) → mid ≡ old ++ flat_map (run x) before → new ≡ mid ++ run x r → new ≡ old ++ flat_map (run x) (before ++ r ∷ [])
+run_more x before r old mid new e f = f ∙ ap (λ (l : List Block). l ++ run x r) e ∙ flat_map_more (run x) old before r
+
+-- none yet
+pub run_none : (x : Setup) (old : List Block) → old ≡ old ++ flat_map (run x) []
+run_none x old = sym (append-nil old)
+
+-- all plans of a class
+pub class_put : (x : Setup) (c : ClassId) (old mid new : List Block) → mid ≡ old ++ flat_map (run x) (built_routines c) → new ≡ mid ++ flat_map (run x) (ended_routines c) → new ≡ old ++ class_blocks x c
+class_put x c old mid new e f = two_pieces old mid new (flat_map (run x) (built_routines c)) (flat_map (run x) (ended_routines c)) (class_blocks x c) e f (sym (flat_map-append (run x) (built_routines c) (ended_routines c)))
+
+nested : {A B C : Type 0} (f : A → List B) (g : B → List C) (xs : List A) → flat_map (λ (a : A). flat_map g (f a)) xs ≡ flat_map g (flat_map f xs)
+nested f g [] = refl
+nested f g (a ∷ xs) = ap (λ l. flat_map g (f a) ++ l) (nested f g xs) ∙ sym (flat_map-append g (f a) (flat_map f xs))
+
+-- `main` and the functions, and then the plans of all classes
+pub all_run : (x : Setup) → flat_map (run x) (plain_routines x.program) ++ flat_map (class_blocks x) (class_ids (length x.h)) ≡ all_blocks x
+unfolding all_blocks routines
+all_run x =
+    let main = main_routines x.program.main in
+    let functions = flat_map (λ (body : TypedBody). owned_routines body.owner) x.program.bodies in
+    let classes = flat_map plan_routines (class_ids (length x.h)) in
+    ap (λ (l : List Block). flat_map (run x) (main ++ functions) ++ l) (nested plan_routines (run x) (class_ids (length x.h)))
+    ∙ sym (flat_map-append (run x) (main ++ functions) classes)
+    ∙ ap (λ (l : List Routine). flat_map (run x) l) (append_assoc main functions classes)
+
+pub all_put : (x : Setup) (old mid new : List Block) → old ≡ [] → mid ≡ old ++ flat_map (run x) (plain_routines x.program) → new ≡ mid ++ flat_map (class_blocks x) (class_ids (length x.h)) → new ≡ all_blocks x
+all_put x old mid new none e f = two_pieces old mid new (flat_map (run x) (plain_routines x.program)) (flat_map (class_blocks x) (class_ids (length x.h))) (all_blocks x) e f (all_run x) ∙ ap (λ (l : List Block). l ++ all_blocks x) none
 
 pub blocks_more : (x : Setup) (list : List RoutineCode) (i : ℕ) (old new all : List Block) → i < length list → new ≡ old ++ run x (routine_from (get_or list i Main)) → old ++ flat_map (run x) (routines_from (drop i list)) ≡ all →
     new ++ flat_map (run x) (routines_from (drop (i + 1) list)) ≡ all

@@ -67,43 +67,25 @@ begins_run x n m k (q ∷ list) r b before long e at there = ⊎_elim
 
 -- and its row has the number
 
+-- a kind by its number
+abbrev kind_from : ℕ → BlockKind
+kind_from zero = Plain
+kind_from (suc zero) = BuildComplete
+kind_from (suc (suc zero)) = BuildBase
+kind_from (suc (suc (suc zero))) = EndComplete
+kind_from (suc (suc (suc (suc zero)))) = EndBase
+kind_from (suc (suc (suc (suc (suc n))))) = EndDeleting
+
+kind_read : (a : BlockKind) → kind_from (kind_number a) ≡ a
+kind_read Plain = refl
+kind_read BuildComplete = refl
+kind_read BuildBase = refl
+kind_read EndComplete = refl
+kind_read EndBase = refl
+kind_read EndDeleting = refl
+
 kind_same : (a b : BlockKind) → kind_number a ≡ kind_number b → a ≡ b
-kind_same Plain Plain e = refl
-kind_same Plain BuildComplete e = absurd (omega arith)
-kind_same Plain BuildBase e = absurd (omega arith)
-kind_same Plain EndComplete e = absurd (omega arith)
-kind_same Plain EndBase e = absurd (omega arith)
-kind_same Plain EndDeleting e = absurd (omega arith)
-kind_same BuildComplete Plain e = absurd (omega arith)
-kind_same BuildComplete BuildComplete e = refl
-kind_same BuildComplete BuildBase e = absurd (omega arith)
-kind_same BuildComplete EndComplete e = absurd (omega arith)
-kind_same BuildComplete EndBase e = absurd (omega arith)
-kind_same BuildComplete EndDeleting e = absurd (omega arith)
-kind_same BuildBase Plain e = absurd (omega arith)
-kind_same BuildBase BuildComplete e = absurd (omega arith)
-kind_same BuildBase BuildBase e = refl
-kind_same BuildBase EndComplete e = absurd (omega arith)
-kind_same BuildBase EndBase e = absurd (omega arith)
-kind_same BuildBase EndDeleting e = absurd (omega arith)
-kind_same EndComplete Plain e = absurd (omega arith)
-kind_same EndComplete BuildComplete e = absurd (omega arith)
-kind_same EndComplete BuildBase e = absurd (omega arith)
-kind_same EndComplete EndComplete e = refl
-kind_same EndComplete EndBase e = absurd (omega arith)
-kind_same EndComplete EndDeleting e = absurd (omega arith)
-kind_same EndBase Plain e = absurd (omega arith)
-kind_same EndBase BuildComplete e = absurd (omega arith)
-kind_same EndBase BuildBase e = absurd (omega arith)
-kind_same EndBase EndComplete e = absurd (omega arith)
-kind_same EndBase EndBase e = refl
-kind_same EndBase EndDeleting e = absurd (omega arith)
-kind_same EndDeleting Plain e = absurd (omega arith)
-kind_same EndDeleting BuildComplete e = absurd (omega arith)
-kind_same EndDeleting BuildBase e = absurd (omega arith)
-kind_same EndDeleting EndComplete e = absurd (omega arith)
-kind_same EndDeleting EndBase e = absurd (omega arith)
-kind_same EndDeleting EndDeleting e = refl
+kind_same a b e = sym (kind_read a) ∙ ap kind_from e ∙ kind_read b
 
 row_itself : (f : FunctionId) (kind : BlockKind) (n : ℕ) → is_row f kind (record { function = f; kind = kind; code = n }) ≡ true
 row_itself f kind n = rw (eq-eqb f.class.0 f.class.0 refl, eq-eqb f.index f.index refl, eq-eqb (kind_number kind) (kind_number kind) refl) refl
@@ -173,9 +155,16 @@ code_known x n m (q ∷ list) f kind e = ⊎_elim
 abbrev HasRow : Setup → List Routine → CodeRow → Type 0
 HasRow x list a = (r : Routine) × Has list r × (function_of x r ≡ Some a.function) × (kind_of r ≡ a.kind)
 
+-- what the first row is of
+first_row : (kind : BlockKind) (n : ℕ) (f : FunctionId) (a : CodeRow) → slice_get (routine_row kind n (Some f)) 0 ≡ Some a → (Some f ≡ Some a.function) × (kind ≡ a.kind)
+first_row kind n f a e =
+    let made : CodeRow = record { function = f; kind = kind; code = n } in
+    let same : made ≡ a = cc in
+    (ap (λ (row : CodeRow). Some row.function) same, ap (λ (row : CodeRow). row.kind) same)
+
 row_cases : (kind : BlockKind) (n i : ℕ) (o : Option FunctionId) (rows : List CodeRow) (a : CodeRow) → slice_get (routine_row kind n o ++ rows) i ≡ Some a → ((o ≡ Some a.function) × (kind ≡ a.kind)) ⊎ ((j : ℕ) × (slice_get rows j ≡ Some a))
 row_cases kind n i None rows a e = inr (i, e)
-row_cases kind n zero (Some f) rows a e = let make : CodeRow = record { function = f; kind = kind; code = n } in let same : make ≡ a = cc in inl (ap (λ (row : CodeRow). Some row.function) same, ap (λ (row : CodeRow). row.kind) same)
+row_cases kind n zero (Some f) rows a e = inl (first_row kind n f a e)
 row_cases kind n (suc i) (Some f) rows a e = inr (i, e)
 
 row_known : (x : Setup) (n i : ℕ) (list : List Routine) (a : CodeRow) → slice_get (rows_from x n list) i ≡ Some a → HasRow x list a
@@ -190,15 +179,13 @@ rows_front : (kind : BlockKind) (n : ℕ) (o : Option FunctionId) (rows : List C
 rows_front kind n None rows are apart i j a b e g is = are i j a b e g is
 rows_front kind n (Some f) rows are apart zero zero a b e g is = refl
 rows_front kind n (Some f) rows are apart zero (suc j) a b e g is =
-    let row : CodeRow = record { function = f; kind = kind; code = n } in
-    let same : row ≡ a = cc in
+    let first = first_row kind n f a e in
     let r = row_is b.function b.kind a is in
-    absurd (apart j b g (ap (λ (o : CodeRow). Some o.function) same ∙ ap (λ (h : FunctionId). Some h) (sym r.0)) (ap (λ (o : CodeRow). o.kind) same ∙ sym r.1))
+    absurd (apart j b g (first.0 ∙ ap (λ (h : FunctionId). Some h) (sym r.0)) (first.1 ∙ sym r.1))
 rows_front kind n (Some f) rows are apart (suc i) zero a b e g is =
-    let row : CodeRow = record { function = f; kind = kind; code = n } in
-    let same : row ≡ b = cc in
+    let first = first_row kind n f b g in
     let r = row_is b.function b.kind a is in
-    absurd (apart i a e (ap (λ (o : CodeRow). Some o.function) same ∙ ap (λ (h : FunctionId). Some h) r.0) (ap (λ (o : CodeRow). o.kind) same ∙ r.1))
+    absurd (apart i a e (first.0 ∙ ap (λ (h : FunctionId). Some h) r.0) (first.1 ∙ r.1))
 rows_front kind n (Some f) rows are apart (suc i) (suc j) a b e g is = ap suc (are i j a b e g is)
 
 pub rows_distinct : (x : Setup) (n : ℕ) (list : List Routine) → AreApartForms x list → AreDistinct (rows_from x n list)

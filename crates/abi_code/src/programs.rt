@@ -80,7 +80,7 @@ impl<'a, L: SoundLayout> Lowering<'a, L> {
         requires routines { routines_from list.now ≡ routines (setup self.now.h.now (L.rows self.now.layout.now) self.now.program.now) }
         ensures { IfOk result (λ code. IsLowered (setup self.now.h.now (L.rows self.now.layout.now) self.now.program.now) code numbers.now) }
     {
-        let blocks = self.blocks(numbers, tables, list)?;
+        let blocks = self.blocks(numbers, tables)?;
         Ok(Code {
             blocks,
             start: 0,

@@ -7,7 +7,7 @@ ghost use Rattle.abi_sound.specs.declared.class_layout.ClassLayout.{ClassLayout}
 ghost use Rattle.abi_ops.specs.Setups.{setup, owner_of};
 ghost use Rattle.abi_ops.specs.Routines.{kind_of, plan_kind as plan_kind_of, plan_function as plan_function_of};
 ghost use Rattle.abi_lower.specs.invariants.ItemCodes.{form_of};
-ghost use Rattle.abi_code.specs.invariants.Numbers.{main_routines, owned_routines, plan_routines, class_ids, routines};
+ghost use Rattle.abi_code.specs.invariants.Numbers.{main_routines, owned_routines, plain_routines, plan_routines, class_ids, routines};
 ghost use Rattle.abi_code.specs.invariants.Codes.{routine_from, routines_from};
 
 use abi_lower::items::Form;
@@ -126,6 +126,18 @@ fn push_classes(list: &mut RoutineList, h: &Hierarchy) -> Result<(), NoMemory>
     Ok(())
 }
 
+/// The routines of a program that are no plans: `main` and the functions.
+///
+/// Errors: want of memory.
+pub fn list_plain(alloc: Global, program: &TypedProgram) -> Result<RoutineList, NoMemory>
+    ensures { IfOk result (λ list. routines_from list ≡ plain_routines program.now) }
+{
+    let mut list = Sequence::new(alloc);
+    push_main(&mut list, &program.main)?;
+    push_functions(&mut list, program.bodies.as_slice())?;
+    Ok(list)
+}
+
 /// The routines of a program.
 ///
 /// Errors: want of memory.
@@ -136,9 +148,7 @@ pub fn list_routines(
 ) -> Result<RoutineList, NoMemory>
     ensures { IfOk result (λ list. (rows : List ClassLayout) → routines_from list ≡ routines (setup h.now rows program.now)) }
 {
-    let mut list = Sequence::new(alloc);
-    push_main(&mut list, &program.main)?;
-    push_functions(&mut list, program.bodies.as_slice())?;
+    let mut list = list_plain(alloc, program)?;
     push_classes(&mut list, h)?;
     Ok(list)
 }

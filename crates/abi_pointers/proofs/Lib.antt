@@ -12,3 +12,4 @@ pub mod Lefts
 pub mod OpeningNumbers
 pub mod Putting
 pub mod InitConstants
+pub mod LoneClasses

@@ -1,3 +1,4 @@
 pub mod Walks
 pub mod Parts
 pub mod Constants
+pub mod Joins

@@ -9,16 +9,19 @@ ghost use Rattle.abi_count.specs.Counts.{all_words, most_words, vtt_words};
 ghost use Rattle.abi_pointers.specs.ClassTables.{AreBlocks, TellDynamic};
 
 use crate::lengths::shared_sum;
+use crate::lone::lone_flags;
 use abi_count::{VttLengths, has_virtual};
 use abi_sound::SoundLayout;
 use cxx_hierarchy::{ClassId, Hierarchy};
 use foundation::{NoMemory, Sequence};
 use std::alloc::Global;
 
-/// For each class whether it is dynamic, and how many words its sub-VTT has, where it has virtual bases (Itanium C++ ABI 2.6.2).
+/// For each class whether it is dynamic, whether it is found that no base of it has a virtual pointer of its own, and how many
+/// words its sub-VTT has, where it has virtual bases (Itanium C++ ABI 2.6.2).
 #[derive(Drop)]
 pub struct ClassTables {
     pub(crate) dynamic: Sequence<bool>,
+    pub(crate) lone: Sequence<bool>,
     pub(crate) blocks: Sequence<u32>,
 }
 
@@ -110,9 +113,11 @@ impl ClassTables {
         ensures { IfOk result (AreClassTables h.now (places_of h.now (L.rows layout.now))) }
     {
         let dynamic = dynamic_flags(alloc, h)?;
+        let lone = lone_flags(alloc, h, layout, &dynamic)?;
         let blocks = block_lens(alloc, h, layout)?;
         Ok(ClassTables {
             dynamic: Sequence::from_vec(dynamic),
+            lone: Sequence::from_vec(lone),
             blocks: Sequence::from_vec(blocks),
         })
     }

@@ -2,8 +2,8 @@
 //!
 //! This crate turns the definitions of `abi_lower/specs/Blocks.antt` into ops. A virtual pointer is set by a table of the
 //! class's own group or by a word of its VTT (Itanium C++ ABI 2.6.2); which one, and at which distance, is found in one walk
-//! over the subobjects of the class, and kept for all its plans (`ClassPointers`). What all classes need is kept once for the
-//! program (`ClassTables`).
+//! over the subobjects of the class, and kept for all its plans (`ClassPointers`). Where no base has a virtual pointer of its
+//! own, no subobject is listed. What all classes need is kept once for the program (`ClassTables`).
 //!
 //! It owns when those tables are those of a class (`AreClassTables`, `ArePointers`), what a site is (`IsPlanSite`) and when
 //! items are an end of a plan (`AreLeft`). The layer above may rely on `push_event`, `push_tail` and `push_block`, which put
@@ -14,6 +14,7 @@ pub mod class_tables;
 pub mod events;
 pub mod hands;
 pub mod lengths;
+pub mod lone;
 pub mod openings;
 pub mod parts;
 pub mod plan_sites;

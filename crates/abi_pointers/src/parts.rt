@@ -1,18 +1,18 @@
 //! The subobjects of a class, and which of them have a virtual pointer of their own.
 
-ghost use Rattle.std.specs.Prelude.{◌≡◌, ◌<◌, false, true, All, Some, get_or, length};
+ghost use Rattle.std.specs.Prelude.{◌≡◌, ◌<◌, true, All, Some, length};
 ghost use Rattle.cxx_hierarchy.specs.declared.records.ClassId.{ClassId};
 ghost use Rattle.cxx_subobject.specs.Subobjects.{class_of};
 ghost use Rattle.abi_sound.specs.Places.{places_of};
-ghost use Rattle.abi_slots.specs.Listing.{is_direct, is_shared_root};
+ghost use Rattle.abi_slots.specs.Listing.{is_shared_root};
 ghost use Rattle.abi_vtt.specs.Vtts.{ends_in_primary, is_proper_at, needs_word};
 ghost use Rattle.abi_ops.specs.Setups.{setup};
 ghost use Rattle.abi_lower.specs.Blocks.{is_set_apart};
 ghost use Rattle.abi_pointers.specs.PlanSites.{IsPlanSite};
 
+use crate::lone::{flag_of, is_direct};
 use crate::plan_sites::PlanSite;
 use abi_count::has_virtual;
-use abi_primary::Primary;
 use abi_sound::SoundLayout;
 use cxx_hierarchy::{ClassId, Hierarchy};
 use cxx_subobject::{Root, Subobject, class_of};
@@ -28,29 +28,17 @@ pub(crate) fn class_at(s: &Subobject) -> ClassId
     }
 }
 
-/// Whether the primary base is this one, and not virtual.
-fn is_direct(primary: Primary, b: ClassId) -> bool
-    ensures { result ≡ is_direct primary b }
-{
-    match primary {
-        Primary::None => false,
-        Primary::Direct(d) => d.0 == b.0,
-        Primary::Virtual(_) => false,
-    }
-}
-
 /// Whether the last class of a path is the non-virtual primary base of the one before it.
 fn ends_in_primary<L: SoundLayout>(h: &Hierarchy, layout: &L, path: &[ClassId]) -> bool
     requires layout { L.lays_out layout.now h.now }
     requires known { All (λ (c : ClassId). c.0 < length h.now) path.now }
     ensures { result ≡ ends_in_primary (places_of h.now (L.rows layout.now)) path.now }
 {
-    match path {
-        [] => false,
-        [_] => false,
-        [c, d] => is_direct(layout.layout(*c).primary, *d),
-        [_, path @ ..] => ends_in_primary(h, layout, path),
+    let len = path.len();
+    if len < 2 {
+        return false;
     }
+    is_direct(layout.layout(path[len - 2]).primary, path[len - 1])
 }
 
 /// Whether a subobject is a base, and not the whole.
@@ -70,16 +58,6 @@ fn is_shared(root: Root) -> bool
     match root {
         Root::Whole => false,
         Root::Shared(_) => true,
-    }
-}
-
-/// The flag of a class, and false behind the end.
-fn flag_of(flags: &[bool], d: ClassId) -> bool
-    ensures { result ≡ get_or flags.now d.0 false }
-{
-    match flags.get(d.0 as usize) {
-        Some(flag) => *flag,
-        None => false,
     }
 }
 

@@ -10,10 +10,12 @@ ghost use Rattle.abi_sound.specs.Places.{places_of};
 ghost use Rattle.abi_ops.specs.Setups.{Setup, setup};
 ghost use Rattle.abi_lower.specs.Blocks.{pointers_then};
 ghost use Rattle.abi_lower.specs.invariants.ItemCodes.{form_of};
+ghost use Rattle.abi_pointers.specs.ClassTables.{IsLone};
 ghost use Rattle.abi_pointers.specs.PlanSites.{IsPlanSite};
 ghost use Rattle.abi_pointers.specs.Settings.{ArePointers, settings_of};
 ghost use Rattle.abi_pointers.specs.invariants.Walks.{IsAtPart, IsPast};
 
+use crate::lone::flag_of;
 use crate::parts::{class_at, is_set_apart};
 use crate::plan_sites::PlanSite;
 use crate::settings::{base_setting, full_setting};
@@ -22,7 +24,8 @@ use abi_lower::items::Form;
 use abi_sound::SoundLayout;
 use byte_code::{Op, OpList, Setting};
 use cxx_hierarchy::ClassId;
-use cxx_subobject::{Subobject, list_subobjects};
+use cxx_subobject::listing::longer_path;
+use cxx_subobject::{Root, Subobject, list_subobjects};
 use foundation::{NoMemory, Sequence};
 
 /// A list of settings.
@@ -64,8 +67,54 @@ fn visit<L: SoundLayout>(
     Ok(())
 }
 
+/// The settings of a class of which no base is set apart.
+///
+/// Errors: want of memory.
+fn of_whole<L: SoundLayout>(site: &PlanSite<L>, c: ClassId) -> Result<ClassPointers, NoMemory>
+    requires layout { L.lays_out site.now.layout.now site.now.h.now }
+    requires site { IsPlanSite (setup site.now.h.now (L.rows site.now.layout.now) site.now.program.now) site.now.slots.now site.now.index.now site.now.tables.now }
+    requires known { c.0 < length site.now.h.now }
+    requires lone { IsLone site.now.h.now (places_of site.now.h.now (L.rows site.now.layout.now)) c }
+    ensures { IfOk result (ArePointers (setup site.now.h.now (L.rows site.now.layout.now) site.now.program.now) c) }
+{
+    let whole = Subobject {
+        root: Root::Whole,
+        path: longer_path(site.alloc, &[c], &[])?,
+    };
+    let mut walk = start(site, c);
+    let mut made = ClassPointers {
+        in_full: Sequence::new(site.alloc),
+        as_base: Sequence::new(site.alloc),
+    };
+    visit(site, c, &whole, &mut walk, &mut made)?;
+    Ok(made)
+}
+
+/// The settings of a class, by a walk over its subobjects.
+///
+/// Errors: want of memory.
+fn of_all<L: SoundLayout>(site: &PlanSite<L>, c: ClassId) -> Result<ClassPointers, NoMemory>
+    requires layout { L.lays_out site.now.layout.now site.now.h.now }
+    requires site { IsPlanSite (setup site.now.h.now (L.rows site.now.layout.now) site.now.program.now) site.now.slots.now site.now.index.now site.now.tables.now }
+    requires known { c.0 < length site.now.h.now }
+    ensures { IfOk result (ArePointers (setup site.now.h.now (L.rows site.now.layout.now) site.now.program.now) c) }
+{
+    site.h.keeps();
+    let list = list_subobjects(site.alloc, site.h, c)?;
+    let mut walk = start(site, c);
+    let mut made = ClassPointers {
+        in_full: Sequence::new(site.alloc),
+        as_base: Sequence::new(site.alloc),
+    };
+    for s in list.as_slice() {
+        visit(site, c, s, &mut walk, &mut made)?;
+    }
+    Ok(made)
+}
+
 impl ClassPointers {
-    /// The settings of a class. Time goes with its subobjects and the lengths of their paths.
+    /// The settings of a class. Where no base has a virtual pointer of its own, nothing is listed; else time goes with the
+    /// subobjects and the lengths of their paths.
     ///
     /// Errors: want of memory.
     pub fn new<L: SoundLayout>(site: &PlanSite<L>, c: ClassId) -> Result<ClassPointers, NoMemory>
@@ -74,16 +123,11 @@ impl ClassPointers {
         requires known { c.0 < length site.now.h.now }
         ensures { IfOk result (ArePointers (setup site.now.h.now (L.rows site.now.layout.now) site.now.program.now) c) }
     {
-        site.h.keeps();
-        let list = list_subobjects(site.alloc, site.h, c)?;
-        let mut walk = start(site, c);
-        let mut made = ClassPointers {
-            in_full: Sequence::new(site.alloc),
-            as_base: Sequence::new(site.alloc),
-        };
-        for s in list.as_slice() {
-            visit(site, c, s, &mut walk, &mut made)?;
+        if flag_of(site.tables.lone.as_slice(), c) {
+            let made = of_whole(site, c)?;
+            return Ok(made);
         }
+        let made = of_all(site, c)?;
         Ok(made)
     }
 }

@@ -6,6 +6,7 @@ use Rattle.cxx_overrider.specs.declared.FunctionId.{FunctionId}
 use Rattle.cxx_program.specs.declared.program.Owner.{Owner}
 use Rattle.cxx_program.specs.declared.program.Owner.TheVariants.{Main, Function, Constructor, Destructor}
 use Rattle.cxx_program.specs.declared.program.TypedBody.{TypedBody}
+use Rattle.cxx_program.specs.declared.program.TypedProgram.{TypedProgram}
 use Rattle.path_plan.specs.Plans.{InFull, AsBase, upto}
 use Rattle.abi_slots.specs.declared.code_numbers.BlockKind.{BlockKind}
 use Rattle.abi_slots.specs.declared.code_numbers.CodeRow.{CodeRow}
@@ -30,9 +31,19 @@ owned_routines (Function f) = FunctionCode f ∷ []
 owned_routines (Constructor c) = []
 owned_routines (Destructor c) = []
 
--- the plans of a class
+-- `main` and the functions
+abbrev pub plain_routines : TypedProgram → List Routine
+plain_routines program = main_routines program.main ++ flat_map (λ (body : TypedBody). owned_routines body.owner) program.bodies
+
+-- the plans of a class, by which it is constructed and destroyed
+abbrev pub built_routines : ClassId → List Routine
+built_routines c = PlanCode Constructs InFull c ∷ PlanCode Constructs AsBase c ∷ []
+
+abbrev pub ended_routines : ClassId → List Routine
+ended_routines c = PlanCode Destroys InFull c ∷ PlanCode Destroys AsBase c ∷ PlanCode Deletes InFull c ∷ []
+
 abbrev pub plan_routines : ClassId → List Routine
-plan_routines c = PlanCode Constructs InFull c ∷ PlanCode Constructs AsBase c ∷ PlanCode Destroys InFull c ∷ PlanCode Destroys AsBase c ∷ PlanCode Deletes InFull c ∷ []
+plan_routines c = built_routines c ++ ended_routines c
 
 abbrev pub class_ids : ℕ → List ClassId
 class_ids n = map (λ i. record { 0 = i }) (upto n)

@@ -16,7 +16,7 @@ use Rattle.abi_statements.specs.invariants.Fits.{routine_of}
 use Rattle.abi_lower.specs.Items.{Item}
 use Rattle.abi_lower.specs.Blocks.{Place, items, statement_ops, closing_ops}
 use Rattle.abi_lower.specs.Lowered.{own_block}
-use Rattle.abi_code.specs.invariants.Numbers.{routines, number_of}
+use Rattle.abi_code.specs.invariants.Numbers.{plan_routines, routines, number_of}
 
 -- the blocks of the own events of what is left of a plan
 abbrev pub event_blocks : Setup → (Place → ℕ) → Course → Form → ClassId → List Item → List Block
@@ -42,6 +42,10 @@ blocks_of_body x at r (Some body) = statement_blocks x at r body 0 body.statemen
 
 unfoldable pub run : Setup → Routine → List Block
 run x r = plan_blocks x (number_of x) r ++ blocks_of_body x (number_of x) r (body_in x r)
+
+-- those of the plans of a class
+abbrev pub class_blocks : Setup → ClassId → List Block
+class_blocks x c = flat_map (run x) (plan_routines c)
 
 unfoldable pub all_blocks : Setup → List Block
 all_blocks x = flat_map (run x) (routines x)

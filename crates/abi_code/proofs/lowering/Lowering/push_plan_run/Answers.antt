@@ -38,8 +38,8 @@ returns-in-None g c =
     let plan = PlanCode run.course (form_of run.form) run.class in
     c.in_ok-push_events.ensures (items x run.course (form_of run.form) run.class) c.requires.items ∙ ap (λ (l : List Block). c.args.blocks.now ++ l) (plan_run_none x run.course (form_of run.form) run.class c.in-None.ensures)
 
-pub returns : goal.returns
-returns g c =
+pub returns-in_ok-push_body-in-Some : goal.returns-in_ok-push_body-in-Some
+returns-in_ok-push_body-in-Some g c =
     let x = setup c.args.self.now.h.now (g.L.SoundLayout.rows c.args.self.now.layout.now) c.args.self.now.program.now in
     let run = c.args.run in
     let plan = PlanCode run.course (form_of run.form) run.class in

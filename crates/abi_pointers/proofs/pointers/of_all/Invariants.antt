@@ -4,7 +4,7 @@ use Rattle.abi_sound.specs.Places.{places_of}
 use Rattle.abi_ops.specs.Setups.{setup}
 use Rattle.abi_pointers.specs.Settings.{settings_of}
 use Rattle.abi_pointers.specs.invariants.Walks.{IsPast}
-use Rattle.abi_pointers.proofs.pointers.ClassPointers.new.Given as goal
+use Rattle.abi_pointers.proofs.pointers.of_all.Given as goal
 
 abbrev pub invariant-loop-s : goal.invariant-loop-s
 invariant-loop-s g l = record {

@@ -1,11 +1,12 @@
 use Rattle.std.proofs.Common.{◌≡◌, ◌++◌, drop}
 use Rattle.std.specs.List.{flat_map}
 use Rattle.abi_ops.specs.Setups.{setup}
+use Rattle.abi_code.specs.invariants.Numbers.{plain_routines}
 use Rattle.abi_code.specs.invariants.Codes.{routines_from}
-use Rattle.abi_code.specs.invariants.Runs.{run, all_blocks}
-use Rattle.abi_code.proofs.lowering.Lowering.blocks.Given as goal
+use Rattle.abi_code.specs.invariants.Runs.{run}
+use Rattle.abi_code.proofs.lowering.Lowering.push_runs.Given as goal
 
 abbrev pub invariant-loop-r : goal.invariant-loop-r
 invariant-loop-r g l =
     let x = setup l.self.h.now (g.L.SoundLayout.rows l.self.layout.now) l.self.program.now in
-    l.blocks ++ flat_map (run x) (routines_from (drop l.r-index l.list)) ≡ all_blocks x
+    l.blocks ++ flat_map (run x) (routines_from (drop l.r-index l.list)) ≡ l.initial.blocks ++ flat_map (run x) (plain_routines l.self.program.now)
