@@ -1,8 +1,9 @@
 -- The text of what a byte machine tells is that of what it reads as.
-use Rattle.std.proofs.Common.{◌≡◌, ◌∙◌, ℕ, ◌+◌, Bool, true, false, Some, None, List, [], ◌∷◌, ◌++◌, ⊎_elim, refl, ap, subst, sym, arith}
-use Rattle.std.specs.Prelude.{codes}
+use Rattle.std.proofs.Common.{◌≡◌, ◌∙◌, ℕ, ◌+◌, Bool, true, false, Some, None, List, [], ◌∷◌, ◌++◌, ⊎_elim, inl, inr, refl, ap, subst, sym, arith}
+use Rattle.std.specs.Prelude.{codes, not}
 use Rattle.std.specs.Fmt.{signed_decimal}
-use Rattle.foundation.proofs.Members.{Has}
+use Rattle.foundation.proofs.Chosen.{filter_has}
+use Rattle.foundation.proofs.Members.{Has, contains_from_has}
 use Rattle.cxx_hierarchy.specs.declared.records.ClassId.{ClassId}
 use Rattle.cxx_subobject.specs.declared.locations.Location.{Location}
 use Rattle.path_model.specs.declared.outs.Out.{Out}
@@ -12,7 +13,6 @@ use Rattle.byte_memory.specs.Store.{Store}
 use Rattle.byte_shadow.specs.Shadows.{Notes}
 use Rattle.byte_machine.specs.declared.heap.Opened.{Opened}
 use Rattle.byte_machine.specs.declared.turn.RawOut.{RawOut}
-use Rattle.abi_slots.specs.declared.code_numbers.CodeRow.{CodeRow}
 use Rattle.byte_machine.specs.declared.turn.RawOut.TheVariants.{Number, Address, Class, Dump, Call, Built, Ending}
 use Rattle.abi_parts.specs.Heaps.{Heap}
 use Rattle.abi_parts.specs.Placed.{LieIn}
@@ -26,10 +26,10 @@ use Rattle.abi_stands.proofs.Objects.{object_has_region}
 use Rattle.abi_print.specs.LayoutTexts.{name_of}
 use Rattle.abi_print.specs.TableTexts.{function_text}
 use Rattle.abi_out.specs.Fields.{NamesPart, part_text}
-use Rattle.abi_out.specs.OutTexts.{line_text, out_text, text_of, is_traced as is_traced_out, printed as printed_outs}
+use Rattle.abi_out.specs.OutTexts.{line_text, out_text, text_of, is_traced as is_traced_out, printed as printed_outs, shown as shown_outs}
 use Rattle.abi_lines.specs.RawDumps.{address_text}
-use Rattle.abi_lines.specs.RawTexts.{HasText, IsKnown, function_at, function_in, is_traced, printed, raw_line, raw_text, raw_texts}
-use Rattle.abi_lines.specs.Reads.{ArePrintedOf, AreToldOf, HasTypedLeaves, IsToldOf}
+use Rattle.abi_lines.specs.RawTexts.{HasText, IsKnown, function_at, function_in, is_traced, printed, raw_line, raw_text, raw_texts, shown}
+use Rattle.abi_lines.specs.Reads.{AreShownOf, HasTypedLeaves, IsToldOf}
 use Rattle.abi_lines.proofs.Addresses.{location_read}
 use Rattle.abi_lines.proofs.CallReads.{call_found}
 use Rattle.abi_lines.proofs.DumpReads.{dump_read}
@@ -96,42 +96,38 @@ module _ (w : World) (world : IsWorld w) (s : Objects) (memory : Store) (opened 
   text_read typed raw out reads of = ap (λ line. line ++ 10 ∷ []) (line_read typed raw out reads of)
 
   -- one text of all, with the lines of a trace
-  pub texts_read : HasTypedLeaves w s → (told : List RawOut) (outs : List Out) → ReadAs w world.lowered.at (heap_of s.classes memory.regions) told outs → AreToldOf w s outs →
+  texts_read : HasTypedLeaves w s → (told : List RawOut) (outs : List Out) → ReadAs w world.lowered.at (heap_of s.classes memory.regions) told outs → ((out : Out) → Has outs out → IsToldOf w s out) →
       raw_texts (classes_in w) (places_in w) w.numbers memory opened told ≡ text_of (classes_in w) (places_in w) outs
   texts_read typed [] [] reads of = refl
   texts_read typed [] (out ∷ outs) reads of = absurd reads
   texts_read typed (raw ∷ told) [] reads of = absurd reads
   texts_read typed (raw ∷ told) (out ∷ outs) reads of =
-      ap (λ text. text ++ raw_texts (classes_in w) (places_in w) w.numbers memory opened told) (text_read typed raw out reads.0 of.0)
-      ∙ ap (λ text. out_text (classes_in w) (places_in w) out ++ text) (texts_read typed told outs reads.1 of.1)
+      ap (λ text. text ++ raw_texts (classes_in w) (places_in w) w.numbers memory opened told) (text_read typed raw out reads.0 (of out (inl refl)))
+      ∙ ap (λ text. out_text (classes_in w) (places_in w) out ++ text) (texts_read typed told outs reads.1 (λ x has. of x (inr has)))
 
-  -- what is printed names no code
-  unnumbered : (numbers : List CodeRow) (raw : RawOut) → is_traced raw ≡ false → raw_text (classes_in w) (places_in w) numbers memory opened raw ≡ raw_text (classes_in w) (places_in w) w.numbers memory opened raw
-  unnumbered numbers (Number z) is = refl
-  unnumbered numbers (Address at) is = refl
-  unnumbered numbers (Class c) is = refl
-  unnumbered numbers (Dump at) is = refl
-  unnumbered numbers (Call block this) is = absurd (let f : true ≡ false = is in cc (f))
-  unnumbered numbers (Built c at) is = absurd (let f : true ≡ false = is in cc (f))
-  unnumbered numbers (Ending c at) is = absurd (let f : true ≡ false = is in cc (f))
-
-  -- and without them; the numbers of code may be any
-  pub printed_read : HasTypedLeaves w s → (numbers : List CodeRow) (told : List RawOut) (outs : List Out) → ReadAs w world.lowered.at (heap_of s.classes memory.regions) told outs → ArePrintedOf w s outs →
-      raw_texts (classes_in w) (places_in w) numbers memory opened (printed told) ≡ text_of (classes_in w) (places_in w) (printed_outs outs)
-  printed_read typed numbers [] [] reads of = refl
-  printed_read typed numbers [] (out ∷ outs) reads of = absurd reads
-  printed_read typed numbers (raw ∷ told) [] reads of = absurd reads
-  printed_read typed numbers (raw ∷ told) (out ∷ outs) reads of = by_trace (printed_read typed numbers told outs reads.1 of.1) (is_traced_out out) refl
+  -- and without them
+  printed_read : HasTypedLeaves w s → (told : List RawOut) (outs : List Out) → ReadAs w world.lowered.at (heap_of s.classes memory.regions) told outs → ((out : Out) → Has outs out → is_traced_out out ≡ false → IsToldOf w s out) →
+      raw_texts (classes_in w) (places_in w) w.numbers memory opened (printed told) ≡ text_of (classes_in w) (places_in w) (printed_outs outs)
+  printed_read typed [] [] reads of = refl
+  printed_read typed [] (out ∷ outs) reads of = absurd reads
+  printed_read typed (raw ∷ told) [] reads of = absurd reads
+  printed_read typed (raw ∷ told) (out ∷ outs) reads of = by_trace (printed_read typed told outs reads.1 (λ x has plain. of x (inr has) plain)) (is_traced_out out) refl
     where
       rest : List ℕ
-      rest = raw_texts (classes_in w) (places_in w) numbers memory opened (printed told)
+      rest = raw_texts (classes_in w) (places_in w) w.numbers memory opened (printed told)
 
       same : is_traced raw ≡ is_traced_out out
       same = traced_read w world.lowered.at (heap_of s.classes memory.regions) raw out reads.0
 
       by_trace : rest ≡ text_of (classes_in w) (places_in w) (printed_outs outs) → (b : Bool) → is_traced_out out ≡ b →
-          raw_texts (classes_in w) (places_in w) numbers memory opened (printed (raw ∷ told)) ≡ text_of (classes_in w) (places_in w) (printed_outs (out ∷ outs))
+          raw_texts (classes_in w) (places_in w) w.numbers memory opened (printed (raw ∷ told)) ≡ text_of (classes_in w) (places_in w) (printed_outs (out ∷ outs))
       by_trace more true is = let traced : is_traced raw ≡ true = same ∙ is in rw (traced, is) more
       by_trace more false is =
           let traced : is_traced raw ≡ false = same ∙ is in
-          rw (traced, is) (ap (λ text. text ++ rest) (unnumbered numbers raw traced ∙ text_read typed raw out reads.0 (of.0 is)) ∙ ap (λ text. out_text (classes_in w) (places_in w) out ++ text) more)
+          rw (traced, is) (ap (λ text. text ++ rest) (text_read typed raw out reads.0 (of out (inl refl) is)) ∙ ap (λ text. out_text (classes_in w) (places_in w) out ++ text) more)
+
+  -- one text of what is shown
+  pub shown_read : HasTypedLeaves w s → (trace : Bool) (told : List RawOut) (outs : List Out) → ReadAs w world.lowered.at (heap_of s.classes memory.regions) told outs → AreShownOf trace w s outs →
+      raw_texts (classes_in w) (places_in w) w.numbers memory opened (shown trace told) ≡ text_of (classes_in w) (places_in w) (shown_outs trace outs)
+  shown_read typed true told outs reads of = texts_read typed told outs reads (λ out has. of out (contains_from_has outs out has))
+  shown_read typed false told outs reads of = printed_read typed told outs reads (λ out has plain. of out (contains_from_has (printed_outs outs) out (filter_has (λ x. not (is_traced_out x)) outs out has (ap not plain))))

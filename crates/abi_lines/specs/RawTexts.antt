@@ -58,7 +58,12 @@ is_traced (Ending c at) = true
 abbrev pub printed : List RawOut → List RawOut
 printed told = filter (λ raw. not (is_traced raw)) told
 
--- the text of all that is told, in order
+-- what a run shows: all that it tells where it is traced, else what is printed
+abbrev pub shown : Bool → List RawOut → List RawOut
+shown true told = told
+shown false told = printed told
+
+-- the text of what is shown, in order
 abbrev pub raw_texts : Classes → Places → List CodeRow → Store → List Opened → List RawOut → List ℕ
 raw_texts h l rows memory objects told = flat_map (raw_text h l rows memory objects) told
 

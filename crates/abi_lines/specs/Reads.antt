@@ -1,5 +1,5 @@
 -- What has to be known of what a run tells, so that its text is read from memory.
-use Rattle.std.specs.Prelude.{◌≡◌, ℕ, ◌+◌, false, Some, List, [], ◌∷◌, map, slice_get}
+use Rattle.std.specs.Prelude.{◌≡◌, ℕ, ◌+◌, Bool, false, Some, List, Contains, map, slice_get}
 use Rattle.cxx_hierarchy.specs.declared.records.ClassId.{ClassId}
 use Rattle.cxx_hierarchy.specs.declared.records.ValueType.{ValueType}
 use Rattle.path_plan.specs.Whole.{whole_part}
@@ -13,7 +13,7 @@ use Rattle.path_model.specs.TypedStates.{IsLeafMade, IsValue}
 use Rattle.abi_ops.specs.Routines.{IsRoutine}
 use Rattle.abi_ops.specs.Setups.{FunctionCode}
 use Rattle.abi_stands.specs.Worlds.{World, classes_in}
-use Rattle.abi_out.specs.OutTexts.{IsTold, is_traced}
+use Rattle.abi_out.specs.OutTexts.{IsTold, shown}
 
 -- leaves hold values of their types
 pub record HasTypedLeaves (w : World) (s : Objects) : Type 0 where
@@ -42,12 +42,6 @@ pub record IsToldOf (w : World) (s : Objects) (out : Out) : Type 0 where
   pub told : IsTold (classes_in w) out
   pub of : IsOf w s out
 
--- each of them is
-abbrev pub AreToldOf : World → Objects → List Out → Type 0
-AreToldOf w s [] = Unit {0}
-AreToldOf w s (out ∷ outs) = IsToldOf w s out × AreToldOf w s outs
-
--- each of them that is printed without a trace too
-abbrev pub ArePrintedOf : World → Objects → List Out → Type 0
-ArePrintedOf w s [] = Unit {0}
-ArePrintedOf w s (out ∷ outs) = (is_traced out ≡ false → IsToldOf w s out) × ArePrintedOf w s outs
+-- each that is shown, with or without a trace, is
+abbrev pub AreShownOf : Bool → World → Objects → List Out → Type 0
+AreShownOf trace w s outs = (out : Out) → Contains (shown trace outs) out → IsToldOf w s out

@@ -1,31 +1,28 @@
 //! What the byte machine tells has the text of what a run tells.
 
-ghost use Rattle.std.specs.Prelude.{◌≡◌, ℕ, Contains, List};
+ghost use Rattle.std.specs.Prelude.{◌≡◌, ℕ, Bool, Contains, List};
 ghost use Rattle.path_model.specs.declared.outs.Out.{Out};
 ghost use Rattle.path_model.specs.Values.{Objects};
 ghost use Rattle.byte_memory.specs.Store.{Store};
 ghost use Rattle.byte_shadow.specs.Shadows.{Notes};
 ghost use Rattle.byte_machine.specs.declared.heap.Opened.{Opened};
 ghost use Rattle.byte_machine.specs.declared.turn.RawOut.{RawOut};
-ghost use Rattle.abi_slots.specs.declared.code_numbers.CodeRow.{CodeRow};
 ghost use Rattle.abi_stands.specs.Worlds.{World, IsWorld, classes_in, places_in};
 ghost use Rattle.abi_stands.specs.Words.{heap_of};
 ghost use Rattle.abi_stands.specs.Columns.{ColumnsStand};
 ghost use Rattle.abi_stands.specs.Agrees.{ReadAs, ReadsAs};
-ghost use Rattle.abi_out.specs.OutTexts.{out_text, printed as printed_outs, text_of};
-ghost use Rattle.abi_lines.specs.RawTexts.{HasText, printed, raw_text, raw_texts};
-ghost use Rattle.abi_lines.specs.Reads.{ArePrintedOf, AreToldOf, HasTypedLeaves, IsToldOf};
+ghost use Rattle.abi_out.specs.OutTexts.{out_text, shown as shown_outs, text_of};
+ghost use Rattle.abi_lines.specs.RawTexts.{HasText, raw_text, raw_texts, shown as shown_raw};
+ghost use Rattle.abi_lines.specs.Reads.{AreShownOf, HasTypedLeaves, IsToldOf};
 
 /// Where memory, heap objects and notes stand for the objects of a state, and what the machine tells reads as what a run tells of
-/// that state, both have one text: of each thing that is told (`one`), of all (`all`), and of what is printed without a trace
-/// (`printed`). What the machine tells has a text then (`there`).
+/// that state, both have one text: of each thing that is told (`one`), and of what is shown with a trace or without (`shown`). What
+/// the machine tells has a text then (`there`).
 pub fn raw_texts_are_texts()
     ensures one { (w : World) (world : IsWorld w) (s : Objects) (memory : Store) (opened : List Opened) (heap : ℕ) (notes : Notes) (raw : RawOut) (out : Out) → ColumnsStand w s memory opened heap notes → HasTypedLeaves w s →
         ReadsAs w world.lowered.at (heap_of s.classes memory.regions) raw out → IsToldOf w s out → raw_text (classes_in w) (places_in w) w.numbers memory opened raw ≡ out_text (classes_in w) (places_in w) out }
-    ensures all { (w : World) (world : IsWorld w) (s : Objects) (memory : Store) (opened : List Opened) (heap : ℕ) (notes : Notes) (told : List RawOut) (outs : List Out) → ColumnsStand w s memory opened heap notes → HasTypedLeaves w s →
-        ReadAs w world.lowered.at (heap_of s.classes memory.regions) told outs → AreToldOf w s outs → raw_texts (classes_in w) (places_in w) w.numbers memory opened told ≡ text_of (classes_in w) (places_in w) outs }
-    ensures printed { (w : World) (world : IsWorld w) (s : Objects) (memory : Store) (opened : List Opened) (heap : ℕ) (notes : Notes) (numbers : List CodeRow) (told : List RawOut) (outs : List Out) → ColumnsStand w s memory opened heap notes → HasTypedLeaves w s →
-        ReadAs w world.lowered.at (heap_of s.classes memory.regions) told outs → ArePrintedOf w s outs → raw_texts (classes_in w) (places_in w) numbers memory opened (printed told) ≡ text_of (classes_in w) (places_in w) (printed_outs outs) }
+    ensures shown { (w : World) (world : IsWorld w) (s : Objects) (memory : Store) (opened : List Opened) (heap : ℕ) (notes : Notes) (trace : Bool) (told : List RawOut) (outs : List Out) → ColumnsStand w s memory opened heap notes → HasTypedLeaves w s →
+        ReadAs w world.lowered.at (heap_of s.classes memory.regions) told outs → AreShownOf trace w s outs → raw_texts (classes_in w) (places_in w) w.numbers memory opened (shown_raw trace told) ≡ text_of (classes_in w) (places_in w) (shown_outs trace outs) }
     ensures there { (w : World) (world : IsWorld w) (s : Objects) (memory : Store) (opened : List Opened) (heap : ℕ) (notes : Notes) (told : List RawOut) (outs : List Out) (raw : RawOut) → ColumnsStand w s memory opened heap notes →
         ReadAs w world.lowered.at (heap_of s.classes memory.regions) told outs → Contains told raw → HasText (classes_in w) opened raw }
 {}

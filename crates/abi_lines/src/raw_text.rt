@@ -5,13 +5,13 @@ ghost use Rattle.abi_sound.specs.Places.{places_of};
 ghost use Rattle.byte_machine.specs.MachineState.{state_of};
 ghost use Rattle.abi_print.specs.LayoutTexts.{name_of};
 ghost use Rattle.abi_lines.specs.RawDumps.{address_text};
-ghost use Rattle.abi_lines.specs.RawTexts.{HasText, begins_at, function_at, function_in, is_traced, raw_line, raw_text};
+ghost use Rattle.abi_lines.specs.RawTexts.{HasText, function_at, function_in, is_traced, raw_line, raw_text};
 
+use crate::called::CalledFunctions;
 use crate::dump::append_raw_dump;
 use crate::items::append_address;
 use abi_out::out_text::append_signed;
 use abi_out::text::{append, append_class, append_function};
-use abi_slots::{BlockKind, CodeRow};
 use abi_sound::SoundLayout;
 use byte_machine::{Machine, RawOut};
 use byte_memory::Memory;
@@ -19,25 +19,6 @@ use cxx_hierarchy::{ClassId, Hierarchy};
 use cxx_overrider::FunctionId;
 use foundation::NoMemory;
 use std::alloc::Global;
-
-/// Whether the code of a plain function begins at a block.
-fn begins_at(block: u32, row: CodeRow) -> bool
-    ensures { result ≡ begins_at block row }
-{
-    row.code == block && matches!(row.kind, BlockKind::Plain)
-}
-
-/// The function whose code begins at a block.
-fn function_at(rows: &[CodeRow], block: u32) -> Option<FunctionId>
-    ensures { result ≡ function_at rows.now block }
-{
-    for row in rows {
-        if begins_at(block, *row) {
-            return Some(row.function);
-        }
-    }
-    None
-}
 
 fn append_function_at(
     text: &mut Vec<u8>,
@@ -58,15 +39,15 @@ fn append_call<M: Memory>(
     alloc: Global,
     text: &mut Vec<u8>,
     h: &Hierarchy,
-    rows: &[CodeRow],
+    called: &CalledFunctions,
     machine: &Machine<M>,
     block: u32,
     this: u64,
 ) -> Result<(), NoMemory>
-    ensures { OnOk result (text.new.items ≡ text.old.items ++ codes "call " ++ function_in h.now (function_at rows.now block) ++ codes " " ++ address_text (state_of machine.now).objects this) }
+    ensures { OnOk result (text.new.items ≡ text.old.items ++ codes "call " ++ function_in h.now (function_at called.now block) ++ codes " " ++ address_text (state_of machine.now).objects this) }
 {
     append(text, b"call ")?;
-    append_function_at(text, h, function_at(rows, block))?;
+    append_function_at(text, h, called.function(block))?;
     append(text, b" ")?;
     append_address(alloc, text, machine, this)?;
     Ok(())
@@ -96,21 +77,21 @@ fn append_told<M: Memory, L: SoundLayout>(
     alloc: Global,
     h: &Hierarchy,
     layout: &L,
-    rows: &[CodeRow],
+    called: &CalledFunctions,
     machine: &Machine<M>,
     text: &mut Vec<u8>,
     raw: RawOut,
 ) -> Result<(), NoMemory>
     requires layout { L.lays_out layout.now h.now }
     requires has_text { HasText h.now (state_of machine.now).objects raw }
-    ensures { OnOk result (text.new.items ≡ text.old.items ++ raw_line h.now (places_of h.now (L.rows layout.now)) rows.now (state_of machine.now).memory (state_of machine.now).objects raw) }
+    ensures { OnOk result (text.new.items ≡ text.old.items ++ raw_line h.now (places_of h.now (L.rows layout.now)) called.now (state_of machine.now).memory (state_of machine.now).objects raw) }
 {
     match raw {
         RawOut::Number(number) => append_signed(alloc, text, number),
         RawOut::Address(at) => append_address(alloc, text, machine, at),
         RawOut::Class(class) => append_class(text, h, ClassId(class)),
         RawOut::Dump(at) => append_raw_dump(alloc, text, h, layout, machine, at),
-        RawOut::Call(block, this) => append_call(alloc, text, h, rows, machine, block, this),
+        RawOut::Call(block, this) => append_call(alloc, text, h, called, machine, block, this),
         RawOut::Built(class, at) => {
             append_event(alloc, text, h, machine, b"built ", ClassId(class), at)
         }
@@ -121,26 +102,25 @@ fn append_told<M: Memory, L: SoundLayout>(
 }
 
 /// Puts the text of what a machine tells at the end of a text, as its memory and its heap objects are: a number, an address, the
-/// name of a class, a dump, or a line of a trace, with its line feed. `rows` are the numbers of all code, by which a call names
-/// its function.
+/// name of a class, a dump, or a line of a trace, with its line feed. A call names its function by the numbers of all code.
 ///
 /// Errors: want of memory, after which the text is as it was.
 pub fn append_raw<M: Memory, L: SoundLayout>(
     alloc: Global,
     h: &Hierarchy,
     layout: &L,
-    rows: &[CodeRow],
+    called: &CalledFunctions,
     machine: &Machine<M>,
     text: &mut Vec<u8>,
     raw: RawOut,
 ) -> Result<(), NoMemory>
     requires layout { L.lays_out layout.now h.now }
     requires has_text { HasText h.now (state_of machine.now).objects raw }
-    ensures ok { OnOk result (text.new.items ≡ text.old.items ++ raw_text h.now (places_of h.now (L.rows layout.now)) rows.now (state_of machine.now).memory (state_of machine.now).objects raw) }
+    ensures ok { OnOk result (text.new.items ≡ text.old.items ++ raw_text h.now (places_of h.now (L.rows layout.now)) called.now (state_of machine.now).memory (state_of machine.now).objects raw) }
     ensures err { OnErr result (text.new.items ≡ text.old.items) }
 {
     let mut line = Vec::new(alloc);
-    append_told(alloc, h, layout, rows, machine, &mut line, raw)?;
+    append_told(alloc, h, layout, called, machine, &mut line, raw)?;
     line.push(b'\n')?;
     text.extend_from_slice(&line)?;
     Ok(())

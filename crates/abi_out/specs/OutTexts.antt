@@ -59,6 +59,11 @@ is_traced (Ending c at) = true
 abbrev pub printed : List Out → List Out
 printed outs = filter (λ out. not (is_traced out)) outs
 
--- the text of a traced run: that of all it tells, in order. That of a run without trace is that of what is printed
+-- what a run shows: all that it tells where it is traced, else what is printed
+abbrev pub shown : Bool → List Out → List Out
+shown true outs = outs
+shown false outs = printed outs
+
+-- the text of what is shown, in order
 abbrev pub text_of : Classes → Places → List Out → List ℕ
 text_of h l outs = flat_map (out_text h l) outs

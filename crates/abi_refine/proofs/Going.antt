@@ -22,12 +22,13 @@ use Rattle.abi_told.specs.declared.ending.End.{End}
 use Rattle.abi_told.specs.declared.ending.End.TheVariants.{Done, Undefined, OutOfSteps, Limit}
 use Rattle.abi_told.specs.Told.{IsRun, ending_of}
 use Rattle.abi_told.proofs.Lines.{IsTextOf, ends_with}
+use Rattle.abi_told.proofs.Texts.{text_none}
 use Rattle.abi_refine.specs.Standing.{StandsIn, state_after}
 use Rattle.abi_refine.specs.Agreed.{move_after, Agreed, AgreesBy, CountsOn, WentTo}
 use Rattle.abi_refine.specs.Endings.{turn_of, counted_by}
 use Rattle.abi_refine.specs.Reaches.{Lines, ReachesWith, none}
 
-module _ (x : Setup) (code : Code) (numbers : List CodeRow) (f : Fixed) (lines : Lines) (first : Bytes) where
+module _ (x : Setup) (code : Code) (numbers : List CodeRow) (trace : Bool) (f : Fixed) (lines : Lines) (first : Bytes) where
   abbrev sizes : ClassId → ℕ
   sizes = (places x).size
 
@@ -36,7 +37,7 @@ module _ (x : Setup) (code : Code) (numbers : List CodeRow) (f : Fixed) (lines :
     pub stands : StandsIn x code numbers f (state_after x b.taken) b
     pub running : IsRunning x.h sizes x.program b.taken
     pub total : b.taken + b.left ≡ first.left
-    pub text_is : IsTextOf x.h (places x) x.program b.taken text
+    pub text_is : IsTextOf x.h (places x) x.program trace b.taken text
     pub reaches : ReachesWith f code lines first b text
 
   -- before the first turn
@@ -45,7 +46,7 @@ module _ (x : Setup) (code : Code) (numbers : List CodeRow) (f : Fixed) (lines :
     stands = subst (λ n. StandsIn x code numbers f (state_after x n) first) (sym zero_taken) stands;
     running = λ k less. absurd (omega (arith, zero_taken, less));
     total = omega (arith, zero_taken);
-    text_is = subst (λ n. IsTextOf x.h (places x) x.program n []) (sym zero_taken) (record { text_is = refl; small = omega arith; room = λ k less. absurd (omega (arith, less)) });
+    text_is = subst (λ n. IsTextOf x.h (places x) x.program trace n []) (sym zero_taken) (record { text_is = sym (text_none x.h (places x) trace); small = omega arith; room = λ k less. absurd (omega (arith, less)) });
     reaches = none;
   })
 
@@ -117,5 +118,5 @@ module _ (x : Setup) (code : Code) (numbers : List CodeRow) (f : Fixed) (lines :
   over b b' text told turn going other agreed = over_by b b' text told turn (nat_eq b.left 0) (move_after x b.taken) going refl refl other agreed
 
   -- the run of the program, where the answer ended it
-  pub run_ended : (b : Bytes) (text : List ℕ) (turn : MachineTurn) (e : End) → Going b text → IsEndOf b turn e → IsRun x.h (places x) x.program first.left text e
-  run_ended b text turn e going is = ends_with x.h (places x) x.program b.taken text first.left e going.text_is is.outs is.ending
+  pub run_ended : (b : Bytes) (text : List ℕ) (turn : MachineTurn) (e : End) → Going b text → IsEndOf b turn e → IsRun x.h (places x) x.program trace first.left text e
+  run_ended b text turn e going is = ends_with x.h (places x) x.program trace b.taken text first.left e going.text_is is.outs is.ending

@@ -1,42 +1,67 @@
 -- The lines of what a turn told, piece by piece.
-use Rattle.std.proofs.Common.{◌≡◌, ◌∙◌, ℕ, ◌+◌, ◌<◌, ◌≤◌, true, false, List, [], ◌∷◌, ◌++◌, get_or, take, length, refl, ap, sym, append_assoc, add-one}
-use Rattle.std.specs.Prelude.{not, if◌then◌else◌}
+use Rattle.std.proofs.Common.{◌≡◌, ◌∙◌, ℕ, ◌+◌, ◌<◌, ◌≤◌, Bool, true, false, List, [], ◌∷◌, ◌++◌, get_or, take, length, refl, ap, sym, append_assoc, add-one}
+use Rattle.std.specs.Prelude.{not, ◌&&◌, if◌then◌else◌}
 use Rattle.std.proofs.lemmas.List.{append-nil}
 use Rattle.std.proofs.Math.Seq.{take-suc}
 use Rattle.foundation.proofs.Truth.{split}
+use Rattle.cxx_hierarchy.specs.Classes.{Classes}
+use Rattle.byte_memory.specs.Store.{Store}
+use Rattle.byte_machine.specs.declared.heap.Opened.{Opened}
 use Rattle.byte_machine.specs.declared.turn.RawOut.{RawOut}
-use Rattle.byte_machine.specs.Turn.{State as Bytes}
-use Rattle.abi_lines.specs.RawTexts.{is_traced, printed, raw_text, raw_texts}
-use Rattle.abi_ops.specs.Setups.{Setup, places}
+use Rattle.abi_sound.specs.Places.{Places}
+use Rattle.abi_slots.specs.declared.code_numbers.CodeRow.{CodeRow}
+use Rattle.abi_lines.specs.RawTexts.{is_traced, printed, raw_text, raw_texts, shown}
 use Rattle.abi_told.proofs.Texts.{taken_all}
-use Rattle.abi_refine.specs.Executions.{lines_in}
 
-module _ (x : Setup) (b : Bytes) where
+module _ (h : Classes) (l : Places) (rows : List CodeRow) (memory : Store) (objects : List Opened) where
   abbrev one_text : RawOut → List ℕ
-  one_text raw = raw_text x.h (places x) [] b.memory b.objects raw
+  one_text raw = raw_text h l rows memory objects raw
 
-  pub line_traced : (raw : RawOut) (old : List ℕ) → is_traced raw ≡ true → old ≡ old ++ lines_in x b (raw ∷ [])
-  line_traced raw old e = sym (ap (λ q. old ++ raw_texts x.h (places x) [] b.memory b.objects (if not q then raw ∷ [] else [])) e ∙ append-nil old)
+  -- the text of all of these
+  abbrev whole_text : List RawOut → List ℕ
+  whole_text told = raw_texts h l rows memory objects told
 
-  pub line_printed : (raw : RawOut) (old new : List ℕ) → is_traced raw ≡ false → new ≡ old ++ one_text raw → new ≡ old ++ lines_in x b (raw ∷ [])
-  line_printed raw old new e puts = puts ∙ ap (λ (t : List ℕ). old ++ t) (sym (ap (λ q. raw_texts x.h (places x) [] b.memory b.objects (if not q then raw ∷ [] else [])) e ∙ append-nil (one_text raw)))
+  -- the line of one thing behind a text, or none
 
-  lines_append : (xs ys : List RawOut) → lines_in x b (xs ++ ys) ≡ lines_in x b xs ++ lines_in x b ys
-  lines_append [] ys = refl
-  lines_append (raw ∷ xs) ys = split (not (is_traced raw)) (λ q. raw_texts x.h (places x) [] b.memory b.objects (if q then raw ∷ printed (xs ++ ys) else printed (xs ++ ys)) ≡ raw_texts x.h (places x) [] b.memory b.objects (if q then raw ∷ printed xs else printed xs) ++ lines_in x b ys)
-      (λ _. ap (λ (t : List ℕ). one_text raw ++ t) (lines_append xs ys) ∙ sym (append_assoc (one_text raw) (lines_in x b xs) (lines_in x b ys)))
-      (λ _. lines_append xs ys)
+  pub line_hidden : (trace : Bool) (raw : RawOut) (old : List ℕ) → (not trace && is_traced raw) ≡ true → old ≡ old ++ raw_texts h l rows memory objects (shown trace (raw ∷ []))
+  line_hidden true raw old e = absurd (let f : false ≡ true = e in cc (f))
+  line_hidden false raw old e = sym (ap (λ q. old ++ whole_text (if not q then raw ∷ [] else [])) e ∙ append-nil old)
+
+  pub line_shown : (trace : Bool) (raw : RawOut) (old new : List ℕ) → (not trace && is_traced raw) ≡ false → new ≡ old ++ raw_text h l rows memory objects raw → new ≡ old ++ raw_texts h l rows memory objects (shown trace (raw ∷ []))
+  line_shown true raw old new e puts = puts ∙ ap (λ (t : List ℕ). old ++ t) (sym (append-nil (one_text raw)))
+  line_shown false raw old new e puts = puts ∙ ap (λ (t : List ℕ). old ++ t) (sym (ap (λ q. whole_text (if not q then raw ∷ [] else [])) e ∙ append-nil (one_text raw)))
+
+  -- some things behind others
+
+  whole_append : (xs ys : List RawOut) → whole_text (xs ++ ys) ≡ whole_text xs ++ whole_text ys
+  whole_append [] ys = refl
+  whole_append (raw ∷ xs) ys = ap (λ (t : List ℕ). one_text raw ++ t) (whole_append xs ys) ∙ sym (append_assoc (one_text raw) (whole_text xs) (whole_text ys))
+
+  printed_append : (xs ys : List RawOut) → whole_text (printed (xs ++ ys)) ≡ whole_text (printed xs) ++ whole_text (printed ys)
+  printed_append [] ys = refl
+  printed_append (raw ∷ xs) ys = split (not (is_traced raw)) (λ q. whole_text (if q then raw ∷ printed (xs ++ ys) else printed (xs ++ ys)) ≡ whole_text (if q then raw ∷ printed xs else printed xs) ++ whole_text (printed ys))
+      (λ _. ap (λ (t : List ℕ). one_text raw ++ t) (printed_append xs ys) ∙ sym (append_assoc (one_text raw) (whole_text (printed xs)) (whole_text (printed ys))))
+      (λ _. printed_append xs ys)
+
+  lines_append : (trace : Bool) (xs ys : List RawOut) → whole_text (shown trace (xs ++ ys)) ≡ whole_text (shown trace xs) ++ whole_text (shown trace ys)
+  lines_append true xs ys = whole_append xs ys
+  lines_append false xs ys = printed_append xs ys
+
+  -- before the first one
+  pub lines_none : (trace : Bool) (text : List ℕ) → text ≡ [] → text ≡ raw_texts h l rows memory objects (shown trace [])
+  lines_none true text empty = empty
+  lines_none false text empty = empty
 
   -- one thing more
-  pub lines_more : (old text more : List ℕ) (told : List RawOut) (i : ℕ) (raw : RawOut) → i < length told → raw ≡ get_or told i raw → text ≡ old ++ lines_in x b (take i told) → more ≡ text ++ lines_in x b (raw ∷ []) → more ≡ old ++ lines_in x b (take (i + 1) told)
-  lines_more old text more told i raw lt is so adds =
+  pub lines_more : (trace : Bool) (text more : List ℕ) (told : List RawOut) (i : ℕ) (raw : RawOut) → i < length told → raw ≡ get_or told i raw → text ≡ raw_texts h l rows memory objects (shown trace (take i told)) → more ≡ text ++ raw_texts h l rows memory objects (shown trace (raw ∷ []))
+      → more ≡ raw_texts h l rows memory objects (shown trace (take (i + 1) told))
+  lines_more trace text more told i raw lt is so adds =
       let next : take i told ++ (get_or told i raw ∷ []) ≡ take (i + 1) told = rw add-one (sym (take-suc told i raw lt)) in
       let longer : take i told ++ raw ∷ [] ≡ take (i + 1) told = ap (λ (y : RawOut). take i told ++ y ∷ []) is ∙ next in
       adds
-      ∙ (ap (λ (t : List ℕ). t ++ lines_in x b (raw ∷ [])) so
-      ∙ (append_assoc old (lines_in x b (take i told)) (lines_in x b (raw ∷ []))
-      ∙ ap (λ (t : List ℕ). old ++ t) (sym (lines_append (take i told) (raw ∷ [])) ∙ ap (lines_in x b) longer)))
+      ∙ (ap (λ (t : List ℕ). t ++ whole_text (shown trace (raw ∷ []))) so
+      ∙ (sym (lines_append trace (take i told) (raw ∷ [])) ∙ ap (λ (os : List RawOut). whole_text (shown trace os)) longer))
 
   -- all
-  pub lines_all : (old text : List ℕ) (told : List RawOut) (i : ℕ) → length told ≤ i → text ≡ old ++ lines_in x b (take i told) → text ≡ old ++ lines_in x b told
-  lines_all old text told i le so = so ∙ ap (λ (os : List RawOut). old ++ lines_in x b os) (taken_all told i le)
+  pub lines_all : (trace : Bool) (text : List ℕ) (told : List RawOut) (i : ℕ) → length told ≤ i → text ≡ raw_texts h l rows memory objects (shown trace (take i told)) → text ≡ raw_texts h l rows memory objects (shown trace told)
+  lines_all trace text told i le so = so ∙ ap (λ (os : List RawOut). whole_text (shown trace os)) (taken_all told i le)

@@ -1,5 +1,5 @@
 -- What an execution of a program gives: its code and image, and the turns that made its text.
-use Rattle.std.specs.Prelude.{◌≡◌, ℕ, Some, List, []}
+use Rattle.std.specs.Prelude.{◌≡◌, ℕ, Bool, Some, List}
 use Rattle.cxx_subobject.specs.Parts.{most_subobjects}
 use Rattle.cxx_hierarchy.specs.declared.stop.LimitNo.TheVariants.{L9}
 use Rattle.byte_code.specs.declared.code.Code.{Code}
@@ -7,7 +7,7 @@ use Rattle.byte_code.specs.declared.code.ImageBytes.{ImageBytes}
 use Rattle.byte_memory.specs.Store.{empty}
 use Rattle.byte_machine.specs.Turn.{State, begun, fixed_of}
 use Rattle.abi_lower.specs.Lowered.{IsLowered}
-use Rattle.abi_lines.specs.RawTexts.{printed, raw_texts}
+use Rattle.abi_lines.specs.RawTexts.{raw_texts, shown}
 use Rattle.abi_ops.specs.Setups.{Setup, places}
 use Rattle.abi_slots.specs.declared.code_numbers.CodeRow.{CodeRow}
 use Rattle.abi_told.specs.declared.ending.End.{End}
@@ -16,13 +16,13 @@ use Rattle.abi_world.specs.Made.{HasImage}
 use Rattle.abi_refine.specs.Endings.{turn_of}
 use Rattle.abi_refine.specs.Reaches.{Lines, Executes}
 
--- the text of what a turn told and is printed, read in the state that it left; no call is printed, so that no numbers of code are needed
-abbrev pub lines_in : Setup → Lines
-lines_in x b told = raw_texts x.h (places x) [] b.memory b.objects (printed told)
+-- the text of what a turn told, with the lines of a trace or without, read in the state that it left; a call names its function by the numbers of all code
+abbrev pub lines_in : Setup → List CodeRow → Bool → Lines
+lines_in x numbers trace b told = raw_texts x.h (places x) numbers b.memory b.objects (shown trace told)
 
 -- the machine's code is that of the program, and its image has the tables of all classes; its turns, from before the first step over an empty memory, made the text and ended the run; and it has ended as the run did, unless its text passed the limit
-pub record IsExecution (x : Setup) (steps : ℕ) (numbers : List CodeRow) (code : Code) (image : ImageBytes) (b : State) (text : List ℕ) (end_is : End) : Type 0 where
+pub record IsExecution (x : Setup) (steps : ℕ) (trace : Bool) (numbers : List CodeRow) (code : Code) (image : ImageBytes) (b : State) (text : List ℕ) (end_is : End) : Type 0 where
   pub lowered : IsLowered x code numbers
   pub image_is : HasImage x.h (places x) numbers image
-  pub executes : Executes (fixed_of image code most_subobjects) code (lines_in x) (begun empty code steps) b text end_is
+  pub executes : Executes (fixed_of image code most_subobjects) code (lines_in x numbers trace) (begun empty code steps) b text end_is
   pub ended : (end_is ≡ Limit L9 → ⊥) → b.answer ≡ Some (turn_of end_is)

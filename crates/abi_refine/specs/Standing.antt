@@ -1,10 +1,6 @@
 -- When a byte state stands for a state of a program, over some tables in the image of a machine and the code that it runs.
-use Rattle.std.specs.Prelude.{◌≡◌, ℕ, true, Some, List, slice_get}
-use Rattle.cxx_program.specs.declared.program.Owner.{Owner}
-use Rattle.cxx_program.specs.declared.program.TypedBody.{TypedBody}
-use Rattle.cxx_program.specs.declared.program.TypedProgram.{TypedProgram}
-use Rattle.cxx_program.specs.declared.statement.TypedStatement.{TypedStatement}
-use Rattle.path_model.specs.States.{State, body_of}
+use Rattle.std.specs.Prelude.{ℕ, List}
+use Rattle.path_model.specs.States.{State}
 use Rattle.path_model.specs.Runs.{state_at}
 use Rattle.byte_code.specs.declared.code.Code.{Code}
 use Rattle.byte_machine.specs.Running.{Fixed}

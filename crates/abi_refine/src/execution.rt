@@ -30,7 +30,7 @@ use std::alloc::Global;
 /// The most inheritance subobjects that a class may have: a cast has room for so many.
 const MOST_SUBOBJECTS: usize = 1024;
 
-/// What a run printed, its steps and how it ended; and the machine that ran it, with the numbers of its functions.
+/// What a run showed, its steps and how it ended; and the machine that ran it, with the numbers of its functions.
 #[derive(Drop)]
 pub struct Execution {
     pub text: Sequence<u8>,
@@ -43,7 +43,7 @@ pub struct Execution {
 /// Builds a typed program that has a `main`, and runs it on the byte machine for at most so many steps.
 ///
 /// The machine has the tables, the code and the memory of the program, and no path of a subobject; the text and the end of its run
-/// are those of the subobject machine's. Where the text passes its limit, `steps` are those whose lines stand in it.
+/// are those of the subobject machine's, with the lines of a trace or without. Where the text passes its limit, `steps` are those whose lines stand in it.
 ///
 /// Errors: want of memory.
 pub fn execute<L: SoundLayout>(
@@ -53,6 +53,7 @@ pub fn execute<L: SoundLayout>(
     layout: &L,
     program: &TypedProgram,
     steps: u32,
+    trace: bool,
 ) -> Result<Execution, NoMemory>
     requires layout { L.lays_out layout.now h.now }
     requires overriders { AreOverriders h.now overriders.now }
@@ -61,10 +62,10 @@ pub fn execute<L: SoundLayout>(
     requires main { is_body program.now.main ≡ true }
     requires small { IsSmall program.now }
     requires budget { steps ≤ 4000000 }
-    ensures text { IfOk result (λ run. run.text ≡ (told h.now (places_of h.now (L.rows layout.now)) program.now steps).text) }
-    ensures end { IfOk result (λ run. ending_of run.end ≡ (told h.now (places_of h.now (L.rows layout.now)) program.now steps).ending) }
+    ensures text { IfOk result (λ run. run.text ≡ (told h.now (places_of h.now (L.rows layout.now)) program.now trace steps).text) }
+    ensures end { IfOk result (λ run. ending_of run.end ≡ (told h.now (places_of h.now (L.rows layout.now)) program.now trace steps).ending) }
     ensures steps { IfOk result (λ run. (run.end ≡ End.Limit L9 → ⊥) → run.steps ≡ (run_of h.now (places_of h.now (L.rows layout.now)).size program.now steps).steps) }
-    ensures machine { IfOk result (λ run. IsExecution (setup h.now (L.rows layout.now) program.now) steps run.numbers (code_of run.machine) (image_of run.machine) (state_of run.machine) run.text run.end) }
+    ensures machine { IfOk result (λ run. IsExecution (setup h.now (L.rows layout.now) program.now) steps trace run.numbers (code_of run.machine) (image_of run.machine) (state_of run.machine) run.text run.end) }
 {
     let Built {
         code,
@@ -73,7 +74,15 @@ pub fn execute<L: SoundLayout>(
     } = build(alloc, h, overriders, layout, program)?;
     let memory = FlatMemory::new(alloc);
     let mut machine = Machine::new(alloc, memory, image, code, MOST_SUBOBJECTS, steps)?;
-    let Ran { text, steps, end } = run_machine(alloc, h, layout, program, &numbers, &mut machine)?;
+    let Ran { text, steps, end } = run_machine(
+        alloc,
+        h,
+        layout,
+        program,
+        &numbers,
+        &mut machine,
+        trace,
+    )?;
     Ok(Execution {
         text: Sequence::from_vec(text),
         steps,

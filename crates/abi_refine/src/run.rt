@@ -1,10 +1,11 @@
 //! A whole run.
 
-ghost use Rattle.std.specs.Prelude.{◌≡◌, ◌≤◌, ◌++◌, ◌∷◌, [], false, Contains, IfOk, OnOk};
+ghost use Rattle.std.specs.Prelude.{◌≡◌, ◌≤◌, ◌++◌, ◌∷◌, ◌&&◌, [], false, not, Contains, IfOk, OnOk};
 ghost use Rattle.cxx_hierarchy.specs.declared.stop.LimitNo.TheVariants.{L9};
 ghost use Rattle.path_model.specs.Runs.{run_of};
 ghost use Rattle.byte_machine.specs.MachineState.{code_of, image_of, parts_of, fixed_in, state_of, has_failed};
-ghost use Rattle.abi_lines.specs.RawTexts.{HasText, printed};
+ghost use Rattle.abi_lines.specs.RawTexts.{HasText, is_traced, raw_texts, shown};
+ghost use Rattle.abi_sound.specs.Places.{places_of};
 ghost use Rattle.abi_ops.specs.Setups.{setup, places};
 ghost use Rattle.abi_told.specs.Told.{IsRun};
 ghost use Rattle.abi_refine.specs.Endings.{counted_by, turn_of};
@@ -14,7 +15,7 @@ ghost use Rattle.abi_refine.specs.Standing.{StandsIn, state_after};
 
 use crate::ending::end_of;
 use crate::law::turn;
-use abi_lines::{append_raw, is_traced};
+use abi_lines::{CalledFunctions, append_raw, is_traced};
 use abi_slots::CodeNumbers;
 use abi_sound::SoundLayout;
 use abi_told::End;
@@ -36,54 +37,62 @@ pub struct Ran {
     pub end: End,
 }
 
-/// Puts the text of one thing that a turn told, read on the machine that it left, at the end of a text, unless it is told in a trace
-/// alone.
+/// Whether a thing that a turn told has no line: it is told in a trace alone, and the run has none.
+fn is_hidden(trace: bool, raw: RawOut) -> bool
+    ensures { result ≡ (not trace && is_traced raw) }
+{
+    !trace && is_traced(raw)
+}
+
+/// Puts the text of one thing that a turn told, read on the machine that it left, at the end of a text, unless it is hidden.
 ///
 /// Errors: want of memory.
 fn append_one<M: Memory, L: SoundLayout>(
     alloc: Global,
     h: &Hierarchy,
     layout: &L,
-    _program: &TypedProgram,
+    called: &CalledFunctions,
     machine: &Machine<M>,
     text: &mut Vec<u8>,
+    trace: bool,
     raw: RawOut,
 ) -> Result<(), NoMemory>
     requires layout { L.lays_out layout.now h.now }
     requires has_text { HasText h.now (state_of machine.now).objects raw }
-    ensures { OnOk result (text.new.items ≡ text.old.items ++ lines_in (setup h.now (L.rows layout.now) _program.now) (state_of machine.now) (raw ∷ [])) }
+    ensures { OnOk result (text.new.items ≡ text.old.items ++ raw_texts h.now (places_of h.now (L.rows layout.now)) called.now (state_of machine.now).memory (state_of machine.now).objects (shown trace (raw ∷ []))) }
 {
-    if is_traced(raw) {
+    if is_hidden(trace, raw) {
         return Ok(());
     }
-    append_raw(alloc, h, layout, &[], machine, text, raw)?;
+    append_raw(alloc, h, layout, called, machine, text, raw)?;
     Ok(())
 }
 
-/// Puts the lines of what a turn told and is printed, read on the machine that it left, at the end of a text.
+/// The lines of what a turn told, with those of a trace or without, read on the machine that it left.
 ///
 /// Errors: want of memory.
-fn append_lines<M: Memory, L: SoundLayout>(
+fn lines_of<M: Memory, L: SoundLayout>(
     alloc: Global,
     h: &Hierarchy,
     layout: &L,
-    program: &TypedProgram,
+    called: &CalledFunctions,
     machine: &Machine<M>,
-    text: &mut Vec<u8>,
+    trace: bool,
     outs: &[RawOut],
-) -> Result<(), NoMemory>
+) -> Result<Vec<u8>, NoMemory>
     requires layout { L.lays_out layout.now h.now }
     requires has_text { (raw : RawOut) → Contains outs.now raw → HasText h.now (state_of machine.now).objects raw }
-    ensures { OnOk result (text.new.items ≡ text.old.items ++ lines_in (setup h.now (L.rows layout.now) program.now) (state_of machine.now) outs.now) }
+    ensures { IfOk result (λ lines. lines.items ≡ raw_texts h.now (places_of h.now (L.rows layout.now)) called.now (state_of machine.now).memory (state_of machine.now).objects (shown trace outs.now)) }
 {
+    let mut text = Vec::new(alloc);
     for out in outs {
-        append_one(alloc, h, layout, program, machine, text, *out)?;
+        append_one(alloc, h, layout, called, machine, &mut text, trace, *out)?;
     }
-    Ok(())
+    Ok(text)
 }
 
 /// Turns a machine, over whatever memory, that stands for the start of a program until an answer ends the run, or its text passes
-/// the limit.
+/// the limit. The text has the lines of a trace or not.
 ///
 /// Errors: want of memory.
 pub fn run_machine<M: Memory, L: SoundLayout>(
@@ -93,20 +102,22 @@ pub fn run_machine<M: Memory, L: SoundLayout>(
     program: &TypedProgram,
     numbers: &CodeNumbers,
     machine: &mut Machine<M>,
+    trace: bool,
 ) -> Result<Ran, NoMemory>
     requires layout { L.lays_out layout.now h.now }
     requires stands { StandsIn (setup h.now (L.rows layout.now) program.now) (code_of machine.old) numbers.now (fixed_in machine.old) (state_after (setup h.now (L.rows layout.now) program.now) 0) (state_of machine.old) }
     requires first { (state_of machine.old).taken ≡ 0 }
     requires budget { (state_of machine.old).left ≤ 4000000 }
     requires ready { has_failed machine.old ≡ false }
-    ensures run { IfOk result (λ ran. let x = setup h.now (L.rows layout.now) program.now in IsRun x.h (places x) x.program (state_of machine.old).left ran.text.items ran.end) }
-    ensures executes { IfOk result (λ ran. Executes (fixed_in machine.old) (code_of machine.old) (lines_in (setup h.now (L.rows layout.now) program.now)) (state_of machine.old) (state_of machine.new) ran.text.items ran.end) }
+    ensures run { IfOk result (λ ran. let x = setup h.now (L.rows layout.now) program.now in IsRun x.h (places x) x.program trace (state_of machine.old).left ran.text.items ran.end) }
+    ensures executes { IfOk result (λ ran. Executes (fixed_in machine.old) (code_of machine.old) (lines_in (setup h.now (L.rows layout.now) program.now) numbers.now trace) (state_of machine.old) (state_of machine.new) ran.text.items ran.end) }
     ensures ended { IfOk result (λ ran. (ran.end ≡ End.Limit L9 → ⊥) → (state_of machine.new).answer ≡ Some (turn_of ran.end)) }
     ensures steps { IfOk result (λ ran. (ran.end ≡ End.Limit L9 → ⊥) → let x = setup h.now (L.rows layout.now) program.now in ran.steps ≡ (run_of x.h (places x).size x.program (state_of machine.old).left).steps) }
     ensures code { code_of machine.new ≡ code_of machine.old }
     ensures image { image_of machine.new ≡ image_of machine.old }
     ensures parts { parts_of machine.new ≡ parts_of machine.old }
 {
+    let called = CalledFunctions::new(alloc, numbers.rows())?;
     let mut text = Vec::new(alloc);
     let mut steps = 0u32;
     loop {
@@ -119,16 +130,7 @@ pub fn run_machine<M: Memory, L: SoundLayout>(
             }
             None => {}
         }
-        let mut lines = Vec::new(alloc);
-        append_lines(
-            alloc,
-            h,
-            layout,
-            program,
-            machine,
-            &mut lines,
-            outs.as_slice(),
-        )?;
+        let lines = lines_of(alloc, h, layout, &called, machine, trace, outs.as_slice())?;
         if text.len() + lines.len() > TEXT_LIMIT {
             return Ok(Ran {
                 text,

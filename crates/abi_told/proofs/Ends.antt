@@ -13,7 +13,7 @@ use Rattle.path_model.specs.States.{State}
 use Rattle.path_model.specs.Runs.{Move, Moves, IsRefused, IsLimited, IsOver, IsWrong, IsRunning, move, ran_by, run_from, run_of, state_at, state_behind, outs_at, outs_in}
 use Rattle.path_model.proofs.RunLaws.{run_on}
 use Rattle.abi_sound.specs.Places.{Places}
-use Rattle.abi_out.specs.OutTexts.{printed, text_of}
+use Rattle.abi_out.specs.OutTexts.{shown, text_of}
 use Rattle.abi_told.specs.Told.{passes, text_at, text_limit, told, told_by}
 use Rattle.abi_told.proofs.Texts.{text_append}
 
@@ -102,29 +102,29 @@ one_more : (n : ℕ) → n + 1 ≡ suc n
 one_more n = omega arith
 
 -- a text that is short does not pass the limit
-pub small_passes : (h : Classes) (l : Places) (program : TypedProgram) (k : ℕ) → length (text_at h l program (k + 1)) ≤ text_limit → passes h l program k ≡ false
-small_passes h l program k le = is_false (passes h l program k) (λ t. let lt = ltb-true text_limit (length (text_at h l program (k + 1))) t in omega (arith, lt, le))
+pub small_passes : (h : Classes) (l : Places) (program : TypedProgram) (trace : Bool) (k : ℕ) → length (text_at h l program trace (k + 1)) ≤ text_limit → passes h l program trace k ≡ false
+small_passes h l program trace k le = is_false (passes h l program trace k) (λ t. let lt = ltb-true text_limit (length (text_at h l program trace (k + 1))) t in omega (arith, lt, le))
 
-module _ (h : Classes) (l : Places) (program : TypedProgram) where
+module _ (h : Classes) (l : Places) (program : TypedProgram) (trace : Bool) where
   -- where all that is told is short, no step passes the limit
-  short : (steps k : ℕ) → length (text_of h l (printed (run_of h l.size program steps).outs)) ≤ text_limit → k < (run_of h l.size program steps).steps → passes h l program k ≡ false
+  short : (steps k : ℕ) → length (text_of h l (shown trace (run_of h l.size program steps).outs)) ≤ text_limit → k < (run_of h l.size program steps).steps → passes h l program trace k ≡ false
   short steps k le lt =
       let f = run_front h l.size program steps k lt in
-      let told_is : text_of h l (printed (run_of h l.size program steps).outs) ≡ text_at h l program (suc k) ++ text_of h l (printed f.0) = ap (λ (xs : List Out). text_of h l (printed xs)) f.1 ∙ text_append h l (outs_at h l.size program (suc k)) f.0 in
-      let all : length (text_at h l program (suc k) ++ text_of h l (printed f.0)) ≤ text_limit = subst (λ (t : List ℕ). length t ≤ text_limit) told_is le in
-      small_passes h l program k (subst (λ (j : ℕ). length (text_at h l program j) ≤ text_limit) (sym (one_more k)) (more_left (text_at h l program (suc k)) (text_of h l (printed f.0)) text_limit all))
+      let told_is : text_of h l (shown trace (run_of h l.size program steps).outs) ≡ text_at h l program trace (suc k) ++ text_of h l (shown trace f.0) = ap (λ (xs : List Out). text_of h l (shown trace xs)) f.1 ∙ text_append h l trace (outs_at h l.size program (suc k)) f.0 in
+      let all : length (text_at h l program trace (suc k) ++ text_of h l (shown trace f.0)) ≤ text_limit = subst (λ (t : List ℕ). length t ≤ text_limit) told_is le in
+      small_passes h l program trace k (subst (λ (j : ℕ). length (text_at h l program trace j) ≤ text_limit) (sym (one_more k)) (more_left (text_at h l program trace (suc k)) (text_of h l (shown trace f.0)) text_limit all))
 
   -- the run ends within the limit
-  pub told_whole : (steps : ℕ) → length (text_of h l (printed (run_of h l.size program steps).outs)) ≤ text_limit → told h l program steps ≡ told_by h l program (run_of h l.size program steps) None
-  told_whole steps le = ap (told_by h l program (run_of h l.size program steps)) (find_none (passes h l program) 0 (run_of h l.size program steps).steps (λ k low lt. short steps k le (omega (arith, lt))))
+  pub told_whole : (steps : ℕ) → length (text_of h l (shown trace (run_of h l.size program steps).outs)) ≤ text_limit → told h l program trace steps ≡ told_by h l program trace (run_of h l.size program steps) None
+  told_whole steps le = ap (told_by h l program trace (run_of h l.size program steps)) (find_none (passes h l program trace) 0 (run_of h l.size program steps).steps (λ k low lt. short steps k le (omega (arith, lt))))
 
   -- step n was taken
   taken_more : (n m : ℕ) → IsRunning h l.size program (n + 1) → n < (run_of h l.size program ((n + 1) + m)).steps
   taken_more n m running = let e = ap (λ ran. ran.steps) (run_on h l.size program (n + 1) m running) in omega (arith, e)
 
   -- step n is the first that passes the limit
-  pub told_to : (n steps : ℕ) → IsRunning h l.size program (n + 1) → n + 1 ≤ steps → ((k : ℕ) → k < n → passes h l program k ≡ false) → passes h l program n ≡ true → told h l program steps ≡ told_by h l program (run_of h l.size program steps) (Some n)
+  pub told_to : (n steps : ℕ) → IsRunning h l.size program (n + 1) → n + 1 ≤ steps → ((k : ℕ) → k < n → passes h l program trace k ≡ false) → passes h l program trace n ≡ true → told h l program trace steps ≡ told_by h l program trace (run_of h l.size program steps) (Some n)
   told_to n steps running le room passed =
       let left = more_of (n + 1) steps le in
       let lt : n < (run_of h l.size program steps).steps = subst (λ (j : ℕ). n < (run_of h l.size program j).steps) (sym left.1) (taken_more n left.0 running) in
-      ap (told_by h l program (run_of h l.size program steps)) (find_at (passes h l program) 0 (run_of h l.size program steps).steps n n (omega arith) lt (λ j low less. room j less) passed)
+      ap (told_by h l program trace (run_of h l.size program steps)) (find_at (passes h l program trace) 0 (run_of h l.size program steps).steps n n (omega arith) lt (λ j low less. room j less) passed)

@@ -4,3 +4,4 @@ pub mod Telling
 pub mod Texts
 pub mod Ends
 pub mod Lines
+pub mod OneText

@@ -1,5 +1,5 @@
--- Each step of a typed program's run makes objects of classes of the hierarchy alone, and what it tells names parts that are there.
-use Rattle.std.proofs.Common.{◌≡◌, ◌∙◌, inl, ℕ, zero, suc, ◌+◌, ◌<◌, true, ⊎_elim, Option, Some, None, List, [], ◌∷◌, ◌++◌, map, length, refl, ap, subst, sym}
+-- Each step of a typed program's run makes objects of classes of the hierarchy alone, and what it tells names parts that are there, and functions that have bodies.
+use Rattle.std.proofs.Common.{◌≡◌, ◌∙◌, inl, ℕ, zero, suc, ◌+◌, ◌<◌, true, false, ⊎_elim, Option, Some, None, List, [], ◌∷◌, ◌++◌, map, length, refl, ap, subst, sym}
 use Rattle.std.specs.Prelude.{slice_get}
 use Rattle.foundation.proofs.Members.{Has}
 use Rattle.foundation.proofs.Places.{get_pushed}
@@ -31,7 +31,7 @@ use Rattle.path_rules.specs.declared.Undefined.{Undefined}
 use Rattle.path_plan.specs.Whole.{whole_part}
 use Rattle.path_plan.specs.Phases.{Event, Begin, Ready, Init, Body, Done, Ending, Bases, End, part_of}
 use Rattle.path_model.specs.declared.outs.Out.{Out}
-use Rattle.path_model.specs.declared.outs.Out.TheVariants.{Call as CallOut, Built as BuiltOut, Ending as EndingOut}
+use Rattle.path_model.specs.declared.outs.Out.TheVariants.{Number as NumberOut, Pointer as PointerOut, TypeName as TypeNameOut, Dump as DumpOut, Call as CallOut, Built as BuiltOut, Ending as EndingOut}
 use Rattle.path_model.specs.Values.{Value, Unset, Number, Null, Pointer, Sight, value, argument_value, converted}
 use Rattle.path_model.specs.Uses.{receiver}
 use Rattle.path_model.specs.Rules.{closing_refusal, refusal}
@@ -50,25 +50,45 @@ use Rattle.path_model.proofs.TypedPlans.{inside_made}
 use Rattle.path_model.proofs.TypedStatements.{kind_sound}
 use Rattle.path_model.proofs.TypedSteps.{state_sound}
 use Rattle.path_model.proofs.TypedValues.{IsTypedSight, operand_typed}
-use Rattle.abi_out.specs.OutTexts.{IsTold}
+use Rattle.abi_out.specs.OutTexts.{IsTold, is_traced}
 use Rattle.abi_told.proofs.Outs.{AreKnown, IfTold, dump_names, part_names, type_names, value_names, view_names}
 
--- what is told names parts that are there
-abbrev pub AreTold : Classes → List Out → Type 0
-AreTold h outs = (out : Out) → Has outs out → IsTold h out
+-- what is told as a call is one of a function that has a body
+abbrev pub HasBody : TypedProgram → Out → Type 0
+HasBody program (NumberOut z) = Unit {0}
+HasBody program (PointerOut at_part) = Unit {0}
+HasBody program (TypeNameOut c) = Unit {0}
+HasBody program (DumpOut number c leaves) = Unit {0}
+HasBody program (CallOut f at_part) = is_body (body_of program (Function f)) ≡ true
+HasBody program (BuiltOut c at_part) = Unit {0}
+HasBody program (EndingOut c at_part) = Unit {0}
 
-none_told : (h : Classes) → AreTold h []
-none_told h out has = absurd has
+-- what is told names parts that are there, and functions that have bodies
+abbrev pub AreTold : Classes → TypedProgram → List Out → Type 0
+AreTold h program outs = (out : Out) → Has outs out → IsTold h out × HasBody program out
 
-one_told : (h : Classes) (x : Out) → IsTold h x → AreTold h (x ∷ [])
-one_told h x told out has = ⊎_elim (λ e. subst (IsTold h) e told) (λ none. absurd none) has
+none_told : (h : Classes) (program : TypedProgram) → AreTold h program []
+none_told h program out has = absurd has
 
--- a step that goes leads to objects of known classes, and what it tells names parts that are there
-abbrev pub IsFine : Classes → Next → Type 0
-IsFine h (Goes s outs) = AreKnown h s.objects.classes × AreTold h outs
-IsFine h (Refuses rule line) = Unit {0}
-IsFine h Ends = Unit {0}
-IsFine h Wrong = Unit {0}
+one_told : (h : Classes) (program : TypedProgram) (x : Out) → IsTold h x → HasBody program x → AreTold h program (x ∷ [])
+one_told h program x told body out has = ⊎_elim (λ e. subst (λ (y : Out). IsTold h y × HasBody program y) e (told, body)) (λ none. absurd none) has
+
+-- what is printed is no call
+printed_body : (program : TypedProgram) (x : Out) → is_traced x ≡ false → HasBody program x
+printed_body program (NumberOut z) plain = tt
+printed_body program (PointerOut at_part) plain = tt
+printed_body program (TypeNameOut c) plain = tt
+printed_body program (DumpOut number c leaves) plain = tt
+printed_body program (CallOut f at_part) plain = absurd (let e : true ≡ false = plain in cc (e))
+printed_body program (BuiltOut c at_part) plain = tt
+printed_body program (EndingOut c at_part) plain = tt
+
+-- a step that goes leads to objects of known classes, and what it tells names parts and bodies that are there
+abbrev pub IsFine : Classes → TypedProgram → Next → Type 0
+IsFine h program (Goes s outs) = AreKnown h s.objects.classes × AreTold h program outs
+IsFine h program (Refuses rule line) = Unit {0}
+IsFine h program Ends = Unit {0}
+IsFine h program Wrong = Unit {0}
 
 -- changes of a state that make no object
 
@@ -94,11 +114,11 @@ abbrev AreMade : Classes → List ClassId → List Event → Type 0
 AreMade h cs events = (e : Event) → Has events e → IsPartMade h cs (part_of e) (class_of_part (part_of e))
 
 module _ (h : Classes) (program : TypedProgram) where
-  opened_fine : (s : State) (p : ObjectPart) (outs : List Out) (frames : List Frame) (o : Option TypedBody) → AreKnown h s.objects.classes → AreTold h outs → IsFine h (body_opened s p outs frames o)
+  opened_fine : (s : State) (p : ObjectPart) (outs : List Out) (frames : List Frame) (o : Option TypedBody) → AreKnown h s.objects.classes → AreTold h program outs → IsFine h program (body_opened s p outs frames o)
   opened_fine s p outs frames None known told = tt
   opened_fine s p outs frames (Some body) known told = (known, told)
 
-  resumed_fine : (s : State) (f : Planned) (below : List Frame) (outs : List Out) (events : List Event) → AreKnown h s.objects.classes → AreTold h outs → IsFine h (resumed program s f below outs events)
+  resumed_fine : (s : State) (f : Planned) (below : List Frame) (outs : List Out) (events : List Event) → AreKnown h s.objects.classes → AreTold h program outs → IsFine h program (resumed program s f below outs events)
   resumed_fine s f below outs [] known told = (given_known h (with_frames s below) (Pointer (whole_part f.object (object_class s.objects f.object))) f.target known, told)
   resumed_fine s f below outs (Begin p ∷ events) known told = (known, told)
   resumed_fine s f below outs (Ready p ∷ events) known told = (known, told)
@@ -109,41 +129,41 @@ module _ (h : Classes) (program : TypedProgram) where
   resumed_fine s f below outs (Bases p ∷ events) known told = (known, told)
   resumed_fine s f below outs (End p ∷ events) known told = (known, told)
 
-  event_fine : (s : State) (f : Planned) (below : List Frame) (events : List Event) → AreKnown h s.objects.classes → AreMade h s.objects.classes events → IsFine h (event_step program s f below events)
+  event_fine : (s : State) (f : Planned) (below : List Frame) (events : List Event) → AreKnown h s.objects.classes → AreMade h s.objects.classes events → IsFine h program (event_step program s f below events)
   event_fine s f below [] known made = tt
-  event_fine s f below (Begin p ∷ events) known made = resumed_fine (with_objects s (objects_after program s.objects (Begin p))) f below [] events known (none_told h)
-  event_fine s f below (Ready p ∷ events) known made = resumed_fine (with_objects s (objects_after program s.objects (Ready p))) f below [] events known (none_told h)
-  event_fine s f below (Init p m ∷ events) known made = resumed_fine (with_objects s (objects_after program s.objects (Init p m))) f below [] events known (none_told h)
+  event_fine s f below (Begin p ∷ events) known made = resumed_fine (with_objects s (objects_after program s.objects (Begin p))) f below [] events known (none_told h program)
+  event_fine s f below (Ready p ∷ events) known made = resumed_fine (with_objects s (objects_after program s.objects (Ready p))) f below [] events known (none_told h program)
+  event_fine s f below (Init p m ∷ events) known made = resumed_fine (with_objects s (objects_after program s.objects (Init p m))) f below [] events known (none_told h program)
   event_fine s f below (Body p ∷ events) known made = tt
   event_fine s f below (Done p ∷ events) known made =
       resumed_fine (with_objects s (objects_after program s.objects (Done p))) f below (event_outs s.objects (Done p)) events known
-      (one_told h (BuiltOut (class_of_part p) (location_of s.objects p)) (part_names h s.objects known p (class_of_part p) (made (Done p) (inl refl))))
+      (one_told h program (BuiltOut (class_of_part p) (location_of s.objects p)) (part_names h s.objects known p (class_of_part p) (made (Done p) (inl refl))) tt)
   event_fine s f below (Ending p ∷ events) known made =
       resumed_fine (with_objects s (objects_after program s.objects (Ending p))) f below (event_outs s.objects (Ending p)) events known
-      (one_told h (EndingOut (class_of_part p) (location_of s.objects p)) (part_names h s.objects known p (class_of_part p) (made (Ending p) (inl refl))))
-  event_fine s f below (Bases p ∷ events) known made = resumed_fine (with_objects s (objects_after program s.objects (Bases p))) f below [] events known (none_told h)
-  event_fine s f below (End p ∷ events) known made = resumed_fine (with_objects s (objects_after program s.objects (End p))) f below [] events known (none_told h)
+      (one_told h program (EndingOut (class_of_part p) (location_of s.objects p)) (part_names h s.objects known p (class_of_part p) (made (Ending p) (inl refl))) tt)
+  event_fine s f below (Bases p ∷ events) known made = resumed_fine (with_objects s (objects_after program s.objects (Bases p))) f below [] events known (none_told h program)
+  event_fine s f below (End p ∷ events) known made = resumed_fine (with_objects s (objects_after program s.objects (End p))) f below [] events known (none_told h program)
 
-  plan_fine : IsHierarchy h → (s : State) (f : Planned) (below : List Frame) → IsKeptAt h program s.objects (InPlan f ∷ below) → AreKnown h s.objects.classes → IsFine h (event_step program s f below f.events)
+  plan_fine : IsHierarchy h → (s : State) (f : Planned) (below : List Frame) → IsKeptAt h program s.objects (InPlan f ∷ below) → AreKnown h s.objects.classes → IsFine h program (event_step program s f below f.events)
   plan_fine keeps s f below kept known =
       event_fine s f below f.events known (λ e has. let r = plan_inside h keeps program s.objects (InPlan f ∷ below) kept f e (inl refl) has in inside_made h s.objects.classes f.object r.0 (part_of e) r.1 r.2)
 
   -- ends of bodies
 
-  unless_fine : (o : Option Undefined) (line : ℕ) (next : Next) → (o ≡ None → IsFine h next) → IsFine h (unless o line next)
+  unless_fine : (o : Option Undefined) (line : ℕ) (next : Next) → (o ≡ None → IsFine h program next) → IsFine h program (unless o line next)
   unless_fine None line next fine = fine refl
   unless_fine (Some rule) line next fine = tt
 
-  constructor_fine : IsHierarchy h → (s : State) (below : List Frame) → IsKeptAt h program s.objects below → AreKnown h s.objects.classes → IsFine h (constructor_closed program s below)
+  constructor_fine : IsHierarchy h → (s : State) (below : List Frame) → IsKeptAt h program s.objects below → AreKnown h s.objects.classes → IsFine h program (constructor_closed program s below)
   constructor_fine keeps s [] kept known = tt
   constructor_fine keeps s (InBody f ∷ below) kept known = tt
   constructor_fine keeps s (InPlan f ∷ below) kept known = plan_fine keeps s f below kept known
 
-  closed_fine : IsHierarchy h → (s : State) (o : Owner) (line : ℕ) (below : List Frame) → IsKeptAt h program s.objects below → AreKnown h s.objects.classes → IsFine h (closed h program s o line below)
+  closed_fine : IsHierarchy h → (s : State) (o : Owner) (line : ℕ) (below : List Frame) → IsKeptAt h program s.objects below → AreKnown h s.objects.classes → IsFine h program (closed h program s o line below)
   closed_fine keeps s Main line below kept known = tt
-  closed_fine keeps s (Function g) line below kept known = unless_fine (closing_refusal h s.objects g) line (Goes (with_frames s below) []) (λ none. (known, none_told h))
+  closed_fine keeps s (Function g) line below kept known = unless_fine (closing_refusal h s.objects g) line (Goes (with_frames s below) []) (λ none. (known, none_told h program))
   closed_fine keeps s (Constructor c) line below kept known = constructor_fine keeps s below kept known
-  closed_fine keeps s (Destructor c) line below kept known = (known, none_told h)
+  closed_fine keeps s (Destructor c) line below kept known = (known, none_told h program)
 
   -- calls: the part that is `this` was made, since the body is entered in a typed state
 
@@ -156,26 +176,26 @@ module _ (h : Classes) (program : TypedProgram) where
 
   module _ (typed : IsTypedProgram h program) where
     entered_fine : (s : State) (values : List Value) (call : TypedCall) (target : Option Target) (run : ObjectPart × FunctionId) (o : Option TypedBody) → body_of program (Function run.1) ≡ o → AreKnown h s.objects.classes
-        → IsSoundNext h program (body_entered h s values call target run o) → IsFine h (body_entered h s values call target run o)
+        → IsSoundNext h program (body_entered h s values call target run o) → IsFine h program (body_entered h s values call target run o)
     entered_fine s values call target run None there known sound = tt
     entered_fine s values call target run (Some body) there known sound =
         let owner = (body_typed h program typed (Function run.1) body there).0 in
         let made = this_made s.objects.classes body.owner run.1 run.0 owner sound.typed.frames.0.1.this in
-        (known, one_told h (CallOut run.1 (location_of s.objects run.0)) (part_names h s.objects known run.0 run.1.class made))
+        (known, one_told h program (CallOut run.1 (location_of s.objects run.0)) (part_names h s.objects known run.0 run.1.class made) (ap is_body there))
 
     function_fine : (s : State) (values : List Value) (call : TypedCall) (target : Option Target) (o : Option (ObjectPart × FunctionId)) → AreKnown h s.objects.classes
-        → IsSoundNext h program (function_entered h program s values call target o) → IsFine h (function_entered h program s values call target o)
+        → IsSoundNext h program (function_entered h program s values call target o) → IsFine h program (function_entered h program s values call target o)
     function_fine s values call target None known sound = tt
     function_fine s values call target (Some run) known sound = entered_fine s values call target run (body_of program (Function run.1)) refl known sound
 
     called_at_fine : (s : State) (values : List Value) (call : TypedCall) (target : Option Target) (v : Value) → AreKnown h s.objects.classes
-        → IsSoundNext h program (called_at h program s values call target v) → IsFine h (called_at h program s values call target v)
+        → IsSoundNext h program (called_at h program s values call target v) → IsFine h program (called_at h program s values call target v)
     called_at_fine s values call target Unset known sound = tt
     called_at_fine s values call target (Number z) known sound = tt
     called_at_fine s values call target Null known sound = tt
     called_at_fine s values call target (Pointer p) known sound = function_fine s values call target (runs h s.objects call p) known sound
 
-    called_fine : (see : Sight) (s : State) (call : TypedCall) (target : Option Target) → AreKnown h s.objects.classes → IsSoundNext h program (called h program see s call target) → IsFine h (called h program see s call target)
+    called_fine : (see : Sight) (s : State) (call : TypedCall) (target : Option Target) → AreKnown h s.objects.classes → IsSoundNext h program (called h program see s call target) → IsFine h program (called h program see s call target)
     called_fine see s call target known sound = called_at_fine s (map (argument_value see) call.arguments) call target (receiver see call) known sound
 
   -- right sides
@@ -197,63 +217,63 @@ module _ (h : Classes) (program : TypedProgram) where
   new_known e _ _ (a_null_right c) d is = absurd (cc)
 
   taken_fine : IsTypedProgram h program → (e : Scope) (see : Sight) (s : State) (variable : Variable) (t : ValueType ClassId) (r : TypedRight) (c : Conversion) → IsConverted h e (record { right = r; conversion = c }) t → AreKnown h s.objects.classes
-      → IsSoundNext h program (taken h program see s variable r c) → IsFine h (taken h program see s variable r c)
-  taken_fine typed e see s variable t (Operand x) c fits known sound = (assigned_known h s variable (converted (right_value h see (Operand x)) c) known, none_told h)
-  taken_fine typed e see s variable t (Arithmetic op k x y) c fits known sound = (assigned_known h s variable (converted (right_value h see (Arithmetic op k x y)) c) known, none_told h)
-  taken_fine typed e see s variable t (SamePointer differ x y) c fits known sound = (assigned_known h s variable (converted (right_value h see (SamePointer differ x y)) c) known, none_told h)
-  taken_fine typed e see s variable t (Not x) c fits known sound = (assigned_known h s variable (converted (right_value h see (Not x)) c) known, none_told h)
-  taken_fine typed e see s variable t (Read place) c fits known sound = (assigned_known h s variable (converted (right_value h see (Read place)) c) known, none_told h)
-  taken_fine typed e see s variable t (Address place d) c fits known sound = (assigned_known h s variable (converted (right_value h see (Address place d)) c) known, none_told h)
+      → IsSoundNext h program (taken h program see s variable r c) → IsFine h program (taken h program see s variable r c)
+  taken_fine typed e see s variable t (Operand x) c fits known sound = (assigned_known h s variable (converted (right_value h see (Operand x)) c) known, none_told h program)
+  taken_fine typed e see s variable t (Arithmetic op k x y) c fits known sound = (assigned_known h s variable (converted (right_value h see (Arithmetic op k x y)) c) known, none_told h program)
+  taken_fine typed e see s variable t (SamePointer differ x y) c fits known sound = (assigned_known h s variable (converted (right_value h see (SamePointer differ x y)) c) known, none_told h program)
+  taken_fine typed e see s variable t (Not x) c fits known sound = (assigned_known h s variable (converted (right_value h see (Not x)) c) known, none_told h program)
+  taken_fine typed e see s variable t (Read place) c fits known sound = (assigned_known h s variable (converted (right_value h see (Read place)) c) known, none_told h program)
+  taken_fine typed e see s variable t (Address place d) c fits known sound = (assigned_known h s variable (converted (right_value h see (Address place d)) c) known, none_told h program)
   taken_fine typed e see s variable t (CallRight call) c fits known sound = called_fine typed see s call (taker variable c) known sound
-  taken_fine typed e see s variable t (New d) c fits known sound = (pushed_known h s.objects.classes d known (new_known e (record { right = New d; conversion = c }) t fits d refl), none_told h)
-  taken_fine typed e see s variable t (Cast cast x) c fits known sound = (assigned_known h s variable (converted (right_value h see (Cast cast x)) c) known, none_told h)
-  taken_fine typed e see s variable t (TypeEqual x d) c fits known sound = (assigned_known h s variable (converted (right_value h see (TypeEqual x d)) c) known, none_told h)
+  taken_fine typed e see s variable t (New d) c fits known sound = (pushed_known h s.objects.classes d known (new_known e (record { right = New d; conversion = c }) t fits d refl), none_told h program)
+  taken_fine typed e see s variable t (Cast cast x) c fits known sound = (assigned_known h s variable (converted (right_value h see (Cast cast x)) c) known, none_told h program)
+  taken_fine typed e see s variable t (TypeEqual x d) c fits known sound = (assigned_known h s variable (converted (right_value h see (TypeEqual x d)) c) known, none_told h program)
 
   -- other statements
 
-  written_fine : (s : State) (place : TypedPlace) (v w : Value) → AreKnown h s.objects.classes → IsFine h (written s place v w)
+  written_fine : (s : State) (place : TypedPlace) (v w : Value) → AreKnown h s.objects.classes → IsFine h program (written s place v w)
   written_fine s place v Unset known = tt
   written_fine s place v (Number z) known = tt
   written_fine s place v Null known = tt
-  written_fine s place v (Pointer p) known = (known, none_told h)
+  written_fine s place v (Pointer p) known = (known, none_told h program)
 
-  copied_fine : (s : State) (c : ClassId) (v w : Value) → AreKnown h s.objects.classes → IsFine h (copied_at h s c v w)
+  copied_fine : (s : State) (c : ClassId) (v w : Value) → AreKnown h s.objects.classes → IsFine h program (copied_at h s c v w)
   copied_fine s c Unset w known = tt
   copied_fine s c (Number z) w known = tt
   copied_fine s c Null w known = tt
   copied_fine s c (Pointer p) Unset known = tt
   copied_fine s c (Pointer p) (Number z) known = tt
   copied_fine s c (Pointer p) Null known = tt
-  copied_fine s c (Pointer p) (Pointer q) known = (known, none_told h)
+  copied_fine s c (Pointer p) (Pointer q) known = (known, none_told h program)
 
-  ended_fine : (s : State) (k : ℕ) (o : Option ClassId) → AreKnown h s.objects.classes → IsFine h (object_ended h program s k o)
+  ended_fine : (s : State) (k : ℕ) (o : Option ClassId) → AreKnown h s.objects.classes → IsFine h program (object_ended h program s k o)
   ended_fine s k None known = tt
-  ended_fine s k (Some c) known = (known, none_told h)
+  ended_fine s k (Some c) known = (known, none_told h program)
 
-  deleted_fine : (s : State) (v : Value) → AreKnown h s.objects.classes → IsFine h (deleted h program s v)
+  deleted_fine : (s : State) (v : Value) → AreKnown h s.objects.classes → IsFine h program (deleted h program s v)
   deleted_fine s Unset known = tt
   deleted_fine s (Number z) known = tt
-  deleted_fine s Null known = (known, none_told h)
+  deleted_fine s Null known = (known, none_told h program)
   deleted_fine s (Pointer p) known = ended_fine s p.object (slice_get s.objects.classes p.object) known
 
-  branched_fine : (s : State) (v : Value) (yes_at no_at : ℕ) → AreKnown h s.objects.classes → IsFine h (branched s v yes_at no_at)
+  branched_fine : (s : State) (v : Value) (yes_at no_at : ℕ) → AreKnown h s.objects.classes → IsFine h program (branched s v yes_at no_at)
   branched_fine s Unset yes_at no_at known = tt
-  branched_fine s (Number z) yes_at no_at known = (known, none_told h)
+  branched_fine s (Number z) yes_at no_at known = (known, none_told h program)
   branched_fine s Null yes_at no_at known = tt
   branched_fine s (Pointer p) yes_at no_at known = tt
 
-  left_fine : (o : Owner) (s : State) → AreKnown h s.objects.classes → IsFine h (left_by o s)
+  left_fine : (o : Owner) (s : State) → AreKnown h s.objects.classes → IsFine h program (left_by o s)
   left_fine Main s known = tt
-  left_fine (Function g) s known = (known, none_told h)
+  left_fine (Function g) s known = (known, none_told h program)
   left_fine (Constructor c) s known = tt
   left_fine (Destructor c) s known = tt
 
-  returned_fine : (s : State) (f : Running) (below : List Frame) (v : Option Value) → AreKnown h s.objects.classes → IsFine h (returned s f below v)
+  returned_fine : (s : State) (f : Running) (below : List Frame) (v : Option Value) → AreKnown h s.objects.classes → IsFine h program (returned s f below v)
   returned_fine s f below v known = left_fine f.owner (result_given (with_frames s below) f.found f.target v) (result_known h (with_frames s below) f.found f.target v known)
 
-  telling_fine : (s : State) (o : Option Out) → AreKnown h s.objects.classes → IfTold h o → IsFine h (telling s o)
+  telling_fine : (s : State) (o : Option Out) → AreKnown h s.objects.classes → IfTold h o → IsFine h program (telling s o)
   telling_fine s None known told = tt
-  telling_fine s (Some out) known told = (known, one_told h out told)
+  telling_fine s (Some out) known told = (known, one_told h program out told.0 (printed_body program out told.1))
 
   -- statements
 
@@ -269,8 +289,8 @@ module _ (h : Classes) (program : TypedProgram) where
     sees : IsTypedSight h (scope_of h program.globals body) (sight (with_frames s (InBody f ∷ below)) f)
     sees = sight_typed h program (with_frames s (InBody f ∷ below)) f below body refl there (body_typed h program typed f.owner body there).0 b.typed
 
-    kind_fine : (kind : TypedKind) → IsTyped h (scope_of h program.globals body) kind → IsSoundNext h program (kind_effect h program (See kind) (On kind) (before_kind f kind) below n next kind) → IsFine h (kind_effect h program (See kind) (On kind) (before_kind f kind) below n next kind)
-    kind_fine kind (declares m t is) sound = (known, none_told h)
+    kind_fine : (kind : TypedKind) → IsTyped h (scope_of h program.globals body) kind → IsSoundNext h program (kind_effect h program (See kind) (On kind) (before_kind f kind) below n next kind) → IsFine h program (kind_effect h program (See kind) (On kind) (before_kind f kind) below n next kind)
+    kind_fine kind (declares m t is) sound = (known, none_told h program)
     kind_fine kind (begins m y t is fits) sound = taken_fine typed (scope_of h program.globals body) (See kind) (On kind) (Local m) t y.right y.conversion fits known sound
     kind_fine kind (assigns variable y t is fits) sound = taken_fine typed (scope_of h program.globals body) (See kind) (On kind) variable t y.right y.conversion fits known sound
     kind_fine kind (writes place y t p fits) sound = written_fine (On kind) place (argument_value (See kind) y) (value (See kind) place.pointer) known
@@ -308,7 +328,7 @@ module _ (h : Classes) (program : TypedProgram) where
     before_sound s f below body there kind (dumps x c has) b = b
 
     statement_fine : (s : State) (f : Running) (below : List Frame) (body : TypedBody) → body_of program f.owner ≡ Some body → IsKeptAt h program s.objects (InBody f ∷ below) → IsSound h program (with_frames s (InBody f ∷ below))
-        → AreKnown h s.objects.classes → (o : Option TypedStatement) → slice_get body.statements f.next ≡ o → IsFine h (in_body h program s f below body o)
+        → AreKnown h s.objects.classes → (o : Option TypedStatement) → slice_get body.statements f.next ≡ o → IsFine h program (in_body h program s f below body o)
     statement_fine s f below body there kept b known None is = closed_fine keeps s f.owner body.close_line below (kept_left h program s.objects f below kept) known
     statement_fine s f below body there kept b known (Some statement) is =
         let g = before_kind f statement.kind in
@@ -319,49 +339,49 @@ module _ (h : Classes) (program : TypedProgram) where
         (kind_sound h keeps fine program typed s.objects s.globals g below body found (wanted g) f.next statement.next a.next (before_sound s f below body there statement.kind a.typed b) statement.kind a.typed a.within none))
 
     body_fine : (s : State) (f : Running) (below : List Frame) → IsKeptAt h program s.objects (InBody f ∷ below) → IsSound h program (with_frames s (InBody f ∷ below)) → AreKnown h s.objects.classes
-        → (o : Option TypedBody) → body_of program f.owner ≡ o → IsFine h (body_step h program s f below o)
+        → (o : Option TypedBody) → body_of program f.owner ≡ o → IsFine h program (body_step h program s f below o)
     body_fine s f below kept b known None there = tt
     body_fine s f below kept b known (Some body) there = statement_fine s f below body there kept b known (slice_get body.statements f.next) refl
 
-    frames_fine : (s : State) (frames : List Frame) → IsKeptAt h program s.objects frames → IsSound h program (with_frames s frames) → AreKnown h s.objects.classes → IsFine h (frame_step h program s frames)
+    frames_fine : (s : State) (frames : List Frame) → IsKeptAt h program s.objects frames → IsSound h program (with_frames s frames) → AreKnown h s.objects.classes → IsFine h program (frame_step h program s frames)
     frames_fine s [] kept b known = tt
     frames_fine s (InBody f ∷ below) kept b known = body_fine s f below kept b known (body_of program f.owner) refl
     frames_fine s (InPlan f ∷ below) kept b known = plan_fine keeps s f below kept known
 
-    step_fine : (s : State) → IsKept h program s → IsSound h program s → AreKnown h s.objects.classes → IsFine h (step h program s)
+    step_fine : (s : State) → IsKept h program s → IsSound h program s → AreKnown h s.objects.classes → IsFine h program (step h program s)
     step_fine s kept b known = frames_fine s s.frames kept b known
 
 -- runs
 
-fine_goes : (h : Classes) (next : Next) → IsFine h next → IfGoes (λ (s : State). AreKnown h s.objects.classes) next
-fine_goes h (Goes s outs) fine = fine.0
-fine_goes h (Refuses rule line) fine = tt
-fine_goes h Ends fine = tt
-fine_goes h Wrong fine = tt
+fine_goes : (h : Classes) (program : TypedProgram) (next : Next) → IsFine h program next → IfGoes (λ (s : State). AreKnown h s.objects.classes) next
+fine_goes h program (Goes s outs) fine = fine.0
+fine_goes h program (Refuses rule line) fine = tt
+fine_goes h program Ends fine = tt
+fine_goes h program Wrong fine = tt
 
-within_told : (h : Classes) (o : Option LimitNo) (s : State) (outs : List Out) → AreTold h outs → AreTold h (outs_in (within o s outs))
-within_told h None s outs told = told
-within_told h (Some limit) s outs told = none_told h
+within_told : (h : Classes) (program : TypedProgram) (o : Option LimitNo) (s : State) (outs : List Out) → AreTold h program outs → AreTold h program (outs_in (within o s outs))
+within_told h program None s outs told = told
+within_told h program (Some limit) s outs told = none_told h program
 
-fine_told : (h : Classes) (next : Next) (o : Option LimitNo) → IsFine h next → AreTold h (outs_in (move_by next o))
-fine_told h (Goes s outs) o fine = within_told h o s outs fine.1
-fine_told h (Refuses rule line) o fine = none_told h
-fine_told h Ends o fine = none_told h
-fine_told h Wrong o fine = none_told h
+fine_told : (h : Classes) (program : TypedProgram) (next : Next) (o : Option LimitNo) → IsFine h program next → AreTold h program (outs_in (move_by next o))
+fine_told h program (Goes s outs) o fine = within_told h program o s outs fine.1
+fine_told h program (Refuses rule line) o fine = none_told h program
+fine_told h program Ends o fine = none_told h program
+fine_told h program Wrong o fine = none_told h program
 
 none_known : (h : Classes) → AreKnown h []
 none_known h k c there = absurd (let f : None ≡ Some c = there in cc)
 
 module _ (h : Classes) (keeps : IsHierarchy h) (fine : HasNoFault h) (program : TypedProgram) (typed : IsTypedProgram h program) (sizes : ClassId → ℕ) (main : is_body program.main ≡ true) where
-  step_at : (n : ℕ) → AreKnown h (state_at h sizes program n).objects.classes → IsFine h (step h program (state_at h sizes program n))
+  step_at : (n : ℕ) → AreKnown h (state_at h sizes program n).objects.classes → IsFine h program (step h program (state_at h sizes program n))
   step_at n known = step_fine h program keeps fine typed (state_at h sizes program n) (state_kept h sizes program n) (state_sound h keeps fine program typed sizes main n) known
 
   known_at : (n : ℕ) → AreKnown h (state_at h sizes program n).objects.classes
   known_at zero = none_known h
   known_at (suc n) =
       let s = state_at h sizes program n in
-      behind_move (λ (x : State). AreKnown h x.objects.classes) (step h program s) (limit_at sizes program s) s (known_at n) (fine_goes h (step h program s) (step_at n (known_at n)))
+      behind_move (λ (x : State). AreKnown h x.objects.classes) (step h program s) (limit_at sizes program s) s (known_at n) (fine_goes h program (step h program s) (step_at n (known_at n)))
 
-  -- what a step of the run tells names parts that are there
-  pub steps_told : (n : ℕ) → AreTold h (outs_in (move h sizes program (state_at h sizes program n)))
-  steps_told n = let s = state_at h sizes program n in fine_told h (step h program s) (limit_at sizes program s) (step_at n (known_at n))
+  -- what a step of the run tells names parts and bodies that are there
+  pub steps_told : (n : ℕ) → AreTold h program (outs_in (move h sizes program (state_at h sizes program n)))
+  steps_told n = let s = state_at h sizes program n in fine_told h program (step h program s) (limit_at sizes program s) (step_at n (known_at n))

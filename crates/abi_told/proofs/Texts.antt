@@ -1,5 +1,5 @@
 -- The text of what is told, piece by piece.
-use Rattle.std.proofs.Common.{◌≡◌, ◌∙◌, ℕ, ◌+◌, ◌<◌, ◌≤◌, true, false, List, [], ◌∷◌, ◌++◌, get_or, take, length, refl, ap, sym, append_assoc, add-one, arith, zero, suc}
+use Rattle.std.proofs.Common.{◌≡◌, ◌∙◌, ℕ, ◌+◌, ◌<◌, ◌≤◌, Bool, true, false, List, [], ◌∷◌, ◌++◌, get_or, take, length, refl, ap, sym, append_assoc, add-one, arith, zero, suc}
 use Rattle.std.specs.Prelude.{not, if◌then◌else◌}
 use Rattle.std.proofs.lemmas.List.{append-nil}
 use Rattle.std.proofs.Math.Seq.{take-suc}
@@ -7,7 +7,7 @@ use Rattle.foundation.proofs.Truth.{split}
 use Rattle.cxx_hierarchy.specs.Classes.{Classes}
 use Rattle.path_model.specs.declared.outs.Out.{Out}
 use Rattle.abi_sound.specs.Places.{Places}
-use Rattle.abi_out.specs.OutTexts.{is_traced, out_text, printed, text_of}
+use Rattle.abi_out.specs.OutTexts.{is_traced, out_text, printed, shown, text_of}
 
 pub taken_all : {X : Type 0} (xs : List X) (n : ℕ) → length xs ≤ n → take n xs ≡ xs
 taken_all [] zero le = refl
@@ -23,24 +23,38 @@ line_traced h l x old e = sym (ap (λ q. old ++ text_of h l (if not q then x ∷
 pub line_printed : (h : Classes) (l : Places) (x : Out) (old new : List ℕ) → is_traced x ≡ false → new ≡ old ++ out_text h l x → new ≡ old ++ text_of h l (printed (x ∷ []))
 line_printed h l x old new e puts = puts ∙ ap (λ (t : List ℕ). old ++ t) (sym (ap (λ q. text_of h l (if not q then x ∷ [] else [])) e ∙ append-nil (out_text h l x)))
 
+-- nothing told, nothing shown
+pub text_none : (h : Classes) (l : Places) (trace : Bool) → text_of h l (shown trace []) ≡ []
+text_none h l true = refl
+text_none h l false = refl
+
 -- outs behind others
-pub text_append : (h : Classes) (l : Places) (xs ys : List Out) → text_of h l (printed (xs ++ ys)) ≡ text_of h l (printed xs) ++ text_of h l (printed ys)
-text_append h l [] ys = refl
-text_append h l (x ∷ xs) ys = split (not (is_traced x)) (λ q. text_of h l (if q then x ∷ printed (xs ++ ys) else printed (xs ++ ys)) ≡ text_of h l (if q then x ∷ printed xs else printed xs) ++ text_of h l (printed ys))
-    (λ _. ap (λ (t : List ℕ). out_text h l x ++ t) (text_append h l xs ys) ∙ sym (append_assoc (out_text h l x) (text_of h l (printed xs)) (text_of h l (printed ys))))
-    (λ _. text_append h l xs ys)
+
+all_append : (h : Classes) (l : Places) (xs ys : List Out) → text_of h l (xs ++ ys) ≡ text_of h l xs ++ text_of h l ys
+all_append h l [] ys = refl
+all_append h l (x ∷ xs) ys = ap (λ (t : List ℕ). out_text h l x ++ t) (all_append h l xs ys) ∙ sym (append_assoc (out_text h l x) (text_of h l xs) (text_of h l ys))
+
+printed_append : (h : Classes) (l : Places) (xs ys : List Out) → text_of h l (printed (xs ++ ys)) ≡ text_of h l (printed xs) ++ text_of h l (printed ys)
+printed_append h l [] ys = refl
+printed_append h l (x ∷ xs) ys = split (not (is_traced x)) (λ q. text_of h l (if q then x ∷ printed (xs ++ ys) else printed (xs ++ ys)) ≡ text_of h l (if q then x ∷ printed xs else printed xs) ++ text_of h l (printed ys))
+    (λ _. ap (λ (t : List ℕ). out_text h l x ++ t) (printed_append h l xs ys) ∙ sym (append_assoc (out_text h l x) (text_of h l (printed xs)) (text_of h l (printed ys))))
+    (λ _. printed_append h l xs ys)
+
+pub text_append : (h : Classes) (l : Places) (trace : Bool) (xs ys : List Out) → text_of h l (shown trace (xs ++ ys)) ≡ text_of h l (shown trace xs) ++ text_of h l (shown trace ys)
+text_append h l true xs ys = all_append h l xs ys
+text_append h l false xs ys = printed_append h l xs ys
 
 -- one out more
-pub text_more : (h : Classes) (l : Places) (old text more : List ℕ) (outs : List Out) (i : ℕ) (x : Out) → i < length outs → x ≡ get_or outs i x → text ≡ old ++ text_of h l (printed (take i outs)) → more ≡ text ++ text_of h l (printed (x ∷ []))
-    → more ≡ old ++ text_of h l (printed (take (i + 1) outs))
-text_more h l old text more outs i x lt is so adds =
+pub text_more : (h : Classes) (l : Places) (trace : Bool) (old text more : List ℕ) (outs : List Out) (i : ℕ) (x : Out) → i < length outs → x ≡ get_or outs i x → text ≡ old ++ text_of h l (shown trace (take i outs)) → more ≡ text ++ text_of h l (shown trace (x ∷ []))
+    → more ≡ old ++ text_of h l (shown trace (take (i + 1) outs))
+text_more h l trace old text more outs i x lt is so adds =
     let next : take i outs ++ (get_or outs i x ∷ []) ≡ take (i + 1) outs = rw add-one (sym (take-suc outs i x lt)) in
     let longer : take i outs ++ x ∷ [] ≡ take (i + 1) outs = ap (λ (y : Out). take i outs ++ y ∷ []) is ∙ next in
     adds
-    ∙ (ap (λ (t : List ℕ). t ++ text_of h l (printed (x ∷ []))) so
-    ∙ (append_assoc old (text_of h l (printed (take i outs))) (text_of h l (printed (x ∷ [])))
-    ∙ ap (λ (t : List ℕ). old ++ t) (sym (text_append h l (take i outs) (x ∷ [])) ∙ ap (λ (xs : List Out). text_of h l (printed xs)) longer)))
+    ∙ (ap (λ (t : List ℕ). t ++ text_of h l (shown trace (x ∷ []))) so
+    ∙ (append_assoc old (text_of h l (shown trace (take i outs))) (text_of h l (shown trace (x ∷ [])))
+    ∙ ap (λ (t : List ℕ). old ++ t) (sym (text_append h l trace (take i outs) (x ∷ [])) ∙ ap (λ (xs : List Out). text_of h l (shown trace xs)) longer)))
 
 -- all outs
-pub text_all : (h : Classes) (l : Places) (old text : List ℕ) (outs : List Out) (i : ℕ) → length outs ≤ i → text ≡ old ++ text_of h l (printed (take i outs)) → text ≡ old ++ text_of h l (printed outs)
-text_all h l old text outs i le so = so ∙ ap (λ (xs : List Out). old ++ text_of h l (printed xs)) (taken_all outs i le)
+pub text_all : (h : Classes) (l : Places) (trace : Bool) (old text : List ℕ) (outs : List Out) (i : ℕ) → length outs ≤ i → text ≡ old ++ text_of h l (shown trace (take i outs)) → text ≡ old ++ text_of h l (shown trace outs)
+text_all h l trace old text outs i le so = so ∙ ap (λ (xs : List Out). old ++ text_of h l (shown trace xs)) (taken_all outs i le)

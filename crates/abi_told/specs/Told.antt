@@ -6,7 +6,7 @@ use Rattle.cxx_program.specs.declared.program.TypedProgram.{TypedProgram}
 use Rattle.path_plan.specs.Plans.{upto}
 use Rattle.path_model.specs.Runs.{Ran, Ending, Done as IsDone, UndefinedAt, OutOfSteps as IsOutOfSteps, LimitMet, outs_at, run_of}
 use Rattle.abi_sound.specs.Places.{Places}
-use Rattle.abi_out.specs.OutTexts.{text_of, printed}
+use Rattle.abi_out.specs.OutTexts.{shown, text_of}
 use Rattle.abi_told.specs.declared.ending.End.{End}
 use Rattle.abi_told.specs.declared.ending.End.TheVariants.{Done, Undefined, OutOfSteps, Limit}
 
@@ -14,26 +14,26 @@ use Rattle.abi_told.specs.declared.ending.End.TheVariants.{Done, Undefined, OutO
 abbrev pub text_limit : ℕ
 text_limit = 16777216
 
--- what the first n steps print
-abbrev pub text_at : Classes → Places → TypedProgram → ℕ → List ℕ
-text_at h l program n = text_of h l (printed (outs_at h l.size program n))
+-- the text of what the first n steps show, with or without a trace
+abbrev pub text_at : Classes → Places → TypedProgram → Bool → ℕ → List ℕ
+text_at h l program trace n = text_of h l (shown trace (outs_at h l.size program n))
 
--- with step n the text passes its limit
-abbrev pub passes : Classes → Places → TypedProgram → ℕ → Bool
-passes h l program n = nat_lt text_limit (length (text_at h l program (n + 1)))
+-- with step n the text passes its limit; the lines of a trace count
+abbrev pub passes : Classes → Places → TypedProgram → Bool → ℕ → Bool
+passes h l program trace n = nat_lt text_limit (length (text_at h l program trace (n + 1)))
 
 pub record Told : Type 0 where
   pub text : List ℕ
   pub ending : Ending
 
--- all that the run prints, or what stands before the first step that passes the limit
-abbrev pub told_by : Classes → Places → TypedProgram → Ran → Option ℕ → Told
-told_by h l program ran None = record { text = text_of h l (printed ran.outs); ending = ran.ending }
-told_by h l program ran (Some n) = record { text = text_at h l program n; ending = LimitMet L9 }
+-- all that the run shows, or what stands before the first step that passes the limit
+abbrev pub told_by : Classes → Places → TypedProgram → Bool → Ran → Option ℕ → Told
+told_by h l program trace ran None = record { text = text_of h l (shown trace ran.outs); ending = ran.ending }
+told_by h l program trace ran (Some n) = record { text = text_at h l program trace n; ending = LimitMet L9 }
 
--- the run of a program with a budget of steps
-abbrev pub told : Classes → Places → TypedProgram → ℕ → Told
-told h l program steps = told_by h l program (run_of h l.size program steps) (find (passes h l program) (upto (run_of h l.size program steps).steps))
+-- the run of a program with a budget of steps, with or without a trace
+abbrev pub told : Classes → Places → TypedProgram → Bool → ℕ → Told
+told h l program trace steps = told_by h l program trace (run_of h l.size program steps) (find (passes h l program trace) (upto (run_of h l.size program steps).steps))
 
 -- the ending that the code says
 abbrev pub ending_of : End → Ending
@@ -43,6 +43,6 @@ ending_of OutOfSteps = IsOutOfSteps
 ending_of (Limit limit) = LimitMet limit
 
 -- the run of so many steps has this text and this end
-pub record IsRun (h : Classes) (l : Places) (program : TypedProgram) (steps : ℕ) (text : List ℕ) (end_is : End) : Type 0 where
-  pub text_is : text ≡ (told h l program steps).text
-  pub ending : ending_of end_is ≡ (told h l program steps).ending
+pub record IsRun (h : Classes) (l : Places) (program : TypedProgram) (trace : Bool) (steps : ℕ) (text : List ℕ) (end_is : End) : Type 0 where
+  pub text_is : text ≡ (told h l program trace steps).text
+  pub ending : ending_of end_is ≡ (told h l program trace steps).ending

@@ -1,10 +1,9 @@
 pub mod StreamLemmas
-pub mod CommandLemmas
+pub mod SourceLemmas
 pub mod OutputLemmas
 pub mod ReplyLemmas
 pub mod AnswerLemmas
 pub mod RunAnswers
-pub mod StepLemmas
 pub mod MeaningFaults
 pub mod ClassFaults
 pub mod WalkCounts
@@ -20,6 +19,7 @@ pub mod OneFault
 pub mod OneVerdict
 pub mod SameMains
 pub mod OneOutput
-pub mod SomeCommand
+pub mod SameTexts
+pub mod FewSteps
 pub mod SomeFault
 pub mod SomeOutput

@@ -13,7 +13,7 @@ use Rattle.abi_tables.specs.declared.tables.ClassTables.{ClassTables}
 use Rattle.abi_tables.specs.Tables.{AreClassTables}
 use Rattle.abi_print.specs.LayoutTexts.{layout_text}
 use Rattle.abi_print.specs.TableTexts.{tables_text}
-use Rattle.cxxabi_cmd.specs.declared.command.Command.{Command}
+use Rattle.cxxabi_words.specs.declared.command.Command.{Command}
 use Rattle.cxxabi_cmd.specs.declared.listing.Listing.{Listing}
 use Rattle.cxxabi_cmd.specs.declared.listing.Listing.TheVariants.{OfLayout, OfTables}
 use Rattle.cxxabi_cmd.specs.Output.{numbered, first_classes, AsksFor, all_layouts, one_layout, all_tables, one_tables, IsClassText, AreTexts, no_texts, more_texts}

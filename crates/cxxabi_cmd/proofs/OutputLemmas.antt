@@ -5,38 +5,27 @@ use Rattle.std.proofs.lemmas.List.{length-take}
 use Rattle.foundation.specs.declared.memory.NoMemory.{NoMemory as Want}
 use Rattle.cxx_hierarchy.specs.declared.stop.LimitNo.TheVariants.{L1}
 use Rattle.cxxabi_cmd.specs.declared.reply.Reply.{Reply}
-use Rattle.cxxabi_cmd.specs.declared.command.Command.{Command}
-use Rattle.cxxabi_cmd.specs.declared.command.Command.TheVariants.{Run}
+use Rattle.cxxabi_words.specs.declared.command.Command.{Command}
+use Rattle.cxxabi_words.specs.Commands.{Says, IsCommand}
+use Rattle.cxxabi_words.proofs.CommandLaws.{one_command}
 use Rattle.cxxabi_cmd.specs.declared.status.Status.{Status}
 use Rattle.cxxabi_cmd.specs.declared.status.Status.TheVariants.{Usage, Limit, WriteFault}
 use Rattle.cxxabi_cmd.specs.Streams.{IsPartOf}
-use Rattle.cxxabi_cmd.specs.Commands.{Says, IsCommand}
+use Rattle.cxxabi_cmd.specs.Commands.{source_of}
 use Rattle.cxxabi_cmd.specs.Output.{Output, usage, too_long, Answer, line_alone, Answers, BreaksOff, IsAnswered}
 use Rattle.cxxabi_cmd.specs.Handed.{Seen, HandsOut}
-use Rattle.cxxabi_cmd.specs.invariants.Replies.{answer_of, machine_of}
-
--- a front that is shorter than was asked for is the whole
-whole_read : (n : ℕ) (bytes all : List ℕ) → bytes ≡ take n all → length bytes < n → bytes ≡ all
-whole_read zero bytes all same short = absurd (omega arith)
-whole_read (suc n) bytes [] same short = same
-whole_read (suc n) [] (b ∷ all) same short = absurd (cc)
-whole_read (suc n) (a ∷ bytes) (b ∷ all) same short =
-    let head : a ≡ b = cc in
-    let tail : bytes ≡ take n all = cc in
-    rw (head, whole_read n bytes all tail (omega arith)) refl
+use Rattle.cxxabi_cmd.specs.invariants.Replies.{answer_of, machine_of, IsRead}
 
 -- more than the limit was read
 pub limit_output : (r : Result Reply Want) (bytes : List ℕ) (command : Command) → IfOk r (λ reply. answer_of reply ≡ line_alone (Limit L1)) → 262144 < length bytes →
-    IfOk r (λ reply. (words : List (List ℕ)) (all : List ℕ) → Says words command → bytes ≡ take 262145 all → Output words all (answer_of reply))
-limit_output (Ok reply) bytes command alone long =
-    λ words all says same. subst (λ a. Output words all a) (sym alone) (too_long (command, says) (let size : length bytes ≡ length (take 262145 all) = ap length same in omega (arith, size, length-take 262145 all)))
+    IfOk r (λ reply. (words : List (List ℕ)) (given : List ℕ) → Says words command → IsRead bytes (source_of command given) → Output words given (answer_of reply))
+limit_output (Ok reply) bytes command alone long = λ words given says read. subst (λ a. Output words given a) (sym alone) (too_long command says (read.more long))
 limit_output (Err e) bytes command alone long = alone
 
 -- all was read
-pub read_output : (r : Result Reply Want) (bytes : List ℕ) (command : Command) → IfOk r (λ reply. (words : List (List ℕ)) → Says words command → Output words bytes (answer_of reply)) → length bytes ≤ 262144 →
-    IfOk r (λ reply. (words : List (List ℕ)) (all : List ℕ) → Says words command → bytes ≡ take 262145 all → Output words all (answer_of reply))
-read_output (Ok reply) bytes command output short =
-    λ words all says same. subst (λ b. Output words b (answer_of reply)) (whole_read 262145 bytes all same (omega arith)) (output words says)
+pub read_output : (r : Result Reply Want) (bytes : List ℕ) (command : Command) → IfOk r (λ reply. (words : List (List ℕ)) (given : List ℕ) → Says words command → bytes ≡ source_of command given → Output words given (answer_of reply)) → length bytes ≤ 262144 →
+    IfOk r (λ reply. (words : List (List ℕ)) (given : List ℕ) → Says words command → IsRead bytes (source_of command given) → Output words given (answer_of reply))
+read_output (Ok reply) bytes command output short = λ words given says read. output words given says (read.whole short)
 read_output (Err e) bytes command output short = output
 
 -- the words are no command
@@ -58,26 +47,24 @@ broken_off words bytes before after answer written output is part =
 
 -- no machine for a text that is too long
 pub limit_machine : (r : Result Reply Want) (bytes : List ℕ) (command : Command) → IfOk r (λ reply. machine_of reply ≡ None) → 262144 < length bytes →
-    IfOk r (λ reply. (words : List (List ℕ)) (all : List ℕ) → Says words command → bytes ≡ take 262145 all → HandsOut words all (machine_of reply))
+    IfOk r (λ reply. (words : List (List ℕ)) (given : List ℕ) → Says words command → IsRead bytes (source_of command given) → HandsOut words given (machine_of reply))
 limit_machine (Ok reply) bytes command none long =
-    λ words all says same. subst (λ (m : Option Seen). HandsOut words all m) (sym none)
-    (λ h rows program steps has. absurd (let short = has.short in let size : length bytes ≡ length (take 262145 all) = ap length same in omega (arith, size, length-take 262145 all)))
+    λ words given says read. subst (λ (m : Option Seen). HandsOut words given m) (sym none)
+    (λ h rows program trace steps has.
+    let one : has.command ≡ command = one_command words has.command command has.asked says in
+    let short : length (source_of command given) ≤ 262144 = subst (λ (c : Command). length (source_of c given) ≤ 262144) one has.short in
+    let more = read.more long in omega (arith, short, more))
 limit_machine (Err e) bytes command none long = none
 
 -- the machine for a text that was read whole
-pub read_machine : (r : Result Reply Want) (bytes : List ℕ) (command : Command) → IfOk r (λ reply. (words : List (List ℕ)) → Says words command → HandsOut words bytes (machine_of reply)) → length bytes ≤ 262144 →
-    IfOk r (λ reply. (words : List (List ℕ)) (all : List ℕ) → Says words command → bytes ≡ take 262145 all → HandsOut words all (machine_of reply))
-read_machine (Ok reply) bytes command hands short =
-    λ words all says same. subst (λ (b : List ℕ). HandsOut words b (machine_of reply)) (whole_read 262145 bytes all same (omega arith)) (hands words says)
+pub read_machine : (r : Result Reply Want) (bytes : List ℕ) (command : Command) → IfOk r (λ reply. (words : List (List ℕ)) (given : List ℕ) → Says words command → bytes ≡ source_of command given → HandsOut words given (machine_of reply)) → length bytes ≤ 262144 →
+    IfOk r (λ reply. (words : List (List ℕ)) (given : List ℕ) → Says words command → IsRead bytes (source_of command given) → HandsOut words given (machine_of reply))
+read_machine (Ok reply) bytes command hands short = λ words given says read. hands words given says (read.whole short)
 read_machine (Err e) bytes command hands short = hands
 
 -- no machine where the words are no command
 pub usage_machine : (words : List (List ℕ)) (bytes : List ℕ) (reply : Reply) → machine_of reply ≡ None → (IsCommand words → ⊥) → HandsOut words bytes (machine_of reply)
-usage_machine words bytes reply none no_command = subst (λ (m : Option Seen). HandsOut words bytes m) (sym none) (λ h rows program steps has. no_command (Run steps, has.asked))
-
--- what was read is what the source told
-pub told_bytes : (remaining : Option (List ℕ)) (text bytes : List ℕ) → IfSome remaining (λ all. text ≡ take 262145 all) → remaining ≡ Some bytes → text ≡ take 262145 bytes
-told_bytes remaining text bytes read told = subst (λ (o : Option (List ℕ)). IfSome o (λ all. text ≡ take 262145 all)) told read
+usage_machine words bytes reply none no_command = subst (λ (m : Option Seen). HandsOut words bytes m) (sym none) (λ h rows program trace steps has. no_command (has.command, has.asked))
 
 -- the command that was found, and that none was
 pub no_command : {X : Type 0} (found : Option X) (P : Type 0) (Q : X → Type 0) → MatchOption found P Q → found ≡ None → P

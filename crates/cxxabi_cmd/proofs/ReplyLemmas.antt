@@ -10,18 +10,18 @@ use Rattle.cxx_hierarchy.specs.Classes.{Classes, class_names}
 use Rattle.cxx_syntax.specs.declared.tree.BodyTree.{BodyTree}
 use Rattle.cxx_syntax.specs.declared.source_text.SourceText.{SourceText}
 use Rattle.cxx_program.specs.declared.program.TypedProgram.{TypedProgram}
-use Rattle.cxxabi_cmd.specs.declared.command.Command.{Command}
-use Rattle.cxxabi_cmd.specs.declared.command.Command.TheVariants.{Run}
+use Rattle.cxxabi_words.specs.declared.command.Command.{Command}
+use Rattle.cxxabi_words.specs.Commands.{Says}
+use Rattle.cxxabi_words.proofs.CommandLaws.{one_command}
 use Rattle.cxxabi_cmd.specs.declared.reply.Reply.{Reply}
-use Rattle.cxxabi_cmd.specs.Commands.{Says}
+use Rattle.cxxabi_cmd.specs.Commands.{IsOnBytes, RunsMain, source_of}
 use Rattle.cxxabi_cmd.specs.Verdict.{Verdict, Stops, Accepts}
-use Rattle.cxxabi_cmd.specs.Handed.{Seen, HandsOut}
+use Rattle.cxxabi_cmd.specs.Handed.{Seen, HandsOut, IsRun}
 use Rattle.cxxabi_cmd.specs.Output.{Answer, AsksFor, AsksForName, Output, stopped, yielded, Yields, counted, no_main, ran, unknown_class, listed, Lists, whole, too_much, IsAnswered, line_alone, status_of_stop}
 use Rattle.cxxabi_cmd.specs.declared.listing.Listing.{Listing}
 use Rattle.cxxabi_cmd.specs.invariants.Listings.{ListsName, is_unknown, is_class}
 use Rattle.cxxabi_cmd.specs.invariants.Replies.{answer_of, machine_of, HandsBy}
 use Rattle.cxxabi_cmd.proofs.RunAnswers.{run_answered}
-use Rattle.cxxabi_cmd.proofs.OneOutput.{says_one}
 use Rattle.cxxabi_cmd.proofs.SameMains.{HasTree, main_there}
 use Rattle.cxxabi_cmd.proofs.OneVerdict.{one_verdict}
 
@@ -57,8 +57,8 @@ lists_answered h listing classes _ (too_much rows text laid are long) = tt
 
 yields_answered : (size : ℕ) (source : SourceText) (h : Classes) (typed : TypedProgram) (command : Command) (a : Answer) → Yields size source h typed command a → IsAnswered a.status
 yields_answered size source h typed _ _ counted = tt
-yields_answered size source h typed _ _ (no_main command steps runs empty) = tt
-yields_answered size source h typed _ _ (ran command steps tree rows answer runs main laid is) = run_answered h rows typed steps answer is
+yields_answered size source h typed _ _ (no_main command steps trace runs empty) = tt
+yields_answered size source h typed _ _ (ran command steps trace tree rows answer runs main laid is) = run_answered command h rows typed trace steps answer is
 yields_answered size source h typed _ _ (unknown_class command name names empty) = tt
 yields_answered size source h typed _ _ (listed command listing classes answer asks lists) = lists_answered h listing classes answer lists
 
@@ -68,25 +68,33 @@ reply_answered (Err w) size source h typed command is = is
 
 -- the output for an accepted source
 pub accepted_output : (r : Result Reply Want) (size : ℕ) (bytes : List ℕ) (source : SourceText) (h : Classes) (typed : TypedProgram) (command : Command) → IfOk r (λ reply. Yields size source h typed command (answer_of reply)) → size ≡ length bytes → length bytes ≤ 262144 → Verdict bytes (Accepts source h typed) →
-    IfOk r (λ reply. (words : List (List ℕ)) → Says words command → Output words bytes (answer_of reply))
+    IfOk r (λ reply. (words : List (List ℕ)) (given : List ℕ) → Says words command → bytes ≡ source_of command given → Output words given (answer_of reply))
 accepted_output (Ok reply) size bytes source h typed command is same short verdict =
-    λ words says. yielded command source h typed (answer_of reply) says short verdict (subst (λ (n : ℕ). Yields n source h typed command (answer_of reply)) same is)
+    λ words given says treats.
+    let here : Yields (length bytes) source h typed command (answer_of reply) = subst (λ (n : ℕ). Yields n source h typed command (answer_of reply)) same is in
+    yielded command source h typed (answer_of reply) says (subst (λ (b : List ℕ). length b ≤ 262144) treats short) (subst (λ (b : List ℕ). Verdict b (Accepts source h typed)) treats verdict)
+    (subst (λ (b : List ℕ). Yields (length b) source h typed command (answer_of reply)) treats here)
 accepted_output (Err w) size bytes source h typed command is same short verdict = is
 
 -- the machine for an accepted source
-hands : (words : List (List ℕ)) (bytes : List ℕ) (source : SourceText) (h : Classes) (typed : TypedProgram) (command : Command) (m : Option Seen) → HandsBy command source h typed m → length bytes ≤ 262144 → Verdict bytes (Accepts source h typed) → Says words command → HandsOut words bytes m
-hands words bytes source h typed command None nothing short verdict says = λ k rows program steps has.
-    let is = has.is_run in
-    let same = one_verdict bytes (Accepts source h typed) (Accepts is.source k program) verdict is.accepted in
+hands : (words : List (List ℕ)) (given : List ℕ) (source : SourceText) (h : Classes) (typed : TypedProgram) (command : Command) (m : Option Seen) → HandsBy command source h typed m → length (source_of command given) ≤ 262144 → Verdict (source_of command given) (Accepts source h typed) → Says words command → HandsOut words given m
+hands words given source h typed command None nothing short verdict says = λ k rows program trace steps has.
+    let one : has.command ≡ command = one_command words has.command command has.asked says in
+    let is : IsRun (source_of command given) k rows program = subst (λ (c : Command). IsRun (source_of c given) k rows program) one has.is_run in
+    let same = one_verdict (source_of command given) (Accepts source h typed) (Accepts is.source k program) verdict is.accepted in
     let there = main_there source.main is.source.main is.tree same.0.main is.main in
-    nothing steps there.tree (says_one words words command (Run steps) says has.asked refl) there.is
-hands words bytes source h typed command (Some m) run short verdict says = record {
+    nothing trace steps there.tree (subst (λ (c : Command). RunsMain c steps trace) one has.runs) (subst IsOnBytes one has.on_bytes) there.is
+hands words given source h typed command (Some m) run short verdict says = record {
   h = h;
   rows = run.rows;
   program = typed;
+  trace = run.trace;
   steps = run.steps;
   has_run = record {
-    asked = subst (λ (c : Command). Says words c) run.asked says;
+    command = command;
+    asked = says;
+    runs = run.runs;
+    on_bytes = run.on_bytes;
     short = short;
     is_run = record { source = source; accepted = verdict; tree = run.tree; main = run.main; laid = run.laid };
   };
@@ -94,8 +102,9 @@ hands words bytes source h typed command (Some m) run short verdict says = recor
 }
 
 pub accepted_machine : (r : Result Reply Want) (bytes : List ℕ) (source : SourceText) (h : Classes) (typed : TypedProgram) (command : Command) → IfOk r (λ reply. HandsBy command source h typed (machine_of reply)) → length bytes ≤ 262144 → Verdict bytes (Accepts source h typed) →
-    IfOk r (λ reply. (words : List (List ℕ)) → Says words command → HandsOut words bytes (machine_of reply))
-accepted_machine (Ok reply) bytes source h typed command is short verdict = λ words says. hands words bytes source h typed command (machine_of reply) is short verdict says
+    IfOk r (λ reply. (words : List (List ℕ)) (given : List ℕ) → Says words command → bytes ≡ source_of command given → HandsOut words given (machine_of reply))
+accepted_machine (Ok reply) bytes source h typed command is short verdict =
+    λ words given says treats. hands words given source h typed command (machine_of reply) is (subst (λ (b : List ℕ). length b ≤ 262144) treats short) (subst (λ (b : List ℕ). Verdict b (Accepts source h typed)) treats verdict) says
 accepted_machine (Err w) bytes source h typed command is short verdict = is
 
 -- the output for a source that stops
@@ -103,18 +112,26 @@ abbrev pub IsStopped : Stop → Reply → Type 0
 IsStopped s reply = (s ≡ stop.NoMemory → ⊥) × (answer_of reply ≡ line_alone (status_of_stop s))
 
 pub stopped_output : (r : Result Reply Want) (bytes : List ℕ) (command : Command) (s : Stop) → IfOk r (λ reply. IsStopped s reply) → (s ≡ stop.NoMemory) ⊎ Verdict bytes (Stops s) → length bytes ≤ 262144 →
-    IfOk r (λ reply. (words : List (List ℕ)) → Says words command → Output words bytes (answer_of reply))
+    IfOk r (λ reply. (words : List (List ℕ)) (given : List ℕ) → Says words command → bytes ≡ source_of command given → Output words given (answer_of reply))
 stopped_output (Ok reply) bytes command s is either short =
-    ⊎_elim (λ memory. absurd (is.0 memory)) (λ verdict. λ words says. subst (λ (a : Answer). Output words bytes a) (sym is.1) (stopped s (command, says) short verdict)) either
+    ⊎_elim (λ memory. absurd (is.0 memory))
+    (λ verdict. λ words given says treats.
+    subst (λ (a : Answer). Output words given a) (sym is.1)
+    (stopped command s says (subst (λ (b : List ℕ). length b ≤ 262144) treats short) (subst (λ (b : List ℕ). Verdict b (Stops s)) treats verdict))) either
 stopped_output (Err w) bytes command s is either short = is
 
-stopped_hands : (words : List (List ℕ)) (bytes : List ℕ) (s : Stop) (m : Option Seen) → m ≡ None → Verdict bytes (Stops s) → HandsOut words bytes m
-stopped_hands words bytes s m same verdict = subst (λ (n : Option Seen). HandsOut words bytes n) (sym same) (λ h rows program steps has. one_verdict bytes (Stops s) (Accepts has.is_run.source h program) verdict has.is_run.accepted)
+stopped_hands : (words : List (List ℕ)) (given : List ℕ) (command : Command) (s : Stop) (m : Option Seen) → m ≡ None → Says words command → Verdict (source_of command given) (Stops s) → HandsOut words given m
+stopped_hands words given command s m same says verdict =
+    subst (λ (n : Option Seen). HandsOut words given n) (sym same)
+    (λ h rows program trace steps has.
+    let one : has.command ≡ command = one_command words has.command command has.asked says in
+    let is : IsRun (source_of command given) h rows program = subst (λ (c : Command). IsRun (source_of c given) h rows program) one has.is_run in
+    one_verdict (source_of command given) (Stops s) (Accepts is.source h program) verdict is.accepted)
 
 pub stopped_machine : (r : Result Reply Want) (bytes : List ℕ) (command : Command) (s : Stop) → IfOk r (λ reply. IsStopped s reply) → IfOk r (λ reply. machine_of reply ≡ None) → (s ≡ stop.NoMemory) ⊎ Verdict bytes (Stops s) →
-    IfOk r (λ reply. (words : List (List ℕ)) → Says words command → HandsOut words bytes (machine_of reply))
+    IfOk r (λ reply. (words : List (List ℕ)) (given : List ℕ) → Says words command → bytes ≡ source_of command given → HandsOut words given (machine_of reply))
 stopped_machine (Ok reply) bytes command s is same either =
-    ⊎_elim (λ memory. absurd (is.0 memory)) (λ verdict. λ words says. stopped_hands words bytes s (machine_of reply) same verdict) either
+    ⊎_elim (λ memory. absurd (is.0 memory)) (λ verdict. λ words given says treats. stopped_hands words given command s (machine_of reply) same says (subst (λ (b : List ℕ). Verdict b (Stops s)) treats verdict)) either
 stopped_machine (Err w) bytes command s is same either = is
 
 stop_answered : (s : Stop) → (s ≡ stop.NoMemory → ⊥) → IsAnswered (status_of_stop s)

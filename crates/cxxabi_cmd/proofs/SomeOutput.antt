@@ -1,5 +1,5 @@
 -- Words and the bytes of a source have an answer.
-use Rattle.std.proofs.Common.{◌≡◌, ℕ, zero, suc, ◌≤◌, ⊎_elim, Some, Result, Ok, Err, List, [], ◌∷◌, length, refl}
+use Rattle.std.proofs.Common.{◌≡◌, ℕ, zero, suc, ◌≤◌, ◌⊎◌, ⊎_elim, false, Some, Result, Ok, Err, List, [], ◌∷◌, length, refl}
 use Rattle.std.specs.Prelude.{slice_get}
 use Rattle.std.specs.Option.{is_some}
 use Rattle.std.proofs.lemmas.Bool.{cases_lt}
@@ -24,19 +24,21 @@ use Rattle.abi_layout.proofs.rules.SomeLayout.{some_layout}
 use Rattle.foundation.proofs.Places.{place_of}
 use Rattle.cxx_overrider.proofs.FaultSearch.{class_answer}
 use Rattle.abi_layout.proofs.rules.SomeAnswers.{large_decided, shared_decided}
-use Rattle.cxxabi_cmd.specs.declared.command.Command.{Command}
-use Rattle.cxxabi_cmd.specs.declared.command.Command.TheVariants.{Check, Run, Layout, LayoutOf, Tables, TablesOf, Paths}
+use Rattle.cxxabi_words.specs.declared.command.Command.{Command}
+use Rattle.cxxabi_words.specs.declared.command.Command.TheVariants.{Check, Run, Layout, LayoutOf, Tables, TablesOf, Paths, Gen}
+use Rattle.cxxabi_words.specs.Commands.{Says, IsCommand, most_steps}
+use Rattle.cxxabi_words.proofs.CommandLaws.{some_command}
 use Rattle.cxxabi_cmd.specs.declared.listing.Listing.{Listing}
 use Rattle.cxxabi_cmd.specs.declared.listing.Listing.TheVariants.{OfLayout, OfTables}
 use Rattle.cxxabi_cmd.specs.declared.status.Status.TheVariants.{Refused, Usage, Limit}
-use Rattle.cxxabi_cmd.specs.Commands.{IsCommand, on_bytes, on_paths}
+use Rattle.cxxabi_cmd.specs.Commands.{by_run, by_paths, by_gen, source_of}
 use Rattle.cxxabi_cmd.specs.Verdict.{AreLexemes, IsSource, HasNoFault, Judgement, Verdict, Stops, Accepts, by_text, by_records, by_classes, by_bodies, by_words, accepted}
 use Rattle.cxxabi_cmd.specs.Output.{source_limit, text_limit, Answer, AsksFor, all_layouts, one_layout, all_tables, one_tables, AsksForName, named_layout, named_tables, Lists, whole, too_much, Yields, counted, unknown_class, listed, Output, usage, too_long, stopped, yielded, line_alone, count_answer, text_answer, status_of_stop, numbered, first_classes}
 use Rattle.cxxabi_cmd.proofs.Accepting.{ProgramsAreTyped, source_keeps, accepted_keeps, accepted_fine, accepted_typed, accepted_main}
 use Rattle.cxxabi_cmd.proofs.LaidRows.{no_meaning, sound_rows, words_decided}
 use Rattle.cxxabi_cmd.proofs.Listed.{SomeTables, AreKnown, some_texts, asked_known}
 use Rattle.cxxabi_cmd.proofs.RunAnswers.{NeverWrong, yields_runs}
-use Rattle.cxxabi_cmd.proofs.SomeCommand.{same_text, some_command}
+use Rattle.cxxabi_cmd.proofs.SameTexts.{same_text}
 use Rattle.cxxabi_cmd.proofs.SomeFault.{IsDecided, some_fault}
 
 -- the classes of a hierarchy are decided
@@ -118,26 +120,29 @@ yields_named law size source h typed command listing name keeps fine names asks 
 -- a command has an answer to an accepted source
 pub some_yield : SomeTables → NeverWrong → (size : ℕ) (source : SourceText) (h : Classes) (typed : TypedProgram) (command : Command) → IsHierarchy h → HasNoFault h → IsTypedProgram h typed → is_body typed.main ≡ is_some source.main → (answer : Answer) × Yields size source h typed command answer
 some_yield law right size source h typed Check keeps fine is main = (count_answer h, counted)
-some_yield law right size source h typed (Run steps) keeps fine is main = let laid = some_layout h keeps in yields_runs right size source h laid.0 typed (Run steps) steps source.main (on_bytes steps) keeps (no_meaning h fine) laid.1 is main refl
+some_yield law right size source h typed (Run steps trace) keeps fine is main = let laid = some_layout h keeps in yields_runs right size source h laid.0 typed (Run steps trace) steps trace source.main (by_run steps trace) keeps (no_meaning h fine) laid.1 is main refl
 some_yield law right size source h typed Layout keeps fine is main = yields_list law size source h typed Layout OfLayout (first_classes (length h)) keeps fine all_layouts
 some_yield law right size source h typed (LayoutOf name) keeps fine is main = yields_named law size source h typed (LayoutOf name) OfLayout name keeps fine (named_layout name) (one_layout name) (some_place (class_names h) name)
 some_yield law right size source h typed Tables keeps fine is main = yields_list law size source h typed Tables OfTables (first_classes (length h)) keeps fine all_tables
 some_yield law right size source h typed (TablesOf name) keeps fine is main = yields_named law size source h typed (TablesOf name) OfTables name keeps fine (named_tables name) (one_tables name) (some_place (class_names h) name)
-some_yield law right size source h typed (Paths steps) keeps fine is main = let laid = some_layout h keeps in yields_runs right size source h laid.0 typed (Paths steps) steps source.main (on_paths steps) keeps (no_meaning h fine) laid.1 is main refl
+some_yield law right size source h typed (Paths steps) keeps fine is main = let laid = some_layout h keeps in yields_runs right size source h laid.0 typed (Paths steps) steps false source.main (by_paths steps) keeps (no_meaning h fine) laid.1 is main refl
+some_yield law right size source h typed (Gen n) keeps fine is main = let laid = some_layout h keeps in yields_runs right size source h laid.0 typed (Gen n) most_steps false source.main (by_gen n) keeps (no_meaning h fine) laid.1 is main refl
 
-output_by : SomeTables → ProgramsAreTyped → NeverWrong → (words : List (List ℕ)) (bytes : List ℕ) → IsCommand words → length bytes ≤ source_limit → (judgement : Judgement) → Verdict bytes judgement → (answer : Answer) × Output words bytes answer
-output_by law typing right words bytes command short (Stops stop) verdict = (line_alone (status_of_stop stop), stopped stop command short verdict)
-output_by law typing right words bytes command short (Accepts source h typed) verdict =
-    let yields = some_yield law right (length bytes) source h typed command.0 (accepted_keeps bytes source h typed verdict) (accepted_fine bytes source h typed verdict)
-    (accepted_typed typing bytes source h typed verdict) (accepted_main typing bytes source h typed verdict) in
-    (yields.0, yielded command.0 source h typed yields.0 command.1 short verdict yields.1)
+output_by : SomeTables → ProgramsAreTyped → NeverWrong → (words : List (List ℕ)) (bytes : List ℕ) (command : Command) → Says words command → length (source_of command bytes) ≤ source_limit → (judgement : Judgement) → Verdict (source_of command bytes) judgement → (answer : Answer) × Output words bytes answer
+output_by law typing right words bytes command says short (Stops stop) verdict = (line_alone (status_of_stop stop), stopped command stop says short verdict)
+output_by law typing right words bytes command says short (Accepts source h typed) verdict =
+    let text = source_of command bytes in
+    let yields = some_yield law right (length text) source h typed command (accepted_keeps text source h typed verdict) (accepted_fine text source h typed verdict)
+    (accepted_typed typing text source h typed verdict) (accepted_main typing text source h typed verdict) in
+    (yields.0, yielded command source h typed yields.0 says short verdict yields.1)
 
 -- words and bytes have an answer
 pub some_output : SomeTables → ProgramsAreTyped → NeverWrong → (words : List (List ℕ)) (bytes : List ℕ) → (answer : Answer) × Output words bytes answer
 some_output law typing right words bytes =
     ⊎_elim
-    (λ command. ⊎_elim (λ long. (line_alone (Limit L1), too_long command long))
-    (λ short. let judged = some_verdict bytes short in output_by law typing right words bytes command short judged.0 judged.1)
-    (cases_lt source_limit (length bytes)))
+    (λ command. let text = source_of command.0 bytes in
+    ⊎_elim (λ long. (line_alone (Limit L1), too_long command.0 command.1 long))
+    (λ short. let judged = some_verdict text short in output_by law typing right words bytes command.0 command.1 short judged.0 judged.1)
+    (cases_lt source_limit (length text)))
     (λ none. (line_alone Usage, usage none))
     (some_command words)

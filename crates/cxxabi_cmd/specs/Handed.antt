@@ -1,5 +1,5 @@
 -- Which machine is handed out after a run.
-use Rattle.std.specs.Prelude.{◌≡◌, ℕ, ◌≤◌, Option, Some, None, List, length}
+use Rattle.std.specs.Prelude.{◌≡◌, ℕ, ◌≤◌, Bool, Option, Some, None, List, length}
 use Rattle.byte_memory.specs.declared.memory.Memory.{Ghosts}
 use Rattle.byte_code.specs.declared.code.Code.{Code}
 use Rattle.byte_code.specs.declared.code.ImageBytes.{ImageBytes}
@@ -18,8 +18,9 @@ use Rattle.abi_ops.specs.Setups.{setup}
 use Rattle.abi_told.specs.declared.ending.End.{End}
 use Rattle.abi_told.specs.Told.{told, ending_of}
 use Rattle.abi_refine.specs.Executions.{IsExecution}
-use Rattle.cxxabi_cmd.specs.declared.command.Command.TheVariants.{Run}
-use Rattle.cxxabi_cmd.specs.Commands.{Says}
+use Rattle.cxxabi_words.specs.declared.command.Command.{Command}
+use Rattle.cxxabi_words.specs.Commands.{Says}
+use Rattle.cxxabi_cmd.specs.Commands.{IsOnBytes, RunsMain, source_of}
 use Rattle.cxxabi_cmd.specs.Verdict.{Verdict, Accepts}
 use Rattle.cxxabi_cmd.specs.Output.{source_limit}
 
@@ -34,36 +35,40 @@ seen_of machine = record { code = code_of machine; image = image_of machine; sta
 
 -- the machine of the run of a program: its code, with these numbers of functions, is that of the program, and its image has the tables of
 -- the classes; turns over them lead from an empty memory to its state, told the text of the run, and ended as the run did
-pub record IsMachineOf (h : Classes) (rows : List ClassLayout) (program : TypedProgram) (steps : ℕ) (machine : Seen) : Type 0 where
+pub record IsMachineOf (h : Classes) (rows : List ClassLayout) (program : TypedProgram) (trace : Bool) (steps : ℕ) (machine : Seen) : Type 0 where
   pub numbers : List CodeRow
   pub end_is : End
-  pub ending : ending_of end_is ≡ (told h (places_of h rows) program steps).ending
-  pub executed : IsExecution (setup h rows program) steps numbers machine.code machine.image machine.state (told h (places_of h rows) program steps).text end_is
+  pub ending : ending_of end_is ≡ (told h (places_of h rows) program trace steps).ending
+  pub executed : IsExecution (setup h rows program) steps trace numbers machine.code machine.image machine.state (told h (places_of h rows) program trace steps).text end_is
 
 -- the source is accepted with this program, has a `main`, and is run over this layout
-pub record IsRun (bytes : List ℕ) (h : Classes) (rows : List ClassLayout) (program : TypedProgram) (steps : ℕ) : Type 0 where
+pub record IsRun (bytes : List ℕ) (h : Classes) (rows : List ClassLayout) (program : TypedProgram) : Type 0 where
   pub source : SourceText
   pub accepted : Verdict bytes (Accepts source h program)
   pub tree : BodyTree
   pub main : source.main ≡ Some tree
   pub laid : IsLaid h rows
 
--- the words ask for a run of the bytes, and there is one
-pub record HasRun (words : List (List ℕ)) (bytes : List ℕ) (h : Classes) (rows : List ClassLayout) (program : TypedProgram) (steps : ℕ) : Type 0 where
-  pub asked : Says words (Run steps)
-  pub short : length bytes ≤ source_limit
-  pub is_run : IsRun bytes h rows program steps
+-- the words ask for a run on the byte machine, and there is one
+pub record HasRun (words : List (List ℕ)) (bytes : List ℕ) (h : Classes) (rows : List ClassLayout) (program : TypedProgram) (trace : Bool) (steps : ℕ) : Type 0 where
+  pub command : Command
+  pub asked : Says words command
+  pub runs : RunsMain command steps trace
+  pub on_bytes : IsOnBytes command
+  pub short : length (source_of command bytes) ≤ source_limit
+  pub is_run : IsRun (source_of command bytes) h rows program
 
--- it is the machine of the run of the bytes
+-- it is the machine of that run
 pub record IsHandedOver (words : List (List ℕ)) (bytes : List ℕ) (machine : Seen) : Type 0 where
   pub h : Classes
   pub rows : List ClassLayout
   pub program : TypedProgram
+  pub trace : Bool
   pub steps : ℕ
-  pub has_run : HasRun words bytes h rows program steps
-  pub is_machine : IsMachineOf h rows program steps machine
+  pub has_run : HasRun words bytes h rows program trace steps
+  pub is_machine : IsMachineOf h rows program trace steps machine
 
 -- the machine of the run, or none where there is no run
 abbrev pub HandsOut : List (List ℕ) → List ℕ → Option Seen → Type 0
-HandsOut words bytes None = (h : Classes) (rows : List ClassLayout) (program : TypedProgram) (steps : ℕ) → HasRun words bytes h rows program steps → ⊥
+HandsOut words bytes None = (h : Classes) (rows : List ClassLayout) (program : TypedProgram) (trace : Bool) (steps : ℕ) → HasRun words bytes h rows program trace steps → ⊥
 HandsOut words bytes (Some machine) = IsHandedOver words bytes machine

@@ -1,5 +1,5 @@
 -- Which text and which status belong to words and the bytes of a source.
-use Rattle.std.specs.Prelude.{◌≡◌, ℕ, zero, suc, ◌<◌, ◌≤◌, Contains, slice_get, List, [], ◌∷◌, ◌++◌, length, map, codes, Option, Some, None, IfSome, string_bytes, String}
+use Rattle.std.specs.Prelude.{◌≡◌, ℕ, zero, suc, ◌<◌, ◌≤◌, Bool, Contains, slice_get, List, [], ◌∷◌, ◌++◌, length, map, codes, Option, Some, None, IfSome, string_bytes, String}
 use Rattle.std.specs.Fmt.{decimal}
 use Rattle.cxx_text.specs.Cover.{max_text_bytes}
 use Rattle.cxx_hierarchy.specs.declared.records.ClassId.{ClassId}
@@ -11,7 +11,9 @@ use Rattle.cxx_hierarchy.specs.Classes.{Classes, class_names}
 use Rattle.cxx_syntax.specs.declared.tree.BodyTree.{BodyTree}
 use Rattle.cxx_syntax.specs.declared.source_text.SourceText.{SourceText}
 use Rattle.cxx_program.specs.declared.program.TypedProgram.{TypedProgram}
+use Rattle.cxx_gen.specs.Summary.{lines_in, last_line as last_line_of, summary}
 use Rattle.path_rules.specs.Rules.{undefined_no}
+use Rattle.path_model.specs.Runs.{run_of}
 use Rattle.abi_told.specs.declared.ending.End.{End}
 use Rattle.abi_told.specs.declared.ending.End.TheVariants as ends
 use Rattle.abi_told.specs.Told.{told, ending_of}
@@ -22,14 +24,14 @@ use Rattle.abi_tables.specs.Tables.{AreClassTables}
 use Rattle.abi_layout.specs.Layouts.{IsLaid}
 use Rattle.abi_print.specs.LayoutTexts.{layout_text}
 use Rattle.abi_print.specs.TableTexts.{tables_text}
-use Rattle.cxxabi_cmd.specs.declared.command.Command.{Command}
-use Rattle.cxxabi_cmd.specs.declared.command.Command.TheVariants.{Check, Layout, LayoutOf, Tables, TablesOf}
+use Rattle.cxxabi_words.specs.declared.command.Command.{Command}
+use Rattle.cxxabi_words.specs.declared.command.Command.TheVariants.{Check, Layout, LayoutOf, Tables, TablesOf}
+use Rattle.cxxabi_words.specs.Commands.{Says, IsCommand, budget}
 use Rattle.cxxabi_cmd.specs.declared.listing.Listing.{Listing}
 use Rattle.cxxabi_cmd.specs.declared.listing.Listing.TheVariants.{OfLayout, OfTables}
 use Rattle.cxxabi_cmd.specs.declared.status.Status.{Status}
 use Rattle.cxxabi_cmd.specs.declared.status.Status.TheVariants.{Done, Refused, Usage, Undefined, OutOfSteps, Limit, ReadFault, WriteFault, NoMemory}
-use Rattle.cxxabi_cmd.specs.Commands.{Says, IsCommand, RunsMain}
-pub use Rattle.cxxabi_cmd.specs.Commands.{budget}
+use Rattle.cxxabi_cmd.specs.Commands.{RunsMain, SumsUp, source_of}
 use Rattle.cxxabi_cmd.specs.Statuses.{last_line}
 use Rattle.cxxabi_cmd.specs.Streams.{IsPartOf}
 use Rattle.cxxabi_cmd.specs.Verdict.{Verdict, Stops, Accepts}
@@ -37,10 +39,6 @@ use Rattle.cxxabi_cmd.specs.Verdict.{Verdict, Stops, Accepts}
 -- the bytes of each word
 abbrev pub texts_of : {Z : Type 0} → List (String Z) → List (List ℕ)
 texts_of words = map string_bytes words
-
--- the source tells these bytes, where the words are a command, each of which reads it
-abbrev pub Tells : List (List ℕ) → Option (List ℕ) → List ℕ → Type 0
-Tells words remaining bytes = IsCommand words → remaining ≡ Some bytes
 
 -- the status of a run's end
 abbrev pub status_of : End → Status
@@ -70,20 +68,26 @@ line_alone status = record { text = last_line status budget; status = status }
 abbrev pub ended_answer : List ℕ → End → ℕ → Answer
 ended_answer text e steps = record { text = text ++ last_line (status_of e) steps; status = status_of e }
 
--- what a run told, with the places of the layout, and how it ended
-pub data IsRunAnswer (h : Classes) (rows : List ClassLayout) (typed : TypedProgram) (steps : ℕ) : Answer → Type 0 where
-  ends_with : (e : End) → ending_of e ≡ (told h (places_of h rows) typed steps).ending →
-      IsRunAnswer h rows typed steps (ended_answer (told h (places_of h rows) typed steps).text e steps)
+-- an answer that is a text alone
+abbrev pub text_answer : List ℕ → Answer
+text_answer text = record { text = text; status = Done }
+
+-- the summary of a run: the classes of its source, its steps, the lines that it printed and the last of them
+abbrev pub summary_answer : Classes → ℕ → List ℕ → Answer
+summary_answer h steps text = text_answer (summary (length h) steps (lines_in text) (last_line_of text))
+
+-- what a run told, with the places of the layout, and how it ended; or its summary, where the command sums it up
+pub data IsRunAnswer (command : Command) (h : Classes) (rows : List ClassLayout) (typed : TypedProgram) (trace : Bool) (steps : ℕ) : Answer → Type 0 where
+  ends_with : (e : End) → ending_of e ≡ (told h (places_of h rows) typed trace steps).ending → (SumsUp command e → ⊥) →
+      IsRunAnswer command h rows typed trace steps (ended_answer (told h (places_of h rows) typed trace steps).text e steps)
+  summed_up : (e : End) → ending_of e ≡ (told h (places_of h rows) typed trace steps).ending → SumsUp command e →
+      IsRunAnswer command h rows typed trace steps (summary_answer h (run_of h (places_of h rows).size typed steps).steps (told h (places_of h rows) typed trace steps).text)
 
 -- the status of a source that is not accepted
 abbrev pub status_of_stop : Stop → Status
 status_of_stop (stop.Refused rule at) = Refused rule at
 status_of_stop (stop.Limit limit) = Limit limit
 status_of_stop stop.NoMemory = NoMemory
-
--- an answer that is a text alone
-abbrev pub text_answer : List ℕ → Answer
-text_answer text = record { text = text; status = Done }
 
 -- how many classes there are
 abbrev pub count_answer : Classes → Answer
@@ -133,19 +137,19 @@ pub data Lists (h : Classes) (listing : Listing) (classes : List ClassId) : Answ
 -- what a command answers to an accepted source of so many bytes, which resolves to this program
 pub data Yields (size : ℕ) (source : SourceText) (h : Classes) (typed : TypedProgram) : Command → Answer → Type 0 where
   counted : Yields size source h typed Check (count_answer h)
-  no_main : (command : Command) (steps : ℕ) → RunsMain command steps → source.main ≡ None → Yields size source h typed command (line_alone (Refused UnknownName size))
-  ran : (command : Command) (steps : ℕ) (tree : BodyTree) (rows : List ClassLayout) (answer : Answer) → RunsMain command steps → source.main ≡ Some tree → IsLaid h rows →
-      IsRunAnswer h rows typed steps answer → Yields size source h typed command answer
+  no_main : (command : Command) (steps : ℕ) (trace : Bool) → RunsMain command steps trace → source.main ≡ None → Yields size source h typed command (line_alone (Refused UnknownName size))
+  ran : (command : Command) (steps : ℕ) (trace : Bool) (tree : BodyTree) (rows : List ClassLayout) (answer : Answer) → RunsMain command steps trace → source.main ≡ Some tree → IsLaid h rows →
+      IsRunAnswer command h rows typed trace steps answer → Yields size source h typed command answer
   unknown_class : (command : Command) (name : List ℕ) → AsksForName command name → (Contains (class_names h) name → ⊥) → Yields size source h typed command (line_alone (Refused UnknownName size))
   listed : (command : Command) (listing : Listing) (classes : List ClassId) (answer : Answer) → AsksFor h command listing classes → Lists h listing classes answer → Yields size source h typed command answer
 
--- what is answered to words and the bytes of a source
+-- what is answered to words and the bytes of a source, which a command treats or has no use for
 pub data Output (words : List (List ℕ)) (bytes : List ℕ) : Answer → Type 0 where
   usage : (IsCommand words → ⊥) → Output words bytes (line_alone Usage)
-  too_long : IsCommand words → source_limit < length bytes → Output words bytes (line_alone (Limit L1))
-  stopped : (stop : Stop) → IsCommand words → length bytes ≤ source_limit → Verdict bytes (Stops stop) → Output words bytes (line_alone (status_of_stop stop))
-  yielded : (command : Command) (source : SourceText) (h : Classes) (typed : TypedProgram) (answer : Answer) → Says words command → length bytes ≤ source_limit →
-      Verdict bytes (Accepts source h typed) → Yields (length bytes) source h typed command answer → Output words bytes answer
+  too_long : (command : Command) → Says words command → source_limit < length (source_of command bytes) → Output words bytes (line_alone (Limit L1))
+  stopped : (command : Command) (stop : Stop) → Says words command → length (source_of command bytes) ≤ source_limit → Verdict (source_of command bytes) (Stops stop) → Output words bytes (line_alone (status_of_stop stop))
+  yielded : (command : Command) (source : SourceText) (h : Classes) (typed : TypedProgram) (answer : Answer) → Says words command → length (source_of command bytes) ≤ source_limit →
+      Verdict (source_of command bytes) (Accepts source h typed) → Yields (length (source_of command bytes)) source h typed command answer → Output words bytes answer
 
 -- an answer was written: neither a fault nor want of memory
 abbrev pub IsAnswered : Status → Type 0

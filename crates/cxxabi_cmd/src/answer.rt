@@ -5,12 +5,12 @@ ghost use Rattle.cxxabi_cmd.specs.Output.{Yields};
 ghost use Rattle.cxxabi_cmd.specs.invariants.Listings.{IsReady};
 ghost use Rattle.cxxabi_cmd.specs.invariants.Replies.{answer_of, machine_of, HandsBy, HasFewSteps};
 
-use crate::command::Command;
 use crate::list_answer::{list_all, list_one};
 use crate::listing::Listing;
 use crate::reply::{Reply, class_count};
-use crate::run_answer::{run_on_bytes, run_on_paths};
+use crate::run_answer::{run_generated, run_on_bytes, run_on_paths};
 use crate::verdict::Accepted;
+use cxxabi_words::Command;
 use foundation::NoMemory;
 use std::alloc::Global;
 
@@ -28,7 +28,7 @@ pub(crate) fn answer(
 {
     match command {
         Command::Check => class_count(alloc, &accepted.hierarchy),
-        Command::Run(steps) => run_on_bytes(alloc, size, *steps, accepted),
+        Command::Run(steps, trace) => run_on_bytes(alloc, size, *steps, *trace, accepted),
         Command::Layout => list_all(alloc, Listing::OfLayout, accepted),
         Command::LayoutOf(name) => {
             list_one(alloc, size, Listing::OfLayout, name.as_slice(), accepted)
@@ -38,5 +38,6 @@ pub(crate) fn answer(
             list_one(alloc, size, Listing::OfTables, name.as_slice(), accepted)
         }
         Command::Paths(steps) => run_on_paths(alloc, size, *steps, accepted),
+        Command::Gen(_) => run_generated(alloc, size, accepted),
     }
 }

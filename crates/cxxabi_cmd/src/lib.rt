@@ -1,9 +1,8 @@
 //! The whole program as one call: from words and the bytes of a source to a text and a status.
 //!
-//! `run_cxxabi` reads the source, decides what the words ask for, and writes the answer. This crate owns the
-//! outside (`Source`, `Sink` and their implementations), the form of a command, the statuses, and the definition
-//! `Output`: which text and status belong to words and bytes. It relies on the crates below by their contracts
-//! alone.
+//! `run_cxxabi` asks what the words say (`cxxabi_words`), reads the source, and writes the answer. This crate owns
+//! the outside (`Source`, `Sink` and their implementations), the statuses, and the definition `Output`: which text
+//! and status belong to words and bytes. It relies on the crates below by their contracts alone.
 //!
 //! Whoever calls it may rely on: the text and the status are those of `Output`; a fault is answered only where
 //! the count of the object that was handed in rose; nothing is written after a fault of reading or without
@@ -11,7 +10,6 @@
 #![tactic(auto)]
 
 mod answer;
-pub mod command;
 mod list_answer;
 pub mod listing;
 pub mod reading;
@@ -23,7 +21,6 @@ pub mod sinks;
 pub mod source;
 pub mod sources;
 pub mod status;
-mod steps;
 #[cfg(test)]
 mod tests;
 mod verdict;

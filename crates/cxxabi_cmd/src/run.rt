@@ -3,13 +3,13 @@
 ghost use Rattle.std.specs.Prelude.{ℕ, ◌≡◌, ◌↔◌, ◌≤◌, ◌<◌, ◌⊎◌, ◌∷◌, ◌++◌, [], List, Some, None, IsTrue, IfSome, IfOk, IfErr, IsSome, OnOk, take, drop, length, string_bytes};
 ghost use Rattle.std.specs.Option.{option_map};
 ghost use Rattle.cxxabi_cmd.specs.Streams.{Rose, IsPartOf};
-ghost use Rattle.cxxabi_cmd.specs.Commands.{Says, IsCommand};
-ghost use Rattle.cxxabi_cmd.specs.Output.{source_limit, texts_of, Tells, Output, Answer, Answers, BreaksOff, IsAnswered, IsSilent, line_alone, status_of_stop};
-ghost use Rattle.cxxabi_cmd.specs.invariants.Replies.{answer_of, machine_of, HasFewSteps};
+ghost use Rattle.cxxabi_words.specs.Commands.{Says, IsCommand};
+ghost use Rattle.cxxabi_cmd.specs.Commands.{ReadsSource, Tells, source_of};
+ghost use Rattle.cxxabi_cmd.specs.Output.{source_limit, texts_of, Output, Answer, Answers, BreaksOff, IsAnswered, IsSilent, line_alone, status_of_stop};
+ghost use Rattle.cxxabi_cmd.specs.invariants.Replies.{answer_of, machine_of, HasFewSteps, IsRead};
 ghost use Rattle.cxxabi_cmd.specs.Handed.{HandsOut, seen_of};
 
 use crate::answer::answer;
-use crate::command::{Command, command_of};
 use crate::reading::{ReadStop, SOURCE_LIMIT, read_source};
 use crate::reply::{Reply, line_alone};
 use crate::sink::Sink;
@@ -20,8 +20,10 @@ use crate::writing::write_text;
 use abi_tables::{one_tables, some_tables};
 use byte_machine::Machine;
 use byte_memory::FlatMemory;
+use cxx_gen::generate;
 use cxx_hierarchy::{LimitNo, Stop};
 use cxx_typing::programs_are_typed;
+use cxxabi_words::{Command, command_of};
 use foundation::NoMemory;
 use path_model::runs_are_typed;
 use std::alloc::Global;
@@ -42,8 +44,8 @@ fn stopped(alloc: Global, stop: Stop) -> Result<Reply, NoMemory>
 fn reply_to(alloc: Global, command: &Command, bytes: &[u8]) -> Result<Reply, NoMemory>
     requires short { length bytes.now ≤ source_limit }
     requires few { HasFewSteps command.now }
-    ensures output { IfOk result (λ reply. (words : List (List ℕ)) → Says words command.now → Output words bytes.now (answer_of reply)) }
-    ensures machine { IfOk result (λ reply. (words : List (List ℕ)) → Says words command.now → HandsOut words bytes.now (machine_of reply)) }
+    ensures output { IfOk result (λ reply. (words : List (List ℕ)) (given : List ℕ) → Says words command.now → bytes.now ≡ source_of command.now given → Output words given (answer_of reply)) }
+    ensures machine { IfOk result (λ reply. (words : List (List ℕ)) (given : List ℕ) → Says words command.now → bytes.now ≡ source_of command.now given → HandsOut words given (machine_of reply)) }
     ensures answered { IfOk result (λ reply. IsAnswered reply.status) }
 {
     match judge(alloc, bytes) {
@@ -52,12 +54,11 @@ fn reply_to(alloc: Global, command: &Command, bytes: &[u8]) -> Result<Reply, NoM
     }
 }
 
-// What a command answers to the bytes that were read, up to one past the limit.
+// What a command answers to what was read of its source, up to one byte past the limit.
 fn reply_within(alloc: Global, command: &Command, bytes: &[u8]) -> Result<Reply, NoMemory>
-    requires read { length bytes.now ≤ 262145 }
     requires few { HasFewSteps command.now }
-    ensures output { IfOk result (λ reply. (words : List (List ℕ)) (all : List ℕ) → Says words command.now → bytes.now ≡ take 262145 all → Output words all (answer_of reply)) }
-    ensures machine { IfOk result (λ reply. (words : List (List ℕ)) (all : List ℕ) → Says words command.now → bytes.now ≡ take 262145 all → HandsOut words all (machine_of reply)) }
+    ensures output { IfOk result (λ reply. (words : List (List ℕ)) (given : List ℕ) → Says words command.now → IsRead bytes.now (source_of command.now given) → Output words given (answer_of reply)) }
+    ensures machine { IfOk result (λ reply. (words : List (List ℕ)) (given : List ℕ) → Says words command.now → IsRead bytes.now (source_of command.now given) → HandsOut words given (machine_of reply)) }
     ensures answered { IfOk result (λ reply. IsAnswered reply.status) }
 {
     if bytes.len() > SOURCE_LIMIT {
@@ -66,21 +67,38 @@ fn reply_within(alloc: Global, command: &Command, bytes: &[u8]) -> Result<Reply,
     reply_to(alloc, command, bytes)
 }
 
-// What is answered to the words, after the source was read where they are a command.
+// The source that a command treats: what `gen` makes, or what is read, up to one byte past the limit.
+fn source_for<S: Source>(
+    alloc: Global,
+    command: &Command,
+    source: &mut S,
+) -> Result<Vec<u8>, ReadStop>
+    ensures read { IfOk result (λ bytes. (given : List ℕ) → (ReadsSource command.now → S.remaining source.old ≡ Some given) → IsRead bytes.items (source_of command.now given)) }
+    ensures left { OnOk result (ReadsSource command.now → IfSome (S.remaining source.old) (λ bytes. S.remaining source.new ≡ Some (drop 262145 bytes))) }
+    ensures kept { (ReadsSource command.now → ⊥) → source.new ≡ source.old }
+    ensures fault { IfErr result (λ stop. stop ≡ ReadStop.Fault → Rose (S.fault_count source.old) (S.fault_count source.new)) }
+{
+    if let Command::Gen(n) = command {
+        return Ok(generate(alloc, *n)?);
+    }
+    read_source(alloc, source)
+}
+
+// What is answered to the words, after the source was read where they are a command that reads it.
 fn respond<S: Source>(alloc: Global, words: &[String], source: &mut S) -> Result<Reply, ReadStop>
     ensures output { IfOk result (λ reply. (bytes : List ℕ) → Tells (texts_of words.now) (S.remaining source.old) bytes →
         Output (texts_of words.now) bytes (answer_of reply)) }
     ensures machine { IfOk result (λ reply. (bytes : List ℕ) → Tells (texts_of words.now) (S.remaining source.old) bytes →
         HandsOut (texts_of words.now) bytes (machine_of reply)) }
     ensures answered { IfOk result (λ reply. IsAnswered reply.status) }
-    ensures read { OnOk result (IsCommand (texts_of words.now) → IfSome (S.remaining source.old) (λ bytes. S.remaining source.new ≡ Some (drop 262145 bytes))) }
-    ensures kept { (IsCommand (texts_of words.now) → ⊥) → source.new ≡ source.old }
+    ensures read { OnOk result ((command : Command) → Says (texts_of words.now) command → ReadsSource command → IfSome (S.remaining source.old) (λ bytes. S.remaining source.new ≡ Some (drop 262145 bytes))) }
+    ensures kept { ((command : Command) → Says (texts_of words.now) command → ReadsSource command → ⊥) → source.new ≡ source.old }
     ensures fault { IfErr result (λ stop. stop ≡ ReadStop.Fault → Rose (S.fault_count source.old) (S.fault_count source.new)) }
 {
     let Some(command) = command_of(alloc, words)? else {
         return Ok(line_alone(alloc, Status::Usage)?);
     };
-    let bytes = read_source(alloc, source)?;
+    let bytes = source_for(alloc, &command, source)?;
     Ok(reply_within(alloc, &command, &bytes)?)
 }
 
@@ -99,9 +117,9 @@ fn deliver<K: Sink>(sink: &mut K, text: &[u8], status: Status) -> Status
     }
 }
 
-/// Does all that the program does: reads the source where the words are a command, and writes the answer.
+/// Does all that the program does: reads the source where the words are a command that reads it, and writes the answer.
 ///
-/// `last` is set in every call: to the byte machine of what `run` ran, or to None where there was no such run.
+/// `last` is set in every call: to the byte machine of what `run` or `gen` ran, or to None where there was no such run.
 pub fn run_cxxabi<S: Source, K: Sink>(
     alloc: Global,
     words: &[String],
@@ -124,9 +142,9 @@ pub fn run_cxxabi<S: Source, K: Sink>(
     ensures last { (bytes : List ℕ) → Tells (texts_of words.now) (S.remaining source.old) bytes → (IsSilent result → ⊥) →
         HandsOut (texts_of words.now) bytes (option_map (λ m. seen_of m) last.new) }
     ensures no_machine { IsSilent result → last.new ≡ None }
-    // The source was read to its end, or to one byte past the limit; where the words are no command it is as it was.
-    ensures read { IsCommand (texts_of words.now) → (IsSilent result → ⊥) → IfSome (S.remaining source.old) (λ bytes. S.remaining source.new ≡ Some (drop 262145 bytes)) }
-    ensures kept { (IsCommand (texts_of words.now) → ⊥) → source.new ≡ source.old }
+    // The source was read to its end, or to one byte past the limit; where the words are no command that reads it, it is as it was.
+    ensures read { (command : Command) → Says (texts_of words.now) command → ReadsSource command → (IsSilent result → ⊥) → IfSome (S.remaining source.old) (λ bytes. S.remaining source.new ≡ Some (drop 262145 bytes)) }
+    ensures kept { ((command : Command) → Says (texts_of words.now) command → ReadsSource command → ⊥) → source.new ≡ source.old }
 {
     *last = None;
     let reply = match respond(alloc, words, source) {

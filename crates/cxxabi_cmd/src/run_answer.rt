@@ -1,15 +1,14 @@
-//! What `run` and `paths` answer: what `main` prints on the byte machine, and on the machine of paths.
+//! What `run`, `paths` and `gen` answer: what `main` prints on the byte machine, and on the machine of paths, and the summary of a run.
 
-ghost use Rattle.std.specs.Prelude.{◌≡◌, ◌≤◌, true, None, IfOk, MatchOption};
+ghost use Rattle.std.specs.Prelude.{◌≡◌, ◌≤◌, ℕ, true, false, None, IfOk, MatchOption};
 ghost use Rattle.std.specs.Option.{option_map};
 ghost use Rattle.path_model.specs.States.{is_body};
-ghost use Rattle.cxxabi_cmd.specs.Commands.{most_steps};
-ghost use Rattle.cxxabi_cmd.specs.Output.{IsRunAnswer, Yields, ended_answer, status_of};
+ghost use Rattle.cxxabi_words.specs.Commands.{most_steps};
+ghost use Rattle.cxxabi_cmd.specs.Output.{IsRunAnswer, Yields, ended_answer, status_of, summary_answer};
 ghost use Rattle.cxxabi_cmd.specs.Handed.{IsMachineOf, seen_of};
 ghost use Rattle.cxxabi_cmd.specs.invariants.Listings.{IsReady};
 ghost use Rattle.cxxabi_cmd.specs.invariants.Replies.{answer_of, machine_of, HandsBy};
 
-use crate::command::Command;
 use crate::reply::{Reply, line_alone};
 use crate::status::{Status, last_line_of, number_of};
 use crate::verdict::Accepted;
@@ -17,10 +16,15 @@ use abi_refine::{Execution, execute};
 use abi_told::End;
 use byte_machine::Machine;
 use byte_memory::FlatMemory;
-use cxx_hierarchy::Rule;
+use cxx_gen::{count_lines, last_line, summary};
+use cxx_hierarchy::{Hierarchy, Rule};
+use cxxabi_words::Command;
 use foundation::{NoMemory, Sequence};
 use path_run::{PathRun, run_paths};
 use std::alloc::Global;
+
+/// The steps that the run of a generated source may take.
+const GENERATED_STEPS: u32 = 4_000_000;
 
 // The status of an end.
 fn status_of(end: End) -> Status
@@ -55,13 +59,37 @@ fn ended(
     })
 }
 
+// The summary of a run that printed this text: of so many steps, over so many classes.
+fn summed_up(
+    alloc: Global,
+    h: &Hierarchy,
+    text: &[u8],
+    steps: u32,
+    machine: Option<Machine<FlatMemory>>,
+) -> Result<Reply, NoMemory>
+    ensures answer { IfOk result (λ reply. answer_of reply ≡ summary_answer h.now steps text.now) }
+    ensures machine { IfOk result (λ reply. machine_of reply ≡ option_map (λ m. seen_of m) machine) }
+{
+    let text = summary(alloc, h.len(), steps, count_lines(text), last_line(text))?;
+    Ok(Reply {
+        text,
+        status: Status::Done,
+        machine,
+    })
+}
+
 // What is answered to a program that has a main, run on the byte machine.
-fn run_by_bytes(alloc: Global, steps: u32, accepted: &Accepted) -> Result<Reply, NoMemory>
+fn run_by_bytes(
+    alloc: Global,
+    steps: u32,
+    trace: bool,
+    accepted: &Accepted,
+) -> Result<Reply, NoMemory>
     requires ready { IsReady accepted.now }
     requires main { is_body accepted.now.program.main ≡ true }
     requires few { steps ≤ most_steps }
-    ensures answer { IfOk result (λ reply. IsRunAnswer accepted.now.hierarchy accepted.now.layout accepted.now.program steps (answer_of reply)) }
-    ensures machine { IfOk result (λ reply. MatchOption (machine_of reply) ⊥ (IsMachineOf accepted.now.hierarchy accepted.now.layout accepted.now.program steps)) }
+    ensures answer { IfOk result (λ reply. IsRunAnswer (Command.Run steps trace) accepted.now.hierarchy accepted.now.layout accepted.now.program trace steps (answer_of reply)) }
+    ensures machine { IfOk result (λ reply. MatchOption (machine_of reply) ⊥ (IsMachineOf accepted.now.hierarchy accepted.now.layout accepted.now.program trace steps)) }
 {
     let execution = execute(
         alloc,
@@ -70,6 +98,7 @@ fn run_by_bytes(alloc: Global, steps: u32, accepted: &Accepted) -> Result<Reply,
         &accepted.layout,
         &accepted.program,
         steps,
+        trace,
     )?;
     let Execution {
         text,
@@ -81,12 +110,49 @@ fn run_by_bytes(alloc: Global, steps: u32, accepted: &Accepted) -> Result<Reply,
     Ok(reply)
 }
 
+// What is answered to a program that has a main, run on the byte machine and summed up.
+fn generated_by_bytes(alloc: Global, accepted: &Accepted) -> Result<Reply, NoMemory>
+    requires ready { IsReady accepted.now }
+    requires main { is_body accepted.now.program.main ≡ true }
+    ensures answer { IfOk result (λ reply. (n : ℕ) → IsRunAnswer (Command.Gen n) accepted.now.hierarchy accepted.now.layout accepted.now.program false most_steps (answer_of reply)) }
+    ensures machine { IfOk result (λ reply. MatchOption (machine_of reply) ⊥ (IsMachineOf accepted.now.hierarchy accepted.now.layout accepted.now.program false most_steps)) }
+{
+    let execution = execute(
+        alloc,
+        &accepted.hierarchy,
+        &accepted.overriders,
+        &accepted.layout,
+        &accepted.program,
+        GENERATED_STEPS,
+        false,
+    )?;
+    let Execution {
+        text,
+        steps,
+        end,
+        machine,
+        ..
+    } = execution;
+    if let End::Done = end {
+        let reply = summed_up(
+            alloc,
+            &accepted.hierarchy,
+            text.as_slice(),
+            steps,
+            Some(machine),
+        )?;
+        return Ok(reply);
+    }
+    let reply = ended(alloc, text, end, GENERATED_STEPS, Some(machine))?;
+    Ok(reply)
+}
+
 // What is answered to a program that has a main, run on the machine of paths.
 fn run_by_paths(alloc: Global, steps: u32, accepted: &Accepted) -> Result<Reply, NoMemory>
     requires ready { IsReady accepted.now }
     requires main { is_body accepted.now.program.main ≡ true }
     requires few { steps ≤ most_steps }
-    ensures answer { IfOk result (λ reply. IsRunAnswer accepted.now.hierarchy accepted.now.layout accepted.now.program steps (answer_of reply)) }
+    ensures answer { IfOk result (λ reply. IsRunAnswer (Command.Paths steps) accepted.now.hierarchy accepted.now.layout accepted.now.program false steps (answer_of reply)) }
     ensures machine { IfOk result (λ reply. machine_of reply ≡ None) }
 {
     let PathRun { text, end } = run_paths(
@@ -101,22 +167,39 @@ fn run_by_paths(alloc: Global, steps: u32, accepted: &Accepted) -> Result<Reply,
     Ok(reply)
 }
 
-/// What `run` answers to an accepted source of so many bytes, with a budget of steps.
+/// What `run` answers to an accepted source of so many bytes, with a budget of steps, and with a trace or without.
 pub(crate) fn run_on_bytes(
     alloc: Global,
     size: u32,
     steps: u32,
+    trace: bool,
     accepted: &Accepted,
 ) -> Result<Reply, NoMemory>
     requires ready { IsReady accepted.now }
     requires few { steps ≤ most_steps }
-    ensures yields { IfOk result (λ reply. Yields size accepted.now.source accepted.now.hierarchy accepted.now.program (Command.Run steps) (answer_of reply)) }
-    ensures machine { IfOk result (λ reply. HandsBy (Command.Run steps) accepted.now.source accepted.now.hierarchy accepted.now.program (machine_of reply)) }
+    ensures yields { IfOk result (λ reply. Yields size accepted.now.source accepted.now.hierarchy accepted.now.program (Command.Run steps trace) (answer_of reply)) }
+    ensures machine { IfOk result (λ reply. HandsBy (Command.Run steps trace) accepted.now.source accepted.now.hierarchy accepted.now.program (machine_of reply)) }
 {
     if accepted.source.main.is_none() {
         return line_alone(alloc, Status::Refused(Rule::UnknownName, size));
     }
-    run_by_bytes(alloc, steps, accepted)
+    run_by_bytes(alloc, steps, trace, accepted)
+}
+
+/// What `gen` answers to the source that it made, which is accepted and has so many bytes.
+pub(crate) fn run_generated(
+    alloc: Global,
+    size: u32,
+    accepted: &Accepted,
+) -> Result<Reply, NoMemory>
+    requires ready { IsReady accepted.now }
+    ensures yields { IfOk result (λ reply. (n : ℕ) → Yields size accepted.now.source accepted.now.hierarchy accepted.now.program (Command.Gen n) (answer_of reply)) }
+    ensures machine { IfOk result (λ reply. (n : ℕ) → HandsBy (Command.Gen n) accepted.now.source accepted.now.hierarchy accepted.now.program (machine_of reply)) }
+{
+    if accepted.source.main.is_none() {
+        return line_alone(alloc, Status::Refused(Rule::UnknownName, size));
+    }
+    generated_by_bytes(alloc, accepted)
 }
 
 /// What `paths` answers to an accepted source of so many bytes, with a budget of steps.

@@ -55,32 +55,32 @@ over h l program before after telling NoSteps end_is (outs, budget, ended, same)
 over h l program before after telling (LimitTurn limit) end_is (outs, budget, ended, same) e in_run = over_by h l program before after end_is (Limit limit) (LimitTurn limit) outs budget ended in_run (λ x. x.ending) (let f : Some (Limit limit) ≡ Some end_is = e in cc)
 
 -- the text of the steps taken
-text_so_far : (h : Classes) (l : Places) (program : TypedProgram) (before : PathState) (text : List ℕ) → IsGoing h l program before text → IsTextOf h l program (taken_by before) text
+text_so_far : (h : Classes) (l : Places) (program : TypedProgram) (before : PathState) (text : List ℕ) → IsGoing h l program before text → IsTextOf h l program false (taken_by before) text
 text_so_far h l program before text goes = record { text_is = goes.text_is; small = goes.small; room = goes.room }
 
 -- the run has ended with the text so far
-pub ends_run : (h : Classes) (l : Places) (program : TypedProgram) (before : PathState) (text : List ℕ) (end_is : End) → IsGoing h l program before text → Over h l program before end_is → IsRun h l program (budget_of before) text end_is
-ends_run h l program before text end_is goes last = ends_with h l program (taken_by before) text (budget_of before) end_is (text_so_far h l program before text goes) last.outs last.ending
+pub ends_run : (h : Classes) (l : Places) (program : TypedProgram) (before : PathState) (text : List ℕ) (end_is : End) → IsGoing h l program before text → Over h l program before end_is → IsRun h l program false (budget_of before) text end_is
+ends_run h l program before text end_is goes last = ends_with h l program false (taken_by before) text (budget_of before) end_is (text_so_far h l program before text goes) last.outs last.ending
 
 -- the lines pass the limit
 pub passes_limit : (h : Classes) (l : Places) (program : TypedProgram) (before after : PathState) (text lines : List ℕ) (telling : List Out) → IsGoing h l program before text → HasGoneOn h l program before after telling → IsInRun h l.size program after (ended_with after)
-    → lines ≡ text_of h l (printed telling) → text_limit < length text + length lines → IsRun h l program (budget_of before) text (Limit L9)
+    → lines ≡ text_of h l (printed telling) → text_limit < length text + length lines → IsRun h l program false (budget_of before) text (Limit L9)
 passes_limit h l program before after text lines telling goes step in_run adds long =
     let n = taken_by before in
     let new : IsAtStep h l.size program after = subst (IsInRun h l.size program after) step.going in_run in
     let within : n + 1 ≤ budget_of before = let a = new.within in let b = step.taken in let c = step.budget in omega (arith, a, b, c) in
-    lines_pass h l program n text (budget_of before) lines (text_so_far h l program before text goes) (subst (λ (k : ℕ). IsRunning h l.size program k) step.taken new.running) within (record { telling = telling; tells = step.tells; are = adds }) long
+    lines_pass h l program false n text (budget_of before) lines (text_so_far h l program before text goes) (subst (λ (k : ℕ). IsRunning h l.size program k) step.taken new.running) within (record { telling = telling; tells = step.tells; are = adds }) long
 
 -- the lines stand behind the text
 pub goes_on : (h : Classes) (l : Places) (program : TypedProgram) (before after : PathState) (text lines new : List ℕ) (telling : List Out) → IsGoing h l program before text → HasGoneOn h l program before after telling → IsInRun h l.size program after (ended_with after)
     → lines ≡ text_of h l (printed telling) → length text + length lines ≤ text_limit → new ≡ text ++ lines → IsTurned h l program before after new
 goes_on h l program before after text lines new telling goes step in_run adds few puts =
-    let more = lines_stand h l program (taken_by before) text lines new (text_so_far h l program before text goes) (record { telling = telling; tells = step.tells; are = adds }) few puts in
+    let more = lines_stand h l program false (taken_by before) text lines new (text_so_far h l program before text goes) (record { telling = telling; tells = step.tells; are = adds }) few puts in
     record {
       goes = record {
         at_step = subst (IsInRun h l.size program after) step.going in_run;
         going = step.going;
-        text_is = more.text_is ∙ ap (text_at h l program) (sym step.taken);
+        text_is = more.text_is ∙ ap (text_at h l program false) (sym step.taken);
         small = more.small;
         room = λ k lt. more.room k (subst (λ (m : ℕ). k < m) step.taken lt);
       };
@@ -111,7 +111,7 @@ pub starts : (h : Classes) (sizes : ClassId → ℕ) (l : Places) (program : Typ
 starts h sizes l program state text is in_run none going fresh = record {
   at_step = in_run_at h sizes l program state None is in_run;
   going = going;
-  text_is = fresh ∙ sym (ap (text_at h l program) none);
+  text_is = fresh ∙ sym (ap (text_at h l program false) none);
   small = subst (λ (t : List ℕ). length t ≤ text_limit) (sym fresh) (omega arith);
   room = λ k lt. absurd (omega (arith, lt, none));
 }
@@ -120,8 +120,8 @@ starts h sizes l program state text is in_run none going fresh = record {
 pub less_left : (b t c u : ℕ) → u ≡ t + 1 → c ≡ b → u ≤ c → c - u < b - t
 less_left b t c u more same le = omega (arith, more, same, le)
 
-pub run_is : (h : Classes) (l : Places) (program : TypedProgram) (left steps : ℕ) (text given : List ℕ) (end_is : End) → left ≡ steps → given ≡ text → IsRun h l program left text end_is → IsRun h l program steps given end_is
+pub run_is : (h : Classes) (l : Places) (program : TypedProgram) (left steps : ℕ) (text given : List ℕ) (end_is : End) → left ≡ steps → given ≡ text → IsRun h l program false left text end_is → IsRun h l program false steps given end_is
 run_is h l program left steps text given end_is same is a = record {
-  text_is = is ∙ (a.text_is ∙ ap (λ (n : ℕ). (told h l program n).text) same);
-  ending = a.ending ∙ ap (λ (n : ℕ). (told h l program n).ending) same;
+  text_is = is ∙ (a.text_is ∙ ap (λ (n : ℕ). (told h l program false n).text) same);
+  ending = a.ending ∙ ap (λ (n : ℕ). (told h l program false n).ending) same;
 }

@@ -3,9 +3,9 @@
 //! It turns a `PathState` until an answer ends the run, and puts the lines of each step behind those before. What is told in a
 //! trace alone has no line. A step whose lines would pass the limit on the text leaves none of them, and ends the run.
 //!
-//! The layer above may rely on `run_paths`: its text and its end are those of the run with the limit on its text (`told` of
-//! `abi_told`), over whatever sound layout. Only want of memory is
-//! an error. Places and sizes come from the layout, and all else from the model of a run (`path_model`).
+//! The layer above may rely on `run_paths`: its text and its end are those of the run without a trace, with the limit on its text
+//! (`told` of `abi_told`), over whatever sound layout. Only want of memory is an error. Places and sizes come from the layout, and
+//! all else from the model of a run (`path_model`).
 #![tactic(auto)]
 
 mod lines;

@@ -1,6 +1,6 @@
 //! A whole run.
 
-ghost use Rattle.std.specs.Prelude.{◌≡◌, ◌≤◌, true, IfOk};
+ghost use Rattle.std.specs.Prelude.{◌≡◌, ◌≤◌, true, false, IfOk};
 ghost use Rattle.cxx_overrider.specs.Overriders.{AreOverriders};
 ghost use Rattle.cxx_program.specs.Typed.{IsTypedProgram};
 ghost use Rattle.path_model.specs.States.{is_body};
@@ -36,7 +36,7 @@ fn run_all<L: SoundLayout>(layout: &L, run: &Run, steps: u32) -> Result<PathRun,
     requires setup { IsSetup run.now.world.h.now run.now.world.numbers.now run.now.world.overriders.now run.now.program.now run.now.index.now }
     requires main { is_body run.now.program.now.main ≡ true }
     requires sizes { size_in run.now.sizes.now ≡ (places_of run.now.world.h.now (L.rows layout.now)).size }
-    ensures { IfOk result (λ ran. IsRun run.now.world.h.now (places_of run.now.world.h.now (L.rows layout.now)) run.now.program.now steps ran.text ran.end) }
+    ensures { IfOk result (λ ran. IsRun run.now.world.h.now (places_of run.now.world.h.now (L.rows layout.now)) run.now.program.now false steps ran.text ran.end) }
 {
     let mut state = PathState::new(run, steps)?;
     let mut text = Vec::new(run.alloc);
@@ -52,7 +52,7 @@ fn run_all<L: SoundLayout>(layout: &L, run: &Run, steps: u32) -> Result<PathRun,
     }
 }
 
-/// Runs a typed program that has a `main`, for at most so many steps; places and sizes are those of the layout.
+/// Runs a typed program that has a `main`, for at most so many steps, without a trace; places and sizes are those of the layout.
 ///
 /// Errors: want of memory.
 pub fn run_paths<L: SoundLayout>(
@@ -68,8 +68,8 @@ pub fn run_paths<L: SoundLayout>(
     requires typed { IsTypedProgram h.now program.now }
     requires main { is_body program.now.main ≡ true }
     requires budget { steps ≤ 4000000 }
-    ensures text { IfOk result (λ run. run.text ≡ (told h.now (places_of h.now (L.rows layout.now)) program.now steps).text) }
-    ensures end { IfOk result (λ run. ending_of run.end ≡ (told h.now (places_of h.now (L.rows layout.now)) program.now steps).ending) }
+    ensures text { IfOk result (λ run. run.text ≡ (told h.now (places_of h.now (L.rows layout.now)) program.now false steps).text) }
+    ensures end { IfOk result (λ run. ending_of run.end ≡ (told h.now (places_of h.now (L.rows layout.now)) program.now false steps).ending) }
 {
     h.keeps();
     let numbers = Numbers::new(alloc, h)?;

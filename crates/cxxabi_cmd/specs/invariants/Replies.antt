@@ -1,5 +1,5 @@
 -- What the parts of the top call answer.
-use Rattle.std.specs.Prelude.{◌≡◌, ℕ, ◌≤◌, Option, Some, None, List}
+use Rattle.std.specs.Prelude.{◌≡◌, ℕ, ◌<◌, ◌≤◌, Bool, Option, Some, None, List, length}
 use Rattle.std.specs.Option.{option_map}
 use Rattle.cxx_hierarchy.specs.Classes.{Classes}
 use Rattle.cxx_syntax.specs.declared.tree.BodyTree.{BodyTree}
@@ -8,15 +8,21 @@ use Rattle.cxx_program.specs.declared.program.TypedProgram.{TypedProgram}
 use Rattle.abi_sound.specs.declared.class_layout.ClassLayout.{ClassLayout}
 use Rattle.abi_layout.specs.Layouts.{IsLaid}
 use Rattle.cxxabi_cmd.specs.declared.reply.Reply.{Reply}
-use Rattle.cxxabi_cmd.specs.declared.command.Command.{Command}
-use Rattle.cxxabi_cmd.specs.declared.command.Command.TheVariants.{Run, Paths}
-use Rattle.cxxabi_cmd.specs.Commands.{most_steps}
-use Rattle.cxxabi_cmd.specs.Output.{Answer}
+use Rattle.cxxabi_words.specs.declared.command.Command.{Command}
+use Rattle.cxxabi_words.specs.declared.command.Command.TheVariants.{Run, Paths}
+use Rattle.cxxabi_words.specs.Commands.{most_steps}
+use Rattle.cxxabi_cmd.specs.Commands.{IsOnBytes, RunsMain}
+use Rattle.cxxabi_cmd.specs.Output.{Answer, source_limit}
 use Rattle.cxxabi_cmd.specs.Handed.{Seen, seen_of, IsMachineOf}
+
+-- what was read of a source is all of it, or passes the limit as the source does
+pub record IsRead (read all : List ℕ) : Type 0 where
+  pub whole : length read ≤ source_limit → read ≡ all
+  pub more : source_limit < length read → source_limit < length all
 
 -- the command gives a run no more steps than the words may say
 abbrev pub HasFewSteps : Command → Type 0
-HasFewSteps (Run steps) = steps ≤ most_steps
+HasFewSteps (Run steps trace) = steps ≤ most_steps
 HasFewSteps (Paths steps) = steps ≤ most_steps
 HasFewSteps other = Unit {0}
 
@@ -29,15 +35,17 @@ machine_of reply = option_map (λ m. seen_of m) reply.machine
 
 -- the machine of the run of a source's program
 pub record IsRunBy (command : Command) (source : SourceText) (h : Classes) (program : TypedProgram) (machine : Seen) : Type 0 where
+  pub trace : Bool
   pub steps : ℕ
-  pub asked : command ≡ Run steps
+  pub runs : RunsMain command steps trace
+  pub on_bytes : IsOnBytes command
   pub tree : BodyTree
   pub main : source.main ≡ Some tree
   pub rows : List ClassLayout
   pub laid : IsLaid h rows
-  pub is_machine : IsMachineOf h rows program steps machine
+  pub is_machine : IsMachineOf h rows program trace steps machine
 
 -- the machine of the run that a command makes, or none where it makes none
 abbrev pub HandsBy : Command → SourceText → Classes → TypedProgram → Option Seen → Type 0
-HandsBy command source h program None = (steps : ℕ) (tree : BodyTree) → command ≡ Run steps → source.main ≡ Some tree → ⊥
+HandsBy command source h program None = (trace : Bool) (steps : ℕ) (tree : BodyTree) → RunsMain command steps trace → IsOnBytes command → source.main ≡ Some tree → ⊥
 HandsBy command source h program (Some machine) = IsRunBy command source h program machine

@@ -23,9 +23,9 @@ end_by (LimitTurn limit) = Some (Limit limit)
 pub record IsGoing (h : Classes) (l : Places) (program : TypedProgram) (state : PathState) (text : List ℕ) : Type 0 where
   pub at_step : IsAtStep h l.size program state
   pub going : ended_with state ≡ None
-  pub text_is : text ≡ text_at h l program (taken_by state)
+  pub text_is : text ≡ text_at h l program false (taken_by state)
   pub small : length text ≤ text_limit
-  pub room : (k : ℕ) → k < taken_by state → passes h l program k ≡ false
+  pub room : (k : ℕ) → k < taken_by state → passes h l program false k ≡ false
 
 -- one step more, with its lines
 pub record IsTurned (h : Classes) (l : Places) (program : TypedProgram) (before after : PathState) (text : List ℕ) : Type 0 where
@@ -36,4 +36,4 @@ pub record IsTurned (h : Classes) (l : Places) (program : TypedProgram) (before 
 -- what one turn came to
 abbrev pub Turned : Classes → Places → TypedProgram → (before after : PathState) → List ℕ → Option End → Type 0
 Turned h l program before after text None = IsTurned h l program before after text
-Turned h l program before after text (Some end_is) = IsRun h l program (budget_of before) text end_is
+Turned h l program before after text (Some end_is) = IsRun h l program false (budget_of before) text end_is

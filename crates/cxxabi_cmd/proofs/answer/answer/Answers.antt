@@ -1,11 +1,12 @@
 use Rattle.std.proofs.Common.{ℕ, List, length, subst, sym, ◌∙◌}
 use Rattle.std.specs.Prelude.{IfOk}
-use Rattle.cxxabi_cmd.specs.declared.command.Command.{Command}
-use Rattle.cxxabi_cmd.specs.declared.command.Command.TheVariants.{Layout, LayoutOf, Tables, TablesOf}
+use Rattle.cxxabi_words.specs.declared.command.Command.{Command}
+use Rattle.cxxabi_words.specs.declared.command.Command.TheVariants.{Layout, LayoutOf, Tables, TablesOf, Gen}
+use Rattle.cxxabi_cmd.specs.Commands.{IsOnBytes}
 use Rattle.cxxabi_cmd.specs.declared.listing.Listing.TheVariants.{OfLayout, OfTables}
 use Rattle.cxxabi_cmd.specs.Output.{Yields, counted, count_answer, first_classes, all_layouts, one_layout, all_tables, one_tables, named_layout, named_tables}
 use Rattle.cxxabi_cmd.specs.invariants.Replies.{answer_of, machine_of, HandsBy, HasFewSteps}
-use Rattle.cxxabi_cmd.proofs.AnswerLemmas.{yields, hands_none}
+use Rattle.cxxabi_cmd.proofs.AnswerLemmas.{at_number, yields, hands_none, runs_no_layout, runs_no_tables}
 use Rattle.cxxabi_cmd.proofs.ReplyLemmas.{yields_all, yields_one}
 use Rattle.cxxabi_cmd.proofs.answer.answer.Goals as goal
 
@@ -80,4 +81,30 @@ returns-in-Paths-clause-yields c =
 pub returns-in-Paths-clause-machine : goal.returns-in-Paths-clause-machine
 returns-in-Paths-clause-machine c =
     hands_none c.run_on_paths.result c.args.command.now c.args.accepted.now.source c.args.accepted.now.hierarchy c.args.accepted.now.program c.run_on_paths.ensures.machine
-    (λ steps tree asked main. let clash = sym c.in-Paths.is ∙ asked in cc)
+    (λ trace steps tree runs bytes main. subst IsOnBytes c.in-Paths.is bytes)
+
+pub returns-in-Gen-clause-yields : goal.returns-in-Gen-clause-yields
+returns-in-Gen-clause-yields c =
+    let h = c.args.accepted.now.hierarchy in
+    let source = c.args.accepted.now.source in
+    let typed = c.args.accepted.now.program in
+    subst (λ (d : Command). IfOk c.run_generated.result (λ reply. Yields c.args.size source h typed d (answer_of reply))) (sym c.in-Gen.is)
+    (at_number c.run_generated.result (λ n reply. Yields c.args.size source h typed (Gen n) (answer_of reply)) _ c.run_generated.ensures.yields)
+
+pub returns-in-Gen-clause-machine : goal.returns-in-Gen-clause-machine
+returns-in-Gen-clause-machine c =
+    let h = c.args.accepted.now.hierarchy in
+    let source = c.args.accepted.now.source in
+    let typed = c.args.accepted.now.program in
+    subst (λ (d : Command). IfOk c.run_generated.result (λ reply. HandsBy d source h typed (machine_of reply))) (sym c.in-Gen.is)
+    (at_number c.run_generated.result (λ n reply. HandsBy (Gen n) source h typed (machine_of reply)) _ c.run_generated.ensures.machine)
+
+pub returns-in-LayoutOf-clause-machine : goal.returns-in-LayoutOf-clause-machine
+returns-in-LayoutOf-clause-machine c =
+    hands_none c.list_one.result c.args.command.now c.args.accepted.now.source c.args.accepted.now.hierarchy c.args.accepted.now.program c.list_one.ensures.machine
+    (λ trace steps tree runs bytes main. runs_no_layout c.args.command.now _ steps trace runs c.in-LayoutOf.is)
+
+pub returns-in-TablesOf-clause-machine : goal.returns-in-TablesOf-clause-machine
+returns-in-TablesOf-clause-machine c =
+    hands_none c.list_one-in-TablesOf.result c.args.command.now c.args.accepted.now.source c.args.accepted.now.hierarchy c.args.accepted.now.program c.list_one-in-TablesOf.ensures.machine
+    (λ trace steps tree runs bytes main. runs_no_tables c.args.command.now _ steps trace runs c.in-TablesOf.is)

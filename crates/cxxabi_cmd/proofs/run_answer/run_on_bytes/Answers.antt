@@ -2,9 +2,9 @@ use Rattle.std.proofs.Common.{refl, sym, ◌∙◌}
 use Rattle.std.specs.Option.{is_some}
 use Rattle.cxx_hierarchy.specs.declared.stop.Rule.TheVariants.{UnknownName}
 use Rattle.path_model.specs.States.{is_body}
-use Rattle.cxxabi_cmd.specs.declared.command.Command.TheVariants.{Run}
+use Rattle.cxxabi_words.specs.declared.command.Command.TheVariants.{Run}
 use Rattle.cxxabi_cmd.specs.declared.status.Status.TheVariants.{Refused}
-use Rattle.cxxabi_cmd.specs.Commands.{on_bytes}
+use Rattle.cxxabi_cmd.specs.Commands.{by_run}
 use Rattle.cxxabi_cmd.specs.Output.{line_alone, no_main}
 use Rattle.cxxabi_cmd.proofs.AnswerLemmas.{yields, hands_none, hands_machine}
 use Rattle.cxxabi_cmd.proofs.LaidRows.{is_laid}
@@ -14,15 +14,15 @@ use Rattle.cxxabi_cmd.proofs.run_answer.run_on_bytes.Goals as goal
 
 pub returns-then-is_none-clause-yields : goal.returns-then-is_none-clause-yields
 returns-then-is_none-clause-yields c =
-    yields c.line_alone.result c.args.size c.args.accepted.now.source c.args.accepted.now.hierarchy c.args.accepted.now.program (Run c.args.steps) (line_alone (Refused UnknownName c.args.size)) c.line_alone.ensures.answer
-    (no_main (Run c.args.steps) c.args.steps (on_bytes c.args.steps) (is_missing c.args.accepted.now.source.main c.is_none.result c.is_none.ensures c.if-is_none.true))
+    yields c.line_alone.result c.args.size c.args.accepted.now.source c.args.accepted.now.hierarchy c.args.accepted.now.program (Run c.args.steps c.args.trace) (line_alone (Refused UnknownName c.args.size)) c.line_alone.ensures.answer
+    (no_main (Run c.args.steps c.args.trace) c.args.steps c.args.trace (by_run c.args.steps c.args.trace) (is_missing c.args.accepted.now.source.main c.is_none.result c.is_none.ensures c.if-is_none.true))
 
 pub returns-then-is_none-clause-machine : goal.returns-then-is_none-clause-machine
 returns-then-is_none-clause-machine c =
     let source = c.args.accepted.now.source in
     let missing = is_missing source.main c.is_none.result c.is_none.ensures c.if-is_none.true in
-    hands_none c.line_alone.result (Run c.args.steps) source c.args.accepted.now.hierarchy c.args.accepted.now.program c.line_alone.ensures.machine
-    (λ steps tree asked main. let clash = sym missing ∙ main in cc)
+    hands_none c.line_alone.result (Run c.args.steps c.args.trace) source c.args.accepted.now.hierarchy c.args.accepted.now.program c.line_alone.ensures.machine
+    (λ trace steps tree runs bytes main. let clash = sym missing ∙ main in cc)
 
 pub run_by_bytes-requires-clause-main : goal.run_by_bytes-requires-clause-main
 run_by_bytes-requires-clause-main c =
@@ -33,7 +33,7 @@ returns-clause-yields c =
     let h = c.args.accepted.now.hierarchy in
     let rows = c.args.accepted.now.layout in
     let there = is_there c.args.accepted.now.source.main c.is_none.result c.is_none.ensures c.if-is_none.false in
-    yields_ended c.run_by_bytes.result c.args.size c.args.accepted.now.source h rows c.args.accepted.now.program (Run c.args.steps) c.args.steps there.tree (on_bytes c.args.steps)
+    yields_ended c.run_by_bytes.result c.args.size c.args.accepted.now.source h rows c.args.accepted.now.program (Run c.args.steps c.args.trace) c.args.steps c.args.trace there.tree (by_run c.args.steps c.args.trace)
     c.run_by_bytes.ensures.answer there.is (is_laid h rows c.requires.ready.layout)
 
 pub returns-clause-machine : goal.returns-clause-machine
@@ -41,5 +41,5 @@ returns-clause-machine c =
     let h = c.args.accepted.now.hierarchy in
     let rows = c.args.accepted.now.layout in
     let there = is_there c.args.accepted.now.source.main c.is_none.result c.is_none.ensures c.if-is_none.false in
-    hands_machine c.run_by_bytes.result (Run c.args.steps) c.args.accepted.now.source h c.args.accepted.now.program rows c.args.steps there.tree refl there.is (is_laid h rows c.requires.ready.layout)
+    hands_machine c.run_by_bytes.result (Run c.args.steps c.args.trace) c.args.accepted.now.source h c.args.accepted.now.program rows c.args.trace c.args.steps there.tree (by_run c.args.steps c.args.trace) tt there.is (is_laid h rows c.requires.ready.layout)
     c.run_by_bytes.ensures.machine

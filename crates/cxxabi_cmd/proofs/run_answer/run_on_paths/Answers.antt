@@ -1,9 +1,10 @@
+use Rattle.std.specs.Prelude.{false}
 use Rattle.std.specs.Option.{is_some}
 use Rattle.cxx_hierarchy.specs.declared.stop.Rule.TheVariants.{UnknownName}
 use Rattle.path_model.specs.States.{is_body}
-use Rattle.cxxabi_cmd.specs.declared.command.Command.TheVariants.{Paths}
+use Rattle.cxxabi_words.specs.declared.command.Command.TheVariants.{Paths}
 use Rattle.cxxabi_cmd.specs.declared.status.Status.TheVariants.{Refused}
-use Rattle.cxxabi_cmd.specs.Commands.{on_paths}
+use Rattle.cxxabi_cmd.specs.Commands.{by_paths}
 use Rattle.cxxabi_cmd.specs.Output.{line_alone, no_main}
 use Rattle.cxxabi_cmd.proofs.AnswerLemmas.{yields}
 use Rattle.cxxabi_cmd.proofs.LaidRows.{is_laid}
@@ -14,7 +15,7 @@ use Rattle.cxxabi_cmd.proofs.run_answer.run_on_paths.Goals as goal
 pub returns-then-is_none-clause-yields : goal.returns-then-is_none-clause-yields
 returns-then-is_none-clause-yields c =
     yields c.line_alone.result c.args.size c.args.accepted.now.source c.args.accepted.now.hierarchy c.args.accepted.now.program (Paths c.args.steps) (line_alone (Refused UnknownName c.args.size)) c.line_alone.ensures.answer
-    (no_main (Paths c.args.steps) c.args.steps (on_paths c.args.steps) (is_missing c.args.accepted.now.source.main c.is_none.result c.is_none.ensures c.if-is_none.true))
+    (no_main (Paths c.args.steps) c.args.steps false (by_paths c.args.steps) (is_missing c.args.accepted.now.source.main c.is_none.result c.is_none.ensures c.if-is_none.true))
 
 pub run_by_paths-requires-clause-main : goal.run_by_paths-requires-clause-main
 run_by_paths-requires-clause-main c =
@@ -25,4 +26,4 @@ returns-clause-yields c =
     let h = c.args.accepted.now.hierarchy in
     let rows = c.args.accepted.now.layout in
     let there = is_there c.args.accepted.now.source.main c.is_none.result c.is_none.ensures c.if-is_none.false in
-    yields_ended c.run_by_paths.result c.args.size c.args.accepted.now.source h rows c.args.accepted.now.program (Paths c.args.steps) c.args.steps there.tree (on_paths c.args.steps) c.run_by_paths.ensures.answer there.is (is_laid h rows c.requires.ready.layout)
+    yields_ended c.run_by_paths.result c.args.size c.args.accepted.now.source h rows c.args.accepted.now.program (Paths c.args.steps) c.args.steps false there.tree (by_paths c.args.steps) c.run_by_paths.ensures.answer there.is (is_laid h rows c.requires.ready.layout)

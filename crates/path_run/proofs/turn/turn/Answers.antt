@@ -45,8 +45,8 @@ append_printed-requires-clause-told g c =
     let agrees = agrees_at h sizes l program before after c.new-outs.result c.step.new.outs (ended_with before) turn c.requires.sizes c.new-outs.ensures c.requires.going.going c.in_ok-answer.ensures.agrees in
     let on = went h l program before after c.step.new.outs turn agrees (sym c.end_of.ensures ∙ c.in-None.is) in
     λ out has.
-    steps_told h setup.world.hierarchy setup.world.are_overriders.fine program setup.typed l.size c.requires.main (taken_by before) out
-    (subst (λ (xs : List Out). Has xs out) (c.as_slice.ensures ∙ on.tells) (has_from_contains c.as_slice.result.now out has))
+    (steps_told h setup.world.hierarchy setup.world.are_overriders.fine program setup.typed l.size c.requires.main (taken_by before) out
+    (subst (λ (xs : List Out). Has xs out) (c.as_slice.ensures ∙ on.tells) (has_from_contains c.as_slice.result.now out has))).0
 
 pub returns-then-len-gt-TEXT_LIMIT : goal.returns-then-len-gt-TEXT_LIMIT
 returns-then-len-gt-TEXT_LIMIT g c =

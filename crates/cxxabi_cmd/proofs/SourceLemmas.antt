@@ -1,0 +1,55 @@
+-- The source that a command treats, as it was read or made.
+use Rattle.std.proofs.Common.{◌≡◌, ℕ, zero, suc, ◌<◌, ◌≤◌, Option, Some, None, Result, Ok, Err, List, [], ◌∷◌, take, drop, length, refl, sym, ◌∙◌, ap, subst, arith}
+use Rattle.std.specs.Prelude.{IfOk, IfSome, OnOk}
+use Rattle.std.proofs.lemmas.List.{length-take}
+use Rattle.cxxabi_words.specs.declared.command.Command.{Command}
+use Rattle.cxxabi_words.specs.declared.command.Command.TheVariants.{Check, Run, Layout, LayoutOf, Tables, TablesOf, Paths, Gen}
+use Rattle.cxxabi_cmd.specs.declared.reading.ReadStop.{ReadStop}
+use Rattle.cxxabi_cmd.specs.Commands.{ReadsSource, source_of}
+use Rattle.cxxabi_cmd.specs.invariants.Replies.{IsRead}
+
+-- a front that is shorter than was asked for is the whole
+whole_read : (n : ℕ) (bytes all : List ℕ) → bytes ≡ take n all → length bytes < n → bytes ≡ all
+whole_read zero bytes all same short = absurd (omega arith)
+whole_read (suc n) bytes [] same short = same
+whole_read (suc n) [] (b ∷ all) same short = absurd (cc)
+whole_read (suc n) (a ∷ bytes) (b ∷ all) same short =
+    let head : a ≡ b = cc in
+    let tail : bytes ≡ take n all = cc in
+    rw (head, whole_read n bytes all tail (omega arith)) refl
+
+-- the bytes up to one past the limit
+taken_read : (bytes all : List ℕ) → bytes ≡ take 262145 all → IsRead bytes all
+taken_read bytes all same = record {
+  whole = λ short. whole_read 262145 bytes all same (omega (arith, short));
+  more = λ long. let size : length bytes ≡ length (take 262145 all) = ap length same in omega (arith, long, size, length-take 262145 all);
+}
+
+-- all bytes
+pub all_read : (bytes all : List ℕ) → bytes ≡ all → IsRead bytes all
+all_read bytes all same = record { whole = λ short. same; more = λ long. subst (λ (b : List ℕ). 262144 < length b) same long }
+
+-- a command that makes no source of its own reads one
+pub reads_given : (c : Command) → ((n : ℕ) → c ≡ Gen n → ⊥) → ReadsSource c × ((given : List ℕ) → source_of c given ≡ given)
+reads_given Check other = (tt, λ given. refl)
+reads_given (Run steps trace) other = (tt, λ given. refl)
+reads_given Layout other = (tt, λ given. refl)
+reads_given (LayoutOf name) other = (tt, λ given. refl)
+reads_given Tables other = (tt, λ given. refl)
+reads_given (TablesOf name) other = (tt, λ given. refl)
+reads_given (Paths steps) other = (tt, λ given. refl)
+reads_given (Gen n) other = absurd (other n refl)
+
+-- what was read where the source tells its bytes
+pub given_read : {V : Type 0} (items : V → List ℕ) (r : Result V ReadStop) (c : Command) (remaining : Option (List ℕ)) → ((n : ℕ) → c ≡ Gen n → ⊥) → IfOk r (λ text. IfSome remaining (λ bytes. items text ≡ take 262145 bytes)) →
+    IfOk r (λ text. (given : List ℕ) → (ReadsSource c → remaining ≡ Some given) → IsRead (items text) (source_of c given))
+given_read items (Ok text) c remaining other read = λ given told.
+    let own = reads_given c other in
+    let bytes : items text ≡ take 262145 given = subst (λ (o : Option (List ℕ)). IfSome o (λ bytes. items text ≡ take 262145 bytes)) (told own.0) read in
+    subst (λ (all : List ℕ). IsRead (items text) all) (sym (own.1 given)) (taken_read (items text) given bytes)
+given_read items (Err stop) c remaining other read = read
+
+pub left_read : {V : Type 0} (r : Result V ReadStop) (c : Command) (before after : Option (List ℕ)) → IfOk r (λ text. IfSome before (λ bytes. after ≡ Some (drop 262145 bytes))) →
+    OnOk r (ReadsSource c → IfSome before (λ bytes. after ≡ Some (drop 262145 bytes)))
+left_read (Ok text) c before after left = λ reads. left
+left_read (Err stop) c before after left = left

@@ -1,0 +1,64 @@
+-- The command that the words ask for, as a function of what they give.
+use Rattle.std.specs.Prelude.{ℕ, Bool, true, false, ◌&&◌, ◌||◌, length, codes, nat_le, Option, Some, None, is_some, option_map, option_and_then, if◌then◌else◌}
+use Rattle.std.specs.Char.{is_ascii_digit}
+use Rattle.std.specs.List.{list_all}
+use Rattle.std.specs.Str.{bytes_eq}
+use Rattle.std.specs.Str.Parse.{digits_value}
+use Rattle.clap.specs.Words.{Text}
+use Rattle.cxxabi_words.specs.Commands.{Given, budget, most_classes, most_steps}
+use Rattle.cxxabi_words.specs.declared.command.Command.{Command}
+use Rattle.cxxabi_words.specs.declared.command.Command.TheVariants.{Check, Layout, LayoutOf, Tables, TablesOf, Run, Paths, Gen}
+
+-- the number that at most so many digits say
+abbrev pub is_count : ℕ → ℕ → Text → Bool
+is_count places most digits =
+    nat_le (length digits) places && (list_all is_ascii_digit digits && (nat_le 1 (digits_value 10 digits) && nat_le (digits_value 10 digits) most))
+
+unfoldable pub counted : ℕ → ℕ → Text → Option ℕ
+counted places most digits = if is_count places most digits then Some (digits_value 10 digits) else None
+
+abbrev pub budgeted : Option Text → Option ℕ
+budgeted None = Some budget
+budgeted (Some digits) = counted 7 most_steps digits
+
+abbrev pub check_form : Option Text → Option Command
+check_form None = Some Check
+check_form (Some arg) = None
+
+abbrev pub layout_form : Option Text → Command
+layout_form None = Layout
+layout_form (Some class) = LayoutOf class
+
+abbrev pub tables_form : Option Text → Command
+tables_form None = Tables
+tables_form (Some class) = TablesOf class
+
+abbrev pub gen_form : Option Text → Option Command
+gen_form None = None
+gen_form (Some digits) = option_map Gen (counted 4 most_classes digits)
+
+-- a command that has no option
+abbrev pub plain_form : Text → Option Text → Option Command
+plain_form word arg =
+    if bytes_eq word (codes "check") then check_form arg
+    else (if bytes_eq word (codes "layout") then Some (layout_form arg)
+    else (if bytes_eq word (codes "tables") then Some (tables_form arg)
+    else (if bytes_eq word (codes "gen") then gen_form arg else None)))
+
+abbrev pub run_form : Option Text → Option Text → Bool → Option Command
+run_form None steps trace = option_map (λ n. Run n trace) (budgeted steps)
+run_form (Some arg) steps trace = None
+
+abbrev pub paths_form : Option Text → Option Text → Bool → Option Command
+paths_form None steps false = option_map Paths (budgeted steps)
+paths_form None steps true = None
+paths_form (Some arg) steps trace = None
+
+abbrev pub form_of : Text → Option Text → Option Text → Bool → Option Command
+form_of word arg steps trace =
+    if bytes_eq word (codes "run") then run_form arg steps trace
+    else (if bytes_eq word (codes "paths") then paths_form arg steps trace
+    else (if is_some steps || trace then None else plain_form word arg))
+
+abbrev pub asked : Given → Option Command
+asked g = option_and_then (λ word. form_of word g.arg g.steps g.trace) g.command

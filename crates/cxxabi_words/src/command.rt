@@ -1,0 +1,156 @@
+//! The commands, and what the words ask for.
+
+ghost use Rattle.std.specs.Prelude.{◌≡◌, IfOk, MatchOption, map, option_map, string_bytes};
+ghost use Rattle.cxxabi_words.specs.Commands.{IsCommand, Says};
+ghost use Rattle.cxxabi_words.specs.invariants.Asked.{check_form, form_of, gen_form, layout_form, paths_form, plain_form, run_form, tables_form};
+
+use crate::numbers::{budget_of, count_of};
+use crate::words::{has_trace, matches_of};
+use cxx_hierarchy::Name;
+use foundation::{NoMemory, Sequence};
+use std::alloc::Global;
+
+/// The most digits of the number behind `gen`.
+const CLASS_DIGITS: usize = 4;
+
+/// The most classes that the words may ask for.
+const MOST_CLASSES: u32 = 1_000;
+
+/// A command.
+#[derive(Drop)]
+pub enum Command {
+    /// Whether the source is accepted, and how many classes it has.
+    Check,
+    /// The layout of all its classes.
+    Layout,
+    /// The layout of the class of a name.
+    LayoutOf(Name),
+    /// The tables of all its classes.
+    Tables,
+    /// The tables of the class of a name.
+    TablesOf(Name),
+    /// A run of its `main` on the byte machine, of at most so many steps, and whether each step is traced.
+    Run(u32, bool),
+    /// A run of its `main` on the machine of paths, of at most so many steps.
+    Paths(u32),
+    /// A generated source of so many classes.
+    Gen(u32),
+}
+
+// The name that a word is.
+fn name_of(alloc: Global, word: &str) -> Result<Name, NoMemory>
+    ensures { IfOk result (λ name. name ≡ word.now) }
+{
+    let bytes = Vec::from_slice(alloc, word.as_bytes())?;
+    Ok(Sequence::from_vec(bytes))
+}
+
+// The command `check`, which takes no argument.
+fn check_form(arg: Option<&str>) -> Option<Command>
+    ensures { result ≡ check_form (option_map (λ s. s.now) arg.entry) }
+{
+    match arg {
+        Some(_) => None,
+        None => Some(Command::Check),
+    }
+}
+
+// The command `layout`, of the class of a name where there is one.
+fn layout_form(alloc: Global, arg: Option<&str>) -> Result<Command, NoMemory>
+    ensures { IfOk result (λ command. command ≡ layout_form (option_map (λ s. s.now) arg.entry)) }
+{
+    match arg {
+        Some(class) => Ok(Command::LayoutOf(name_of(alloc, class)?)),
+        None => Ok(Command::Layout),
+    }
+}
+
+// The command `tables`, of the class of a name where there is one.
+fn tables_form(alloc: Global, arg: Option<&str>) -> Result<Command, NoMemory>
+    ensures { IfOk result (λ command. command ≡ tables_form (option_map (λ s. s.now) arg.entry)) }
+{
+    match arg {
+        Some(class) => Ok(Command::TablesOf(name_of(alloc, class)?)),
+        None => Ok(Command::Tables),
+    }
+}
+
+// The command `gen`, which takes a number of classes.
+fn gen_form(arg: Option<&str>) -> Option<Command>
+    ensures { result ≡ gen_form (option_map (λ s. s.now) arg.entry) }
+{
+    let classes = count_of(arg?, CLASS_DIGITS, MOST_CLASSES)?;
+    Some(Command::Gen(classes))
+}
+
+// The command of a word and an argument, without an option.
+fn plain_form(alloc: Global, word: &str, arg: Option<&str>) -> Result<Option<Command>, NoMemory>
+    ensures { IfOk result (λ found. found ≡ plain_form word.now (option_map (λ s. s.now) arg.entry)) }
+{
+    match word {
+        "check" => Ok(check_form(arg)),
+        "layout" => Ok(Some(layout_form(alloc, arg)?)),
+        "tables" => Ok(Some(tables_form(alloc, arg)?)),
+        "gen" => Ok(gen_form(arg)),
+        _ => Ok(None),
+    }
+}
+
+// The command `run`, which takes no argument.
+fn run_form(arg: Option<&str>, steps: Option<&str>, trace: bool) -> Option<Command>
+    ensures { result ≡ run_form (option_map (λ s. s.now) arg.entry) (option_map (λ s. s.now) steps.entry) trace }
+{
+    if arg.is_some() {
+        return None;
+    }
+    Some(Command::Run(budget_of(steps)?, trace))
+}
+
+// The command `paths`, which takes no argument and has no trace.
+fn paths_form(arg: Option<&str>, steps: Option<&str>, trace: bool) -> Option<Command>
+    ensures { result ≡ paths_form (option_map (λ s. s.now) arg.entry) (option_map (λ s. s.now) steps.entry) trace }
+{
+    if arg.is_some() || trace {
+        return None;
+    }
+    Some(Command::Paths(budget_of(steps)?))
+}
+
+// The command of what the words give, and None where that is no form.
+fn form_of(
+    alloc: Global,
+    word: &str,
+    arg: Option<&str>,
+    steps: Option<&str>,
+    trace: bool,
+) -> Result<Option<Command>, NoMemory>
+    ensures { IfOk result (λ found. found ≡ form_of word.now (option_map (λ s. s.now) arg.entry) (option_map (λ s. s.now) steps.entry) trace) }
+{
+    match word {
+        "run" => Ok(run_form(arg, steps, trace)),
+        "paths" => Ok(paths_form(arg, steps, trace)),
+        _ => {
+            if steps.is_some() || trace {
+                return Ok(None);
+            }
+            plain_form(alloc, word, arg)
+        }
+    }
+}
+
+/// The command that the words, without the program's name, ask for, and None where they ask for none.
+///
+/// Errors: want of memory.
+pub fn command_of(alloc: Global, words: &[String]) -> Result<Option<Command>, NoMemory>
+    ensures { IfOk result (λ found. MatchOption found (IsCommand (map string_bytes words.now) → ⊥) (Says (map string_bytes words.now))) }
+{
+    let Some(matches) = matches_of(alloc, words)? else {
+        return Ok(None);
+    };
+    let Some(word) = matches.get_str("command") else {
+        return Ok(None);
+    };
+    let arg = matches.get_str("arg");
+    let steps = matches.get_str("steps");
+    form_of(alloc, word, arg, steps, has_trace(&matches))
+}
