@@ -60,8 +60,16 @@ fn is_run(alloc: Global, case: &Case) -> anyhow::Result<bool> {
     Ok(by_paths == Some(false) && by_bytes.is_some() && (by_bytes == Some(true) || !ran))
 }
 
+// Whether the words ask for a trace, which the machine of paths does not show.
+fn is_traced(words: &[String]) -> bool {
+    words.iter().any(|word| word.as_str() == "--trace")
+}
+
 // Whether all is as the case says.
 fn is_right(alloc: Global, case: &Case) -> anyhow::Result<bool> {
+    if is_traced(&case.words) {
+        return Ok(machine_after(alloc, case, &case.words)?.is_some());
+    }
     match case.words.as_slice() {
         [word, ..] if word.as_str() == "run" || word.as_str() == "paths" => is_run(alloc, case),
         [word, name] if word.as_str() == "layout" && case.status == 0 => {
