@@ -27,14 +27,15 @@ use Rattle.path_model.proofs.TypedOverriders.{final_runs as overrider_fits}
 use Rattle.path_model.proofs.TypedUses.{has_view}
 use Rattle.path_model.proofs.TypedViews.{AreRunningParts, view_valid}
 use Rattle.path_model.specs.Effects.{overrider_by}
-use Rattle.path_model.specs.Rules.{is_outside, is_pure_at, is_pure_by}
+use Rattle.path_model.specs.Rules.{is_outside, is_pure_at}
 use Rattle.path_model.specs.States.{body_of}
 use Rattle.path_model.specs.TypedStates.{IsPartMade}
 use Rattle.path_model.specs.Uses.{view_of}
 use Rattle.path_model.specs.Values.{Objects}
 use Rattle.path_plan.specs.Places.{part}
-use Rattle.std.proofs.Common.{◌≡◌, true, false, Option, Some, None, refl, ap, ◌∙◌}
+use Rattle.std.proofs.Common.{◌≡◌, true, false, Option, Some, None, ap, ◌∙◌}
 use Rattle.std.specs.Prelude.{nat_eq, slice_get, length}
+use Rattle.path_model.proofs.RuleLaws.{pure_by}
 
 -- a function that is declared has a plain entry
 pub plain_kind : (h : Classes) (f : FunctionId) (d : FunctionRecord ClassId) → declaration_of h f ≡ Some d → first_kind (signature_of h f) ≡ Plain
@@ -57,10 +58,6 @@ pub record IsOverridden (h : Classes) (program : TypedProgram) (s : Objects) (f 
   pub pure : is_pure_at h s f q ≡ is_pure h overrider.function
   pub made : is_pure h overrider.function ≡ false → IsPartMade h s.classes (part q.object q.owner overrider.at) overrider.function.class
   pub code : is_pure h overrider.function ≡ false → HasCode program overrider.function
-
-pure_by : (h : Classes) (o : Option Subobject) (y : Subobject) (f : FunctionId) → is_pure_by h o y f ≡ is_pure_overrider h (overrider_by h o y f)
-pure_by h None y f = refl
-pure_by h (Some x) y f = refl
 
 module _ (h : Classes) (keeps : IsHierarchy h) (fine : HasNoFault h) (program : TypedProgram) (typed : IsTypedProgram h program) (s : Objects) (running : AreRunningParts h s) (e : Scope) (call : TypedCall) (d : FunctionRecord ClassId) (c : IsCall h e call d) where
   pub overridden : (q : ObjectPart) → IsPartMade h s.classes q call.function.class → call.is_dispatched ≡ true → is_outside h s q ≡ false → IsOverridden h program s call.function q

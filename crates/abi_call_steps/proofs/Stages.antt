@@ -5,14 +5,13 @@ use Rattle.cxx_program.specs.declared.operand.Argument.{Argument}
 use Rattle.cxx_program.specs.declared.operand.Conversion.{Conversion}
 use Rattle.cxx_program.specs.declared.operand.Conversion.TheVariants.{Base as ToBase, Null as ToNull, Number as ToNumber, Same as ToSame}
 use Rattle.cxx_program.specs.declared.statement.TypedCall.{TypedCall}
-use Rattle.cxx_subobject.specs.Locations.{ObjectPart}
 use Rattle.foundation.proofs.Truth.{split}
 use Rattle.path_model.proofs.Ranks.{first_place, rank, rank_append}
-use Rattle.path_model.proofs.Single.{guard_rank, none_rank, view_rank}
+use Rattle.path_model.proofs.Single.{guard_rank, none_rank, view_rank, take_late}
 use Rattle.path_model.proofs.Sorted.{broken_append, by_sort, by_then}
 use Rattle.path_model.specs.Order.{asked_call, asked_views, first_broken, sorted}
 use Rattle.path_model.specs.Rules.{is_outside, is_pure_at, is_unready, names}
-use Rattle.path_model.specs.Uses.{Follows, Guards, Reads, Takes, Use, Views, argument_uses, arrow, convert, goes_to, is_shared, is_shared_way, receiver, takes, views}
+use Rattle.path_model.specs.Uses.{Follows, Guards, Reads, Use, Views, argument_uses, arrow, convert, goes_to, is_shared, is_shared_way, receiver, takes, views}
 use Rattle.path_model.specs.Values.{Null, Number, Objects, Pointer, Sight, Unset, Value, value}
 use Rattle.path_rules.specs.declared.Undefined.{Undefined}
 use Rattle.path_rules.specs.declared.Undefined.TheVariants.{PureCall}
@@ -20,6 +19,7 @@ use Rattle.std.proofs.Common.{◌≡◌, ◌<◌, ◌≤◌, Bool, true, false, 
 use Rattle.std.specs.List.{flat_map}
 use Rattle.std.specs.Option.{option_or}
 use Rattle.std.specs.Prelude.{if◌then◌else◌, ◌||◌}
+use Rattle.path_model.proofs.Conversions.{read_rank}
 
 -- the uses break no rule behind the fifth, or none at all
 pub record IsEarly (h : Classes) (s : Objects) (us : List Use) : Type 0 where
@@ -30,11 +30,6 @@ early_none h s = let n = none_rank h s in record { early = λ less. absurd (omeg
 
 pub early_append : (h : Classes) (s : Objects) (us vs : List Use) → IsEarly h s us → IsEarly h s vs → IsEarly h s (us ++ vs)
 early_append h s us vs a b = let r = rank_append h s us vs in let x = a.early in let y = b.early in record { early = λ less. grind (arith, r, x, y) }
-
-read_rank : (h : Classes) (s : Objects) (p : ObjectPart) (b : Bool) → s.is_closed p.object ≡ b → rank h s (Reads (Pointer p) ∷ []) ≡ (if b then 1 else 12)
-unfolding rank first_place
-read_rank h s p true e = rw e refl
-read_rank h s p false e = rw e refl
 
 early_read : (h : Classes) (s : Objects) (v : Value) → IsEarly h s (Reads v ∷ [])
 unfolding rank first_place
@@ -86,17 +81,6 @@ early_asked : (h : Classes) (s : Objects) (needed : Bool) (call : TypedCall) (v 
 early_asked h s true call v = early_view h s v
 early_asked h s false call v = early_views h s (is_shared call.base) (goes_to call.qualifier v)
 
-take_rank : (h : Classes) (s : Objects) (v : Value) (f : FunctionId) (b : Bool) → names (is_pure_at h s f) v ≡ b → rank h s (Takes v f ∷ []) ≡ (if b then 5 else 12)
-unfolding rank first_place
-take_rank h s v f true e = rw e refl
-take_rank h s v f false e = rw e refl
-
-late_takes : (h : Classes) (s : Objects) (needed : Bool) (v : Value) (f : FunctionId) → 5 ≤ rank h s (takes needed v f)
-late_takes h s true v f = split (names (is_pure_at h s f) v) (λ x. 5 ≤ rank h s (Takes v f ∷ []))
-    (λ e. let r = take_rank h s v f true e in omega (arith, r))
-    (λ e. let r = take_rank h s v f false e in omega (arith, r))
-late_takes h s false v f = let n = none_rank h s in omega (arith, n)
-
 -- the uses of a call that are tested before it
 abbrev pub front_uses : Sight → TypedCall → List Use
 front_uses see call = arrow (value see call.pointer) ++ (asked_views (call.is_dispatched || is_shared_way call.qualifier) call (value see call.pointer) ++ flat_map (argument_uses see) call.arguments)
@@ -118,7 +102,7 @@ call_order h s see call =
     let first = asked_views (call.is_dispatched || is_shared_way call.qualifier) call v in
     let early = early_append h s (arrow v) (first ++ flat_map (argument_uses see) call.arguments) (early_arrow h s v)
     (early_append h s first (flat_map (argument_uses see) call.arguments) (early_asked h s (call.is_dispatched || is_shared_way call.qualifier) call v) (early_arguments h s see call.arguments)) in
-    let late = late_takes h s call.is_dispatched (receiver see call) call.function in
+    let late = take_late h s call.is_dispatched (receiver see call) call.function in
     let staged = by_then h s front last (sorted front) (sorted last) (by_sort h s front) (by_sort h s last) (λ less. let most = early.early less in omega (arith, late, most)) in
     ap (λ (us : List Use). first_broken h s (sorted us)) (asked_parts see call) ∙ sym (by_sort h s (front ++ last)).same ∙ staged.same ∙ broken_append h s (sorted front) (sorted last)
 

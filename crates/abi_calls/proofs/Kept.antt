@@ -8,7 +8,6 @@ use Rattle.abi_dispatch.specs.Results.{RunsFor}
 use Rattle.abi_ops.specs.Arguments.{block_in, checked_taken, free}
 use Rattle.abi_statements.specs.Rights.{object_taken, result_class, result_taken, unused}
 use Rattle.abi_statements.specs.Statements.{class_number}
-use Rattle.abi_slots.proofs.Names.{same_class}
 use Rattle.abi_slots.specs.Groups.{adjust_by, adjust_to, return_adjust, return_for, vbase_bytes}
 use Rattle.abi_slots.specs.Images.{return_constant, return_vbase}
 use Rattle.abi_slots.specs.Listing.{between_classes, is_class as slot_class, pointee}
@@ -39,6 +38,7 @@ use Rattle.path_model.specs.Effects.{base_conversion, class_conversion, result_c
 use Rattle.path_model.specs.Rules.{differ}
 use Rattle.std.proofs.lemmas.Bool.{eq-eqb, eqb-true}
 use Rattle.std.proofs.lemmas.Option.{slice_get_past}
+use Rattle.cxx_subobject.proofs.PathLemmas.{same_id}
 
 same_find : (p q : Subobject → Bool) → ((i : Subobject) → p i ≡ q i) → (is : List Subobject) → find p is ≡ find q is
 same_find p q same_test [] = refl
@@ -83,7 +83,7 @@ module _ (w : World) (world : IsWorld w) where
 
   to_base_class : (x y : ClassId) (i : Subobject) → (x ≡ y → ⊥) → IsOnlyBase (classes_in w) x y i → class_conversion (classes_in w) x y ≡ ToBase i
   to_base_class x y i differ only =
-      let apart : nat_eq x.0 y.0 ≡ false = is_false (nat_eq x.0 y.0) (λ e. differ (same_class x y (eqb-true x.0 y.0 e))) in
+      let apart : nat_eq x.0 y.0 ≡ false = is_false (nat_eq x.0 y.0) (λ e. differ (same_id x y (eqb-true x.0 y.0 e))) in
       ap (λ t. if t then ToSame else base_conversion (find (is_of_class y) (preorder (classes_in w) x))) apart
       ∙ ap base_conversion (same_find (is_of_class y) (λ s. slot_class y (class_of s)) (λ s. class_test y (class_of s)) (preorder (classes_in w) x) ∙ base_is_only (classes_in w) world.hierarchy x y i only)
 

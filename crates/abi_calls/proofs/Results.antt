@@ -10,7 +10,6 @@ use Rattle.abi_parts.proofs.Inside.{part_limit}
 use Rattle.abi_parts.specs.Addresses.{address}
 use Rattle.abi_parts.specs.Heaps.{Heap}
 use Rattle.abi_parts.specs.Placed.{IsLaid}
-use Rattle.abi_slots.proofs.Dynamics.{base_dynamic}
 use Rattle.abi_stands.proofs.Phases.{part_ready}
 use Rattle.abi_stands.specs.Columns.{ColumnsStand}
 use Rattle.abi_stands.specs.Frames.{constant_added, vbase_added}
@@ -53,6 +52,7 @@ use Rattle.path_rules.specs.Rules.{undefined_no}
 use Rattle.path_rules.specs.declared.Undefined.{Undefined}
 use Rattle.path_rules.specs.declared.Undefined.TheVariants.{NotReady, OutsideView}
 use Rattle.std.specs.Prelude.{slice_set, not, ◌&&◌}
+use Rattle.abi_primary.proofs.KindLemmas.{base_dynamic}
 
 -- the first rule that a conversion to a base breaks
 pub convert_first : (h : Classes) (s : Objects) (v : Value) (i : Subobject) → first_broken h s (sorted (convert v (ToBase i))) ≡ (if names (is_unready s) v then Some NotReady else (if is_shared i && names (is_outside h s) v then Some OutsideView else None))

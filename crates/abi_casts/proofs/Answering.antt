@@ -7,13 +7,13 @@ use Rattle.cxx_subobject.specs.declared.Subobject.{Subobject}
 use Rattle.cxx_subobject.specs.Subobjects.{IsSubobject, class_of}
 use Rattle.cxx_subobject.specs.Inside.{IsInside, IsPublicWalk}
 use Rattle.cxx_subobject.proofs.PathLemmas.{same_id}
+use Rattle.cxx_subobject.proofs.InsideLemmas.{inside_valid}
 use Rattle.cxx_search.specs.Casts.{IsTarget as IsTargetIn, CastsDown, CastsAcross, IsCast as IsCastIn, leads_down, leads_across, leads_nowhere}
 use Rattle.abi_dyncast.specs.declared.parts.Part.{Part}
 use Rattle.abi_dyncast.specs.Rule.{Parts, IsDown, IsAcross, IsCast, down, across, nowhere}
 use Rattle.abi_dyncast.specs.Graph.{Graph, Leads, LeadsToSome, any_edge, public_edge}
 use Rattle.abi_dyncast.specs.Casts.{IsNamed, IsTarget, parts_below}
 use Rattle.abi_dyncast.proofs.Transfer.{Corresponds, made, transfer}
-use Rattle.cxx_search.proofs.Finals.{inside_valid}
 use Rattle.abi_casts.proofs.Showing.{Shows, class_in, view_in, ends_inside, ends_publicly, walk_leads, inside_leads}
 
 -- the rule's questions, over the subobjects of the view x

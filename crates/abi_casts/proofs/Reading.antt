@@ -20,7 +20,7 @@ use Rattle.cxx_subobject.specs.Inside.{IsInside}
 use Rattle.cxx_subobject.proofs.PathLemmas.{class_low}
 use Rattle.cxx_subobject.proofs.TreeLemmas.{base_down, base_across, edge}
 use Rattle.cxx_subobject.proofs.TestLemmas.{base_class}
-use Rattle.cxx_subobject.proofs.InsideLemmas.{join_class, inside_through}
+use Rattle.cxx_subobject.proofs.InsideLemmas.{join_class, inside_through, inside_valid}
 use Rattle.abi_primary.specs.Kinds.{IsDynamic, shares}
 use Rattle.abi_sound.specs.declared.class_layout.ClassLayout.{ClassLayout}
 use Rattle.abi_sound.specs.Places.{Places, places_of, base_place}
@@ -38,12 +38,12 @@ use Rattle.abi_dyncast.specs.declared.parts.Edge.{Edge}
 use Rattle.abi_dyncast.specs.Graph.{Graph, graph_of, moved, info_at, is_virtual, is_public, vbase_at, distance_word, edge_by, record_at, base_of}
 use Rattle.abi_dyncast.specs.Casts.{CanStep}
 use Rattle.abi_dyncast.proofs.Keeping.{info_read, base_read}
+use Rattle.abi_dyncast.proofs.Distances.{moved_between, moved_along}
 use Rattle.abi_casts.specs.Standing.{IsStanding}
-use Rattle.abi_casts.proofs.Numbers.{moved_along, moved_back, moved_between}
+use Rattle.abi_casts.proofs.Numbers.{moved_back}
 use Rattle.abi_casts.proofs.Distances.{IsFar, far_plain, far_virtual}
 use Rattle.abi_casts.proofs.Bases.{inside_base}
 use Rattle.abi_casts.proofs.Records.{base_stands, listed_at, listed_count, virtual_read, plain_read}
-use Rattle.cxx_search.proofs.Finals.{inside_valid}
 use Rattle.abi_casts.proofs.Showing.{Shows}
 
 abbrev pub record_for : (ClassId → ℕ) → Option ClassId → ℕ

@@ -13,13 +13,12 @@ use Rattle.cxx_subobject.specs.declared.Subobject.{Subobject}
 use Rattle.cxx_subobject.specs.Subobjects.{Leads as Path, IsSubobject, whole, shared, subobject, shared_base, base_subobject, class_of, join}
 use Rattle.cxx_subobject.specs.Inside.{IsInside, IsPublicWalk, stays as stays_there, steps as steps_on}
 use Rattle.cxx_subobject.proofs.PathLemmas.{class_there}
-use Rattle.cxx_subobject.proofs.InsideLemmas.{inside_itself, inside_through}
+use Rattle.cxx_subobject.proofs.InsideLemmas.{inside_itself, inside_through, inside_valid}
 use Rattle.cxx_subobject.proofs.TreeLemmas.{base_down, base_across}
 use Rattle.cxx_subobject.proofs.TestLemmas.{base_class, class_below}
 use Rattle.abi_dyncast.specs.declared.parts.Part.{Part}
 use Rattle.abi_dyncast.specs.declared.parts.Edge.{Edge}
 use Rattle.abi_dyncast.specs.Graph.{Graph, Leads, stays, steps, any_edge, public_edge}
-use Rattle.cxx_search.proofs.Finals.{inside_valid}
 use Rattle.abi_casts.proofs.Bases.{inside_base}
 
 -- each subobject in x has a part, and from there edges lead to the parts of its bases; no two subobjects of one class have one place

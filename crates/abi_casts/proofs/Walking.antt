@@ -14,7 +14,7 @@ use Rattle.cxx_subobject.specs.Subobjects.{IsSubobject, whole_of, base_subobject
 use Rattle.cxx_subobject.specs.Preorder.{preorder}
 use Rattle.cxx_subobject.specs.Inside.{IsInside}
 use Rattle.cxx_subobject.proofs.TestLemmas.{base_class}
-use Rattle.cxx_subobject.proofs.InsideLemmas.{join_class, join_whole, inside_itself}
+use Rattle.cxx_subobject.proofs.InsideLemmas.{join_class, join_whole, inside_itself, inside_valid}
 use Rattle.cxx_search.specs.Searches.{preorder_of, parts_of}
 use Rattle.cxx_search.proofs.Within.{parts_inside, inside_parts}
 use Rattle.abi_primary.specs.Kinds.{IsDynamic}
@@ -26,10 +26,9 @@ use Rattle.abi_dyncast.specs.declared.parts.Part.{Part}
 use Rattle.abi_dyncast.specs.declared.parts.Edge.{Edge}
 use Rattle.abi_dyncast.specs.Graph.{Graph, graph_of, word_in, loaded, pointer_at, moved, info_at}
 use Rattle.abi_dyncast.specs.Casts.{AreRead, AreParts, CanStep, CanWalk, view_of, CanCast}
+use Rattle.abi_dyncast.proofs.Distances.{moved_between}
 use Rattle.abi_casts.specs.Standing.{IsStanding}
-use Rattle.cxx_search.proofs.Finals.{inside_valid}
 use Rattle.abi_casts.proofs.Showing.{IsEdge, edge_from, class_in}
-use Rattle.abi_casts.proofs.Numbers.{moved_between}
 use Rattle.abi_casts.proofs.Reading.{part_of, record_for, low, pointing, class_read, info_stands, step_stands, shows}
 
 module _ (h : Classes) (rows : List ClassLayout) (x : View) (placed : PlacedTables) (memory : Store) (start : ℕ) (stands : IsStanding h rows x placed memory start) where

@@ -5,6 +5,7 @@ use Rattle.std.specs.List.{flat_map, sum_by}
 use Rattle.std.proofs.lemmas.List.Sums.{sum_by-cons, sum_by-append}
 use Rattle.foundation.proofs.Truth.{split}
 use Rattle.foundation.proofs.Members.{Has, index_of}
+use Rattle.foundation.proofs.Chosen.{find_passes}
 use Rattle.cxx_hierarchy.specs.declared.records.ClassId.{ClassId}
 use Rattle.cxx_hierarchy.specs.declared.records.Base.{Base}
 use Rattle.cxx_hierarchy.specs.declared.records.Member.{Member}
@@ -18,10 +19,10 @@ use Rattle.cxx_program.specs.declared.program.Owner.{Owner}
 use Rattle.cxx_program.specs.declared.program.Owner.TheVariants.{Main, Function, Constructor, Destructor}
 use Rattle.cxx_program.specs.declared.program.TypedBody.{TypedBody}
 use Rattle.cxx_program.specs.Typed.{IsTypedProgram}
-use Rattle.cxx_search.proofs.Finding.{find_passes, finds_some}
+use Rattle.cxx_search.proofs.Finding.{finds_some}
 use Rattle.path_plan.specs.Plans.{Form, InFull, AsBase, count_from, upto, backwards, virtual_order}
 use Rattle.path_model.specs.States.{same_owner, body_of, bodies_of}
-use Rattle.path_model.proofs.TypedBodies.{body_typed}
+use Rattle.path_model.proofs.TypedBodies.{body_typed, same_function_itself}
 use Rattle.abi_ops.specs.declared.routines.Course.{Course}
 use Rattle.abi_ops.specs.declared.routines.Course.TheVariants.{Constructs, Destroys, Deletes}
 use Rattle.abi_ops.specs.Setups.{Setup, FunctionCode, PlanCode, body_in}
@@ -34,7 +35,6 @@ use Rattle.abi_lower.specs.Blocks.{items}
 use Rattle.abi_code.specs.Bounds.{body_blocks, statements_in, most_statements}
 use Rattle.abi_code.specs.invariants.Numbers.{main_routines, owned_routines, plan_routines, class_ids, routines, is_own_item, own_count, own_events, blocks_in, block_count}
 use Rattle.abi_code.proofs.Blocks.{own_first, own_both}
-use Rattle.abi_code.proofs.ListedRoutines.{function_itself}
 
 -- the own events of a plan
 
@@ -167,7 +167,7 @@ plan_low x Deletes form c = found_low x.program.bodies (body_of x.program (Destr
 -- the body of a function is found among all
 found_is : (x : Setup) → IsTypedProgram x.h x.program → (f : FunctionId) (body : TypedBody) → Has x.program.bodies body → body.owner ≡ Function f → body_in x (FunctionCode f) ≡ Some body
 found_is x typed f body has owner =
-    let passes : same_owner body.owner (Function f) ≡ true = subst (λ (o : Owner). same_owner o (Function f) ≡ true) (sym owner) (function_itself f) in
+    let passes : same_owner body.owner (Function f) ≡ true = subst (λ (o : Owner). same_owner o (Function f) ≡ true) (sym owner) (same_function_itself f) in
     let found = finds_some (λ (b : TypedBody). same_owner b.owner (Function f)) x.program.bodies body has passes in
     let there = find_passes (λ (b : TypedBody). same_owner b.owner (Function f)) x.program.bodies found.0 found.1 in
     let of = (body_typed x.h x.program typed (Function f) found.0 found.1).0 in

@@ -12,5 +12,4 @@ pub mod BodySites
 pub mod PlanRuns
 pub mod RunSteps
 pub mod FrameRegisters
-pub mod ClassLimits
 pub mod FewBlocks

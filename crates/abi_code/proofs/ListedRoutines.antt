@@ -2,12 +2,12 @@
 use Rattle.std.proofs.Common.{◌≡◌, ℕ, zero, suc, ◌<◌, ◌≤◌, inl, inr, ⊎_elim, Bool, true, false, Option, Some, None, List, [], ◌∷◌, length, map, refl, ap, subst, sym, ◌∙◌, arith}
 use Rattle.std.specs.Prelude.{slice_get}
 use Rattle.std.specs.List.{flat_map}
-use Rattle.std.proofs.lemmas.Bool.{eq-eqb}
 use Rattle.foundation.proofs.Members.{Has, EachOnce, EachApart, has_left, has_right, has_cases, has_map, from_map, has_flat_map, from_flat_map, once_append, once_flat_map, index_of}
+use Rattle.foundation.proofs.Chosen.{find_passes}
 use Rattle.cxx_hierarchy.specs.declared.records.ClassId.{ClassId}
 use Rattle.cxx_hierarchy.specs.Classes.{Classes}
 use Rattle.cxx_overrider.specs.declared.FunctionId.{FunctionId}
-use Rattle.cxx_search.proofs.Finding.{find_passes, finds_some}
+use Rattle.cxx_search.proofs.Finding.{finds_some}
 use Rattle.cxx_program.specs.declared.program.Owner.{Owner}
 use Rattle.cxx_program.specs.declared.program.Owner.TheVariants.{Main, Function, Constructor, Destructor}
 use Rattle.cxx_program.specs.declared.program.TypedBody.{TypedBody}
@@ -16,7 +16,7 @@ use Rattle.cxx_program.specs.Typed.{IsTypedProgram}
 use Rattle.path_plan.specs.Plans.{Form, InFull, AsBase, upto, count_from}
 use Rattle.path_plan.proofs.Members.{has_count, count_has}
 use Rattle.path_model.specs.States.{same_owner, body_of}
-use Rattle.path_model.proofs.TypedBodies.{body_typed}
+use Rattle.path_model.proofs.TypedBodies.{body_typed, same_function_itself}
 use Rattle.abi_slots.specs.declared.code_numbers.BlockKind.{BlockKind}
 use Rattle.abi_slots.specs.declared.code_numbers.BlockKind.TheVariants.{Plain, BuildComplete, BuildBase, EndComplete, EndBase, EndDeleting}
 use Rattle.abi_ops.specs.declared.routines.Course.{Course}
@@ -76,14 +76,11 @@ owned_only (Function f) r has = ⊎_elim (λ e. (f, refl, e)) (λ none. absurd n
 owned_only (Constructor c) r has = absurd has
 owned_only (Destructor c) r has = absurd has
 
-pub function_itself : (f : FunctionId) → same_owner (Function f) (Function f) ≡ true
-function_itself f = rw (eq-eqb f.class.0 f.class.0 refl, eq-eqb f.index f.index refl) refl
-
 function_only : (x : Setup) (r : Routine) → Has (function_routines x.program.bodies) r → IsRoutine x r
 function_only x r has =
     let from = from_flat_map (λ (b : TypedBody). owned_routines b.owner) x.program.bodies r has in
     let owned = owned_only from.0.owner r from.2 in
-    let passes : same_owner from.0.owner (Function owned.0) ≡ true = subst (λ (o : Owner). same_owner o (Function owned.0) ≡ true) (sym owned.1) (function_itself owned.0) in
+    let passes : same_owner from.0.owner (Function owned.0) ≡ true = subst (λ (o : Owner). same_owner o (Function owned.0) ≡ true) (sym owned.1) (same_function_itself owned.0) in
     let found = finds_some (λ (b : TypedBody). same_owner b.owner (Function owned.0)) x.program.bodies from.0 from.1 passes in
     subst (λ (o : Routine). IsRoutine x o) owned.2 (ap has_body found.1)
 

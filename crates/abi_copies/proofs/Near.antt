@@ -5,7 +5,6 @@ use Rattle.cxx_search.specs.Searches.{has_some, has_virtual_base}
 use Rattle.std.proofs.lemmas.Option.{slice_get-get_or}
 use Rattle.std.proofs.lemmas.Bool.Decides.{nat_tests}
 use Rattle.foundation.proofs.Places.{contains_at}
-use Rattle.foundation.proofs.Members.{Has, has_at}
 use Rattle.cxx_hierarchy.specs.declared.records.ClassId.{ClassId}
 use Rattle.cxx_hierarchy.specs.declared.records.Member.{Member}
 use Rattle.cxx_hierarchy.specs.declared.records.FieldType.{FieldType}
@@ -15,12 +14,10 @@ use Rattle.cxx_hierarchy.specs.Declarations.{elements_of}
 use Rattle.cxx_hierarchy.specs.Hierarchies.{IsHierarchy}
 use Rattle.cxx_subobject.specs.declared.Subobject.{Subobject}
 use Rattle.cxx_subobject.specs.Subobjects.{IsSubobject, whole, whole_of, class_of}
-use Rattle.cxx_subobject.specs.Preorder.{preorder}
 use Rattle.cxx_subobject.specs.declared.locations.Hop.{Hop}
 use Rattle.cxx_subobject.specs.declared.locations.Hop.TheVariants.{Inherit, Member as MemberHop}
 use Rattle.cxx_subobject.specs.Locations.{IsElement, LeadsTo, to_subobject, to_value, to_inner}
 use Rattle.cxx_subobject.proofs.PathLemmas.{class_there}
-use Rattle.cxx_subobject.proofs.TreeLemmas.{has_preorder}
 use Rattle.abi_sound.specs.declared.class_layout.ClassLayout.{ClassLayout}
 use Rattle.abi_sound.specs.Places.{Places, places_of}
 use Rattle.abi_sound.specs.Locations.{place_at, place_behind, element_place, element_class}
@@ -28,19 +25,10 @@ use Rattle.abi_sound.specs.Sound.{IsSoundLayout}
 use Rattle.abi_sound.proofs.PlaceLemmas.{element_place_is, element_class_is}
 use Rattle.abi_copies.specs.invariants.Fits.{FitsObject, FitsMember, FitsOwn}
 
--- an item of the list of a class's subobjects is one, and its class is found
-pub valid_at : (h : Classes) (c : ClassId) (list : List Subobject) (j : ℕ) (s : Subobject) → list ≡ preorder h c → j < length list → s ≡ get_or list j s → IsSubobject h c s
-valid_at h c list j s is less at =
-    let has : Has list s = has_at list j s (slice_get-get_or list j s less ∙ ap (λ (t : Subobject). Some t) (sym at)) in
-    has_preorder h c s (subst (λ (l : List Subobject). Has l s) is has)
-
 -- a member that a loop over a class's members is at
 pub member_there : (h : Classes) (b : ClassId) (class : Class) (list : List (Member ClassId)) (m : ℕ) (member : Member ClassId) → class_at h b ≡ Some class → list ≡ class.members → m < length list → member ≡ get_or list m member → slice_get (members_of h b) m ≡ Some member
 member_there h b class list m member there is less at =
     ap (λ (o : Option Class). slice_get (members_in o) m) there ∙ (ap (λ (l : List (Member ClassId)). slice_get l m) (sym is) ∙ (slice_get-get_or list m member less ∙ ap (λ (x : Member ClassId). Some x) (sym at)))
-
-pub class_found : (h : Classes) (c b : ClassId) (s : Subobject) → IsSubobject h c s → ((d : ClassId) → class_of s ≡ Some d → b ≡ d) → class_of s ≡ Some b
-class_found h c b s valid told = let k = class_there h c s valid in k.1 ∙ ap (λ (d : ClassId). Some d) (sym (told k.0 k.1))
 
 module _ (h : Classes) (keeps : IsHierarchy h) (l : Places) where
   pub base_low : (d : ClassId) (offset : ℕ) (s : Subobject) → FitsObject h l d offset → IsSubobject h d s → offset + l.place d s < 2 ^ 21

@@ -3,11 +3,11 @@ use Rattle.std.proofs.Common.{◌≡◌, ℕ, Bool, true, false, Option, Some, N
 use Rattle.std.specs.Prelude.{find, if◌then◌else◌}
 use Rattle.foundation.proofs.Members.{Has}
 use Rattle.foundation.proofs.Truth.{split}
+use Rattle.foundation.proofs.Chosen.{find_passes}
 use Rattle.cxx_hierarchy.specs.declared.records.ClassId.{ClassId}
 use Rattle.cxx_hierarchy.specs.Classes.{Classes}
 use Rattle.cxx_hierarchy.specs.Hierarchies.{IsHierarchy}
 use Rattle.cxx_subobject.specs.Locations.{ObjectPart}
-use Rattle.cxx_search.proofs.Finding.{find_passes}
 use Rattle.path_model.specs.Values.{Leaf, Objects}
 use Rattle.path_model.specs.Places.{leaf}
 use Rattle.path_model.specs.TypedStates.{IsPartMade}

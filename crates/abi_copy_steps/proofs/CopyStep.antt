@@ -34,7 +34,7 @@ use Rattle.path_model.proofs.Statements.{statement_answers}
 use Rattle.path_model.proofs.TypedValues.{operand_typed}
 use Rattle.path_model.proofs.TypedUses.{followed}
 use Rattle.abi_primary.specs.Kinds.{IsDynamic}
-use Rattle.abi_slots.proofs.Dynamics.{base_dynamic}
+use Rattle.abi_primary.proofs.KindLemmas.{base_dynamic}
 use Rattle.byte_memory.specs.Cells.{byte_of}
 use Rattle.byte_code.specs.declared.op.Op.TheVariants.{Jump}
 use Rattle.byte_machine.specs.Leads.{Leads, LeadsBlock}

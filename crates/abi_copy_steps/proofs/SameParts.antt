@@ -1,6 +1,5 @@
 -- Two parts of one class have the same parts inside; where they have one in common, it is the same one of both.
-use Rattle.std.proofs.Common.{◌≡◌, ℕ, suc, ◌<◌, ◌≤◌, ⊎_elim, Some, List, [], ◌∷◌, ◌++◌, length, refl, ap, subst, sym, ◌∙◌, arith}
-use Rattle.foundation.proofs.Places.{contains_at}
+use Rattle.std.proofs.Common.{◌≡◌, ℕ, suc, ◌≤◌, ⊎_elim, Some, List, [], ◌∷◌, ◌++◌, length, refl, ap, subst, sym, ◌∙◌, arith}
 use Rattle.cxx_hierarchy.specs.declared.records.ClassId.{ClassId}
 use Rattle.cxx_hierarchy.specs.declared.records.FieldType.TheVariants.{Object}
 use Rattle.cxx_hierarchy.specs.Classes.{Classes}
@@ -10,6 +9,7 @@ use Rattle.cxx_subobject.specs.Subobjects.{IsSubobject, whole, shared, whole_of,
 use Rattle.cxx_subobject.specs.Locations.{IsElement, ObjectPart, Step, IsOwner}
 use Rattle.cxx_subobject.proofs.PathLemmas.{class_low}
 use Rattle.cxx_subobject.proofs.InsideLemmas.{inside_same, join_injective, join_class}
+use Rattle.cxx_subobject.proofs.LocationLemmas.{element_low}
 use Rattle.cxx_overrider.proofs.OneFinal.{fronts, front_inside}
 use Rattle.path_plan.specs.Places.{part, element}
 use Rattle.path_model.specs.Values.{inner_part}
@@ -37,16 +37,12 @@ like_deep : (h : Classes) (c : ClassId) (x y p q : ObjectPart) → IsLike h c x 
 like_deep h c x y _ _ (near i valid) = omega arith
 like_deep h c x y _ _ (far p q b d m k i like class_p class_q element_there valid) = let l = like_deep h c x y p q like in omega arith
 
--- a member object is of a class before
-element_before : (h : Classes) → IsHierarchy h → (b d : ClassId) (m k : ℕ) → IsElement h b m k (Object d) → d.0 < b.0
-element_before h keeps b d m k e = keeps.objects b d e.member (contains_at _ m e.member e.there) e.type_is
-
 -- and of no later class
 like_low : (h : Classes) → IsHierarchy h → (c : ClassId) (x y p q : ObjectPart) (b : ClassId) → class_of x.at ≡ Some c → IsLike h c x y p q → class_of p.at ≡ Some b → b.0 ≤ c.0
 like_low h keeps c x y _ _ b class (near i valid) is = class_low h keeps c b i valid (sym (join_class h c x.at i class valid) ∙ is)
 like_low h keeps c x y _ _ b class (far p q a d m k i like class_p class_q element_there valid) is =
     let below = class_low h keeps d b i valid (sym (join_class h d (whole_of d) i refl valid) ∙ is) in
-    let member = element_before h keeps a d m k element_there in
+    let member = element_low h keeps a d m k element_there in
     let low = like_low h keeps c x y p q a class like class_p in
     omega arith
 
@@ -58,7 +54,7 @@ too_deep h keeps cs c b y step rest made owner class low = by_owner made.inside.
     by_owner e (d, a, up, valid, class', element_there) inside =
         let one : Some a ≡ Some b = sym class' ∙ class in
         let same : a.0 ≡ b.0 = ap (λ (z : ClassId). z.0) (let f : a ≡ b = cc in f) in
-        let member = element_before h keeps a e step.member step.index element_there in
+        let member = element_low h keeps a e step.member step.index element_there in
         let below = class_low h keeps e c y.at inside made.of_class in
         omega arith
 

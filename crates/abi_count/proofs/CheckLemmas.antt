@@ -8,10 +8,10 @@ use Rattle.cxx_subobject.specs.Subobjects.{IsSubobject, whole, whole_of}
 use Rattle.cxx_subobject.specs.VirtualBases.{virtual_bases}
 use Rattle.cxx_subobject.proofs.VirtualBaseLemmas.{virtual_has}
 use Rattle.abi_primary.specs.Kinds.{IsDynamic}
+use Rattle.abi_primary.proofs.KindLemmas.{base_dynamic}
 use Rattle.abi_sound.specs.Places.{Places}
 use Rattle.abi_slots.specs.Views.{is_dynamic}
 use Rattle.abi_slots.proofs.Chains.{same_some}
-use Rattle.abi_slots.proofs.Dynamics.{base_dynamic}
 use Rattle.abi_slots.proofs.Heads.{test_dynamic}
 use Rattle.abi_vtt.specs.Vtts.{has_virtual, HasDynamicClass}
 use Rattle.abi_count.specs.Counts.{class_words, words_to}

@@ -1,38 +1,39 @@
 -- The words of the group of a view are a sum of numbers of its class and of the virtual bases of that.
-use Rattle.std.proofs.Common.{◌≡◌, ℕ, ◌+◌, ⊎_elim, true, false, [], ◌∷◌, ◌++◌, refl, ap, subst, sym, ◌∙◌}
+use Rattle.std.proofs.Common.{◌≡◌, ℕ, ◌+◌, true, false, [], ◌∷◌, ◌++◌, refl, ap, subst, sym, ◌∙◌}
 use Rattle.std.specs.Prelude.{Some, None, Bool, not, ◌&&◌, ◌||◌, IsTrue, ◌↔◌, if◌then◌else◌}
 use Rattle.std.specs.List.{sum_by, list_any}
 use Rattle.std.proofs.lemmas.Bool.{eqb-true, eq-eqb, and_from}
+use Rattle.std.proofs.lemmas.List.{same_from_push}
 use Rattle.cxx_hierarchy.specs.declared.records.ClassId.{ClassId}
 use Rattle.cxx_hierarchy.specs.Classes.{Classes}
 use Rattle.cxx_hierarchy.specs.VirtualBases.{HasVirtualBase}
 use Rattle.cxx_subobject.specs.declared.Root.{Root}
 use Rattle.cxx_subobject.specs.declared.Root.TheVariants.{Whole, Shared}
 use Rattle.cxx_subobject.specs.declared.Subobject.{Subobject}
-use Rattle.cxx_subobject.specs.Subobjects.{IsSubobject, subobject, shared_base, whole_of, class_of, class_of_path, same_root}
+use Rattle.cxx_subobject.specs.Subobjects.{IsSubobject, subobject, shared_base, whole_of, class_of, class_of_path}
 use Rattle.cxx_subobject.specs.Preorder.{preorder}
 use Rattle.cxx_subobject.specs.VirtualBases.{virtual_bases}
 use Rattle.cxx_subobject.proofs.PathLemmas.{class_there, part_virtual, same_id}
 use Rattle.cxx_subobject.proofs.InsideLemmas.{join_whole}
-use Rattle.cxx_subobject.proofs.TreeLemmas.{same_itself, has_preorder, has_filter}
+use Rattle.cxx_subobject.proofs.TreeLemmas.{same_itself}
 use Rattle.cxx_subobject.proofs.TestLemmas.{class_below}
 use Rattle.foundation.proofs.Truth.{is_false}
-use Rattle.foundation.proofs.Members.{Has, has_at, has_cases, from_flat_map}
+use Rattle.foundation.proofs.Members.{has_at}
 use Rattle.abi_primary.specs.declared.Primary.{Primary}
 use Rattle.abi_primary.specs.declared.Primary.TheVariants.{None as NoPrimary, Direct, Virtual}
 use Rattle.abi_primary.specs.PrimaryBase.{is_virtual_primary}
 use Rattle.abi_sound.specs.Places.{Places}
 use Rattle.abi_sound.specs.Sound.{ArePrimariesSound, is_primary_of}
 use Rattle.abi_slots.specs.Listing.{is_direct}
-use Rattle.abi_slots.specs.Views.{View, seen, is_some, next_by, next_in, next, is_dynamic, is_dynamic_class, is_first, is_head, of_root, by_part}
+use Rattle.abi_slots.specs.Views.{View, seen, is_some, next_by, next_in, next, is_dynamic, is_dynamic_class, is_first, is_head, by_part}
 use Rattle.abi_slots.specs.Groups.{is_shared_base}
 use Rattle.abi_slots.proofs.Lists.{any_item, item_any, found_passes}
 use Rattle.abi_slots.proofs.Bases.{preorder_item, item_preorder}
 use Rattle.abi_slots.proofs.Chains.{Setting, is_held, same_some, seen_valid, seen_class, seen_down, not_shared_path}
-use Rattle.abi_slots.proofs.OneHead.{front_same, some_path, held_if}
+use Rattle.abi_slots.proofs.OneHead.{some_path, held_if}
 use Rattle.abi_slots.proofs.Complete.{same_bool}
 use Rattle.abi_slots.proofs.Heads.{dynamic_test, part_item}
-use Rattle.abi_slots.proofs.HeadsOnce.{parts_once}
+use Rattle.abi_slots.proofs.HeadsOnce.{parts_once, part_valid}
 use Rattle.abi_vtt.proofs.RunLemmas.{direct_is}
 use Rattle.abi_count.specs.Counts.{words_of_class, table_words, group_words}
 use Rattle.abi_count.specs.invariants.Weights.{sides_of, head_words, top_words, IsHeldIn}
@@ -59,7 +60,7 @@ module _ (h : Classes) (l : Places) (x : View) (set : Setting h l x) where
   direct_from u t j k b of_u of_t class_u class_t (Direct d) is e =
       let one : subobject u.root (u.path ++ d ∷ []) ≡ subobject t.root (t.path ++ b ∷ []) = same_some _ _ e in
       let paths : u.path ++ d ∷ [] ≡ t.path ++ b ∷ [] = ap (λ (z : Subobject). z.path) one in
-      let front = front_same u.path t.path d b paths in
+      let front = (same_from_push u.path t.path d b paths).0 in
       let last : d ≡ b = same_some d b (sym (class_below u.path j d class_u) ∙ ap class_of_path paths ∙ class_below t.path k b class_t) in
       let above : j ≡ k = same_some j k (sym class_u ∙ ap class_of_path front ∙ class_t) in
       let primary : l.primary k ≡ Direct b = ap l.primary (sym above) ∙ is ∙ ap Direct last in
@@ -67,7 +68,7 @@ module _ (h : Classes) (l : Places) (x : View) (set : Setting h l x) where
   direct_from u t j k b of_u of_t class_u class_t (Virtual w) is e =
       let held = held_if (l.holder x.complete w) (seen x u) (subobject t.root (t.path ++ b ∷ [])) w e in
       let paths : w ∷ [] ≡ t.path ++ b ∷ [] = ap (λ (z : Subobject). z.path) held.base in
-      absurd (some_path h x.class t of_t (sym (front_same [] t.path w b paths)))
+      absurd (some_path h x.class t of_t (sym ((same_from_push [] t.path w b paths).0)))
 
   first_below : (t : Subobject) (k b : ClassId) → IsSubobject h x.class t → class_of t ≡ Some k → is_first h l x (subobject t.root (t.path ++ b ∷ [])) ≡ not (is_direct (l.primary k) b)
   first_below t k b valid class =
@@ -114,7 +115,7 @@ module _ (h : Classes) (l : Places) (x : View) (set : Setting h l x) where
       by_primary u of_u NoPrimary e = absurd (cc)
       by_primary u of_u (Direct d) e =
           let one : subobject u.root (u.path ++ d ∷ []) ≡ whole_of x.class = same_some _ _ e in
-          some_path h x.class u of_u (front_same u.path [] d x.class (ap (λ (z : Subobject). z.path) one))
+          some_path h x.class u of_u ((same_from_push u.path [] d x.class (ap (λ (z : Subobject). z.path) one)).0)
       by_primary u of_u (Virtual w) e =
           let held = held_if (l.holder x.complete w) (seen x u) (whole_of x.class) w e in
           let roots : Shared w ≡ Whole = ap (λ (z : Subobject). z.root) held.base in absurd (cc)
@@ -124,12 +125,6 @@ module _ (h : Classes) (l : Places) (x : View) (set : Setting h l x) where
       let head : is_head h l x (whole_of x.class) ≡ true = and_from (is_dynamic h x.class) (is_first h l x (whole_of x.class)) (dynamic_test h set.keeps x.class set.view.dynamic) whole_first in
       ap (λ c. if c then table_words h l x (whole_of x.class) else 0) head
       ∙ ap (λ s. words_of_class h l (is_shared_base s) (Some x.class)) (join_whole x.at_sub x.class)
-
-part_valid : (h : Classes) (c : ClassId) (t : Subobject) → Has (by_part h c) t → IsSubobject h c t
-part_valid h c t has = has_preorder h c t (⊎_elim
-    (λ a. (has_filter (λ (z : Subobject). same_root Whole z.root) (preorder h c) t a).0)
-    (λ a. let m = from_flat_map (λ (v : ClassId). of_root (Shared v) (preorder h c)) (virtual_bases h c) t a in (has_filter (λ (z : Subobject). same_root (Shared m.0) z.root) (preorder h c) t m.2).0)
-    (has_cases (of_root Whole (preorder h c)) _ t has))
 
 pub group_sum : (h : Classes) (l : Places) (x : View) → Setting h l x →
     group_words h l x ≡ (words_of_class h l (is_shared_base x.at_sub) (Some x.class) + sides_of h l (head_words h l) x.class) + sum_by (λ (v : ClassId). top_words h l x v + sides_of h l (head_words h l) v) (virtual_bases h x.class)
@@ -176,7 +171,7 @@ first_shared h l x set primaries v has b test =
     by_primary u of_u NoPrimary e = absurd (cc)
     by_primary u of_u (Direct d) e =
         let one : subobject u.root (u.path ++ d ∷ []) ≡ shared_base v = same_some _ _ e in
-        absurd (some_path h x.class u of_u (front_same u.path [] d v (ap (λ (z : Subobject). z.path) one)))
+        absurd (some_path h x.class u of_u ((same_from_push u.path [] d v (ap (λ (z : Subobject). z.path) one)).0))
     by_primary u of_u (Virtual w) e =
         let held = held_if (l.holder x.complete w) (seen x u) (shared_base v) w e in
         let paths : w ∷ [] ≡ v ∷ [] = ap (λ (z : Subobject). z.path) held.base in

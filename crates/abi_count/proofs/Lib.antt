@@ -1,6 +1,6 @@
 mod TreeSums
 mod HeadSums
-mod VttSums
+pub mod VttSums
 pub mod NumberLemmas
 pub mod ViewLemmas
 mod TableLengths

@@ -110,7 +110,7 @@ bases_length h keeps l x c =
 
 -- a class without virtual bases has no words
 
-filled : (vs : List ClassId) (v : ClassId) → Has vs v → is_filled vs ≡ true
+pub filled : (vs : List ClassId) (v : ClassId) → Has vs v → is_filled vs ≡ true
 filled [] v has = absurd has
 filled (u ∷ vs) v has = refl
 

@@ -9,7 +9,7 @@ use Rattle.cxx_subobject.specs.declared.Root.{Root}
 use Rattle.cxx_subobject.specs.declared.Root.TheVariants.{Whole, Shared}
 use Rattle.cxx_subobject.specs.declared.Subobject.{Subobject}
 use Rattle.cxx_subobject.specs.Subobjects.{IsSubobject, whole, shared, class_of, join, shared_base, whole_of}
-use Rattle.cxx_subobject.proofs.PathLemmas.{smaller}
+use Rattle.cxx_subobject.proofs.PathLemmas.{smaller, same_id}
 use Rattle.cxx_subobject.proofs.InsideLemmas.{join_class, join_valid}
 use Rattle.cxx_overrider.specs.Covariance.{IsOnlyBase}
 use Rattle.abi_sound.specs.declared.class_layout.ClassLayout.{ClassLayout}
@@ -18,7 +18,6 @@ use Rattle.abi_sound.proofs.PlaceLemmas.{joined}
 use Rattle.abi_slots.specs.declared.words.ReturnAdjust.{ReturnAdjust}
 use Rattle.abi_slots.specs.Groups.{offset_bytes, root_base, return_constant, return_adjust, vbase_bytes, adjust_to, adjust_by}
 use Rattle.abi_slots.specs.Listing.{between_classes, is_shared_root, is_away, needs_in, vbase_number}
-use Rattle.abi_slots.proofs.Names.{same_class}
 use Rattle.abi_dispatch.proofs.ResultClasses.{PointeesFit, no_class, same, derived, base_is_only}
 
 pub between_same : (x : ClassId) → between_classes (Some x) (Some x) ≡ None
@@ -28,7 +27,7 @@ pub between_other : (x y : ClassId) → (x ≡ y → ⊥) → between_classes (S
 between_other x y differ = ap (λ b. if b then None else Some (record { from = x; to = y })) (test (nat_eq x.0 y.0) refl)
   where
     test : (b : Bool) → nat_eq x.0 y.0 ≡ b → b ≡ false
-    test true e = absurd (differ (same_class x y (eqb-true x.0 y.0 e)))
+    test true e = absurd (differ (same_id x y (eqb-true x.0 y.0 e)))
     test false e = refl
 
 -- the adjustment to a base with this root, at this place in a class

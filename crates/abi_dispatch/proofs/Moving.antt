@@ -34,12 +34,13 @@ use Rattle.abi_slots.proofs.Bases.{contains_item}
 use Rattle.byte_memory.specs.Store.{Store}
 use Rattle.byte_code.specs.declared.code.ImageBytes.{ImageBytes}
 use Rattle.byte_code.specs.Numbers.{word_of}
+use Rattle.abi_dyncast.proofs.Distances.{moved_between}
 use Rattle.byte_machine.specs.Running.{moved}
 use Rattle.byte_machine.specs.Calls.{moved_by_word}
 use Rattle.byte_machine.specs.Plans.{word_bytes}
 use Rattle.abi_dispatch.specs.Standing.{IsViewAt, part_at}
 use Rattle.abi_dispatch.specs.Results.{Returns, IsMoved}
-use Rattle.abi_dispatch.proofs.Numbers.{moved_between, moved_up, small_word, number_word, offset_word}
+use Rattle.abi_dispatch.proofs.Numbers.{moved_up, small_word, number_word, offset_word}
 use Rattle.abi_dispatch.proofs.Bounds.{vbase_small}
 use Rattle.abi_dispatch.proofs.Reading.{to_vbase}
 use Rattle.abi_dispatch.proofs.Entering.{word_moves}

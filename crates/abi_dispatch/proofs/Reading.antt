@@ -8,6 +8,7 @@ use Rattle.cxx_subobject.specs.Subobjects.{IsSubobject, whole, shared, shared_ba
 use Rattle.cxx_subobject.proofs.PathLemmas.{part_virtual}
 use Rattle.cxx_subobject.proofs.InsideLemmas.{join_valid, join_whole}
 use Rattle.abi_primary.specs.Kinds.{IsDynamic}
+use Rattle.abi_primary.proofs.KindLemmas.{base_dynamic}
 use Rattle.abi_sound.specs.declared.class_layout.ClassLayout.{ClassLayout}
 use Rattle.abi_sound.specs.Places.{Places, places_of}
 use Rattle.abi_sound.proofs.Depth.{below}
@@ -18,16 +19,17 @@ use Rattle.abi_slots.specs.Listing.{vbase_number}
 use Rattle.abi_slots.specs.Slots.{word_number}
 use Rattle.abi_slots.specs.Views.{View, place}
 use Rattle.abi_slots.specs.Seen.{PlacedTables, IsPointOf, HasDistance, Sees}
-use Rattle.abi_slots.proofs.Dynamics.{base_dynamic}
 use Rattle.byte_memory.specs.Store.{Store}
 use Rattle.byte_code.specs.declared.code.ImageBytes.{ImageBytes}
 use Rattle.byte_code.specs.Images.{word_at}
 use Rattle.byte_code.specs.Numbers.{word_of}
+use Rattle.byte_code.proofs.Numbers.{word_inside}
+use Rattle.abi_dyncast.proofs.Distances.{moved_between}
 use Rattle.byte_machine.specs.Running.{moved, table_of, table_word, word_behind}
 use Rattle.byte_machine.specs.Plans.{word_bytes}
 use Rattle.abi_dispatch.specs.Standing.{IsViewAt, part_at}
 use Rattle.abi_dispatch.specs.Words.{MovesTo, NamesClass}
-use Rattle.abi_dispatch.proofs.Numbers.{word_inside, moved_between, moved_back, number_word}
+use Rattle.abi_dispatch.proofs.Numbers.{moved_back, number_word}
 
 -- a word of a table is read where the pointer and the word are there
 pub table_read : (image : ImageBytes) (memory : Store) (from point bytes place word : ℕ) → table_of memory from ≡ Some point → moved point bytes ≡ place → word_at image place ≡ Some word → table_word image memory from bytes ≡ Some word

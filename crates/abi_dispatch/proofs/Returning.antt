@@ -9,6 +9,7 @@ use Rattle.cxx_hierarchy.specs.Hierarchies.{IsHierarchy}
 use Rattle.cxx_subobject.specs.declared.Subobject.{Subobject}
 use Rattle.cxx_subobject.specs.Subobjects.{IsSubobject, class_of}
 use Rattle.cxx_subobject.proofs.InsideLemmas.{join_class}
+use Rattle.cxx_subobject.proofs.PathLemmas.{same_id}
 use Rattle.cxx_overrider.specs.declared.FunctionId.{FunctionId}
 use Rattle.cxx_overrider.specs.declared.Overrider.{Overrider}
 use Rattle.cxx_overrider.specs.Functions.{Signature, signature_of, return_of}
@@ -27,11 +28,10 @@ use Rattle.abi_slots.specs.Groups.{return_for}
 use Rattle.abi_slots.specs.Listing.{listing, own_keys, pointee}
 use Rattle.abi_slots.proofs.Bases.{item_contains}
 use Rattle.abi_slots.proofs.Bounds.{function_bounds}
-use Rattle.abi_slots.proofs.Names.{same_class}
 use Rattle.abi_slots.proofs.Owns.{own_virtual}
 use Rattle.abi_slots.proofs.ClassEntries.{own_key}
+use Rattle.abi_slots.proofs.ClassOffsets.{primaries_of}
 use Rattle.abi_dispatch.specs.Results.{RunsFor}
-use Rattle.abi_dispatch.proofs.Bounds.{primaries}
 use Rattle.abi_dispatch.proofs.ResultClasses.{PointeesFit, fits_itself, pointees_fit}
 use Rattle.abi_dispatch.proofs.Adjusting.{same_adjust}
 use Rattle.abi_dispatch.proofs.Listers.{IsListed, itself, shared_with, is_listed}
@@ -58,7 +58,7 @@ module _ (h : Classes) (rows : List ClassLayout) (keeps : IsHierarchy h) (fine :
   pub runs_fit : (g f : FunctionId) → RunsFor h g f → PointeesFit h (pointee (return_of h g)) (pointee (return_of h f))
   runs_fit g f runs = ⊎_elim (λ e. subst (λ k. PointeesFit h (pointee (return_of h g)) (pointee (return_of h k))) e (fits_itself h (pointee (return_of h g)))) (λ k. pointees_fit h keeps fine g f k) runs
 
-  listed_returning : (g : FunctionId) (k old : EntryKey) → RunsFor h g k.function → IsListed h (places_of h rows) keeps (primaries h rows sound) k old → return_for h (places_of h rows) g old.function ≡ return_for h (places_of h rows) g k.function
+  listed_returning : (g : FunctionId) (k old : EntryKey) → RunsFor h g k.function → IsListed h (places_of h rows) keeps (primaries_of h rows sound) k old → return_for h (places_of h rows) g old.function ≡ return_for h (places_of h rows) g k.function
   listed_returning g k _ runs itself = refl
   listed_returning g k _ runs (shared_with old overrides needs) =
       let third : RunsFor h g old.function = ⊎_elim (λ e. inr (subst (λ a. Overrides h a old.function) (sym e) overrides)) (λ a. inr (overrides_through h keeps g k.function old.function a overrides)) runs in
@@ -70,7 +70,7 @@ module _ (h : Classes) (rows : List ClassLayout) (keeps : IsHierarchy h) (fine :
       let mine = own_key h k.function.class k (item_contains (own_keys h k.function.class) k own) in
       let is = own_virtual h keeps k.function.class k.function mine.1.declares in
       let known = (function_bounds h keeps k.function is.signature is.is).0 in
-      listed_returning g k (listing h l k) runs (is_listed h l keeps (primaries h rows sound) k known is)
+      listed_returning g k (listing h l k) runs (is_listed h l keeps (primaries_of h rows sound) k known is)
 
 -- a final overrider in a view is the function, or overrides it
 pub final_runs : (h : Classes) → IsHierarchy h → (d : ClassId) (y s : Subobject) (f : FunctionId) (o : Overrider) → IsSubobject h d y → class_of s ≡ Some f.class → IsVirtual h f → final_in h y s f ≡ Some o → RunsFor h o.function f
@@ -88,6 +88,6 @@ final_runs h keeps d y s f o valid class is found =
   where
     same_or_proper : (signature : Signature) → signature_of h o.function ≡ Some signature → signature_of h f ≡ Some signature → (o.function ≡ f) ⊎ (f.class ≡ o.function.class → ⊥)
     same_or_proper signature a b = split (nat_eq f.class.0 o.function.class.0) (λ t. nat_eq f.class.0 o.function.class.0 ≡ t → (o.function ≡ f) ⊎ (f.class ≡ o.function.class → ⊥))
-        (λ t e. inl (same_function h keeps o.function f signature (sym (same_class f.class o.function.class (eqb-true f.class.0 o.function.class.0 e))) a b))
+        (λ t e. inl (same_function h keeps o.function f signature (sym (same_id f.class o.function.class (eqb-true f.class.0 o.function.class.0 e))) a b))
         (λ t e. inr (λ same. absurd (let z = ap (λ (c : ClassId). c.0) same in let y = eq-eqb f.class.0 o.function.class.0 z in cc)))
         refl

@@ -29,11 +29,12 @@ use Rattle.byte_memory.specs.Store.{Store}
 use Rattle.byte_code.specs.declared.code.ImageBytes.{ImageBytes}
 use Rattle.byte_code.specs.Images.{word_at}
 use Rattle.byte_code.specs.Numbers.{word_of}
+use Rattle.byte_code.proofs.Numbers.{word_inside}
 use Rattle.byte_machine.specs.Running.{moved, table_of}
 use Rattle.byte_machine.specs.Calls.{Callee, moved_by_word}
 use Rattle.abi_dispatch.specs.Standing.{IsViewAt, part_at}
 use Rattle.abi_dispatch.specs.Words.{HasEntryWord}
-use Rattle.abi_dispatch.proofs.Numbers.{moved_up, offset_word, word_inside}
+use Rattle.abi_dispatch.proofs.Numbers.{moved_up, offset_word}
 use Rattle.abi_dispatch.proofs.Reading.{table_read, low_part, moves, pointing, moves_to}
 use Rattle.abi_dispatch.proofs.Returning.{same_returns, final_runs}
 use Rattle.abi_dispatch.proofs.Entering.{code_record, pure_word, ThunkDoes, no_thunk, some_thunk, word_moves, callee_read}

@@ -10,3 +10,4 @@ pub mod Ruling
 pub mod OneAnswer
 pub mod Transfer
 pub mod Keeping
+pub mod Distances

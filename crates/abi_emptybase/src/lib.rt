@@ -83,20 +83,3 @@ impl PlaceTable {
         Ok(())
     }
 }
-
-#[cfg(test)]
-mod tests {
-    use super::*;
-    use std::test::Fail;
-
-    /// Two empty bases of one class may not lie at one place.
-    #[test]
-    fn same_class_same_place(rt: HostRuntime) -> Result<(), Fail> {
-        let mut table = PlaceTable::new(rt.alloc());
-        let part = Part { class: 1, place: 0 };
-        assert!(rt; !table.conflicts(&[part], 0));
-        table.add(&[part], 4)?;
-        assert!(rt; table.conflicts(&[part], 4));
-        Ok(())
-    }
-}

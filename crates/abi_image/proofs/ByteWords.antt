@@ -1,25 +1,19 @@
-use Rattle.std.proofs.Common.{◌≡◌, ℕ, ◌+◌, ◌-◌, ◌*◌, ◌<◌, ◌≤◌, ◌^◌, ⊎_elim, true, Some, None, List, [], ◌∷◌, ◌++◌, length, get_or, take, drop, refl, ap, sym, ◌∙◌, subst, arith, length-append, length-drop}
-use Rattle.std.specs.Prelude.{nat_le, if◌then◌else◌}
+use Rattle.std.proofs.Common.{◌≡◌, ℕ, ◌+◌, ◌-◌, ◌*◌, ◌<◌, ◌≤◌, ◌^◌, ⊎_elim, true, Some, List, [], ◌∷◌, ◌++◌, length, get_or, take, drop, refl, ap, sym, ◌∙◌, subst, arith, length-append, length-drop}
+use Rattle.std.specs.Prelude.{nat_le}
 use Rattle.std.specs.Int.{w64, to_le_bytes, from_le_bytes}
 use Rattle.std.proofs.lemmas.Bool.Decides.{nat_tests}
 use Rattle.std.proofs.lemmas.List.{take-append-le, drop-append-le}
 use Rattle.std.proofs.lemmas.Nat.{from_le_bytes-to_le_bytes_8}
 use Rattle.std.proofs.Math.Seq.{drop-append_seam}
-use Rattle.foundation.proofs.Truth.{split}
-use Rattle.foundation.proofs.Places.{get_pushed}
+use Rattle.foundation.proofs.Places.{get_pushed, take_next}
 use Rattle.byte_code.specs.declared.code.ImageBytes.{ImageBytes}
 use Rattle.byte_code.specs.Images.{number_at, word_at}
 use Rattle.abi_image.specs.declared.TheConstants.{BASE}
 use Rattle.abi_image.specs.declared.draft.Draft.{Draft}
 use Rattle.abi_image.specs.invariants.Bytes.{PutsWords}
 use Rattle.abi_image.specs.invariants.Drafts.{IsIn}
-use Rattle.abi_image.proofs.Lists.{take_next}
 use Rattle.foundation.proofs.Places.{length_pushed}
-
-number_inside : (bytes : List ℕ) (i w : ℕ) → number_at bytes i ≡ Some w → i + 8 ≤ length bytes
-unfolding number_at
-number_inside bytes i w e = split (nat_le (i + 8) (length bytes)) (λ b. (if b then Some (from_le_bytes w64 (take 8 (drop i bytes))) else None) ≡ Some w → i + 8 ≤ length bytes)
-    (λ t h. grind (arith, nat_tests)) (λ f h. absurd (cc)) e
+use Rattle.byte_code.proofs.Numbers.{number_inside}
 
 number_value : (bytes : List ℕ) (i : ℕ) → i + 8 ≤ length bytes → number_at bytes i ≡ Some (from_le_bytes w64 (take 8 (drop i bytes)))
 unfolding number_at

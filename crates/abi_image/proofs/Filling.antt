@@ -1,13 +1,14 @@
 use Rattle.std.proofs.Common.{◌≡◌, ℕ, suc, ◌+◌, ◌*◌, ◌<◌, ◌≤◌, Some, List, [], ◌∷◌, ◌++◌, map, length, get_or, take, refl, ap, sym, ◌∙◌, subst, arith, append_assoc, append-nil, length-append}
 use Rattle.std.specs.List.{slice_get, flat_map}
 use Rattle.std.proofs.lemmas.List.{take_all, length-take-le}
-use Rattle.foundation.proofs.Places.{get_front, any_default}
+use Rattle.std.proofs.lemmas.Option.{slice_get_within}
+use Rattle.foundation.proofs.Places.{get_front, any_default, take_next}
 use Rattle.abi_slots.proofs.Lists.{get_past}
 use Rattle.abi_slots.specs.Images.{Image}
 use Rattle.abi_image.specs.declared.TheConstants.{BASE}
 use Rattle.abi_image.specs.declared.draft.Draft.{Draft}
 use Rattle.abi_image.specs.invariants.Drafts.{AllAt, AllBySize, Fills, IsIn, Puts, Stands, one_word, total, two_words}
-use Rattle.abi_image.proofs.Lists.{take_next, sized_append, total_append, flat_all, flat_total, get_below, one_word_each, total_one, total_two, two_words_each}
+use Rattle.abi_image.proofs.Lists.{sized_append, total_append, flat_all, flat_total, one_word_each, total_one, total_two, two_words_each}
 
 -- words of which the first ones stand there, and the others behind them
 pub stands_front : (image : Image) (at : ℕ) (xs ys : List ℕ) → Stands image at (xs ++ ys) → Stands image at xs
@@ -110,12 +111,12 @@ fills_next size P xs i d a b c less before here = fills_more size P xs i (get_or
 -- all items, of one word each
 pub fills_words : {A : Type 0} (P : Image → ℕ → A → Type 0) (xs : List A) (i : ℕ) (a b : Draft) → length xs ≤ i → Fills one_word (λ image j x at. P image at x) xs i a b → Puts a b (length xs) (λ image at. AllAt (P image) xs at)
 fills_words P xs i a b all fills = puts_as a b _ (length xs) (λ image at. AllBySize one_word (λ j x there. P image there x) xs at) (λ image at. AllAt (P image) xs at) (fills_all one_word (λ image j x at. P image at x) xs i a b all fills) (total_one xs)
-    (λ image at h j x e. subst (λ n. P image n x) (one_word_each xs at j (get_below xs j x e)) (h j x e))
+    (λ image at h j x e. subst (λ n. P image n x) (one_word_each xs at j (slice_get_within xs j x e)) (h j x e))
 
 -- all items, of two words each
 pub fills_pairs : {A : Type 0} (P : Image → ℕ → A → ℕ → Type 0) (xs : List A) (i : ℕ) (a b : Draft) → length xs ≤ i → Fills two_words P xs i a b → Puts a b (2 * length xs) (λ image at. (j : ℕ) (x : A) → slice_get xs j ≡ Some x → P image j x (at + 16 * j))
 fills_pairs {A} P xs i a b all fills = puts_as a b _ (2 * length xs) (λ image at. AllBySize two_words (P image) xs at) (λ image at. (j : ℕ) (x : A) → slice_get xs j ≡ Some x → P image j x (at + 16 * j)) (fills_all two_words P xs i a b all fills) (total_two xs)
-    (λ image at h j x e. subst (λ n. P image j x n) (two_words_each xs at j (get_below xs j x e)) (h j x e))
+    (λ image at h j x e. subst (λ n. P image j x n) (two_words_each xs at j (slice_get_within xs j x e)) (h j x e))
 
 -- all pieces, word by word
 pub fills_flat : {A : Type 0} {B : Type 0} (f : A → List B) (P : Image → ℕ → B → Type 0) (xs : List A) (i : ℕ) (a b : Draft) → length xs ≤ i → Fills (λ x. length (f x)) (λ image j x at. AllAt (P image) (f x) at) xs i a b → Puts a b (length (flat_map f xs)) (λ image at. AllAt (P image) (flat_map f xs) at)

@@ -1,7 +1,5 @@
-use Rattle.std.proofs.Common.{◌≡◌, ℕ, zero, suc, ◌+◌, ◌*◌, ◌<◌, ◌⊎◌, ⊎_elim, inl, inr, Some, List, [], ◌∷◌, ◌++◌, map, length, get_or, take, refl, ap, sym, ◌∙◌, subst, arith, append_assoc, append-nil, length-append}
+use Rattle.std.proofs.Common.{◌≡◌, ℕ, zero, suc, ◌+◌, ◌*◌, ◌<◌, ◌⊎◌, ⊎_elim, inl, inr, Some, List, [], ◌∷◌, ◌++◌, map, length, take, refl, ap, sym, ◌∙◌, subst, arith, append_assoc, append-nil, length-append}
 use Rattle.std.specs.List.{slice_get, flat_map}
-use Rattle.std.proofs.lemmas.List.{take_more}
-use Rattle.std.proofs.lemmas.Option.{slice_get_read}
 use Rattle.abi_image.specs.invariants.Drafts.{AllAt, AllBySize, address_of, total, one_word, two_words}
 
 -- an item of two lists one after the other is one of the first, or of the second
@@ -9,12 +7,6 @@ pub get_cases : {A : Type 0} (xs ys : List A) (i : ℕ) (x : A) → slice_get (x
 get_cases [] ys i x e = inr (i, omega arith, e)
 get_cases (z ∷ xs) ys zero x e = inl e
 get_cases (z ∷ xs) ys (suc i) x e = ⊎_elim (λ h. inl h) (λ r. let (j, p, q) = r in inr (j, omega arith, q)) (get_cases xs ys i x e)
-
-pub take_next : {A : Type 0} (xs : List A) (i : ℕ) (x : A) → i < length xs → x ≡ get_or xs i x → take (i + 1) xs ≡ take i xs ++ x ∷ []
-take_next xs i x less is = take_more xs i x less ∙ ap (λ y. take i xs ++ y ∷ []) (sym is)
-
-pub get_next : {A : Type 0} (xs : List A) (i : ℕ) (x : A) → i < length xs → x ≡ get_or xs i x → slice_get xs i ≡ Some x
-get_next xs i x less is = slice_get_read xs (length xs) i x refl less is
 
 -- items that take so many words each, and one more
 pub sized_append : {A : Type 0} (size : A → ℕ) (P : ℕ → A → ℕ → Type 0) (xs : List A) (x : A) (at : ℕ) → AllBySize size P xs at → P (length xs) x (at + 8 * total (map size xs)) → AllBySize size P (xs ++ x ∷ []) at
@@ -47,12 +39,6 @@ total_one (x ∷ xs) = let ih = total_one xs in omega arith
 pub total_two : {A : Type 0} (xs : List A) → total (map two_words xs) ≡ 2 * length xs
 total_two [] = omega arith
 total_two (x ∷ xs) = let ih = total_two xs in omega arith
-
--- an item of a list lies within it
-pub get_below : {A : Type 0} (xs : List A) (i : ℕ) (x : A) → slice_get xs i ≡ Some x → i < length xs
-get_below [] i x e = absurd (cc)
-get_below (z ∷ xs) zero x e = omega arith
-get_below (z ∷ xs) (suc i) x e = let ih = get_below xs i x e in omega arith
 
 -- the words of pieces one after the other are those of all
 pub flat_all : {A : Type 0} {B : Type 0} (f : A → List B) (Q : ℕ → B → Type 0) (xs : List A) (at : ℕ) → AllBySize (λ x. length (f x)) (λ i x there. AllAt Q (f x) there) xs at → AllAt Q (flat_map f xs) at

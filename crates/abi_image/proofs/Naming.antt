@@ -3,7 +3,9 @@ use Rattle.std.specs.Prelude.{nat_eq}
 use Rattle.std.specs.List.{slice_get}
 use Rattle.std.proofs.lemmas.Bool.Decides.{nat_tests}
 use Rattle.std.proofs.lemmas.Bool.{and_parts, cases_order}
+use Rattle.std.proofs.lemmas.Option.{slice_get_within}
 use Rattle.foundation.proofs.Truth.{split, never, not_both}
+use Rattle.foundation.proofs.Places.{get_read}
 use Rattle.cxx_hierarchy.specs.declared.records.ClassId.{ClassId}
 use Rattle.cxx_subobject.specs.declared.Subobject.{Subobject}
 use Rattle.cxx_subobject.specs.Subobjects.{same_path, same_subobject}
@@ -12,7 +14,6 @@ use Rattle.abi_slots.specs.declared.words.GroupName.{GroupName}
 use Rattle.abi_slots.specs.declared.words.Group.{Group}
 use Rattle.abi_image.specs.Conditions.{HasTable}
 use Rattle.abi_image.specs.invariants.Points.{IsNumberOf, same_name}
-use Rattle.abi_image.proofs.Lists.{get_below, get_next}
 
 pub name_same : (a b : GroupName) → same_name a b ≡ true → a ≡ b
 name_same a b e =
@@ -27,7 +28,7 @@ name_itself a = let n : nat_eq a.complete.0 a.complete.0 ≡ true = grind (arith
 -- the test of a name is that of a group's number
 pub number_test : (groups : List Group) (name : GroupName) (number : ℕ) (group : Group) (test : Bool) → number < length groups → group ≡ get_or groups number group → test ≡ same_name group.name name → IsTrue test ↔ IsNumberOf groups name number
 number_test groups name number group test less is e =
-    let there : slice_get groups number ≡ Some group = get_next groups number group less is in
+    let there : slice_get groups number ≡ Some group = get_read groups number group less is in
     split test (λ b. test ≡ b → IsTrue b ↔ IsNumberOf groups name number)
     (λ t f. (λ h. record { group = group; there = there; named = name_same group.name name (sym e ∙ t) }, λ h. refl))
     (λ t f. never (λ (k : IsNumberOf groups name number).
@@ -38,7 +39,7 @@ number_test groups name number group test less is e =
 
 -- no group has a number behind the last one
 pub no_number : (groups : List Group) (name : GroupName) (number : ℕ) → length groups ≤ number → IsTrue false ↔ IsNumberOf groups name number
-no_number groups name number over = never (λ (k : IsNumberOf groups name number). let b = get_below groups number k.group k.there in absurd (omega arith))
+no_number groups name number over = never (λ (k : IsNumberOf groups name number). let b = slice_get_within groups number k.group k.there in absurd (omega arith))
 
 pub table_number : (groups : List Group) (name : GroupName) (table : ℕ) (has : HasTable groups name table) → IsNumberOf groups name has.number
 table_number groups name table has = record { group = has.group; there = has.there; named = has.named }

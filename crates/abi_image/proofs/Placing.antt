@@ -2,11 +2,11 @@ use Rattle.std.proofs.Common.{◌≡◌, ℕ, zero, suc, ◌+◌, ◌*◌, ◌<�
 use Rattle.std.proofs.lemmas.Bool.{cases_order}
 use Rattle.abi_slots.specs.declared.words.Table.{Table}
 use Rattle.abi_slots.specs.Images.{all_words, words_of}
-use Rattle.foundation.proofs.Places.{length_pushed}
+use Rattle.foundation.proofs.Places.{length_pushed, take_next}
 use Rattle.abi_image.specs.declared.TheConstants.{BASE}
 use Rattle.abi_image.specs.invariants.Drafts.{address_in, address_of, total}
 use Rattle.abi_image.specs.invariants.Parts.{AreAt}
-use Rattle.abi_image.proofs.Lists.{take_next, flat_append}
+use Rattle.abi_image.proofs.Lists.{flat_append}
 
 address_front : (ms : List ℕ) (n at i : ℕ) → i < length ms → address_of (ms ++ n ∷ []) at i ≡ address_of ms at i
 address_front [] n at i less = absurd (omega arith)

@@ -1,8 +1,9 @@
 use Rattle.std.proofs.Common.{◌≡◌, ℕ, zero, suc, ◌+◌, ◌*◌, ◌<◌, ◌≤◌, ⊎_elim, Some, List, [], ◌∷◌, ◌++◌, length, get_or, take, drop, refl, ap, sym, ◌∙◌, subst, arith, length-append, append_assoc, append-nil}
 use Rattle.std.specs.List.{slice_get}
-use Rattle.foundation.proofs.Places.{get_pushed, get_within}
+use Rattle.foundation.proofs.Places.{get_pushed, get_within, get_read, take_next}
 use Rattle.std.proofs.lemmas.List.{length-take-le}
 use Rattle.std.proofs.Math.ListN.{drop_of_length-le}
+use Rattle.std.proofs.lemmas.Option.{slice_get_within}
 use Rattle.abi_slots.specs.declared.words.Table.{Table}
 use Rattle.abi_slots.specs.declared.words.Group.{Group}
 use Rattle.abi_slots.specs.Images.{all_words, point_at, point_words}
@@ -10,7 +11,6 @@ use Rattle.abi_image.specs.declared.image.Point.{Point}
 use Rattle.abi_image.specs.Encoded.{points_from, points_of}
 use Rattle.abi_image.specs.invariants.Drafts.{address_in}
 use Rattle.abi_image.specs.invariants.Points.{AreGroupPoints, ArePointsOf}
-use Rattle.abi_image.proofs.Lists.{take_next, get_below, get_next}
 use Rattle.foundation.proofs.Places.{length_pushed}
 use Rattle.abi_slots.proofs.Loops.{rest_is}
 
@@ -31,7 +31,7 @@ points_more : (at : ℕ) (tables : List Table) (points : List ℕ) (t : Table) (
 points_more at tables points t p h e = record {
   size = length_pushed points p ∙ ap (λ k. k + 1) h.size ∙ sym (length_pushed tables t);
   each = λ n q f. ⊎_elim
-      (λ old. let below : n < length tables = (let b = get_below points n q old in let s = h.size in omega arith) in h.each n q old ∙ ap (λ k. at + 8 * k) (sym (point_front tables t n below)))
+      (λ old. let below : n < length tables = (let b = slice_get_within points n q old in let s = h.size in omega arith) in h.each n q old ∙ ap (λ k. at + 8 * k) (sym (point_front tables t n below)))
       (λ new. let same : n ≡ length tables = new.0 ∙ h.size in
       new.1 ∙ e ∙ ap (λ k. at + 8 * k) (sym (point_last tables t)) ∙ ap (λ m. at + 8 * point_words (tables ++ t ∷ []) m) (sym same))
       (get_pushed points p n q f);
@@ -54,10 +54,10 @@ groups_next groups group_at i group points list less is here h =
       size = length_pushed points list ∙ ap (λ k. k + 1) h.size ∙ sym (length_pushed (take i groups) group);
       each = λ j g p e f. ⊎_elim
           (λ old. ⊎_elim (λ oldp. h.each j g p old oldp)
-          (λ new. absurd (let b = get_below (take i groups) j g old in let s = h.size in let n = new.0 in omega arith))
+          (λ new. absurd (let b = slice_get_within (take i groups) j g old in let s = h.size in let n = new.0 in omega arith))
           (get_pushed points list j p f))
           (λ new. let same : j ≡ i = new.0 ∙ place in ⊎_elim
-          (λ oldp. absurd (let b = get_below points j p oldp in let s = h.size in omega arith))
+          (λ oldp. absurd (let b = slice_get_within points j p oldp in let s = h.size in omega arith))
           (λ newp. let g_is : g ≡ group = new.1 in let p_is : p ≡ list = newp.1 in
           subst (λ k. ArePointsOf (address_in group_at k) g.tables p) (sym same) (subst (λ (x : Group). ArePointsOf (address_in group_at i) x.tables p) (sym g_is) (subst (λ q. ArePointsOf (address_in group_at i) group.tables q) (sym p_is) here)))
           (get_pushed points list j p f))
@@ -76,7 +76,7 @@ pub point_next : (at : ℕ) (group : Group) (addresses : List ℕ) (n address : 
 point_next at group addresses n address now next all points less is e h =
     let s = points.size in
     let inside : n < length group.tables = omega arith in
-    let value : address ≡ point_at at group.tables n = points.each n address (get_next addresses n address less is) in
+    let value : address ≡ point_at at group.tables n = points.each n address (get_read addresses n address less is) in
     let (table, there_is) = get_within group.tables n inside in
     let d : drop n group.tables ≡ table ∷ drop (n + 1) group.tables = rest_is group.tables n table inside (read_at group.tables n table there_is) in
     let more : List Point = points_from at group (n + 1) (drop (n + 1) group.tables) in

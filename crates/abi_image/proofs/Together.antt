@@ -1,5 +1,6 @@
 use Rattle.std.proofs.Common.{◌≡◌, ℕ, suc, ◌+◌, ◌*◌, ◌<◌, Some, List, [], ◌∷◌, map, length, refl, ap, sym, ◌∙◌, subst, arith}
 use Rattle.std.specs.List.{slice_get, slice_index_or}
+use Rattle.std.proofs.lemmas.Option.{slice_get_within}
 use Rattle.abi_slots.specs.declared.code_numbers.CodeRow.{CodeRow}
 use Rattle.abi_slots.specs.declared.words.Group.{Group}
 use Rattle.abi_slots.specs.declared.words.VttWord.{VttWord}
@@ -13,7 +14,6 @@ use Rattle.abi_image.specs.invariants.Drafts.{AllAt, AllBySize, HaveClassWords, 
 use Rattle.abi_image.specs.invariants.Parts.{AreAt, AreParts, IsDraftOf, IsRegion, groups_start, infos_start, vtts_start}
 use Rattle.abi_image.specs.invariants.Points.{AreFirstPoints, AreGroupPoints, HasPointAt}
 use Rattle.abi_image.proofs.Filling.{length_after, puts_both}
-use Rattle.abi_image.proofs.Lists.{get_below}
 
 length_map : {A : Type 0} (f : A → ℕ) (xs : List A) → length (map f xs) ≡ length xs
 length_map f [] = refl
@@ -26,7 +26,7 @@ as_many size xs start list are = are.size ∙ length_map size xs
 stood : {A : Type 0} (size : A → ℕ) (P : ℕ → A → ℕ → Type 0) (xs : List A) (at start : ℕ) (list : List ℕ) → at ≡ start → AreAt start (map size xs) list → AllBySize size P xs at → (i : ℕ) (x : A) → slice_get xs i ≡ Some x → P i x (address_in list i)
 stood size P xs at start list e are all i x there =
     let l : length (map size xs) ≡ length xs = length_map size xs in
-    let b : i < length xs = get_below xs i x there in
+    let b : i < length xs = slice_get_within xs i x there in
     let less : i < length (map size xs) = omega arith in
     subst (λ n. P i x n) (ap (λ s. address_of (map size xs) s i) e ∙ sym (are.each i less)) (all i x there)
 
@@ -70,7 +70,7 @@ together codes groups vtts infos parts a b c d e are nothing_yet place first sec
                 record {
                   point = slice_index_or parts.firsts.items id.0 0;
                   at_point = subst (λ n. image n ≡ Some (slice_index_or parts.firsts.items id.0 0)) start pair.0;
-                  is_point = are.firsts.each id (get_below vtts id.0 words there);
+                  is_point = are.firsts.each id (slice_get_within vtts id.0 words there);
                   at_vtt = subst (λ n. image (n + 8) ≡ Some (vtt_address (class_in parts.vtts.at.items id) words)) start pair.1;
                 };
             above = record {

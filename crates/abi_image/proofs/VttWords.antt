@@ -1,5 +1,6 @@
 use Rattle.std.proofs.Common.{◌≡◌, ℕ, ◌<◌, Some, List, [], ◌∷◌, ◌++◌, length, refl, sym, ◌∙◌, subst, arith}
 use Rattle.std.specs.List.{slice_get}
+use Rattle.std.proofs.lemmas.Option.{slice_get_within}
 use Rattle.abi_slots.specs.declared.words.GroupName.{GroupName}
 use Rattle.abi_slots.specs.declared.words.Group.{Group}
 use Rattle.abi_slots.specs.declared.words.VttWord.{VttWord}
@@ -9,7 +10,6 @@ use Rattle.abi_image.specs.Conditions.{HasTable, HaveOwnNames}
 use Rattle.abi_image.specs.invariants.Drafts.{Puts, address_in}
 use Rattle.abi_image.specs.invariants.Points.{AreGroupPoints, HasPointAt, IsNumberOf}
 use Rattle.abi_image.proofs.Filling.{puts_as, puts_word}
-use Rattle.abi_image.proofs.Lists.{get_below}
 
 -- the address points of a group that was found, and that of one of its tables
 pub record FoundPoints (groups : List Group) (group_at : List ℕ) (points : List (List ℕ)) (name : GroupName) (table number : ℕ) : Type 0 where
@@ -23,7 +23,7 @@ found_points groups group_at points name table number are own has found =
     let group_is : found.group ≡ has.group = (let p = found.there in let q = subst (λ n. slice_get groups n ≡ Some has.group) (sym same) has.there in cc) in
     let few : table < length found.group.tables = subst (λ (g : Group). table < length g.tables) (sym group_is) has.inside in
     record {
-      known = (let b = get_below groups number found.group found.there in let s = are.size in omega arith);
+      known = (let b = slice_get_within groups number found.group found.there in let s = are.size in omega arith);
       inside = λ list there. let s = (are.each number found.group list found.there there).size in omega arith;
       point = λ list p there at. record {
         number = number;

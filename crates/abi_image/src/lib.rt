@@ -22,8 +22,6 @@ pub mod parts;
 pub mod points;
 pub mod regions;
 pub mod table_words;
-#[cfg(test)]
-mod tests;
 pub mod vtts;
 
 pub use crate::encoding::encode;

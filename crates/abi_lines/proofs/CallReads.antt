@@ -2,7 +2,7 @@
 use Rattle.std.proofs.Common.{◌≡◌, ◌∙◌, ℕ, zero, suc, Bool, true, false, Some, List, [], ◌∷◌, refl, ap, subst, sym, arith}
 use Rattle.std.specs.Prelude.{◌&&◌}
 use Rattle.std.specs.List.{slice_get}
-use Rattle.std.proofs.lemmas.Bool.{eqb-true, eq-eqb}
+use Rattle.std.proofs.lemmas.Bool.{eqb-true, eq-eqb, and_parts}
 use Rattle.foundation.proofs.Truth.{split, not_both}
 use Rattle.cxx_overrider.specs.declared.FunctionId.{FunctionId}
 use Rattle.abi_slots.specs.declared.code_numbers.BlockKind.{BlockKind}
@@ -14,10 +14,6 @@ use Rattle.abi_ops.specs.Setups.{FunctionCode}
 use Rattle.abi_lower.specs.Blocks.{first_place}
 use Rattle.abi_stands.specs.Worlds.{World, IsWorld}
 use Rattle.abi_lines.specs.RawTexts.{begins_at, function_at}
-
-both : (a b : Bool) → (a && b) ≡ true → (a ≡ true) × (b ≡ true)
-both true b e = (refl, e)
-both false b e = absurd (cc)
 
 joined : {a b : Bool} → a ≡ true → b ≡ true → (a && b) ≡ true
 joined e f = rw (e, f) refl
@@ -33,7 +29,7 @@ plain_kind EndDeleting e = absurd (omega arith)
 -- a row that is that of a function's plain code begins at the number of that
 row_begins : (f : FunctionId) (block : ℕ) (row : CodeRow) → is_row f Plain row ≡ true → row.code ≡ block → begins_at block row ≡ true
 row_begins f block row is code =
-    let parts = both _ _ (both _ _ is).1 in
+    let parts = and_parts _ _ (and_parts _ _ is).1 in
     let kind : kind_number Plain ≡ kind_number row.kind = eqb-true (kind_number Plain) (kind_number row.kind) parts.1 in
     joined (eq-eqb row.code block code) (eq-eqb (kind_number row.kind) (kind_number Plain) (sym kind))
 
@@ -74,7 +70,7 @@ call_found w world f routine = found_first f block w.numbers each (world.lowered
 
     each : (i : ℕ) (row : CodeRow) → slice_get w.numbers i ≡ Some row → begins_at block row ≡ true → row.function ≡ f
     each i row there begins =
-        let parts = both _ _ begins in
+        let parts = and_parts _ _ begins in
         let code : row.code ≡ block = eqb-true row.code block parts.0 in
         let kind : row.kind ≡ Plain = plain_kind row.kind (eqb-true (kind_number row.kind) (kind_number Plain) parts.1) in
         let number : code_of w.numbers row.function row.kind ≡ Some row.code = row_code w.numbers world.lowered.rows i row there in

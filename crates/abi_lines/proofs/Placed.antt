@@ -17,7 +17,7 @@ use Rattle.cxx_subobject.specs.declared.locations.Hop.TheVariants.{Inherit, Memb
 use Rattle.cxx_subobject.specs.Subobjects.{IsSubobject, class_of, whole_of}
 use Rattle.cxx_subobject.specs.Preorder.{preorder}
 use Rattle.cxx_subobject.specs.Locations.{IsElement, LeadsTo, to_value, to_inner}
-use Rattle.cxx_subobject.proofs.PathLemmas.{class_low}
+use Rattle.cxx_subobject.proofs.PathLemmas.{class_low, class_inside}
 use Rattle.cxx_subobject.proofs.TreeLemmas.{has_preorder}
 use Rattle.abi_sound.specs.declared.class_layout.ClassLayout.{ClassLayout}
 use Rattle.abi_sound.specs.Places.{Places, places_of, size_of_value}
@@ -26,7 +26,7 @@ use Rattle.abi_sound.specs.Sound.{IsSoundLayout}
 use Rattle.abi_sound.proofs.PlaceLemmas.{place_at_inner, place_at_value}
 use Rattle.abi_print.specs.LayoutTexts.{subobject_text}
 use Rattle.abi_out.specs.Fields.{before_field}
-use Rattle.abi_out.proofs.Leading.{class_inside, ends_below}
+use Rattle.abi_out.proofs.Leading.{ends_below}
 use Rattle.abi_out.proofs.Objects.{range_has, whole_leads}
 use Rattle.abi_out.proofs.Steps.{item_has}
 use Rattle.abi_lines.specs.declared.members.PlacedMember.{PlacedMember}

@@ -3,6 +3,7 @@ use Rattle.std.proofs.Common.{◌≡◌, ◌∙◌, ℕ, zero, suc, ◌+◌, ◌
 use Rattle.std.specs.Prelude.{codes}
 use Rattle.std.specs.List.{AllZip, slice_get, flat_map, range_with_len}
 use Rattle.std.proofs.lemmas.List.Folds.{flat_map-map}
+use Rattle.foundation.proofs.Zips.{zip_flat_map}
 use Rattle.cxx_hierarchy.specs.declared.records.ClassId.{ClassId}
 use Rattle.cxx_hierarchy.specs.declared.records.Member.{Member}
 use Rattle.cxx_hierarchy.specs.declared.records.ValueType.{ValueType}
@@ -17,6 +18,7 @@ use Rattle.cxx_subobject.specs.Subobjects.{IsSubobject, class_of, whole_of}
 use Rattle.cxx_subobject.specs.Preorder.{preorder}
 use Rattle.cxx_subobject.specs.Locations.{IsElement, ObjectPart, Step}
 use Rattle.cxx_subobject.proofs.TreeLemmas.{has_preorder}
+use Rattle.cxx_subobject.proofs.InsideLemmas.{whole_joined}
 use Rattle.path_plan.specs.Places.{element, part}
 use Rattle.path_plan.specs.Plans.{upto}
 use Rattle.path_plan.specs.Whole.{whole_part}
@@ -27,13 +29,12 @@ use Rattle.abi_sound.specs.Places.{Places, size_of_value}
 use Rattle.abi_sound.specs.Locations.{place_at}
 use Rattle.abi_sound.proofs.PlaceLemmas.{place_at_value}
 use Rattle.abi_parts.proofs.Made.{leaf_hops}
-use Rattle.abi_stands.proofs.Standing.{whole_joined}
 use Rattle.abi_print.specs.LayoutTexts.{subobject_text}
 use Rattle.abi_out.specs.Fields.{before_field, element_text, field_text, member_at, type_behind, value_in, value_type}
 use Rattle.abi_lines.specs.declared.members.PlacedMember.{PlacedMember}
 use Rattle.abi_lines.specs.declared.rows.LeafRow.{LeafRow}
 use Rattle.abi_lines.specs.LeafRows.{element_name, element_rows, inner_row, leaf_rows, placed_in, placed_member, rows_by_member, rows_by_type, rows_in, rows_within, value_row}
-use Rattle.abi_lines.proofs.Zips.{flat_map_twice, zip_each, zip_map, zip_numbers, zip_ranges, zip_weaker}
+use Rattle.abi_lines.proofs.Zips.{flat_map_twice, zip_map, zip_numbers, zip_ranges, zip_weaker}
 use Rattle.abi_lines.proofs.LeafHops.{LeadsOn, leads_more, leads_none}
 
 -- a row is that of a leaf of the object k, which is of class c
@@ -135,7 +136,7 @@ module _ (h : Classes) (l : Places) (classes : List ClassId) (k : ℕ) (c : Clas
   within_are (suc n) d owner place name on =
       let g : Subobject → List PlacedMember = λ s. placed_in h l (l.place d s) (before_field (subobject_text h s)) (class_of s) in
       subst (AreRowsAt place name (leaves_within h (suc n) d (part k owner (whole_of d)))) (sym (flat_map_twice (rows_in h l (rows_within h l n)) g (preorder h d)))
-      (zip_each (λ a row. IsRowOf h l classes k c a (shifted place name row)) (λ s. own_leaves h (leaves_within h n) (class_of s) (inner_part (part k owner (whole_of d)) s)) (λ s. flat_map (rows_in h l (rows_within h l n)) (g s)) (preorder h d) (λ s has.
+      (zip_flat_map (λ a row. IsRowOf h l classes k c a (shifted place name row)) (λ s. own_leaves h (leaves_within h n) (class_of s) (inner_part (part k owner (whole_of d)) s)) (λ s. flat_map (rows_in h l (rows_within h l n)) (g s)) (preorder h d) (λ s has.
       let valid = has_preorder h d s has in
       let same : part k owner s ≡ inner_part (part k owner (whole_of d)) s = ap (part k owner) (sym (whole_joined h d s valid)) in
       subst (λ (p : ObjectPart). AreRowsAt place name (own_leaves h (leaves_within h n) (class_of s) p) (flat_map (rows_in h l (rows_within h l n)) (g s))) same

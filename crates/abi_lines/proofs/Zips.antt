@@ -1,7 +1,7 @@
 -- Two lists that go along item by item.
-use Rattle.std.proofs.Common.{◌≡◌, ◌∙◌, ℕ, zero, suc, ◌+◌, ◌<◌, inl, inr, List, [], ◌∷◌, ◌++◌, map, refl, ap, subst, sym, append_assoc, arith}
+use Rattle.std.proofs.Common.{◌≡◌, ◌∙◌, ℕ, zero, suc, ◌+◌, ◌<◌, List, [], ◌∷◌, ◌++◌, map, refl, ap, subst, sym, append_assoc, arith}
 use Rattle.std.specs.List.{AllZip, flat_map, range_with_len}
-use Rattle.foundation.proofs.Members.{Has}
+use Rattle.foundation.proofs.Zips.{zip_append}
 use Rattle.path_plan.specs.Plans.{count_from}
 
 -- a relation that follows from another
@@ -10,12 +10,6 @@ zip_weaker R Q [] [] rule z = tt
 zip_weaker R Q [] (y ∷ ys) rule z = absurd z
 zip_weaker R Q (x ∷ xs) [] rule z = absurd z
 zip_weaker R Q (x ∷ xs) (y ∷ ys) rule z = (rule x y z.0, zip_weaker R Q xs ys rule z.1)
-
-pub zip_append : {A B : Type 0} (R : A → B → Type 0) (xs more : List A) (ys rest : List B) → AllZip R xs ys → AllZip R more rest → AllZip R (xs ++ more) (ys ++ rest)
-zip_append R [] more [] rest z m = m
-zip_append R [] more (y ∷ ys) rest z m = absurd z
-zip_append R (x ∷ xs) more [] rest z m = absurd z
-zip_append R (x ∷ xs) more (y ∷ ys) rest z m = (z.0, zip_append R xs more ys rest z.1 m)
 
 -- the second list is a map of one that goes along
 pub zip_map : {A B C : Type 0} (R : A → C → Type 0) (f : B → C) (xs : List A) (ys : List B) → AllZip (λ a b. R a (f b)) xs ys → AllZip R xs (map f ys)
@@ -38,11 +32,6 @@ zip_ranges R f g a (suc n) rule =
     let e : suc a ≡ a + 1 = omega arith in
     zip_append R (f a) (flat_map f (count_from (suc a) n)) (g a) (flat_map g (range_with_len (a + 1) n)) (rule a (omega arith))
     (subst (λ k. AllZip R (flat_map f (count_from (suc a) n)) (flat_map g (range_with_len k n))) e (zip_ranges R f g (suc a) n (λ i lt. rule i (omega arith))))
-
--- and along one list
-pub zip_each : {X A B : Type 0} (R : A → B → Type 0) (f : X → List A) (g : X → List B) (xs : List X) → ((x : X) → Has xs x → AllZip R (f x) (g x)) → AllZip R (flat_map f xs) (flat_map g xs)
-zip_each R f g [] rule = tt
-zip_each R f g (x ∷ xs) rule = zip_append R (f x) (flat_map f xs) (g x) (flat_map g xs) (rule x (inl refl)) (zip_each R f g xs (λ y has. rule y (inr has)))
 
 -- what is the same of both
 pub zip_same : {A B C : Type 0} (R : A → B → Type 0) (f : A → C) (g : B → C) (xs : List A) (ys : List B) → ((a : A) (b : B) → R a b → f a ≡ g b) → AllZip R xs ys → map f xs ≡ map g ys

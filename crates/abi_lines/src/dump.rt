@@ -13,7 +13,7 @@ use crate::rows::leaf_rows;
 use abi_out::dump::{append_lines, sort_by_place};
 use abi_out::items::{Item, push_pointers};
 use abi_out::pointers::pointers_of;
-use abi_out::text::{append, append_class, append_number};
+use abi_print::text::{append, append_class, append_number};
 use abi_sound::SoundLayout;
 use byte_machine::{Machine, Opened};
 use byte_memory::Memory;

@@ -12,7 +12,7 @@ use crate::rows::LeafRow;
 use abi_out::fields::value_type;
 use abi_out::items::{Item, append_bytes, append_unset};
 use abi_out::locations::{member_at, size_of_value};
-use abi_out::text::{append, append_number, append_value_type};
+use abi_print::text::{append, append_number, append_value_type};
 use byte_machine::{Machine, Opened};
 use byte_memory::Memory;
 use cxx_hierarchy::{ClassId, Hierarchy, ValueType};

@@ -6,7 +6,7 @@ ghost use Rattle.abi_lines.specs.LeafRows.{placed_in, placed_members};
 
 use abi_out::fields::append_declarer;
 use abi_out::items::Text;
-use abi_out::text::append;
+use abi_print::text::append;
 use abi_sound::{SoundLayout, member_place};
 use cxx_hierarchy::{ClassId, Hierarchy};
 use cxx_subobject::{class_of, list_subobjects};

@@ -11,7 +11,7 @@ use crate::called::CalledFunctions;
 use crate::dump::append_raw_dump;
 use crate::items::append_address;
 use abi_out::out_text::append_signed;
-use abi_out::text::{append, append_class, append_function};
+use abi_print::text::{append, append_class, append_function};
 use abi_sound::SoundLayout;
 use byte_machine::{Machine, RawOut};
 use byte_memory::Memory;

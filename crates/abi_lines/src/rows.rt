@@ -12,7 +12,7 @@ use crate::members::{PlacedMember, placed_members};
 use abi_out::fields::append_element;
 use abi_out::items::Text;
 use abi_out::locations::size_of_value;
-use abi_out::text::append;
+use abi_print::text::append;
 use abi_sound::SoundLayout;
 use cxx_hierarchy::{ClassId, FieldType, Hierarchy, Member};
 use foundation::{NoMemory, Sequence};

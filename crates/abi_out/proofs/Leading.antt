@@ -15,18 +15,15 @@ use Rattle.cxx_subobject.specs.declared.Subobject.{Subobject}
 use Rattle.cxx_subobject.specs.declared.locations.Hop.{Hop}
 use Rattle.cxx_subobject.specs.Subobjects.{IsSubobject, class_of}
 use Rattle.cxx_subobject.specs.Locations.{IsElement, LeadsTo, to_subobject, to_value, to_inner}
-use Rattle.cxx_subobject.proofs.PathLemmas.{class_low}
+use Rattle.cxx_subobject.proofs.PathLemmas.{class_low, class_inside}
 use Rattle.abi_sound.specs.declared.class_layout.ClassLayout.{ClassLayout}
 use Rattle.abi_sound.specs.Places.{places_of, size_of_value}
 use Rattle.abi_sound.specs.Locations.{class_in, class_of_type, element_class, place_at}
 use Rattle.abi_sound.specs.Sound.{IsSoundLayout}
 use Rattle.cxx_hierarchy.specs.declared.records.Member.{Member}
+use Rattle.cxx_subobject.proofs.LocationLemmas.{element_low}
 use Rattle.abi_out.specs.Fields.{member_at}
 use Rattle.abi_out.specs.invariants.Leading.{GoAlong, IsKnown}
-
--- the class of a subobject is one of the hierarchy
-pub class_inside : (h : Classes) → IsHierarchy h → (c d : ClassId) (s : Subobject) → c.0 < length h → IsSubobject h c s → class_of s ≡ Some d → d.0 < length h
-class_inside h keeps c d s known valid class = let low : d.0 ≤ c.0 = class_low h keeps c d s valid class in omega arith
 
 pub known_class : (h : Classes) → IsHierarchy h → (c : ClassId) (s : Subobject) → c.0 < length h → IsSubobject h c s → IsKnown h (class_of s)
 known_class h keeps c s known valid = by_class (class_of s) refl
@@ -38,9 +35,6 @@ known_class h keeps c s known valid = by_class (class_of s) refl
 -- what an element of a member is, by its type
 pub element_is : (h : Classes) (d : ClassId) (m i : ℕ) (type : FieldType ClassId) → IsElement h d m i type → element_class h (Some d) m ≡ class_of_type type
 element_is h d m i type element = ap class_in element.there ∙ ap class_of_type element.type_is
-
-pub element_low : (h : Classes) → IsHierarchy h → (d e : ClassId) (m i : ℕ) → IsElement h d m i (Object e) → e.0 < d.0
-element_low h keeps d e m i element = keeps.objects d e element.member (contains_at (members_of h d) m element.member element.there) element.type_is
 
 -- hops that lead to something go along
 pub go_along : (h : Classes) → IsHierarchy h → (c : ClassId) (hops : List Hop) (type : FieldType ClassId) → c.0 < length h → LeadsTo h c hops type → GoAlong h (Some c) hops

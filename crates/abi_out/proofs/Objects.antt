@@ -1,11 +1,10 @@
 -- The members that are objects of an object, and the places in them.
-use Rattle.std.proofs.Common.{◌≡◌, ◌∙◌, ℕ, zero, suc, ◌+◌, ◌*◌, ◌<◌, ◌≤◌, inl, inr, ⊎_elim, Bool, false, ◌&&◌, Option, Some, None, List, [], ◌∷◌, map, length, refl, ap, subst, arith}
-use Rattle.std.specs.Prelude.{filter}
+use Rattle.std.proofs.Common.{◌≡◌, ◌∙◌, ℕ, zero, suc, ◌+◌, ◌*◌, ◌<◌, ◌≤◌, inl, inr, ⊎_elim, false, ◌&&◌, Option, Some, None, List, [], ◌∷◌, map, length, refl, ap, subst, arith}
 use Rattle.std.specs.List.{slice_get, flat_map, range_with_len}
 use Rattle.std.proofs.lemmas.Option.{slice_get_past}
 use Rattle.foundation.proofs.Members.{Has, from_flat_map, from_map, has_cases}
-use Rattle.foundation.proofs.Chosen.{has_filter}
-use Rattle.foundation.proofs.Places.{contains_at}
+use Rattle.foundation.proofs.Chosen.{has_filter, filter_none}
+use Rattle.foundation.proofs.Places.{contains_at, get_none}
 use Rattle.foundation.proofs.Truth.{is_false}
 use Rattle.cxx_hierarchy.specs.declared.records.ClassId.{ClassId}
 use Rattle.cxx_hierarchy.specs.declared.records.Member.{Member}
@@ -14,28 +13,27 @@ use Rattle.cxx_hierarchy.specs.declared.records.FieldType.TheVariants.{Value, Ob
 use Rattle.cxx_hierarchy.specs.Classes.{Classes, members_of}
 use Rattle.cxx_hierarchy.specs.Declarations.{elements_of}
 use Rattle.cxx_hierarchy.specs.Hierarchies.{IsHierarchy}
-use Rattle.cxx_subobject.specs.declared.Root.TheVariants.{Whole, Shared}
 use Rattle.cxx_subobject.specs.declared.Subobject.{Subobject}
 use Rattle.cxx_subobject.specs.declared.locations.Hop.{Hop}
 use Rattle.cxx_subobject.specs.declared.locations.Hop.TheVariants.{Inherit, Member as MemberHop}
-use Rattle.cxx_subobject.specs.Subobjects.{IsSubobject, whole, shared, class_of, whole_of, same_root}
+use Rattle.cxx_subobject.specs.Subobjects.{IsSubobject, whole, shared, class_of, whole_of}
 use Rattle.cxx_subobject.specs.Preorder.{preorder}
-use Rattle.cxx_subobject.specs.VirtualBases.{virtual_bases}
 use Rattle.cxx_subobject.specs.Locations.{IsElement, LeadsTo, to_subobject, to_value, to_inner}
-use Rattle.cxx_subobject.proofs.PathLemmas.{class_low}
+use Rattle.cxx_subobject.proofs.PathLemmas.{class_low, class_inside}
 use Rattle.cxx_subobject.proofs.TreeLemmas.{has_preorder}
 use Rattle.abi_primary.specs.Kinds.{IsDynamic}
 use Rattle.abi_sound.specs.declared.class_layout.ClassLayout.{ClassLayout}
 use Rattle.abi_sound.specs.Places.{Places, places_of, number_in, members_in}
 use Rattle.abi_sound.specs.Locations.{element_class, element_place, place_at, place_behind, stride_in, size_of_type}
 use Rattle.abi_sound.specs.Sound.{IsSoundLayout}
-use Rattle.abi_slots.specs.Views.{by_part, heads, is_dynamic, is_dynamic_class, is_first, is_head, of_root}
+use Rattle.abi_slots.specs.Views.{by_part, heads, is_dynamic, is_dynamic_class, is_first, is_head}
 use Rattle.abi_slots.proofs.Dynamics.{dynamic_whole}
 use Rattle.abi_slots.proofs.Heads.{test_dynamic}
+use Rattle.abi_slots.proofs.HeadsOnce.{part_valid}
 use Rattle.abi_out.specs.declared.pointers.TablePointer.{TablePointer}
 use Rattle.abi_out.specs.declared.pointers.MemberObjects.{MemberObjects}
 use Rattle.abi_out.specs.Pointers.{whole_view, pointer_at, own_pointers, objects_by_type, objects_by_member, objects_in, member_objects, moved, pointers_in, pointers_within}
-use Rattle.abi_out.proofs.Leading.{class_inside, element_is, ends_inside, ends_below}
+use Rattle.abi_out.proofs.Leading.{element_is, ends_inside, ends_below}
 
 -- the numbers of a range are below its end
 pub range_has : (a n i : ℕ) → Has (range_with_len a n) i → i < a + n
@@ -125,11 +123,6 @@ objects_lower h keeps l c x has =
     let low : x.class.0 < of.owner.0 = keeps.objects of.owner x.class of.declared (contains_at (members_of h of.owner) of.member of.declared of.there) of.is in
     let up : of.owner.0 ≤ c.0 = class_low h keeps c of.owner of.sub of.valid of.class in omega arith
 
-get_none : {X : Type 0} (xs : List X) (i : ℕ) → slice_get xs i ≡ None → length xs ≤ i
-get_none [] i e = omega arith
-get_none (x ∷ xs) zero e = cc
-get_none (x ∷ xs) (suc i) e = let le : length xs ≤ i = get_none xs i e in omega arith
-
 row_there : (rows : List ClassLayout) (n m : ℕ) → (o : Option ClassLayout) → slice_get rows n ≡ o → n < length rows → ((row : ClassLayout) → slice_get rows n ≡ Some row → length row.member_places ≤ m) → number_in (slice_get (members_in o) m) ≡ 0
 row_there rows n m None e lt rule = absurd (let le : length rows ≤ n = get_none rows n e in omega arith)
 row_there rows n m (Some row) e lt rule = ap number_in (slice_get_past row.member_places m (rule row e))
@@ -173,27 +166,12 @@ member_below h rows keeps sound c b s known valid class m = by_there (slice_get 
 
 -- which subobjects are heads
 
-valid_part : (h : Classes) (c : ClassId) (s : Subobject) → Has (by_part h c) s → IsSubobject h c s
-valid_part h c s has = ⊎_elim from_whole from_shared (has_cases (of_root Whole (preorder h c)) (flat_map (λ v. of_root (Shared v) (preorder h c)) (virtual_bases h c)) s has)
-  where
-    from_whole : Has (of_root Whole (preorder h c)) s → IsSubobject h c s
-    from_whole at = has_preorder h c s (has_filter (λ (t : Subobject). same_root Whole t.root) (preorder h c) s at).0
-
-    from_shared : Has (flat_map (λ v. of_root (Shared v) (preorder h c)) (virtual_bases h c)) s → IsSubobject h c s
-    from_shared at =
-        let f = from_flat_map (λ v. of_root (Shared v) (preorder h c)) (virtual_bases h c) s at in
-        has_preorder h c s (has_filter (λ (t : Subobject). same_root (Shared f.0) t.root) (preorder h c) s f.2).0
-
 pub head_valid : (h : Classes) (l : Places) (c : ClassId) (s : Subobject) → Has (heads h l (whole_view c)) s → IsSubobject h c s
-head_valid h l c s has = valid_part h c s (has_filter (is_head h l (whole_view c)) (by_part h c) s has).0
-
-none_pass : (p : Subobject → Bool) (xs : List Subobject) → ((x : Subobject) → Has xs x → p x ≡ false) → filter p xs ≡ []
-none_pass p [] none = refl
-none_pass p (x ∷ xs) none = rw (none x (inl refl)) (none_pass p xs (λ y has. none y (inr has)))
+head_valid h l c s has = part_valid h c s (has_filter (is_head h l (whole_view c)) (by_part h c) s has).0
 
 -- a class that is not dynamic has no table
 pub no_heads : (h : Classes) → IsHierarchy h → (l : Places) (c : ClassId) → (IsDynamic h c → ⊥) → heads h l (whole_view c) ≡ []
-no_heads h keeps l c plain = none_pass (is_head h l (whole_view c)) (by_part h c) (λ s has. by_class_of s (valid_part h c s has) (class_of s) refl)
+no_heads h keeps l c plain = filter_none (is_head h l (whole_view c)) (by_part h c) (λ s has. by_class_of s (part_valid h c s has) (class_of s) refl)
   where
     not_dynamic : (s : Subobject) → IsSubobject h c s → (o : Option ClassId) → class_of s ≡ o → is_dynamic_class h o ≡ false
     not_dynamic s valid None e = refl

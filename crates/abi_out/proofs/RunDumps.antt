@@ -11,11 +11,13 @@ use Rattle.cxx_hierarchy.specs.declared.records.FieldType.TheVariants.{Value as 
 use Rattle.cxx_hierarchy.specs.Classes.{Classes, members_of}
 use Rattle.cxx_hierarchy.specs.Declarations.{elements_of}
 use Rattle.cxx_subobject.specs.declared.Subobject.{Subobject}
-use Rattle.cxx_subobject.specs.Subobjects.{IsSubobject, whole, shared, class_of, join, last_of, whole_of}
+use Rattle.cxx_subobject.specs.Subobjects.{IsSubobject, class_of, whole_of}
 use Rattle.cxx_subobject.specs.Preorder.{preorder}
 use Rattle.cxx_subobject.specs.Locations.{IsOwner, IsPartOf, LeadsTo, ObjectPart, Step, hops_of, hops_to_element}
 use Rattle.cxx_subobject.proofs.LocationLemmas.{hops_lead, hops_lead_to_leaf}
 use Rattle.cxx_subobject.proofs.TreeLemmas.{has_preorder}
+use Rattle.cxx_subobject.proofs.InsideLemmas.{whole_joined}
+use Rattle.cxx_subobject.proofs.PathLemmas.{class_there}
 use Rattle.path_plan.specs.Places.{element, part}
 use Rattle.path_plan.specs.Plans.{upto}
 use Rattle.path_plan.specs.Whole.{whole_part}
@@ -31,10 +33,6 @@ pub record IsLeafOf (h : Classes) (c : ClassId) (k : ℕ) (l : Leaf) : Type 0 wh
   pub object : l.part.object ≡ k
   pub type : ValueType ClassId
   pub leads : LeadsTo h c (hops_to_element l.part.owner l.part.at l.member l.index) (ValueField type)
-
-whole_joined : (h : Classes) (d : ClassId) (i : Subobject) → IsSubobject h d i → join (whole_of d) i ≡ i
-whole_joined h d _ (whole path l) = refl
-whole_joined h d _ (shared v path has l) = refl
 
 -- the leaves in the objects of each class that owners lead to
 abbrev AreLeaves : Classes → ClassId → ℕ → (ClassId → ObjectPart → List Leaf) → Type 0
@@ -108,14 +106,10 @@ told_dump h s k c known made rule = record {
       subst (IsDumpedLeaf h c) f.2 (leaf_is h s k c l known made (leaf_of h c k l f.1) (value_names h s (s.leaf l) (λ p e. rule l p (contains_from_has (leaves_of h c (whole_part k c)) l f.1) e)));
 }
 
-class_some : (h : Classes) (d : ClassId) (i : Subobject) → IsSubobject h d i → (e : ClassId) × (class_of i ≡ Some e)
-class_some h d _ (whole path l) = (last_of d path, refl)
-class_some h d _ (shared v path has l) = (last_of v path, refl)
-
 pub told_part : (h : Classes) (s : Objects) (p : ObjectPart) (c : ClassId) → c.0 < length h → slice_get s.classes p.object ≡ Some c → IsPartOf h c p → NamesPart h (location_of s p)
 told_part h s p c known made of =
     let class : object_class s p.object ≡ c = ap class_or_first made in
-    let e = class_some h of.0 p.at of.2 in (
+    let e = class_there h of.0 p.at of.2 in (
       e.0,
       record {
         known = subst (λ (d : ClassId). d.0 < length h) (sym class) known;

@@ -1,7 +1,7 @@
 -- One step more of the loops over heads, members and elements.
-use Rattle.std.proofs.Common.{◌≡◌, ◌∙◌, ℕ, zero, suc, ◌+◌, ◌*◌, ◌<◌, ◌≤◌, Some, List, [], ◌∷◌, ◌++◌, map, take, length, get_or, append-nil, append_assoc, add-one, refl, ap, subst, sym, arith}
+use Rattle.std.proofs.Common.{◌≡◌, ◌∙◌, ℕ, zero, suc, ◌+◌, ◌*◌, ◌<◌, ◌≤◌, Some, List, [], ◌∷◌, ◌++◌, map, take, length, get_or, append-nil, append_assoc, add-one, ap, subst, sym, arith}
 use Rattle.std.specs.List.{slice_get, flat_map, range_with_len}
-use Rattle.std.proofs.lemmas.List.{flat_map_more}
+use Rattle.std.proofs.lemmas.List.{flat_map_more, take_all}
 use Rattle.foundation.proofs.Members.{Has, has_from_contains}
 use Rattle.foundation.proofs.Places.{any_default}
 use Rattle.cxx_hierarchy.specs.declared.records.ClassId.{ClassId}
@@ -80,17 +80,11 @@ item_has {X} xs all i d same lt = subst (λ (ys : List X). Has ys (get_or xs i d
 pub flat_map_step : {X A : Type 0} (f : X → List A) (old : List A) (xs : List X) (i : ℕ) (d : X) → i < length xs → (old ++ flat_map f (take i xs)) ++ f (get_or xs i d) ≡ old ++ flat_map f (take (i + 1) xs)
 flat_map_step f old xs i d lt = flat_map_more f old (take i xs) (get_or xs i d) ∙ ap (λ ys. old ++ flat_map f ys) (rw add-one (sym (take_more xs i (get_or xs i d) (read_at xs i d lt))))
 
-take_whole : {X : Type 0} (xs : List X) (i : ℕ) → length xs ≤ i → take i xs ≡ xs
-take_whole [] zero le = refl
-take_whole [] (suc i) le = refl
-take_whole (x ∷ xs) zero le = absurd (omega arith)
-take_whole (x ∷ xs) (suc i) le = ap (λ ys. x ∷ ys) (take_whole xs i (omega arith))
-
 -- behind all members
 pub all_pointers : (h : Classes) (l : Places) (c : ClassId) (n : ℕ) (list : List TablePointer) (items : List MemberObjects) (i : ℕ) → length items ≤ i → items ≡ member_objects h l c →
     ((k : ℕ) → c.0 ≤ k → list ≡ own_pointers h l c ++ flat_map (pointers_in l (pointers_within h l k)) (take i items)) → c.0 < n → list ≡ pointers_within h l n c
 all_pointers h l c zero list items i le same rule lt = absurd (omega arith)
-all_pointers h l c (suc k) list items i le same rule lt = rule k (omega arith) ∙ ap (λ xs. own_pointers h l c ++ flat_map (pointers_in l (pointers_within h l k)) xs) (take_whole items i le ∙ same)
+all_pointers h l c (suc k) list items i le same rule lt = rule k (omega arith) ∙ ap (λ xs. own_pointers h l c ++ flat_map (pointers_in l (pointers_within h l k)) xs) (take_all i items le ∙ same)
 
 -- one member more
 pub pointers_more : (h : Classes) (l : Places) (c : ClassId) (n : ℕ) (list new inside : List TablePointer) (size : ℕ) (items : List MemberObjects) (i : ℕ) (d x : MemberObjects) → i < length items → x ≡ get_or items i d →

@@ -6,7 +6,7 @@ ghost use Rattle.abi_out.specs.declared.items.Item.{Item};
 ghost use Rattle.abi_out.specs.Dumps.{IsDumped, by_place, dump_text, gap_text, item_text, lines_from, lines_of};
 
 use crate::items::{Item, items_of};
-use crate::text::{append, append_class, append_number};
+use abi_print::text::{append, append_class, append_number};
 use abi_sound::SoundLayout;
 use cxx_hierarchy::{ClassId, Hierarchy};
 use foundation::NoMemory;

@@ -6,7 +6,7 @@ ghost use Rattle.abi_print.specs.LayoutTexts.{subobject_text};
 ghost use Rattle.abi_out.specs.Fields.{before_field, element_text, field_text, index_text, inner_text, type_behind, value_type};
 
 use crate::locations::{element_class, member_at};
-use crate::text::{append, append_number, append_subobject};
+use abi_print::text::{append, append_number, append_subobject};
 use cxx_hierarchy::{ClassId, FieldType, Hierarchy, Member, ValueType};
 use cxx_subobject::{Hop, Subobject, class_of};
 use foundation::NoMemory;

@@ -12,7 +12,7 @@ ghost use Rattle.abi_out.specs.Dumps.{IsDumped, IsDumpedLeaf, NamesValue, byte_t
 use crate::fields::{append_field, type_behind};
 use crate::locations::{append_part, place_in, size_of_value};
 use crate::pointers::{TablePointer, pointers_of};
-use crate::text::{append, append_class, append_number, append_value_type};
+use abi_print::text::{append, append_class, append_number, append_value_type};
 use abi_sound::SoundLayout;
 use cxx_hierarchy::{ClassId, Hierarchy, ValueType};
 use foundation::{NoMemory, Sequence};

@@ -17,7 +17,6 @@ pub mod laws;
 pub mod locations;
 pub mod out_text;
 pub mod pointers;
-pub mod text;
 
 pub use crate::laws::outs_are_told;
 pub use crate::out_text::{append_out, is_traced};

@@ -11,7 +11,7 @@ ghost use Rattle.abi_sound.specs.Locations.{base_place_in, class_in, element_cla
 ghost use Rattle.abi_out.specs.Fields.{Names, NamesPart, member_at, part_text, place_in};
 ghost use Rattle.abi_out.specs.invariants.Leading.{GoAlong, IsBaseOf, IsKnown};
 
-use crate::text::{append, append_number};
+use abi_print::text::{append, append_number};
 use abi_sound::{SoundLayout, member_place};
 use cxx_hierarchy::{ClassId, FieldType, Hierarchy, Member, Scalar, ValueType};
 use cxx_subobject::{Hop, Location, Subobject, class_of};

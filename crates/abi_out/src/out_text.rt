@@ -10,7 +10,7 @@ ghost use Rattle.abi_out.specs.OutTexts.{IsTold, NamesPartOrNull, is_traced, lin
 
 use crate::dump::append_dump;
 use crate::locations::append_part;
-use crate::text::{append, append_class, append_function};
+use abi_print::text::{append, append_class, append_function};
 use abi_sound::SoundLayout;
 use cxx_hierarchy::{ClassId, Hierarchy};
 use cxx_overrider::FunctionId;

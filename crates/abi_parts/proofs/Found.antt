@@ -1,11 +1,11 @@
 -- The object at an address, in lists that go along with the objects, and the regions of a memory.
-use Rattle.std.proofs.Common.{◌≡◌, ℕ, ◌+◌, ◌<◌, ◌≤◌, ⊎_elim, Bool, true, false, Option, Some, None, List, [], ◌∷◌, ◌++◌, length, map, refl, ap, subst, sym, ◌∙◌, arith}
-use Rattle.std.specs.Prelude.{slice_get, nat_eq, option_map, nat_le, nat_lt, ◌&&◌}
+use Rattle.std.proofs.Common.{◌≡◌, ℕ, ◌+◌, ◌<◌, ◌≤◌, ⊎_elim, Bool, true, false, Some, None, List, [], ◌∷◌, ◌++◌, length, map, refl, ap, subst, sym, ◌∙◌, arith}
+use Rattle.std.specs.Prelude.{slice_get, nat_eq, nat_le, nat_lt, ◌&&◌}
 use Rattle.std.specs.List.{find}
 use Rattle.std.proofs.lemmas.Bool.Decides.{nat_tests}
 use Rattle.std.proofs.lemmas.List.{map-append, length-map}
-use Rattle.std.proofs.lemmas.Option.{slice_get-map, slice_get_within, get_or_from_slice_get}
-use Rattle.foundation.proofs.Places.{get_pushed}
+use Rattle.std.proofs.lemmas.Option.{slice_get_within, get_or_from_slice_get}
+use Rattle.foundation.proofs.Places.{get_pushed, get_mapped}
 use Rattle.cxx_hierarchy.specs.declared.records.ClassId.{ClassId}
 use Rattle.cxx_hierarchy.specs.Classes.{Classes}
 use Rattle.cxx_hierarchy.proofs.Listed.{get_map}
@@ -22,14 +22,6 @@ use Rattle.abi_parts.specs.Placed.{IsObject, IsPlaced, IsLaid, LieIn, IsFree}
 use Rattle.abi_parts.specs.Regions.{AreExtents, AreRegions}
 use Rattle.abi_parts.proofs.Objects.{also_there}
 
--- what a list has that was mapped was mapped from an item at that place
-map_from : {X Y : Type 0} (f : X → Y) (xs : List X) (k : ℕ) (y : Y) → slice_get (map f xs) k ≡ Some y → (x : X) × (slice_get xs k ≡ Some x) × (f x ≡ y)
-map_from {X} {Y} f xs k y e = by_option (slice_get xs k) refl (sym (slice_get-map f xs k) ∙ e)
-  where
-    by_option : (o : Option X) → slice_get xs k ≡ o → option_map f o ≡ Some y → (x : X) × (slice_get xs k ≡ Some x) × (f x ≡ y)
-    by_option None there same = absurd (let g : None ≡ Some y = same in cc)
-    by_option (Some x) there same = (x, there, let g : Some (f x) ≡ Some y = same in let h : f x ≡ y = cc in h)
-
 -- the item of an object
 pub record HasItem {X : Type 0} (l : Places) (start size : X → ℕ) (xs : List X) (k : ℕ) (c : ClassId) (first : ℕ) : Type 0 where
   pub item : X
@@ -39,7 +31,7 @@ pub record HasItem {X : Type 0} (l : Places) (start size : X → ℕ) (xs : List
 
 pub item_of : {X : Type 0} (l : Places) (g : Heap) (start size : X → ℕ) (xs : List X) (k : ℕ) (c : ClassId) (first : ℕ) → AreExtents l g start size xs → IsObject g k c first → HasItem l start size xs k c first
 item_of l g start size xs k c first extents object =
-    let found = map_from start xs k first (ap (λ ys. slice_get ys k) extents.starts ∙ object.there) in
+    let found = get_mapped start xs k first (ap (λ ys. slice_get ys k) extents.starts ∙ object.there) in
     record { item = found.0; there = found.1; starts = found.2; sized = extents.sizes k found.0 c found.1 object.class }
 
 -- the object of an item

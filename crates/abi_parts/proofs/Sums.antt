@@ -1,5 +1,5 @@
 -- How far parts lie from each other.
-use Rattle.std.proofs.Common.{◌≡◌, ℕ, ◌+◌, ◌*◌, false, Some, List, [], ◌∷◌, ◌++◌, refl, ap, ◌∙◌, arith}
+use Rattle.std.proofs.Common.{◌≡◌, ℕ, ◌+◌, ◌*◌, false, Some, List, [], ◌∷◌, ◌++◌, ap, ◌∙◌, arith}
 use Rattle.std.specs.Prelude.{Contains}
 use Rattle.cxx_hierarchy.specs.declared.records.Base.{Base}
 use Rattle.cxx_hierarchy.specs.declared.records.ClassId.{ClassId}
@@ -13,6 +13,7 @@ use Rattle.cxx_subobject.specs.Subobjects.{IsSubobject, whole, shared, subobject
 use Rattle.cxx_subobject.specs.Locations.{IsElement, ObjectPart}
 use Rattle.cxx_subobject.proofs.PathLemmas.{class_there}
 use Rattle.cxx_subobject.proofs.TreeLemmas.{base_down}
+use Rattle.cxx_subobject.proofs.InsideLemmas.{whole_joined}
 use Rattle.path_plan.specs.Places.{part, base_part, shared_part, element}
 use Rattle.path_model.specs.Values.{Leaf, inner_part}
 use Rattle.path_model.specs.Places.{owner_class}
@@ -52,11 +53,6 @@ to_inner h rows g p c s m valid root =
     let sum = joined h rows m.inside.0 c p.at s m.inside.2 m.of_class valid root in
     omega arith
 
--- a complete object is its own view
-join_of_whole : (h : Classes) (c : ClassId) (s : Subobject) → IsSubobject h c s → join (whole_of c) s ≡ s
-join_of_whole h c _ (whole path leads) = refl
-join_of_whole h c _ (shared v path has leads) = refl
-
 -- from the whole of a complete object each subobject lies its place
 pub from_whole : (h : Classes) (rows : List ClassLayout) (g : Heap) (p : ObjectPart) (c : ClassId) (s : Subobject) → IsPartMade h g.classes p c → IsSubobject h c s → p.at ≡ whole_of c →
     address h (places_of h rows) g (inner_part p s) ≡ address h (places_of h rows) g p + (places_of h rows).place c s
@@ -66,7 +62,7 @@ from_whole h rows g p c s m valid at_whole =
     let inner = address_in h l g (inner_part p s) m.class m.inside.0 m.made m.inside.1 in
     let complete : m.inside.0 ≡ c = whole_complete h g p c m at_whole in
     let here : l.place m.inside.0 p.at ≡ l.place c (whole_of c) = ap (l.place m.inside.0) at_whole ∙ ap (λ (x : ClassId). l.place x (whole_of c)) complete in
-    let behind : l.place m.inside.0 (join p.at s) ≡ l.place c s = ap (λ (x : Subobject). l.place m.inside.0 (join x s)) at_whole ∙ (ap (λ (x : ClassId). l.place x (join (whole_of c) s)) complete ∙ ap (l.place c) (join_of_whole h c s valid)) in
+    let behind : l.place m.inside.0 (join p.at s) ≡ l.place c s = ap (λ (x : Subobject). l.place m.inside.0 (join x s)) at_whole ∙ (ap (λ (x : ClassId). l.place x (join (whole_of c) s)) complete ∙ ap (l.place c) (whole_joined h c s valid)) in
     omega arith
 
 pub to_shared : (h : Classes) (rows : List ClassLayout) (g : Heap) (p : ObjectPart) (c v : ClassId) → IsPartMade h g.classes p c → p.at ≡ whole_of c → HasVirtualBase h c v →

@@ -45,9 +45,6 @@ pub none_before : {X : Type 0} (xs ys : List X) → xs ++ ys ≡ ys → xs ≡ [
 none_before [] ys e = refl
 none_before (x ∷ xs) ys e = absurd (let count : suc (length xs + length ys) ≡ length ys = ap suc (sym (length-append xs ys)) ∙ ap length e in omega (arith, count))
 
-split_end : (i j : Item) (body ms bs as_ : List Item) (z : Item) → i ∷ (body ++ (ms ++ (j ∷ (bs ++ (as_ ++ z ∷ []))))) ≡ (i ∷ (body ++ (ms ++ (j ∷ (bs ++ as_))))) ++ z ∷ []
-split_end i j body ms bs as_ z = simp append_assoc
-
 -- and that of a destruction that it has ended
 ended_last : (x : Setup) (form : Form) (c : ClassId) (k : Kind) (before : List Item) → before ++ Does k ∷ [] ≡ ended_items x.h (bodies_of x.program) form c → k ≡ AtEnd
 ended_last x form c k before is =
@@ -56,7 +53,7 @@ ended_last x form c k before is =
     let bases = flat_map base_items (backwards (bases_of x.h c)) in
     let members = flat_map (λ m. member_items false Backwards m (slice_get (members_of x.h c) m)) (backwards (upto (length (members_of x.h c)))) in
     let body = body_items (bodies.destructor c) in
-    let same : Does k ≡ Does AtEnd = last_same before (Does AtEnding ∷ (body ++ (members ++ (Does AtBases ∷ (bases ++ shared))))) (Does k) (Does AtEnd) (is ∙ split_end (Does AtEnding) (Does AtBases) body members bases shared (Does AtEnd)) in
+    let same : Does k ≡ Does AtEnd = last_same before (Does AtEnding ∷ (body ++ (members ++ (Does AtBases ∷ (bases ++ shared))))) (Does k) (Does AtEnd) (is ∙ split_last (Does AtEnding) (Does AtBases) body members bases shared (Does AtEnd)) in
     cc (same)
 
 -- so that only constructions have a part that is done

@@ -6,6 +6,7 @@ use Rattle.cxx_hierarchy.specs.declared.records.FieldType.TheVariants.{Object}
 use Rattle.cxx_subobject.specs.Locations.{IsElement}
 use Rattle.path_plan.specs.Places.{element}
 use Rattle.path_plan.specs.Plans.{upto, backwards, count_from}
+use Rattle.path_plan.proofs.Members.{count_last}
 use Rattle.abi_parts.specs.Heaps.{Heap}
 use Rattle.abi_parts.specs.Placed.{IsLaid}
 use Rattle.abi_parts.proofs.Made.{element_is_made}
@@ -23,10 +24,6 @@ use Rattle.abi_stands.proofs.Moved.{moved_to_part}
 use Rattle.abi_plans.proofs.Noted.{Made, at_part}
 
 -- the numbers below n, from the last one
-
-count_last : (a n : ℕ) → count_from a (suc n) ≡ count_from a n ++ (a + n) ∷ []
-count_last a zero = let e : a ≡ a + zero = omega arith in ap (λ k. k ∷ []) e
-count_last a (suc n) = ap (λ t. a ∷ t) (count_last (suc a) n ∙ let e : suc a + n ≡ a + suc n = omega arith in ap (λ k. count_from (suc a) n ++ k ∷ []) e)
 
 backwards_last : (xs : List ℕ) (y : ℕ) → backwards (xs ++ y ∷ []) ≡ y ∷ backwards xs
 backwards_last [] y = refl

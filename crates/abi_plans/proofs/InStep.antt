@@ -9,9 +9,9 @@ use Rattle.cxx_subobject.specs.Locations.{ObjectPart}
 use Rattle.path_plan.specs.Places.{part}
 use Rattle.path_plan.specs.Phases.{Phase, InBases, ReadyBuilding, Complete, ReadyEnding, EndingBases, Ended, Phases, Event, Begin, Ready, Init, Body, Done, Ending, Bases, End, put, pushed, popped, rest_of, first_of, after}
 use Rattle.path_plan.specs.Views.{Fits, IsOnTop}
-use Rattle.path_plan.proofs.Same.{put_same, pushed_other, popped_other, owner_cases}
+use Rattle.path_plan.proofs.Same.{put_same, pushed_other, popped_other, owner_cases, part_owns}
 use Rattle.abi_stands.specs.Goings.{IsInStep, is_running}
-use Rattle.abi_plans.proofs.Parts.{pushed_own, popped_own, part_is, part_at, part_owns, put_test, put_test_other}
+use Rattle.abi_plans.proofs.Parts.{pushed_own, popped_own, part_is, part_at, put_test, put_test_other}
 
 abbrev pub phased : Phases → ObjectPart → Phase → Phases
 phased s p v = record { phase = put s.phase p v; running = s.running }

@@ -2,7 +2,7 @@
 use Rattle.std.proofs.Common.{◌≡◌, ℕ, ◌+◌, ◌<◌, true, false, Option, Some, None, List, [], ◌∷◌, ◌++◌, length, refl, ap, subst, sym, ◌∙◌, arith, pos}
 use Rattle.std.specs.Prelude.{ℤ, nat_eq, slice_get}
 use Rattle.std.proofs.lemmas.Bool.{eqb-true}
-use Rattle.foundation.proofs.Members.{Has, contains_from_has}
+use Rattle.foundation.proofs.Chosen.{find_passes}
 use Rattle.cxx_hierarchy.specs.declared.records.ClassId.{ClassId}
 use Rattle.cxx_hierarchy.specs.declared.records.Member.{Member}
 use Rattle.cxx_hierarchy.specs.declared.records.Scalar.{Scalar}
@@ -14,27 +14,23 @@ use Rattle.cxx_hierarchy.specs.Classes.{Classes, members_of, leaf_type, leaf_typ
 use Rattle.cxx_hierarchy.specs.Declarations.{elements_of}
 use Rattle.cxx_hierarchy.specs.Scalars.{IsInRange, stored_as}
 use Rattle.cxx_subobject.specs.Locations.{IsElement}
-use Rattle.cxx_search.proofs.Finding.{find_passes}
 use Rattle.cxx_program.specs.declared.operand.Argument.{Argument}
 use Rattle.cxx_program.specs.declared.operand.Conversion.{Conversion}
 use Rattle.cxx_program.specs.declared.operand.Conversion.TheVariants.{Number as ToNumber, Null as ToNull, Same as ToSame, Base as ToBase}
 use Rattle.cxx_program.specs.declared.operand.TypedOperand.{TypedOperand}
 use Rattle.cxx_program.specs.declared.operand.TypedOperand.TheVariants.{Variable as VariableOperand, This, Number as NumberOperand}
 use Rattle.cxx_program.specs.declared.operand.Variable.TheVariants.{Global, Local}
-use Rattle.cxx_program.specs.declared.program.Owner.{Owner}
 use Rattle.cxx_program.specs.declared.program.Owner.TheVariants.{Constructor}
-use Rattle.cxx_program.specs.declared.program.TypedBody.{TypedBody}
 use Rattle.cxx_program.specs.declared.program.TypedInit.{TypedInit}
-use Rattle.cxx_program.specs.declared.program.TypedProgram.{TypedProgram}
-use Rattle.cxx_program.specs.Typed.{HasType, of_variable, of_this, of_number, Converts, to_number, to_same, to_base, IsArgument, a_value, a_null, no_scope, IsTypedInit, AreInitsOf, IsTypedProgram}
+use Rattle.cxx_program.specs.Typed.{HasType, of_variable, of_this, of_number, Converts, to_number, to_same, to_base, IsArgument, a_value, a_null, no_scope}
 use Rattle.path_model.specs.Outs.{class_or_first}
 use Rattle.path_model.specs.Places.{leaf}
 use Rattle.path_model.specs.States.{body_of, inits_in, init_of, is_init}
 use Rattle.path_model.specs.Steps.{constant, init_value, class_of_part, objects_after, event_outs}
 use Rattle.path_model.specs.TypedStates.{IsValue, IsLeafMade}
 use Rattle.path_model.specs.Values.{Number, Objects, converted}
-use Rattle.path_model.proofs.TypedBodies.{body_typed}
 use Rattle.path_model.proofs.TypedValues.{converted_value}
+use Rattle.path_model.proofs.TypedEvents.{inits_of}
 use Rattle.abi_sound.specs.Places.{size_of_value}
 use Rattle.byte_memory.specs.Store.{Store, store_of}
 use Rattle.byte_code.specs.Numbers.{word_of}
@@ -133,15 +129,6 @@ leads_constant f w h s from to _ _ _ rest P (by_itself z a range) low high go = 
     (subst (λ (k : Option ℕ). Leads f rest (with_register (with_register s from (Some (word_of z))) to k) P) (sym (register_same s from (Some (word_of z)) low)) go))
 leads_constant f w h s from to _ _ _ rest P (by_null d) low high go = leads_const f from (word_of (pos 0)) low
     (leads_convert f {s = with_register s from (Some (word_of (pos 0)))} to from (Bytes word_width) (word_of (pos 0)) (register_same s from (Some (word_of (pos 0))) low) (subst (λ n. to < n) (sym (registers_kept s from (Some (word_of (pos 0))))) high) go)
-
--- the initializer of a program, which is typed
-
-inits_of : (h : Classes) (program : TypedProgram) → IsTypedProgram h program → (c : ClassId) (o : Option TypedBody) → body_of program (Constructor c) ≡ o → (init : TypedInit) → Has (inits_in o) init → IsTypedInit h c init
-inits_of h program typed c None e init has = absurd has
-inits_of h program typed c (Some body) e init has =
-    let b = body_typed h program typed (Constructor c) body e in
-    let inits = subst (λ (o : Owner). AreInitsOf h o body.inits) b.0 b.1.inits in
-    inits.each init (contains_from_has body.inits init has)
 
 -- a member that is a number or a pointer has one leaf
 leaf_element : (h : Classes) (c : ClassId) (m : ℕ) (t : ValueType ClassId) → leaf_type h c m ≡ Some t → IsElement h c m 0 (ValueField t)

@@ -1,5 +1,5 @@
 -- What is left of a plan behind an own event: parts of the class, each where it may stand, and the last event last.
-use Rattle.std.proofs.Common.{◌≡◌, ℕ, ◌<◌, inl, inr, ⊎_elim, Bool, true, false, Option, Some, None, List, [], ◌∷◌, ◌++◌, map, length, append_assoc, refl, subst, sym, ◌∙◌, arith}
+use Rattle.std.proofs.Common.{◌≡◌, ℕ, ◌<◌, inl, inr, Bool, true, false, Option, Some, None, List, [], ◌∷◌, ◌++◌, map, length, append_assoc, refl, subst, sym, ◌∙◌, arith}
 use Rattle.std.specs.Prelude.{slice_get, if◌then◌else◌}
 use Rattle.std.specs.List.{flat_map, Contains}
 use Rattle.cxx_hierarchy.specs.declared.records.ClassId.{ClassId}
@@ -14,11 +14,11 @@ use Rattle.cxx_hierarchy.specs.VirtualBases.{HasVirtualBase}
 use Rattle.cxx_hierarchy.specs.Hierarchies.{IsHierarchy}
 use Rattle.cxx_subobject.specs.Locations.{IsElement}
 use Rattle.foundation.proofs.Truth.{split}
-use Rattle.foundation.proofs.Members.{Has, has_cases, contains_from_has}
+use Rattle.foundation.proofs.Members.{Has, contains_from_has}
 use Rattle.path_plan.specs.Plans.{Bodies, Form, InFull, AsBase, upto, backwards, virtual_order}
 use Rattle.path_plan.specs.Pieces.{Choice}
 use Rattle.path_plan.proofs.Order.{order_virtual}
-use Rattle.path_plan.proofs.Members.{has_count}
+use Rattle.path_plan.proofs.Members.{has_count, has_backwards}
 use Rattle.path_model.specs.States.{bodies_of}
 use Rattle.abi_lower.specs.Blocks.{items}
 use Rattle.abi_lower.specs.Items.{Item, Does, Shares, Inherits, Holds, indices, shared_items, base_items, init_items, body_items, typed_items, member_items}
@@ -107,11 +107,6 @@ bases_left x course form c (b ∷ bs) ys each left = split b.is_virtual (λ t. b
 init_left : (x : Setup) (course : Course) (form : Form) (c : ClassId) (b : Bool) (m : ℕ) (ys : List Item) → (b ≡ true → IsSet x c m) → AreLeft x course form c false ys → AreLeft x course form c false (init_items b m ++ ys)
 init_left x course form c true m ys set left = (refl, set refl, left)
 init_left x course form c false m ys set left = left
-
--- the numbers below n, from the first or from the last
-pub has_backwards : {X : Type 0} (xs : List X) (y : X) → Has (backwards xs) y → Has xs y
-has_backwards [] y has = has
-has_backwards (x ∷ xs) y has = ⊎_elim (λ more. inr (has_backwards xs y more)) (λ last. ⊎_elim (λ e. inl e) (λ none. absurd none) last) (has_cases (backwards xs) (x ∷ []) y has)
 
 pub index_below : (way : Way) (n i : ℕ) → Has (indices way n) i → i < n
 index_below Forwards n i has = let r = (has_count 0 n i has).1 in omega arith

@@ -9,7 +9,7 @@ use Rattle.foundation.proofs.Deciding.{decide_number}
 use Rattle.path_plan.specs.Places.{part}
 use Rattle.path_plan.specs.Phases.{Phase, Phases, after, is_complete, first_of}
 use Rattle.path_plan.specs.Views.{view}
-use Rattle.path_plan.proofs.Same.{part_cases, pushed_other, popped_other, Owns, owner_cases}
+use Rattle.path_plan.proofs.Same.{part_cases, pushed_other, popped_other, Owns, owner_cases, part_owns}
 use Rattle.path_model.specs.TypedStates.{IsPartMade}
 use Rattle.byte_shadow.specs.Shadows.{Notes}
 use Rattle.abi_parts.specs.Heaps.{Heap}
@@ -23,7 +23,7 @@ use Rattle.abi_lower.specs.declared.items.Kind.TheVariants.{AtBegin, AtReady, At
 use Rattle.abi_stands.specs.Worlds.{World, classes_in, places_in}
 use Rattle.abi_stands.specs.Columns.{noted_phase, pair_of, PhasesStand, ViewsStand}
 use Rattle.abi_stands.proofs.Owners.{same_class}
-use Rattle.abi_plans.proofs.Parts.{part_is, part_owns}
+use Rattle.abi_plans.proofs.Parts.{part_is}
 use Rattle.abi_plans.proofs.Planned.{event_phase}
 use Rattle.abi_plans.proofs.Own.{whole_in}
 

@@ -27,9 +27,6 @@ part_is p k o y owns e = let make : ℕ → List Step → Subobject → ObjectPa
 pub part_at : (p : ObjectPart) (k : ℕ) (o : List Step) (y : Subobject) → p ≡ part k o y → p.at ≡ y
 part_at p k o y e = ap (λ (q : ObjectPart). q.at) e
 
-pub part_owns : (p : ObjectPart) (k : ℕ) (o : List Step) (y : Subobject) → p ≡ part k o y → Owns p k o
-part_owns p k o y e = record { object = ap (λ (q : ObjectPart). q.object) e; owner = ap (λ (q : ObjectPart). q.owner) e }
-
 -- a test that holds of the new phase and of the old one
 pub put_test : (test : Phase → Bool) (b : Bool) (phase : ObjectPart → Phase) (p : ObjectPart) (v : Phase) (q : ObjectPart) → test v ≡ b → test (phase q) ≡ b → test (put phase p v q) ≡ b
 put_test test b phase p v q new old = split (same_part p q) (λ t. test (if t then v else phase q) ≡ b) (λ e. new) (λ e. old)

@@ -7,7 +7,7 @@ use Rattle.cxx_subobject.specs.Locations.{Step, ObjectPart}
 use Rattle.path_plan.specs.Places.{part}
 use Rattle.path_plan.specs.Phases.{is_ready}
 use Rattle.path_plan.specs.Views.{view}
-use Rattle.path_plan.proofs.Same.{Owns, owner_cases}
+use Rattle.path_plan.proofs.Same.{Owns, owner_cases, part_owns}
 use Rattle.path_model.specs.Values.{Objects, inner_part}
 use Rattle.abi_primary.specs.Kinds.{IsDynamic}
 use Rattle.byte_memory.specs.Store.{Store}
@@ -18,7 +18,6 @@ use Rattle.abi_parts.proofs.Made.{inner_is_made}
 use Rattle.abi_stands.specs.Worlds.{World, classes_in}
 use Rattle.abi_stands.specs.Columns.{HasPointers, PointersStand}
 use Rattle.abi_stands.proofs.Pointers.{pointers_kept}
-use Rattle.abi_plans.proofs.Parts.{part_owns}
 use Rattle.abi_plans.proofs.Own.{whole_in}
 use Rattle.abi_plans.proofs.Noted.{IsOnly, Made, at_part, HasView, one_view, view_elsewhere}
 

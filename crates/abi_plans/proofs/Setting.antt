@@ -27,11 +27,12 @@ use Rattle.byte_code.specs.Images.{word_at}
 use Rattle.byte_code.specs.Numbers.{word_of}
 use Rattle.byte_code.specs.declared.op.PointSource.TheVariants.{Vtt}
 use Rattle.byte_code.specs.declared.op.Setting.{Setting}
+use Rattle.abi_dyncast.proofs.Distances.{moved_between}
 use Rattle.byte_machine.specs.declared.frames.Handed.{Handed}
 use Rattle.byte_machine.specs.Running.{moved}
 use Rattle.byte_machine.specs.Plans.{source_word, place_through, word_bytes}
 use Rattle.byte_machine.proofs.PlanLeads.{place_virtual}
-use Rattle.abi_dispatch.proofs.Numbers.{moved_between, moved_up, moved_back, number_word}
+use Rattle.abi_dispatch.proofs.Numbers.{moved_up, moved_back, number_word}
 use Rattle.abi_dispatch.proofs.Bounds.{vbase_small}
 use Rattle.abi_parts.specs.Heaps.{Heap}
 use Rattle.abi_parts.specs.Placed.{IsLaid}

@@ -1,5 +1,5 @@
 -- What the setting of one virtual pointer finds: the address point of the table that serves a subobject, and where that lies.
-use Rattle.std.proofs.Common.{◌≡◌, ℕ, suc, ◌<◌, inl, inr, Bool, true, false, Some, List, [], ◌∷◌, length, refl, ap, subst, sym, ◌∙◌, arith}
+use Rattle.std.proofs.Common.{◌≡◌, ℕ, ◌<◌, Bool, true, false, Some, length, refl, ap, subst, sym, ◌∙◌, arith}
 use Rattle.std.specs.Prelude.{slice_get, if◌then◌else◌, nat_lt, not, ◌&&◌, ◌||◌}
 use Rattle.std.proofs.lemmas.Bool.Decides.{nat_tests}
 use Rattle.std.proofs.lemmas.Option.{slice_get_within}
@@ -14,9 +14,9 @@ use Rattle.cxx_subobject.proofs.TreeLemmas.{preorder_has, subobject_same, same_i
 use Rattle.foundation.proofs.Truth.{split, is_false}
 use Rattle.foundation.proofs.Members.{Has}
 use Rattle.foundation.proofs.Chosen.{has_filter, filter_has, has_any}
-use Rattle.abi_slots.specs.Listing.{place_in}
 use Rattle.abi_slots.specs.Views.{is_dynamic_class, of_root}
 use Rattle.abi_slots.proofs.Lists.{at_place}
+use Rattle.abi_slots.proofs.EntryPlaces.{place_none}
 use Rattle.abi_vtt.specs.Vtts.{has_virtual, ends_in_primary, needs_word}
 use Rattle.abi_vtt.specs.Blocks.{run, is_front_head}
 use Rattle.abi_vtt.proofs.MarkLemmas.{has_some}
@@ -66,16 +66,12 @@ in_run w world c i apart root =
     below : (a b : ℕ) → a < b → nat_lt a b ≡ true
     below a b less = grind (arith, nat_tests)
 
-none_place : {A : Type 0} (p : A → Bool) (xs : List A) → ((x : A) → Has xs x → p x ≡ false) → place_in p xs ≡ length xs
-none_place p [] none = refl
-none_place p (x ∷ xs) none = let off = none x (inl refl) in let rest = none_place p xs (λ y has. none y (inr has)) in rw off (ap (λ n. suc n) rest)
-
 -- one that lies in a virtual base
 pub not_in_run : (w : World) (c : ClassId) (i : Subobject) (v : ClassId) → i.root ≡ Shared v → is_in_run w.setup c i ≡ false
 not_in_run w c i v root =
     let h = classes_in w in
     let l = places_in w in
-    let place = none_place (same_subobject i) (run h l c) (λ t has. is_false (same_subobject i t) (λ same.
+    let place = place_none (same_subobject i) (run h l c) (λ t has. is_false (same_subobject i t) (λ same.
     let one = subobject_same i t same in
     let passes = (has_filter (λ (s : Subobject). same_root Whole s.root) (preorder h c) t (has_filter (is_front_head h l) (of_root Whole (preorder h c)) t has).0).1 in
     let clash : same_root Whole (Shared v) ≡ true = ap (same_root Whole) (sym root ∙ ap (λ (s : Subobject). s.root) one) ∙ passes in

@@ -26,12 +26,13 @@ use Rattle.abi_vtt.proofs.RunWords.{run_first}
 use Rattle.byte_code.specs.Images.{word_at}
 use Rattle.byte_code.specs.declared.op.PointSource.{PointSource}
 use Rattle.byte_code.specs.declared.op.PointSource.TheVariants.{Directory, Vtt}
+use Rattle.byte_code.proofs.Numbers.{word_inside}
 use Rattle.byte_machine.specs.declared.frames.Handed.{Handed}
 use Rattle.byte_machine.specs.Running.{moved}
 use Rattle.byte_machine.specs.Plans.{source_word, vtt_of}
 use Rattle.byte_machine.proofs.PlanLeads.{source_vtt}
 use Rattle.abi_lower.specs.Blocks.{whose_of}
-use Rattle.abi_dispatch.proofs.Numbers.{word_inside, moved_up}
+use Rattle.abi_dispatch.proofs.Numbers.{moved_up}
 use Rattle.abi_parts.specs.Heaps.{Heap}
 use Rattle.abi_stands.specs.Worlds.{World, IsWorld, classes_in, places_in, fixed}
 use Rattle.abi_stands.specs.Goings.{StandsIn}

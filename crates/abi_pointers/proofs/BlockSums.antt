@@ -1,5 +1,5 @@
 -- How many words a sub-VTT has, and where those of bases begin in it.
-use Rattle.std.proofs.Common.{◌≡◌, suc, ◌+◌, ◌≤◌, true, List, [], ◌∷◌, ◌++◌, length, refl, ap, arith}
+use Rattle.std.proofs.Common.{◌≡◌, suc, ◌+◌, ◌≤◌, true, List, [], ◌∷◌, ◌++◌, length, ap, arith}
 use Rattle.std.specs.Prelude.{filter, if◌then◌else◌, nat_eq}
 use Rattle.std.specs.List.{flat_map}
 use Rattle.std.proofs.lemmas.List.{length-append, length-map}
@@ -10,15 +10,10 @@ use Rattle.cxx_hierarchy.specs.Hierarchies.{IsHierarchy}
 use Rattle.cxx_subobject.specs.Subobjects.{whole_of, shared_base}
 use Rattle.cxx_subobject.specs.Preorder.{preorder}
 use Rattle.abi_sound.specs.Places.{Places}
-use Rattle.abi_vtt.specs.Vtts.{Item, item, has_virtual, needs_word, words_of_bases, below, shared_items, items}
+use Rattle.abi_vtt.specs.Vtts.{item, has_virtual, needs_word, words_of_bases, below, shared_items, items}
 use Rattle.abi_vtt.specs.Blocks.{block, block_length, lengths_of, lengths_before, built_classes, built_shared}
-use Rattle.abi_vtt.proofs.BlockLemmas.{opened, length_same}
+use Rattle.abi_vtt.proofs.BlockLemmas.{opened, length_same, turn_length}
 use Rattle.abi_count.specs.Counts.{vtt_words}
-
--- the lengths of blocks, one after the other
-flat_lengths : (h : Classes) (l : Places) (go : ClassId → List Item) → ((d : ClassId) → length (go d) ≡ block_length h l d) → (list : List ClassId) → length (flat_map go list) ≡ lengths_of h l list
-flat_lengths h l go sized [] = refl
-flat_lengths h l go sized (d ∷ rest) = let one = sized d in let more = flat_lengths h l go sized rest in let whole = length-append (go d) (flat_map go rest) in omega arith
 
 -- a block has the word of the view, the blocks of its bases, and the words of its base subobjects
 pub block_is : (h : Classes) → IsHierarchy h → (l : Places) (d : ClassId) → block_length h l d ≡ 1 + lengths_of h l (built_classes h d) + length (filter (needs_word h l) (preorder h d))
@@ -26,7 +21,7 @@ block_is h keeps l d =
     let bases = flat_map (λ b. block h l (below (whole_of d) b) b) (built_classes h d) in
     let all : block_length h l d ≡ suc (length (bases ++ words_of_bases h l (whole_of d) d)) = ap length (opened h keeps l (whole_of d) d) in
     let parts = length-append bases (words_of_bases h l (whole_of d) d) in
-    let first = flat_lengths h l (λ b. block h l (below (whole_of d) b) b) (λ b. length_same h keeps l (below (whole_of d) b) b) (built_classes h d) in
+    let first = turn_length h l (λ b. block h l (below (whole_of d) b) b) (λ b. length_same h keeps l (below (whole_of d) b) b) (built_classes h d) in
     let last = length-map (filter (needs_word h l) (preorder h d)) (item (whole_of d)) in
     omega arith
 
@@ -35,7 +30,7 @@ pub vtt_is : (h : Classes) → IsHierarchy h → (l : Places) (c : ClassId) → 
 vtt_is h keeps l c has =
     let all : vtt_words h l c ≡ length (items h l c) = ap (λ b. if b then length (items h l c) else 0) has in
     let parts = length-append (block h l (whole_of c) c) (flat_map (shared_items h l) (built_shared h c)) in
-    let more = flat_lengths h l (shared_items h l) (λ v. length_same h keeps l (shared_base v) v) (built_shared h c) in
+    let more = turn_length h l (shared_items h l) (λ v. length_same h keeps l (shared_base v) v) (built_shared h c) in
     omega arith
 
 pub before_within : (h : Classes) (l : Places) (b : ClassId) (list : List ClassId) → lengths_before h l b list ≤ lengths_of h l list

@@ -19,6 +19,7 @@ use Rattle.cxx_subobject.proofs.TreeLemmas.{preorder_once, same_itself, subobjec
 use Rattle.abi_sound.specs.Places.{Places}
 use Rattle.abi_slots.specs.Listing.{place_in, is_shared_root}
 use Rattle.abi_slots.specs.Views.{is_dynamic_class, of_root}
+use Rattle.abi_slots.proofs.EntryPlaces.{place_none}
 use Rattle.abi_vtt.specs.Vtts.{ends_in_primary, needs_word}
 use Rattle.abi_vtt.specs.Blocks.{is_front_head, run, run_distance, item_number, words_by_class, before_by_class, words_to, lengths_of, built_classes}
 use Rattle.abi_ops.specs.Setups.{Setup, places}
@@ -30,10 +31,6 @@ use Rattle.abi_pointers.specs.invariants.Walks.{first_tables, words_of, before_f
 place_past : {A : Type 0} (test : A → Bool) (xs : List A) (s : A) (rest : List A) → test s ≡ true → ((y : A) → Has xs y → test y ≡ false) → place_in test (xs ++ s ∷ rest) ≡ length xs
 place_past test [] s rest passes none = ap (λ b. if b then 0 else suc (place_in test rest)) passes
 place_past test (x ∷ xs) s rest passes none = ap (λ b. if b then 0 else suc (place_in test (xs ++ s ∷ rest))) (none x (inl refl)) ∙ ap suc (place_past test xs s rest passes (λ y has. none y (inr has)))
-
-place_none : {A : Type 0} (test : A → Bool) (xs : List A) → ((y : A) → Has xs y → test y ≡ false) → place_in test xs ≡ length xs
-place_none test [] none = refl
-place_none test (x ∷ xs) none = ap (λ b. if b then 0 else suc (place_in test xs)) (none x (inl refl)) ∙ ap suc (place_none test xs (λ y has. none y (inr has)))
 
 -- what stands once does not stand before itself
 once_before : {A : Type 0} (xs : List A) (s : A) (rest : List A) → EachOnce (xs ++ s ∷ rest) → Has xs s → ⊥

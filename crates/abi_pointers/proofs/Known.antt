@@ -1,5 +1,5 @@
 -- The classes that the ops of plans name are known, and their numbers are small.
-use Rattle.std.proofs.Common.{◌≡◌, ℕ, zero, suc, ◌+◌, ◌*◌, ◌≤◌, ◌<◌, ◌^◌, false, Option, Some, None, List, [], ◌∷◌, All, length, get_or, refl, ap, subst, sym, ◌∙◌, arith}
+use Rattle.std.proofs.Common.{◌≡◌, ℕ, ◌+◌, ◌*◌, ◌≤◌, ◌<◌, ◌^◌, false, Option, Some, None, List, [], ◌∷◌, All, length, get_or, refl, ap, subst, sym, ◌∙◌, arith}
 use Rattle.std.specs.Prelude.{slice_get, Contains}
 use Rattle.foundation.proofs.Places.{contains_at, any_default}
 use Rattle.cxx_hierarchy.specs.declared.records.ClassId.{ClassId}
@@ -9,12 +9,11 @@ use Rattle.cxx_hierarchy.specs.Classes.{Classes, bases_of, members_of}
 use Rattle.cxx_hierarchy.specs.Hierarchies.{IsHierarchy}
 use Rattle.cxx_hierarchy.specs.VirtualBases.{IsDirectBase, HasVirtualBase}
 use Rattle.cxx_subobject.specs.declared.Root.TheVariants.{Whole, Shared}
-use Rattle.cxx_subobject.specs.declared.Subobject.{Subobject}
 use Rattle.cxx_subobject.specs.declared.locations.Hop.TheVariants.{Inherit, Member as MemberHop}
 use Rattle.cxx_subobject.specs.Locations.{IsElement, LeadsTo, to_subobject, to_inner}
-use Rattle.cxx_subobject.specs.Subobjects.{IsSubobject, Leads, whole, shared, whole_of, subobject, class_of}
+use Rattle.cxx_subobject.specs.Subobjects.{IsSubobject, whole, shared, whole_of, subobject}
 use Rattle.cxx_subobject.specs.VirtualBases.{virtual_bases}
-use Rattle.cxx_subobject.proofs.PathLemmas.{base_before, virtual_below, class_low}
+use Rattle.cxx_subobject.proofs.PathLemmas.{base_before, virtual_below}
 use Rattle.cxx_program.specs.declared.program.Owner.{Owner}
 use Rattle.cxx_program.specs.declared.program.TypedBody.{TypedBody}
 use Rattle.cxx_program.specs.declared.program.TypedProgram.{TypedProgram}
@@ -27,20 +26,6 @@ use Rattle.abi_count.proofs.ViewLemmas.{listed_base}
 use Rattle.abi_ops.specs.Setups.{locals_in}
 use Rattle.abi_ops.specs.invariants.Fits.{most_locals}
 use Rattle.abi_pointers.specs.PlanSites.{HasFewLocals}
-
--- subobjects
-
-path_known : (h : Classes) → IsHierarchy h → (c : ClassId) (path : List ClassId) → c.0 < length h → Leads h c path → All (λ (d : ClassId). d.0 < length h) (c ∷ path)
-path_known h keeps c path known leads zero d lt = known
-path_known h keeps c [] known leads (suc k) d lt = absurd (omega arith)
-path_known h keeps c (b ∷ path) known leads (suc k) d lt = let less = base_before h keeps c b false leads.0 in path_known h keeps b path (omega arith) leads.1 k d (omega arith)
-
-pub subobject_known : (h : Classes) → IsHierarchy h → (c : ClassId) (s : Subobject) → c.0 < length h → IsSubobject h c s → All (λ (d : ClassId). d.0 < length h) s.path
-subobject_known h keeps c _ known (whole path leads) = path_known h keeps c path known leads
-subobject_known h keeps c _ known (shared v path has leads) = let less = virtual_below h keeps c v has in path_known h keeps v path (omega arith) leads
-
-pub class_known : (h : Classes) → IsHierarchy h → (c d : ClassId) (s : Subobject) → c.0 < length h → IsSubobject h c s → class_of s ≡ Some d → d.0 < length h
-class_known h keeps c d s known valid class = let low = class_low h keeps c d s valid class in omega arith
 
 -- bases
 

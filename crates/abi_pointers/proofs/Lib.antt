@@ -7,7 +7,6 @@ pub mod PartItems
 pub mod Known
 pub mod Distances
 pub mod TableSteps
-pub mod PathEnds
 pub mod Lefts
 pub mod OpeningNumbers
 pub mod Putting

@@ -1,5 +1,5 @@
 -- Classes of which no base has a virtual pointer of its own.
-use Rattle.std.proofs.Common.{◌≡◌, ℕ, zero, suc, ◌+◌, ◌<◌, inl, inr, ⊎_elim, Bool, true, false, Some, List, [], ◌∷◌, ◌++◌, length, get_or, map, refl, ap, subst, sym, ◌∙◌, arith}
+use Rattle.std.proofs.Common.{◌≡◌, ℕ, zero, suc, ◌+◌, ◌<◌, inr, ⊎_elim, Bool, true, false, Some, List, [], ◌∷◌, ◌++◌, length, get_or, map, refl, ap, subst, sym, ◌∙◌, arith}
 use Rattle.std.specs.Prelude.{slice_get, filter, not, ◌&&◌, ◌||◌, if◌then◌else◌}
 use Rattle.std.specs.List.{Contains, flat_map, list_all}
 use Rattle.std.proofs.lemmas.List.{append-nil}
@@ -7,7 +7,7 @@ use Rattle.std.proofs.lemmas.List.Elements.{filter-append}
 use Rattle.std.proofs.lemmas.Option.{slice_get-get_or}
 use Rattle.foundation.proofs.Places.{get_pushed}
 use Rattle.foundation.proofs.Members.{Has, has_from_contains}
-use Rattle.foundation.proofs.Chosen.{has_filter}
+use Rattle.foundation.proofs.Chosen.{has_filter, filter_none}
 use Rattle.cxx_hierarchy.specs.declared.records.ClassId.{ClassId}
 use Rattle.cxx_hierarchy.specs.declared.records.Base.{Base}
 use Rattle.cxx_hierarchy.specs.Classes.{Classes, bases_of}
@@ -22,10 +22,11 @@ use Rattle.cxx_subobject.proofs.TreeLemmas.{has_preorder, same_itself}
 use Rattle.path_plan.specs.Plans.{Form}
 use Rattle.byte_code.specs.declared.op.Setting.{Setting}
 use Rattle.abi_primary.specs.declared.Primary.{Primary}
+use Rattle.abi_primary.proofs.KindLemmas.{base_dynamic}
 use Rattle.abi_sound.specs.Places.{Places}
 use Rattle.abi_slots.specs.Listing.{is_direct}
 use Rattle.abi_slots.specs.Views.{is_dynamic}
-use Rattle.abi_slots.proofs.Dynamics.{base_dynamic, dynamic_whole}
+use Rattle.abi_slots.proofs.Dynamics.{dynamic_whole}
 use Rattle.abi_slots.proofs.Heads.{dynamic_test, test_dynamic}
 use Rattle.abi_vtt.specs.Vtts.{ends_in_primary}
 use Rattle.abi_ops.specs.Setups.{Setup, places}
@@ -134,14 +135,10 @@ not_apart x c lone _ (whole [] leads) other = absurd (let same : same_subobject 
 not_apart x c lone _ (whole (b ∷ path) leads) other = by_tests (is_dynamic x.h (last_of b path)) (ends_in_primary (places x) (c ∷ b ∷ path)) (λ dynamic. lone.all_primary b path leads dynamic)
 not_apart x c lone _ (shared v path has leads) other = absurd (lone.none_virtual v has)
 
-none_pass : (p : Subobject → Bool) (xs : List Subobject) → ((s : Subobject) → Has xs s → p s ≡ false) → filter p xs ≡ []
-none_pass p [] none = refl
-none_pass p (s ∷ xs) none = rw (none s (inl refl)) (none_pass p xs (λ t has. none t (inr has)))
-
 pub lone_apart : (x : Setup) (c : ClassId) → IsLone x.h (places x) c → filter (is_set_apart x) (preorder x.h c) ≡ filter (is_set_apart x) (whole_of c ∷ [])
 lone_apart x c lone =
     let p = is_set_apart x in
-    let none = none_pass p (others x.h c) (λ s has.
+    let none = filter_none p (others x.h c) (λ s has.
     not_apart x c lone s (has_preorder x.h c s (subst (λ (xs : List Subobject). Has xs s) (sym (whole_first x.h c)) (inr has)))
     (has_filter (λ (t : Subobject). not (same_subobject (whole_of c) t)) (firsts (flat_map (λ (base : Base ClassId). tree x.h c.0 base.class (base_subobject (whole_of c) base)) (bases_of x.h c))) s has).1) in
     ap (filter p) (whole_first x.h c) ∙ filter-append p (whole_of c ∷ []) (others x.h c) ∙ ap (λ (xs : List Subobject). filter p (whole_of c ∷ []) ++ xs) none ∙ append-nil (filter p (whole_of c ∷ []))

@@ -1,10 +1,10 @@
 -- Each item of a plan that is no own event is a part of its class.
-use Rattle.std.proofs.Common.{◌≡◌, ℕ, zero, suc, ◌≤◌, ◌<◌, inl, inr, ⊎_elim, Bool, true, false, Option, Some, None, List, [], ◌∷◌, ◌++◌, length, refl, arith}
+use Rattle.std.proofs.Common.{◌≡◌, ℕ, zero, suc, ◌≤◌, ◌<◌, inl, inr, Bool, true, false, Option, Some, None, List, [], ◌∷◌, ◌++◌, length, refl, arith}
 use Rattle.std.specs.Prelude.{slice_get, if◌then◌else◌}
 use Rattle.std.specs.List.{flat_map, Contains}
 use Rattle.foundation.proofs.Truth.{split}
 use Rattle.foundation.proofs.Places.{contains_at}
-use Rattle.foundation.proofs.Members.{Has, has_cases, contains_from_has}
+use Rattle.foundation.proofs.Members.{Has, contains_from_has}
 use Rattle.cxx_hierarchy.specs.declared.records.ClassId.{ClassId}
 use Rattle.cxx_hierarchy.specs.declared.records.Base.{Base}
 use Rattle.cxx_hierarchy.specs.declared.records.Member.{Member}
@@ -17,6 +17,7 @@ use Rattle.cxx_hierarchy.specs.VirtualBases.{HasVirtualBase}
 use Rattle.cxx_subobject.proofs.TreeLemmas.{edge}
 use Rattle.path_plan.specs.Plans.{Bodies, Form, InFull, AsBase, upto, backwards, virtual_order}
 use Rattle.path_plan.proofs.Order.{order_virtual}
+use Rattle.path_plan.proofs.Members.{has_backwards}
 use Rattle.path_model.specs.States.{bodies_of}
 use Rattle.abi_ops.specs.Setups.{Setup}
 use Rattle.abi_ops.specs.declared.routines.Course.{Course}
@@ -84,10 +85,6 @@ members_parts : (h : Classes) → IsHierarchy h → (c : ClassId) (b : ℕ → B
 members_parts h keeps c b way [] = tt
 members_parts h keeps c b way (m ∷ ms) =
     parts_append h c (member_items (b m) way m (slice_get (members_of h c) m)) (flat_map (λ m. member_items (b m) way m (slice_get (members_of h c) m)) ms) (member_parts h keeps c (b m) way m (slice_get (members_of h c) m) refl) (members_parts h keeps c b way ms)
-
-has_backwards : {A : Type 0} (xs : List A) (y : A) → Has (backwards xs) y → Has xs y
-has_backwards [] y has = has
-has_backwards (x ∷ xs) y has = ⊎_elim (λ more. inr (has_backwards xs y more)) (λ last. ⊎_elim (λ e. inl e) (λ none. absurd none) last) (has_cases (backwards xs) (x ∷ []) y has)
 
 built_parts : (h : Classes) → IsHierarchy h → (bodies : Bodies) (form : Form) (c : ClassId) → AreParts h c (built_items h bodies form c)
 built_parts h keeps bodies form c =

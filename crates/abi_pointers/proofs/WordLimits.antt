@@ -1,5 +1,5 @@
 -- The words of the tables that come first in a group, and of VTTs, are within the limit on all words.
-use Rattle.std.proofs.Common.{◌≡◌, ℕ, zero, suc, ◌+◌, ◌≤◌, ◌<◌, inl, inr, ⊎_elim, true, false, Option, Some, None, List, [], ◌∷◌, ◌++◌, length, refl, ap, subst, sym, arith}
+use Rattle.std.proofs.Common.{◌≡◌, ℕ, zero, suc, ◌+◌, ◌≤◌, ◌<◌, inl, ⊎_elim, true, false, Option, Some, None, List, [], ◌∷◌, ◌++◌, length, refl, ap, subst, sym, arith}
 use Rattle.std.specs.Prelude.{if◌then◌else◌, not}
 use Rattle.std.specs.List.{sum_by}
 use Rattle.std.proofs.lemmas.Bool.{and_parts, cases_lt}
@@ -17,6 +17,7 @@ use Rattle.cxx_subobject.specs.Subobjects.{whole_of, class_of}
 use Rattle.cxx_subobject.specs.Preorder.{preorder}
 use Rattle.cxx_subobject.proofs.PathLemmas.{class_there}
 use Rattle.cxx_subobject.proofs.TreeLemmas.{has_preorder}
+use Rattle.cxx_subobject.proofs.SumLemmas.{sum_same}
 use Rattle.abi_sound.specs.Places.{Places}
 use Rattle.abi_slots.specs.Views.{View, is_dynamic, is_dynamic_class, of_root}
 use Rattle.abi_slots.proofs.Dynamics.{dynamic_whole}
@@ -33,10 +34,6 @@ use Rattle.abi_pointers.proofs.FirstTables.{first_listed}
 sum_has : {A : Type 0} (f : A → ℕ) (xs : List A) (x : A) → Has xs x → f x ≤ sum_by f xs
 sum_has f [] x has = absurd has
 sum_has f (y ∷ xs) x has = let sum = sum_by-cons f y xs in ⊎_elim (λ e. let same : f y ≡ f x = ap f e in omega arith) (λ more. let less = sum_has f xs x more in omega arith) has
-
-sum_same : {A : Type 0} (f g : A → ℕ) (xs : List A) → ((x : A) → Has xs x → f x ≡ g x) → sum_by f xs ≡ sum_by g xs
-sum_same f g [] same = refl
-sum_same f g (x ∷ xs) same = let a = sum_by-cons f x xs in let b = sum_by-cons g x xs in let one = same x (inl refl) in let more = sum_same f g xs (λ y has. same y (inr has)) in omega arith
 
 sum_none : {A : Type 0} (f : A → ℕ) (xs : List A) → ((x : A) → Has xs x → ⊥) → sum_by f xs ≡ 0
 sum_none f [] none = refl

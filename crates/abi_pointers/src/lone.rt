@@ -5,26 +5,15 @@ ghost use Rattle.std.specs.List.{list_all};
 ghost use Rattle.cxx_hierarchy.specs.declared.records.ClassId.{ClassId};
 ghost use Rattle.cxx_hierarchy.specs.declared.records.Base.{Base};
 ghost use Rattle.abi_sound.specs.Places.{places_of};
-ghost use Rattle.abi_slots.specs.Listing.{is_direct};
 ghost use Rattle.abi_pointers.specs.ClassTables.{IsLone, TellDynamic, TellLone};
 ghost use Rattle.abi_pointers.specs.invariants.Joins.{joins};
 
 use abi_primary::Primary;
 use abi_sound::SoundLayout;
+use abi_vtt::path_ends::is_direct;
 use cxx_hierarchy::{Base, ClassId, Hierarchy};
 use foundation::NoMemory;
 use std::alloc::Global;
-
-/// Whether the primary base is this one, and not virtual.
-pub(crate) fn is_direct(primary: Primary, b: ClassId) -> bool
-    ensures { result ≡ is_direct primary b }
-{
-    match primary {
-        Primary::None => false,
-        Primary::Direct(d) => d.0 == b.0,
-        Primary::Virtual(_) => false,
-    }
-}
 
 /// The flag of a class, and false behind the end.
 pub(crate) fn flag_of(flags: &[bool], d: ClassId) -> bool

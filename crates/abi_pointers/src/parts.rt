@@ -4,18 +4,18 @@ ghost use Rattle.std.specs.Prelude.{◌≡◌, ◌<◌, true, All, Some, length}
 ghost use Rattle.cxx_hierarchy.specs.declared.records.ClassId.{ClassId};
 ghost use Rattle.cxx_subobject.specs.Subobjects.{class_of};
 ghost use Rattle.abi_sound.specs.Places.{places_of};
-ghost use Rattle.abi_slots.specs.Listing.{is_shared_root};
-ghost use Rattle.abi_vtt.specs.Vtts.{ends_in_primary, is_proper_at, needs_word};
+ghost use Rattle.abi_vtt.specs.Vtts.{needs_word};
 ghost use Rattle.abi_ops.specs.Setups.{setup};
 ghost use Rattle.abi_lower.specs.Blocks.{is_set_apart};
 ghost use Rattle.abi_pointers.specs.PlanSites.{IsPlanSite};
 
-use crate::lone::{flag_of, is_direct};
+use crate::lone::flag_of;
 use crate::plan_sites::PlanSite;
 use abi_count::has_virtual;
 use abi_sound::SoundLayout;
-use cxx_hierarchy::{ClassId, Hierarchy};
-use cxx_subobject::{Root, Subobject, class_of};
+use abi_vtt::path_ends::{ends_in_primary, is_proper, is_shared};
+use cxx_hierarchy::ClassId;
+use cxx_subobject::{Subobject, class_of};
 
 /// The class of a subobject.
 pub(crate) fn class_at(s: &Subobject) -> ClassId
@@ -25,39 +25,6 @@ pub(crate) fn class_at(s: &Subobject) -> ClassId
     match class_of(s) {
         Some(class) => class,
         None => unreachable!(),
-    }
-}
-
-/// Whether the last class of a path is the non-virtual primary base of the one before it.
-fn ends_in_primary<L: SoundLayout>(h: &Hierarchy, layout: &L, path: &[ClassId]) -> bool
-    requires layout { L.lays_out layout.now h.now }
-    requires known { All (λ (c : ClassId). c.0 < length h.now) path.now }
-    ensures { result ≡ ends_in_primary (places_of h.now (L.rows layout.now)) path.now }
-{
-    let len = path.len();
-    if len < 2 {
-        return false;
-    }
-    is_direct(layout.layout(path[len - 2]).primary, path[len - 1])
-}
-
-/// Whether a subobject is a base, and not the whole.
-fn is_proper(s: &Subobject) -> bool
-    ensures { result ≡ is_proper_at s.now.root s.now.path }
-{
-    match s.root {
-        Root::Whole => s.path.len() > 1,
-        Root::Shared(_) => true,
-    }
-}
-
-/// Whether a root is that of a virtual base.
-fn is_shared(root: Root) -> bool
-    ensures { result ≡ is_shared_root root }
-{
-    match root {
-        Root::Whole => false,
-        Root::Shared(_) => true,
     }
 }
 

@@ -9,7 +9,7 @@ use Rattle.cxx_hierarchy.specs.declared.records.ClassId.{ClassId}
 use Rattle.cxx_hierarchy.specs.declared.records.Base.{Base}
 use Rattle.cxx_hierarchy.specs.Classes.{Class, Classes, class_at, bases_of, bases_in}
 use Rattle.cxx_hierarchy.specs.Hierarchies.{IsHierarchy}
-use Rattle.cxx_hierarchy.specs.VirtualBases.{IsDirectBase}
+use Rattle.cxx_hierarchy.specs.VirtualBases.{IsDirectBase, HasVirtualBase, direct, further}
 use Rattle.abi_primary.proofs.Nth.{nth, nth_in}
 use Rattle.cxx_hierarchy.specs.Declarations.{has_virtual_function}
 use Rattle.abi_primary.specs.Kinds.{Kind, in_class, is_kind_in, is_kind, empty_kind, is_empty, IsDynamic, declares, shares, inherits}
@@ -39,6 +39,11 @@ by_virtual h c class base e has v = shares c base.class (subst (λ w. IsDirectBa
 
 pub by_dynamic : (h : Classes) (c : ClassId) (class : Class) (base : Base ClassId) → class_at h c ≡ Some class → Contains class.bases base → IsDynamic h base.class → IsDynamic h c
 by_dynamic h c class base e has x = inherits c base.class base.is_virtual (direct_base h c class base e has) x
+
+-- a class with a virtual base is dynamic
+pub base_dynamic : (h : Classes) (c v : ClassId) → HasVirtualBase h c v → IsDynamic h c
+base_dynamic h _ _ (direct c v edge) = shares c v edge
+base_dynamic h _ _ (further c b v way edge has) = inherits c b way edge (base_dynamic h b v has)
 
 -- a kind that depends on the classes of smaller numbers alone
 pub record IsByEarlier (h : Classes) (kind : Kind) : Type 0 where

@@ -2,132 +2,26 @@
 
 ghost use Rattle.std.specs.Prelude.{◌≡◌, ◌++◌, ◌<◌, OnOk, OnErr, IfOk, Contains, length, slice_get};
 ghost use Rattle.std.specs.List.{flat_map};
-ghost use Rattle.std.specs.Fmt.{decimal};
 ghost use Rattle.cxx_hierarchy.specs.declared.records.ClassId.{ClassId};
 ghost use Rattle.cxx_subobject.specs.declared.Subobject.{Subobject};
-ghost use Rattle.cxx_subobject.specs.Subobjects.{IsSubobject, tail_of};
+ghost use Rattle.cxx_subobject.specs.Subobjects.{IsSubobject};
 ghost use Rattle.cxx_hierarchy.specs.Classes.{members_of};
 ghost use Rattle.abi_sound.specs.Places.{number_in, places_of};
-ghost use Rattle.abi_print.specs.LayoutTexts.{name_of, slashed, joined, subobject_text, scalar_text, value_text, type_text, length_text, primary_text, class_text, base_text, field_text, fields_text, proper, listed_text, layout_text};
+ghost use Rattle.abi_print.specs.LayoutTexts.{type_text, length_text, primary_text, class_text, base_text, field_text, fields_text, proper, listed_text, layout_text};
 
+use crate::text::{append, append_class, append_number, append_subobject, append_value_type};
 use abi_primary::Primary;
 use abi_sound::{ClassLayout, SoundLayout};
-use cxx_hierarchy::{ClassId, FieldType, Hierarchy, Member, Scalar, ValueType};
-use cxx_subobject::{Root, Subobject, list_subobjects};
+use cxx_hierarchy::{ClassId, FieldType, Hierarchy, Member};
+use cxx_subobject::{Subobject, list_subobjects};
 use foundation::NoMemory;
 use std::alloc::Global;
-
-pub(crate) fn append(text: &mut Vec<u8>, piece: &[u8]) -> Result<(), NoMemory>
-    ensures { OnOk result (text.new.items ≡ text.old.items ++ piece.now) }
-{
-    text.extend_from_slice(piece)?;
-    Ok(())
-}
-
-pub(crate) fn append_number(alloc: Global, text: &mut Vec<u8>, number: u32) -> Result<(), NoMemory>
-    ensures { OnOk result (text.new.items ≡ text.old.items ++ decimal number) }
-{
-    let digits = number.to_string(alloc)?;
-    append(text, digits.as_bytes())?;
-    Ok(())
-}
-
-/// Puts the name of a class at the end of a text.
-pub(crate) fn append_class(text: &mut Vec<u8>, h: &Hierarchy, c: ClassId) -> Result<(), NoMemory>
-    ensures { OnOk result (text.new.items ≡ text.old.items ++ name_of h.now c) }
-{
-    if c.0 >= h.len() {
-        return Ok(());
-    }
-    append(text, h.class(c).name.as_slice())?;
-    Ok(())
-}
-
-/// Puts the names of classes at the end, each behind a slash.
-fn append_slashed(text: &mut Vec<u8>, h: &Hierarchy, path: &[ClassId]) -> Result<(), NoMemory>
-    ensures { OnOk result (text.new.items ≡ text.old.items ++ slashed h.now path.now) }
-{
-    for c in path {
-        append(text, b"/")?;
-        append_class(text, h, *c)?;
-    }
-    Ok(())
-}
-
-/// Puts the names of classes at the end, with slashes between.
-fn append_path(text: &mut Vec<u8>, h: &Hierarchy, path: &[ClassId]) -> Result<(), NoMemory>
-    ensures { OnOk result (text.new.items ≡ text.old.items ++ joined h.now path.now) }
-{
-    match path {
-        [] => Ok(()),
-        [first, below @ ..] => {
-            append_class(text, h, *first)?;
-            append_slashed(text, h, below)?;
-            Ok(())
-        }
-    }
-}
-
-/// The classes of a path below its first.
-fn classes_below(path: &[ClassId]) -> &[ClassId]
-    ensures { result.now ≡ tail_of path.now }
-{
-    match path {
-        [_, below @ ..] => below,
-        [] => path,
-    }
-}
-
-fn append_subobject(text: &mut Vec<u8>, h: &Hierarchy, s: &Subobject) -> Result<(), NoMemory>
-    ensures { OnOk result (text.new.items ≡ text.old.items ++ subobject_text h.now s.now) }
-{
-    match s.root {
-        Root::Whole => append_path(text, h, classes_below(s.path.as_slice()))?,
-        Root::Shared(_) => {
-            append(text, b"*")?;
-            append_path(text, h, s.path.as_slice())?;
-        }
-    }
-    Ok(())
-}
-
-fn scalar_text(ty: Scalar) -> &'static [u8]
-    ensures { result.now ≡ scalar_text ty }
-{
-    match ty {
-        Scalar::Bool => b"bool",
-        Scalar::Char => b"char",
-        Scalar::SChar => b"signed char",
-        Scalar::UChar => b"unsigned char",
-        Scalar::Short => b"short",
-        Scalar::UShort => b"unsigned short",
-        Scalar::Int => b"int",
-        Scalar::UInt => b"unsigned int",
-        Scalar::Long => b"long",
-        Scalar::ULong => b"unsigned long",
-        Scalar::LongLong => b"long long",
-        Scalar::ULongLong => b"unsigned long long",
-    }
-}
-
-fn append_value(text: &mut Vec<u8>, h: &Hierarchy, ty: &ValueType<ClassId>) -> Result<(), NoMemory>
-    ensures { OnOk result (text.new.items ≡ text.old.items ++ value_text h.now ty.now) }
-{
-    match ty {
-        ValueType::Number(scalar) => append(text, scalar_text(*scalar))?,
-        ValueType::Pointer(class) => {
-            append_class(text, h, *class)?;
-            append(text, b"*")?;
-        }
-    }
-    Ok(())
-}
 
 fn append_type(text: &mut Vec<u8>, h: &Hierarchy, ty: &FieldType<ClassId>) -> Result<(), NoMemory>
     ensures { OnOk result (text.new.items ≡ text.old.items ++ type_text h.now ty.now) }
 {
     match ty {
-        FieldType::Value(ty) => append_value(text, h, ty)?,
+        FieldType::Value(ty) => append_value_type(text, h, ty)?,
         FieldType::Object(class) => append_class(text, h, *class)?,
     }
     Ok(())

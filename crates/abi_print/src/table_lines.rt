@@ -10,7 +10,7 @@ ghost use Rattle.abi_sound.specs.Places.{places_of};
 ghost use Rattle.abi_print.specs.invariants.Wholes.{is_whole};
 ghost use Rattle.abi_print.specs.TableTexts.{IsViewName, table_text, view_text, group_name, group_text, group_of, tables_in, table_in, target_text, targets_text, vtt_text, base_text, info_text, class_info_text, groups_text, tables_text};
 
-use crate::layout_lines::{append, append_class, append_number};
+use crate::text::{append, append_class, append_number};
 use crate::word_lines::{append_signed, append_table, append_table_name};
 use abi_slots::{Group, GroupName, InfoBase, Table, TypeInfo, VttWord};
 use abi_sound::SoundLayout;

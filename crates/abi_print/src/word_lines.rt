@@ -2,16 +2,11 @@
 
 ghost use Rattle.std.specs.Prelude.{◌≡◌, ◌++◌, ℕ, pos, ◌-ℤ◌, OnOk, codes};
 ghost use Rattle.std.specs.Fmt.{signed_decimal};
-ghost use Rattle.std.specs.Option.{option_copied};
-ghost use Rattle.cxx_overrider.specs.Functions.{declaration_of};
-ghost use Rattle.abi_print.specs.LayoutTexts.{name_of};
-ghost use Rattle.abi_print.specs.TableTexts.{name_behind, function_text, vcall_text, this_text, vbase_text, return_text, kind_text, entry_text, word_text, words_text, table_name, table_text};
+ghost use Rattle.abi_print.specs.TableTexts.{vcall_text, this_text, vbase_text, return_text, kind_text, entry_text, word_text, words_text, table_name, table_text};
 
-use crate::layout_lines::{append, append_class, append_number};
+use crate::text::{append, append_class, append_function, append_number};
 use abi_slots::{CodeKind, EntryWord, ReturnAdjust, Table, TableWord, ThisAdjust};
-use cxx_hierarchy::{ClassId, Function, Hierarchy};
-use cxx_overrider::FunctionId;
-use cxx_overrider::signatures::declaration;
+use cxx_hierarchy::Hierarchy;
 use foundation::NoMemory;
 use std::alloc::Global;
 
@@ -20,40 +15,6 @@ pub(crate) fn append_signed(alloc: Global, text: &mut Vec<u8>, number: i64) -> R
 {
     let digits = number.to_string(alloc)?;
     append(text, digits.as_bytes())?;
-    Ok(())
-}
-
-/// What a class declares under an index; None for the destructor, and where there is no such class.
-fn declared<'a>(h: &'a Hierarchy, f: FunctionId) -> Option<&'a Function<ClassId>>
-    ensures { option_copied result ≡ declaration_of h.now f }
-{
-    if f.class.0 >= h.len() {
-        return None;
-    }
-    declaration(h, f)
-}
-
-/// Puts the name of a function at the end of a text, and `~C` for the destructor of a class C.
-fn append_member_name(text: &mut Vec<u8>, h: &Hierarchy, f: FunctionId) -> Result<(), NoMemory>
-    ensures { OnOk result (text.new.items ≡ text.old.items ++ name_behind (name_of h.now f.class) (declaration_of h.now f)) }
-{
-    match declared(h, f) {
-        Some(function) => append(text, function.name.as_slice())?,
-        None => {
-            append(text, b"~")?;
-            append_class(text, h, f.class)?;
-        }
-    }
-    Ok(())
-}
-
-/// Puts a function at the end of a text, behind its class.
-fn append_function(text: &mut Vec<u8>, h: &Hierarchy, f: FunctionId) -> Result<(), NoMemory>
-    ensures { OnOk result (text.new.items ≡ text.old.items ++ function_text h.now f) }
-{
-    append_class(text, h, f.class)?;
-    append(text, b"::")?;
-    append_member_name(text, h, f)?;
     Ok(())
 }
 

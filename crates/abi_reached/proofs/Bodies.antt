@@ -1,5 +1,5 @@
 -- Where a body is at its end: the step there, and the plan on which the body of a constructor or destructor stands.
-use Rattle.std.proofs.Common.{◌≡◌, ℕ, ◌≤◌, arith, length, ⊎_elim, true, Some, None, List, [], ◌∷◌, inl, inr, refl, ap, subst, sym, ◌∙◌}
+use Rattle.std.proofs.Common.{◌≡◌, ℕ, ◌≤◌, arith, length, true, Some, None, List, [], ◌∷◌, inl, inr, refl, ap, subst, sym, ◌∙◌}
 use Rattle.std.specs.Prelude.{slice_get}
 use Rattle.cxx_hierarchy.specs.declared.records.ClassId.{ClassId}
 use Rattle.cxx_hierarchy.specs.Classes.{Classes}
@@ -14,7 +14,7 @@ use Rattle.path_model.specs.Effects.{Next}
 use Rattle.path_model.specs.Runs.{Moves, statement_limit, body_limit, frame_limit, limit_at, move_by, move, state_at}
 use Rattle.path_model.specs.States.{State, Running, Planned, Frame, InBody, InPlan, body_of, with_frames}
 use Rattle.path_model.specs.Steps.{class_of_part, event_step, closed, constructor_closed, in_body, body_step, frame_step, step}
-use Rattle.std.proofs.lemmas.Option.{slice_get_cases}
+use Rattle.foundation.proofs.Places.{get_none}
 use Rattle.path_model.specs.TypedStates.{IsTypedState, AreTypedFrames}
 use Rattle.path_model.proofs.KeptLaws.{behind_body_fits, constructor_on_plan, destructor_on_plan}
 use Rattle.path_model.proofs.KeptSteps.{state_kept}
@@ -22,10 +22,6 @@ use Rattle.abi_reached.specs.Accepted.{IsAccepted}
 use Rattle.abi_reached.specs.NextSteps.{EndsConstructor, EndsDestructor}
 use Rattle.abi_reached.proofs.Accepted.{main_owned}
 use Rattle.abi_reached.proofs.Events.{happens}
-
--- a number at which no item stands is behind all
-behind_all : {X : Type 0} (xs : List X) (i : ℕ) → slice_get xs i ≡ None → length xs ≤ i
-behind_all xs i none = ⊎_elim (λ is. absurd (let some : Some is.0 ≡ None = sym is.2 ∙ none in cc (some))) (λ is. is.0) (slice_get_cases xs i).1
 
 -- a body that is at its end is behind its last statement
 pub behind_last : (h : Classes) (program : TypedProgram) (s : State) (f : Running) (below : List Frame) (body : TypedBody) → s.frames ≡ InBody f ∷ below → body_of program f.owner ≡ Some body → slice_get body.statements f.next ≡ None → IsTypedState h program s → f.next ≡ length body.statements
@@ -35,7 +31,7 @@ behind_last h program s f below body top there over typed =
     let both : Some frames.0.0 ≡ Some body = sym running.there ∙ there in
     let same : frames.0.0 ≡ body = cc (both) in
     let within : f.next ≤ length body.statements = subst (λ (x : TypedBody). f.next ≤ length x.statements) same running.next in
-    let past = behind_all body.statements f.next over in
+    let past = get_none body.statements f.next over in
     omega (arith, within, past)
 
 -- the end of a body

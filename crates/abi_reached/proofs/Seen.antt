@@ -1,6 +1,7 @@
 -- Where a body is on top, each ready part's complete object has a view, and what the part is a base of has begun.
 use Rattle.std.proofs.Common.{◌≡◌, ℕ, false, Some, List, [], ◌∷◌, ap, sym, ◌∙◌}
 use Rattle.std.specs.Prelude.{◌&&◌}
+use Rattle.foundation.proofs.Chosen.{find_passes}
 use Rattle.cxx_hierarchy.specs.declared.records.ClassId.{ClassId}
 use Rattle.cxx_hierarchy.specs.Classes.{Classes}
 use Rattle.cxx_hierarchy.specs.Hierarchies.{IsHierarchy}
@@ -10,7 +11,6 @@ use Rattle.cxx_subobject.specs.Subobjects.{IsSubobject, join, same_subobject}
 use Rattle.cxx_subobject.specs.Locations.{ObjectPart}
 use Rattle.cxx_subobject.proofs.TreeLemmas.{subobject_same}
 use Rattle.cxx_search.specs.Searches.{is_of_class, preorder_of}
-use Rattle.cxx_search.proofs.Finding.{find_passes}
 use Rattle.cxx_program.specs.declared.program.TypedProgram.{TypedProgram}
 use Rattle.path_plan.specs.Places.{part}
 use Rattle.path_plan.specs.Phases.{Raw}

@@ -4,29 +4,11 @@ use Rattle.std.specs.Prelude.{nat_eq, if◌then◌else◌}
 use Rattle.cxx_hierarchy.specs.declared.stop.LimitNo.{LimitNo}
 use Rattle.cxx_hierarchy.specs.declared.stop.LimitNo.TheVariants.{L1, L2, L3, L4, L5, L6, L7, L8, L9, L10}
 use Rattle.cxx_hierarchy.specs.Stops.{limit_no}
-use Rattle.path_rules.specs.declared.Undefined.{Undefined}
-use Rattle.path_rules.specs.declared.Undefined.TheVariants.{NullUse, Dangling, NotReady, OutsideView, Unset, PureCall, BadDowncast, NonVirtualDelete, NotHeapObject, NotComplete, MissingReturn, Overflow}
 use Rattle.path_rules.specs.Rules.{undefined_no}
+use Rattle.abi_steps.proofs.Tests.{one_number}
 use Rattle.abi_told.specs.declared.ending.End.{End}
 use Rattle.abi_told.specs.declared.ending.End.TheVariants.{Done, Undefined as UndefinedEnd, OutOfSteps, Limit}
 use Rattle.abi_refine.specs.Endings.{turn_of}
-
-abbrev rule_with : ℕ → Option Undefined
-rule_with n = if nat_eq n 1 then Some NullUse else if nat_eq n 2 then Some Dangling else if nat_eq n 3 then Some NotReady else if nat_eq n 4 then Some OutsideView else if nat_eq n 5 then Some Unset else if nat_eq n 6 then Some PureCall else if nat_eq n 7 then Some BadDowncast else if nat_eq n 8 then Some NonVirtualDelete else if nat_eq n 9 then Some NotHeapObject else if nat_eq n 10 then Some NotComplete else if nat_eq n 11 then Some MissingReturn else if nat_eq n 12 then Some Overflow else None
-
-rule_with-number : (rule : Undefined) → rule_with (undefined_no rule) ≡ Some rule
-rule_with-number NullUse = refl
-rule_with-number Dangling = refl
-rule_with-number NotReady = refl
-rule_with-number OutsideView = refl
-rule_with-number Unset = refl
-rule_with-number PureCall = refl
-rule_with-number BadDowncast = refl
-rule_with-number NonVirtualDelete = refl
-rule_with-number NotHeapObject = refl
-rule_with-number NotComplete = refl
-rule_with-number MissingReturn = refl
-rule_with-number Overflow = refl
 
 abbrev limit_with : ℕ → Option LimitNo
 limit_with n = if nat_eq n 1 then Some L1 else if nat_eq n 2 then Some L2 else if nat_eq n 3 then Some L3 else if nat_eq n 4 then Some L4 else if nat_eq n 5 then Some L5 else if nat_eq n 6 then Some L6 else if nat_eq n 7 then Some L7 else if nat_eq n 8 then Some L8 else if nat_eq n 9 then Some L9 else if nat_eq n 10 then Some L10 else None
@@ -43,9 +25,6 @@ limit_with-number L8 = refl
 limit_with-number L9 = refl
 limit_with-number L10 = refl
 
-same_rule : (a b : Undefined) → undefined_no a ≡ undefined_no b → a ≡ b
-same_rule a b e = let h : Some a ≡ Some b = sym (rule_with-number a) ∙ ap rule_with e ∙ rule_with-number b in cc
-
 same_limit : (a b : LimitNo) → limit_no a ≡ limit_no b → a ≡ b
 same_limit a b e = let h : Some a ≡ Some b = sym (limit_with-number a) ∙ ap limit_with e ∙ limit_with-number b in cc
 
@@ -59,7 +38,7 @@ same_end (UndefinedEnd rule line) Done e = cc
 same_end (UndefinedEnd rule line) (UndefinedEnd rule' line') e =
     let number : undefined_no rule ≡ undefined_no rule' = cc in
     let place : line ≡ line' = cc in
-    let same : rule ≡ rule' = same_rule rule rule' number in
+    let same : rule ≡ rule' = one_number rule rule' number in
     cc
 same_end (UndefinedEnd rule line) OutOfSteps e = cc
 same_end (UndefinedEnd rule line) (Limit limit) e = cc

@@ -1,7 +1,7 @@
 -- The lines of what a turn told, piece by piece.
 use Rattle.std.proofs.Common.{◌≡◌, ◌∙◌, ℕ, ◌+◌, ◌<◌, ◌≤◌, Bool, true, false, List, [], ◌∷◌, ◌++◌, get_or, take, length, refl, ap, sym, append_assoc, add-one}
 use Rattle.std.specs.Prelude.{not, ◌&&◌, if◌then◌else◌}
-use Rattle.std.proofs.lemmas.List.{append-nil}
+use Rattle.std.proofs.lemmas.List.{append-nil, take_all}
 use Rattle.std.proofs.Math.Seq.{take-suc}
 use Rattle.foundation.proofs.Truth.{split}
 use Rattle.cxx_hierarchy.specs.Classes.{Classes}
@@ -11,7 +11,6 @@ use Rattle.byte_machine.specs.declared.turn.RawOut.{RawOut}
 use Rattle.abi_sound.specs.Places.{Places}
 use Rattle.abi_slots.specs.declared.code_numbers.CodeRow.{CodeRow}
 use Rattle.abi_lines.specs.RawTexts.{is_traced, printed, raw_text, raw_texts, shown}
-use Rattle.abi_told.proofs.Texts.{taken_all}
 
 module _ (h : Classes) (l : Places) (rows : List CodeRow) (memory : Store) (objects : List Opened) where
   abbrev one_text : RawOut → List ℕ
@@ -64,4 +63,4 @@ module _ (h : Classes) (l : Places) (rows : List CodeRow) (memory : Store) (obje
 
   -- all
   pub lines_all : (trace : Bool) (text : List ℕ) (told : List RawOut) (i : ℕ) → length told ≤ i → text ≡ raw_texts h l rows memory objects (shown trace (take i told)) → text ≡ raw_texts h l rows memory objects (shown trace told)
-  lines_all trace text told i le so = so ∙ ap (λ (os : List RawOut). whole_text (shown trace os)) (taken_all told i le)
+  lines_all trace text told i le so = so ∙ ap (λ (os : List RawOut). whole_text (shown trace os)) (take_all i told le)

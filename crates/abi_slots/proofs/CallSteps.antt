@@ -4,6 +4,7 @@ use Rattle.std.specs.List.{filter, flat_map}
 use Rattle.std.proofs.lemmas.List.Concat.{flat_map-cons}
 use Rattle.std.proofs.lemmas.List.Folds.{flat_map-map}
 use Rattle.std.proofs.lemmas.Option.{slice_get-get_or}
+use Rattle.std.proofs.lemmas.List.{drop_all}
 use Rattle.cxx_hierarchy.specs.declared.records.ClassId.{ClassId}
 use Rattle.cxx_hierarchy.specs.declared.records.Base.{Base}
 use Rattle.cxx_hierarchy.specs.Classes.{Classes, bases_of}
@@ -18,7 +19,7 @@ use Rattle.abi_slots.specs.Rows.{is_chosen, class_of_base, below}
 use Rattle.abi_slots.proofs.Lists.{Item, from_map, from_filter}
 use Rattle.abi_slots.proofs.Bases.{contains_item}
 use Rattle.abi_slots.proofs.Listings.{calls_steps}
-use Rattle.abi_slots.proofs.Loops.{rest_is, rest_none}
+use Rattle.abi_slots.proofs.Loops.{rest_is}
 use Rattle.foundation.proofs.Places.{any_default}
 
 push_append : (h : Classes) (old xs ys : List Offset) → push_all h old (xs ++ ys) ≡ push_all h (push_all h old xs) ys
@@ -41,7 +42,7 @@ below_step h l keeps c path more list i d done new all lt less longer e inv =
     ∙ inv
 
 pub below_end : (h : Classes) (f : ClassId → List Offset) (list : List ClassId) (i : ℕ) (done all : List Offset) → length list ≤ i → push_all h done (flat_map f (drop i list)) ≡ all → done ≡ all
-below_end h f list i done all le inv = sym (ap (λ xs. push_all h done (flat_map f xs)) (rest_none list i le)) ∙ inv
+below_end h f list i done all le inv = sym (ap (λ xs. push_all h done (flat_map f xs)) (drop_all i list le)) ∙ inv
 
 -- a chosen base is of a class before
 pub chosen_before : (h : Classes) → IsHierarchy h → (c : ClassId) (p : Primary) (first : Bool) (list : List ClassId) (bases : List (Base ClassId)) (i : ℕ) (d : ClassId) → bases ≡ bases_of h c → list ≡ map class_of_base (filter (is_chosen p first) bases) → i < length list → (get_or list i d).0 < c.0

@@ -7,23 +7,19 @@ use Rattle.cxx_hierarchy.specs.declared.records.Function.{Function}
 use Rattle.cxx_hierarchy.specs.declared.records.Destructor.{Destructor}
 use Rattle.cxx_hierarchy.specs.declared.records.Destructor.TheVariants.{Implicit, Plain, Virtual}
 use Rattle.cxx_hierarchy.specs.Classes.{Class, Classes, class_at}
-use Rattle.cxx_hierarchy.specs.VirtualBases.{HasVirtualBase, direct, further}
 use Rattle.cxx_subobject.specs.declared.Subobject.{Subobject}
 use Rattle.cxx_subobject.specs.Subobjects.{IsSubobject, Leads, whole, shared, last_of, class_of}
 use Rattle.cxx_overrider.specs.declared.FunctionId.{FunctionId}
 use Rattle.cxx_overrider.specs.Functions.{says_virtual_at, says_virtual_in}
 use Rattle.cxx_hierarchy.specs.Declarations.{is_virtual_destructor, has_virtual_function}
 use Rattle.cxx_overrider.specs.Overriding.{IsVirtual}
-use Rattle.abi_primary.specs.Kinds.{IsDynamic, declares, shares, inherits}
+use Rattle.abi_primary.specs.Kinds.{IsDynamic, declares, inherits}
+use Rattle.abi_primary.proofs.KindLemmas.{base_dynamic}
 use Rattle.abi_slots.proofs.Lists.{any_item, or_left, or_right}
 
 pub dynamic_along : (h : Classes) (c : ClassId) (path : List ClassId) → Leads h c path → IsDynamic h (last_of c path) → IsDynamic h c
 dynamic_along h c [] l d = d
 dynamic_along h c (b ∷ path) l d = inherits c b false l.0 (dynamic_along h b path l.1 d)
-
-pub base_dynamic : (h : Classes) (c v : ClassId) → HasVirtualBase h c v → IsDynamic h c
-base_dynamic h _ _ (direct c v edge) = shares c v edge
-base_dynamic h _ _ (further c b v way edge has) = inherits c b way edge (base_dynamic h b v has)
 
 pub dynamic_whole : (h : Classes) (c d : ClassId) (s : Subobject) → IsSubobject h c s → class_of s ≡ Some d → IsDynamic h d → IsDynamic h c
 dynamic_whole h c d _ (whole path l) e dyn = let f : last_of c path ≡ d = cc in dynamic_along h c path l (subst (λ a. IsDynamic h a) (sym f) dyn)

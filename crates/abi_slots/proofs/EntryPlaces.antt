@@ -1,5 +1,5 @@
 -- The functions and the numbers of entries, as they are kept.
-use Rattle.std.proofs.Common.{◌≡◌, ℕ, zero, suc, ◌+◌, ◌<◌, ◌≤◌, ⊎_elim, Bool, true, false, Some, None, List, [], ◌∷◌, ◌++◌, length, get_or, set, take, refl, ap, subst, sym, ◌∙◌, arith, length-set, get_or-set_same, get_or-set_other}
+use Rattle.std.proofs.Common.{◌≡◌, ℕ, zero, suc, ◌+◌, ◌<◌, ◌≤◌, ⊎_elim, Bool, true, false, Some, None, List, [], ◌∷◌, ◌++◌, length, get_or, set, take, refl, ap, subst, sym, ◌∙◌, arith, length-set, get_or-set_same, get_or-set_other, inl, inr}
 use Rattle.std.specs.Prelude.{if◌then◌else◌, slice_get, All, position}
 use Rattle.std.specs.List.{position_or_len}
 use Rattle.std.proofs.lemmas.Bool.{ltb-false, eq-eqb, eqb-true}
@@ -11,6 +11,7 @@ use Rattle.abi_slots.specs.Listing.{same_key, place_in}
 use Rattle.abi_slots.specs.Rows.{is_first, with_entry, AreEntryNumbers, HaveOneEntry}
 use Rattle.abi_slots.proofs.Lists.{Item, item_none, item_split, item_cases}
 use Rattle.foundation.proofs.Truth.{split}
+use Rattle.foundation.proofs.Members.{Has}
 
 -- the first place at which a test passes
 
@@ -21,9 +22,13 @@ same_place p (x ∷ xs) = split (p x) (λ b. p x ≡ b → place_in p (x ∷ xs)
     (λ t same. let rest = same_place p xs in let one : suc (position_or_len p xs) ≡ 1 + position_or_len p xs = omega arith in rw same (ap suc rest ∙ one))
     refl
 
-place_within : {A : Type 0} (p : A → Bool) (xs : List A) → place_in p xs ≤ length xs
+pub place_within : {A : Type 0} (p : A → Bool) (xs : List A) → place_in p xs ≤ length xs
 place_within p [] = omega arith
 place_within p (x ∷ xs) = split (p x) (λ b. (if b then 0 else suc (place_in p xs)) ≤ suc (length xs)) (λ t. omega arith) (λ t. let rest = place_within p xs in omega arith)
+
+pub place_none : {A : Type 0} (p : A → Bool) (xs : List A) → ((x : A) → Has xs x → p x ≡ false) → place_in p xs ≡ length xs
+place_none p [] none = refl
+place_none p (x ∷ xs) none = ap (λ b. if b then 0 else suc (place_in p xs)) (none x (inl refl)) ∙ ap suc (place_none p xs (λ y has. none y (inr has)))
 
 pub place_found : {A : Type 0} (p : A → Bool) (xs : List A) (n : ℕ) → position p xs ≡ Some n → n ≡ place_in p xs
 place_found p xs n at = split (Rattle.std.proofs.Math.Dec.ltb (position_or_len p xs) (length xs)) (λ b. Rattle.std.proofs.Math.Dec.ltb (position_or_len p xs) (length xs) ≡ b → n ≡ place_in p xs)

@@ -24,11 +24,12 @@ use Rattle.abi_slots.specs.Groups.{IsTable, view_of, IsGroup}
 use Rattle.abi_slots.specs.Dispatch.{IsServedBy}
 use Rattle.abi_slots.proofs.Lists.{Item, item_left, item_right, item_flat, item_filter, any_item, item_any}
 use Rattle.abi_slots.proofs.Bases.{preorder_item, item_preorder, virtual_item}
-use Rattle.abi_slots.proofs.Dynamics.{dynamic_whole, base_dynamic}
+use Rattle.abi_slots.proofs.Dynamics.{dynamic_whole}
 use Rattle.abi_slots.proofs.Chains.{Setting, IsUnder, is_held, same_some, next_under}
 use Rattle.abi_slots.proofs.WordPlaces.{partner}
 use Rattle.cxx_subobject.proofs.PathLemmas.{class_low}
 use Rattle.foundation.proofs.Truth.{split}
+use Rattle.abi_primary.proofs.KindLemmas.{base_dynamic}
 
 -- a subobject for which a class is dynamic
 record IsDynamicPart (h : Classes) (c : ClassId) (s : Subobject) : Type 0 where

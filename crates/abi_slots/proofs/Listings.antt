@@ -23,9 +23,10 @@ use Rattle.cxx_overrider.specs.Virtuals.{same_name, own}
 use Rattle.cxx_subobject.specs.VirtualBases.{virtual_bases}
 use Rattle.abi_slots.specs.Listing.{same_kind, needs_return, keys_of, shares, same_key, or_itself, listing, entry_number, vbase_number, is_base, same_offset, push_new, is_direct, primary_entries, new_entries, with_new, entries_in, entries, is_first_base, is_other_base, below_bases, call, calls_in, calls, with_calls, push_all, primary_offsets, offsets_in, offsets}
 use Rattle.abi_slots.proofs.Lists.{Keeps, keeps_itself, keeps_through, keeps_front, Item, item_first, item_later, item_left, item_right, item_none, item_split, item_cases, item_map, item_filter, from_filter, any_item, item_any, any_right, at_place, found_passes, found_some, found_none, flat_same}
-use Rattle.abi_slots.proofs.Names.{is_name_of, kind_is, key_is, key_itself, base_is}
+use Rattle.abi_slots.proofs.Names.{kind_is, key_is, key_itself, base_is}
 use Rattle.abi_slots.proofs.Bases.{contains_item, virtual_item}
 use Rattle.foundation.proofs.Truth.{split}
+use Rattle.cxx_search.proofs.Names.{signature_name}
 
 -- a primary base is a direct base that is not virtual, or a virtual base
 pub record ArePrimaries (h : Classes) (l : Places) : Type 0 where
@@ -178,7 +179,7 @@ listing_named : (h : Classes) (l : Places) (k : EntryKey) (old : List EntryKey) 
 listing_named h l k old s e = by_find (find (shares h l k) old) refl
   where
     by_find : (o : Option EntryKey) → find (shares h l k) old ≡ o → (same_name h k.function (or_itself k o).function ≡ true) × ((or_itself k o).kind ≡ k.kind)
-    by_find None is = (is_name_of h k.function k.function s e e, refl)
+    by_find None is = (signature_name h k.function k.function s e e, refl)
     by_find (Some x) is =
         let passes = (found_passes (shares h l k) old x is).1 in
         let both = and_parts (same_kind k.kind x.kind) (same_name h k.function x.function && not (needs_return h l k.function x.function)) passes in

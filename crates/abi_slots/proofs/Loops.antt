@@ -1,15 +1,10 @@
 -- What is left of a list in a loop.
 use Rattle.std.proofs.Common.{◌≡◌, ℕ, zero, suc, ◌+◌, ◌<◌, ◌≤◌, Bool, true, false, Some, None, List, [], ◌∷◌, ◌++◌, length, drop, get_or, refl, ap, subst, sym, ◌∙◌, arith, append_assoc}
-use Rattle.std.specs.Prelude.{if◌then◌else◌, position, slice_get}
+use Rattle.std.specs.Prelude.{if◌then◌else◌, position}
 use Rattle.std.specs.List.{filter, find}
-use Rattle.std.proofs.lemmas.List.{append-nil}
+use Rattle.std.proofs.lemmas.List.{append-nil, drop_all}
 use Rattle.cxx_hierarchy.specs.declared.records.ClassId.{ClassId}
-use Rattle.cxx_hierarchy.specs.declared.records.Function.{Function}
-use Rattle.cxx_hierarchy.specs.declared.records.ValueType.{ValueType}
-use Rattle.cxx_hierarchy.specs.declared.records.ValueType.TheVariants.{Pointer}
-use Rattle.cxx_hierarchy.specs.declared.records.ReturnType.TheVariants.{Value}
-use Rattle.cxx_hierarchy.specs.Classes.{Classes, functions_of}
-use Rattle.cxx_hierarchy.specs.Hierarchies.{IsHierarchy}
+use Rattle.cxx_hierarchy.specs.Classes.{Classes}
 use Rattle.cxx_subobject.specs.declared.Subobject.{Subobject}
 use Rattle.cxx_subobject.specs.Subobjects.{IsSubobject, subobject, class_of}
 use Rattle.cxx_subobject.specs.Preorder.{preorder, ListsSubobjects}
@@ -23,15 +18,9 @@ rest_is [] i x lt is = absurd (omega arith)
 rest_is (y ∷ xs) zero x lt is = ap (λ a. a ∷ xs) (sym is)
 rest_is (y ∷ xs) (suc i) x lt is = let e : suc i + 1 ≡ suc (i + 1) = omega arith in rw e (rest_is xs i x (omega arith) is)
 
-pub rest_none : {A : Type 0} (xs : List A) (i : ℕ) → length xs ≤ i → drop i xs ≡ []
-rest_none [] zero le = refl
-rest_none [] (suc i) le = refl
-rest_none (y ∷ xs) zero le = absurd (omega arith)
-rest_none (y ∷ xs) (suc i) le = rest_none xs i (omega arith)
-
 -- a list to which the image of what is left is still to be put
 pub pushed_all : {A : Type 0} {B : Type 0} (f : List A → List B) → f [] ≡ [] → (xs : List A) (i : ℕ) (done all : List B) → length xs ≤ i → done ++ f (drop i xs) ≡ all → done ≡ all
-pushed_all f none xs i done all le e = sym (append-nil done) ∙ ap (λ a. done ++ a) (sym none) ∙ ap (λ a. done ++ f a) (sym (rest_none xs i le)) ∙ e
+pushed_all f none xs i done all le e = sym (append-nil done) ∙ ap (λ a. done ++ a) (sym none) ∙ ap (λ a. done ++ f a) (sym (drop_all i xs le)) ∙ e
 
 pub pushed_more : {A : Type 0} {B : Type 0} (f : List A → List B) (xs : List A) (i : ℕ) (x : A) (piece done new all : List B) → i < length xs → x ≡ get_or xs i x → f (x ∷ drop (i + 1) xs) ≡ piece ++ f (drop (i + 1) xs) → new ≡ done ++ piece → done ++ f (drop i xs) ≡ all → new ++ f (drop (i + 1) xs) ≡ all
 pushed_more f xs i x piece done new all lt is opens e inv =
@@ -72,8 +61,4 @@ found_later p xs i x b lt is test fails inv =
     sym opened ∙ inv
 
 pub found_nowhere : {A : Type 0} (p : A → Bool) (xs : List A) (i : ℕ) → length xs ≤ i → find p (drop i xs) ≡ find p xs → None ≡ find p xs
-found_nowhere p xs i le inv = sym (ap (find p) (rest_none xs i le)) ∙ inv
-
--- a class to which a function returns a pointer is known
-pub return_known : (h : Classes) → IsHierarchy h → (c d : ClassId) (i : ℕ) (f : Function ClassId) (value : ValueType ClassId) → Some f ≡ slice_get (functions_of h c) i → f.ret ≡ Value value → value ≡ Pointer d → d.0 < length h
-return_known h keeps c d i f value there ret points = keeps.returns c d f (contains_item (functions_of h c) f (record { index = i; there = sym there })) (ret ∙ ap (λ a. Value a) points)
+found_nowhere p xs i le inv = sym (ap (find p) (drop_all i xs le)) ∙ inv

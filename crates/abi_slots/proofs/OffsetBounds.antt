@@ -11,7 +11,7 @@ use Rattle.cxx_hierarchy.specs.declared.records.ClassId.{ClassId}
 use Rattle.cxx_hierarchy.specs.Classes.{Classes}
 use Rattle.cxx_hierarchy.specs.Hierarchies.{IsHierarchy}
 use Rattle.cxx_subobject.specs.VirtualBases.{virtual_bases}
-use Rattle.cxx_subobject.proofs.PathLemmas.{base_before, virtual_below}
+use Rattle.cxx_subobject.proofs.PathLemmas.{base_before, virtual_below, same_id}
 use Rattle.cxx_overrider.specs.declared.FunctionId.{FunctionId}
 use Rattle.abi_primary.specs.declared.Primary.{Primary}
 use Rattle.abi_primary.specs.declared.Primary.TheVariants.{None as NoPrimary, Direct, Virtual}
@@ -22,13 +22,13 @@ use Rattle.abi_slots.specs.Limits.{most_offsets}
 use Rattle.cxx_overrider.specs.Virtuals.{same_name, own}
 use Rattle.abi_slots.specs.Listing.{same_offset, push_new, push_all, calls, with_calls, primary_offsets, offsets_in, offsets}
 use Rattle.abi_slots.proofs.Lists.{Item, item_first, item_later, item_none, item_split, item_cases, from_map, any_item, item_any}
-use Rattle.abi_slots.proofs.Names.{same_class, is_name_of}
 use Rattle.abi_slots.proofs.Bases.{item_virtual}
 use Rattle.abi_slots.proofs.Owns.{own_virtual}
 use Rattle.abi_slots.proofs.Listings.{ArePrimaries}
 use Rattle.abi_slots.proofs.Calls.{IsCallAt, call_at, each_call}
 use Rattle.abi_slots.proofs.Bounds.{function_bounds}
 use Rattle.foundation.proofs.Truth.{split}
+use Rattle.cxx_search.proofs.Names.{signature_name}
 
 -- it leads to a class of the hierarchy, or is for a virtual function that a class declares
 pub data IsKnownOffset (h : Classes) : Offset → Type 0 where
@@ -50,7 +50,7 @@ small h keeps g i =
     let virtual = own_virtual h keeps g.class g i in
     let bounds = function_bounds h keeps g virtual.signature virtual.is in
     let few = keeps.few in
-    record { class = let a = bounds.0 in omega arith; index = bounds.1; same = is_name_of h g g virtual.signature virtual.is virtual.is }
+    record { class = let a = bounds.0 in omega arith; index = bounds.1; same = signature_name h g g virtual.signature virtual.is virtual.is }
 
 code_below : (h : Classes) → IsHierarchy h → (x : Offset) → IsKnownOffset h x → code x < most_offsets
 unfolding code
@@ -72,7 +72,7 @@ same_code h keeps _ _ (known_call path g i) (known_call more f j) e =
     let class : g.class.0 ≡ f.class.0 = omega arith in
     let index : g.index ≡ f.index = omega arith in
     let make : ClassId → ℕ → FunctionId = λ x n. record { class = x; index = n } in
-    let one : make g.class g.index ≡ make f.class f.index = ap (λ x. make x g.index) (same_class g.class f.class class) ∙ ap (make f.class) index in
+    let one : make g.class g.index ≡ make f.class f.index = ap (λ x. make x g.index) (same_id g.class f.class class) ∙ ap (make f.class) index in
     ap (same_name h g) (sym one) ∙ s.same
 
 -- no two lead to one class or are for one function

@@ -1,7 +1,8 @@
 -- A subobject of a view is in the chain of one head alone.
-use Rattle.std.proofs.Common.{◌≡◌, ℕ, zero, suc, true, false, Option, Some, None, List, [], ◌∷◌, ◌++◌, refl, ap, subst, sym, ◌∙◌}
+use Rattle.std.proofs.Common.{◌≡◌, ℕ, zero, suc, true, false, Option, Some, None, [], ◌∷◌, ◌++◌, refl, ap, subst, sym, ◌∙◌}
 use Rattle.std.specs.Prelude.{if◌then◌else◌, not}
 use Rattle.std.proofs.lemmas.Bool.{and_parts}
+use Rattle.std.proofs.lemmas.List.{same_from_push}
 use Rattle.cxx_hierarchy.specs.declared.records.ClassId.{ClassId}
 use Rattle.cxx_hierarchy.specs.Classes.{Classes}
 use Rattle.cxx_subobject.specs.declared.Subobject.{Subobject}
@@ -18,18 +19,6 @@ use Rattle.abi_slots.proofs.Lists.{any_item}
 use Rattle.abi_slots.proofs.Bases.{preorder_item}
 use Rattle.abi_slots.proofs.Chains.{Setting, is_held, same_some, walk_under}
 use Rattle.foundation.proofs.Truth.{split}
-
--- paths that are one with a last class more are one
-pub front_same : (p q : List ClassId) (a b : ClassId) → p ++ a ∷ [] ≡ q ++ b ∷ [] → p ≡ q
-front_same [] [] a b e = refl
-front_same [] (y ∷ []) a b e = absurd (cc)
-front_same [] (y ∷ z ∷ q) a b e = absurd (cc)
-front_same (x ∷ []) [] a b e = absurd (cc)
-front_same (x ∷ z ∷ p) [] a b e = absurd (cc)
-front_same (x ∷ p) (y ∷ q) a b e =
-    let first : x ≡ y = cc in
-    let rest : p ++ a ∷ [] ≡ q ++ b ∷ [] = cc in
-    ap (λ c. c ∷ p) first ∙ ap (λ r. y ∷ r) (front_same p q a b rest)
 
 -- a subobject has a path
 pub some_path : (h : Classes) (c : ClassId) (s : Subobject) → IsSubobject h c s → s.path ≡ [] → ⊥
@@ -73,16 +62,16 @@ module _ (h : Classes) (l : Places) (x : View) (set : Setting h l x) where
   by_two t u s of_t of_u (Direct c) (Direct d) a b =
       let one : subobject t.root (t.path ++ c ∷ []) ≡ subobject u.root (u.path ++ d ∷ []) = same_some _ s a ∙ sym (same_some _ s b) in
       let root : t.root ≡ u.root = ap (λ (z : Subobject). z.root) one in
-      let path = front_same t.path u.path c d (ap (λ (z : Subobject). z.path) one) in
+      let path = (same_from_push t.path u.path c d (ap (λ (z : Subobject). z.path) one)).0 in
       ap (λ r. subobject r t.path) root ∙ ap (subobject u.root) path
   by_two t u s of_t of_u (Direct c) (Virtual w) a b =
       let held = held_if (l.holder x.complete w) (seen x u) s w b in
       let one : subobject t.root (t.path ++ c ∷ []) ≡ shared_base w = same_some _ s a ∙ sym held.base in
-      absurd (some_path h x.class t of_t (front_same t.path [] c w (ap (λ (z : Subobject). z.path) one)))
+      absurd (some_path h x.class t of_t ((same_from_push t.path [] c w (ap (λ (z : Subobject). z.path) one)).0))
   by_two t u s of_t of_u (Virtual v) (Direct d) a b =
       let held = held_if (l.holder x.complete v) (seen x t) s v a in
       let one : subobject u.root (u.path ++ d ∷ []) ≡ shared_base v = same_some _ s b ∙ sym held.base in
-      absurd (some_path h x.class u of_u (front_same u.path [] d v (ap (λ (z : Subobject). z.path) one)))
+      absurd (some_path h x.class u of_u ((same_from_push u.path [] d v (ap (λ (z : Subobject). z.path) one)).0))
   by_two t u s of_t of_u (Virtual v) (Virtual w) a b =
       let one = held_if (l.holder x.complete v) (seen x t) s v a in
       let two = held_if (l.holder x.complete w) (seen x u) s w b in

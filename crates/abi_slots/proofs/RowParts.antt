@@ -6,6 +6,7 @@ use Rattle.foundation.specs.declared.memory.NoMemory.{NoMemory}
 use Rattle.cxx_hierarchy.specs.declared.records.ClassId.{ClassId}
 use Rattle.cxx_hierarchy.specs.Classes.{Classes}
 use Rattle.cxx_hierarchy.specs.Hierarchies.{IsHierarchy}
+use Rattle.cxx_subobject.proofs.PathLemmas.{same_id}
 use Rattle.cxx_overrider.specs.declared.FunctionId.{FunctionId}
 use Rattle.cxx_overrider.specs.Functions.{Signature, named, destructor, signature_of}
 use Rattle.cxx_overrider.specs.invariants.Numbers.{IsNumbering}
@@ -95,7 +96,7 @@ rows_more h l numbers rows new row c are size is grows = record {
       ⊎_elim (λ (lt : d.0 < length rows). are.each d x (last_index rows row d.0 x there lt))
       (λ (le : length rows ≤ d.0).
       let last = last_item rows row d.0 x there le in
-      let same : c ≡ d = Rattle.abi_slots.proofs.Names.same_class c d (omega arith) in
+      let same : c ≡ d = same_id c d (omega arith) in
       subst (λ (y : SlotRow). IsSlotRow h l numbers d y) last.0 (subst (λ e. IsSlotRow h l numbers e row) same is))
       (cases_lt d.0 (length rows));
 }

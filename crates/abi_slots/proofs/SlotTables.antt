@@ -12,13 +12,14 @@ use Rattle.cxx_subobject.proofs.PathLemmas.{virtual_below}
 use Rattle.cxx_hierarchy.specs.VirtualBases.{IsDirectBase, HasVirtualBase, direct, further}
 use Rattle.cxx_overrider.specs.declared.FunctionId.{FunctionId}
 use Rattle.cxx_overrider.specs.invariants.Numbers.{number_of}
+use Rattle.cxx_search.proofs.Names.{name_signature}
 use Rattle.abi_sound.specs.Places.{Places}
 use Rattle.abi_slots.specs.declared.rows.SlotRow.{SlotRow}
 use Rattle.abi_slots.specs.declared.slots.Slots.{Slots}
 use Rattle.abi_slots.specs.Listing.{is_name, offsets, vcall_number}
 use Rattle.abi_slots.specs.Slots.{word_number, IsVirtualBase, AreSlots}
 use Rattle.abi_slots.proofs.Lists.{item_any}
-use Rattle.abi_slots.proofs.Names.{named_is, has_name}
+use Rattle.abi_slots.proofs.Names.{named_is}
 
 -- what a function gives for the item at a place
 pub mapped_at : {A : Type 0} {B : Type 0} (f : A → Option B) (xs : List A) (n : ℕ) → get_or (map f xs) n None ≡ option_and_then f (slice_get xs n)
@@ -31,7 +32,7 @@ pub listed_number : (h : Classes) (l : Places) (slots : Slots) → AreSlots h l 
 listed_number h l slots are v f e =
     let r = item_any (is_name h f) (offsets h l true v) e in
     let named = named_is h f r.0 r.2 in
-    let s = has_name h f named.1 named.3 in
+    let s = name_signature h f named.1 named.3 in
     are.numbering.numbered f s.0 s.1
 
 -- a class that has bases is one of the hierarchy

@@ -1,5 +1,5 @@
 -- The primary base of a subobject: by cases, and what a sound layout says of it.
-use Rattle.std.proofs.Common.{◌≡◌, ◌<◌, Bool, true, false, Option, Some, None, List, [], ◌∷◌, ◌++◌, length, refl, ap, subst, sym, ◌∙◌, arith}
+use Rattle.std.proofs.Common.{◌≡◌, ◌<◌, Bool, true, false, Option, Some, None, List, [], ◌∷◌, ◌++◌, length, refl, ap, subst, ◌∙◌, arith}
 use Rattle.std.specs.Prelude.{if◌then◌else◌}
 use Rattle.cxx_hierarchy.specs.declared.records.ClassId.{ClassId}
 use Rattle.cxx_hierarchy.specs.Classes.{Classes}
@@ -9,7 +9,7 @@ use Rattle.cxx_subobject.specs.declared.Subobject.{Subobject}
 use Rattle.cxx_subobject.specs.Subobjects.{subobject, shared_base, whole, shared, IsSubobject, class_of}
 use Rattle.cxx_subobject.specs.Inside.{IsInside}
 use Rattle.cxx_subobject.proofs.PathLemmas.{class_of_longer, base_before, virtual_below, class_low}
-use Rattle.cxx_subobject.proofs.InsideLemmas.{join_valid}
+use Rattle.cxx_subobject.proofs.InsideLemmas.{inside_valid}
 use Rattle.cxx_subobject.proofs.TreeLemmas.{subobject_same, same_itself}
 use Rattle.abi_primary.specs.declared.Primary.{Primary}
 use Rattle.abi_primary.specs.declared.Primary.TheVariants.{None as NoPrimary, Direct, Virtual}
@@ -91,10 +91,6 @@ primary_base h rows keeps sound c s t lt valid e = by_cases s t valid (primary_c
           falls = virtual_below h keeps d v base.0;
           inside = record { class = d; of_class = f; part = shared_base v; valid = shared v [] base.0 tt; joined = refl };
         }
-
--- what lies in a subobject is a subobject
-pub inside_valid : (h : Classes) (c : ClassId) (s t : Subobject) → IsSubobject h c s → IsInside h s t → IsSubobject h c t
-inside_valid h c s t valid i = subst (IsSubobject h c) (sym i.joined) (join_valid h c i.class s i.part valid i.of_class i.valid)
 
 pub primary_valid : (h : Classes) (rows : List ClassLayout) → IsHierarchy h → IsSoundLayout h rows → (c : ClassId) (s t : Subobject) → c.0 < length h → IsSubobject h c s → primary_part (places_of h rows) c s ≡ Some t → IsSubobject h c t
 primary_valid h rows keeps sound c s t lt valid e = inside_valid h c s t valid (primary_base h rows keeps sound c s t lt valid e).inside

@@ -12,7 +12,7 @@ use Rattle.cxx_subobject.specs.declared.Subobject.{Subobject}
 use Rattle.cxx_subobject.specs.Subobjects.{IsSubobject, whole, shared, subobject, whole_of, shared_base, class_of, join, base_subobject}
 use Rattle.cxx_subobject.specs.Inside.{IsInside}
 use Rattle.cxx_subobject.specs.Locations.{ObjectPart}
-use Rattle.cxx_subobject.proofs.InsideLemmas.{join_class, join_valid, join_whole}
+use Rattle.cxx_subobject.proofs.InsideLemmas.{join_class, join_valid, join_whole, whole_joined}
 use Rattle.cxx_subobject.proofs.TreeLemmas.{base_down}
 use Rattle.cxx_search.specs.Searches.{cast_in}
 use Rattle.cxx_search.proofs.Casts.{is_cast}
@@ -45,7 +45,7 @@ use Rattle.abi_casts.proofs.Joining.{cast_can, cast_answers}
 use Rattle.abi_casts.specs.Standing.{address_of}
 use Rattle.abi_stands.specs.Worlds.{World, IsWorld, classes_in, places_in}
 use Rattle.abi_stands.specs.Columns.{HasPointers}
-use Rattle.abi_stands.proofs.Standing.{plain_root, whole_joined}
+use Rattle.abi_stands.proofs.Standing.{plain_root}
 use Rattle.abi_stands.proofs.Within.{alone_now, own_shows, inside_now}
 
 -- the direct base of a subobject, as a subobject of what that is one of

@@ -22,6 +22,7 @@ use Rattle.abi_slots.proofs.Heads.{dynamic_test, test_dynamic}
 use Rattle.abi_slots.proofs.Dynamics.{dynamic_whole}
 use Rattle.byte_memory.specs.Store.{Store}
 use Rattle.byte_code.specs.Images.{word_at}
+use Rattle.byte_code.proofs.Numbers.{word_inside}
 use Rattle.byte_shadow.specs.Shadows.{Notes}
 use Rattle.byte_machine.specs.declared.heap.Opened.{Opened}
 use Rattle.abi_dyncast.specs.Graph.{word_in}
@@ -33,7 +34,7 @@ use Rattle.abi_stands.specs.Worlds.{World, IsWorld, classes_in, places_in}
 use Rattle.abi_stands.specs.Words.{heap_of}
 use Rattle.abi_stands.specs.Columns.{ColumnsStand, HasPointers}
 use Rattle.abi_stands.proofs.Objects.{objects_laid}
-use Rattle.abi_stands.proofs.Tables.{word_inside, world_no_point}
+use Rattle.abi_stands.proofs.Tables.{world_no_point}
 use Rattle.abi_stands.proofs.Within.{tells_can, tells_is}
 
 -- a view whose class has no table is told to have no part

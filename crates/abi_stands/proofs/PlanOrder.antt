@@ -14,20 +14,17 @@ use Rattle.path_plan.specs.Places.{part, base_part, shared_part, element}
 use Rattle.path_plan.specs.Phases.{Begin, Done, Event, Ending, Bases, End}
 use Rattle.path_plan.specs.Plans.{Bodies, Form, InFull, AsBase, build, unbuild, backwards, shared_events, base_events, body_events, member_ending, virtual_order, upto}
 use Rattle.path_plan.proofs.Same.{Owns, owner_cases, part_cases}
-use Rattle.foundation.proofs.Members.{Has, has_cases, contains_from_has}
+use Rattle.foundation.proofs.Members.{Has, contains_from_has}
 use Rattle.cxx_hierarchy.specs.declared.records.Base.{Base}
 use Rattle.std.specs.List.{flat_map}
+use Rattle.std.proofs.lemmas.List.{same_from_push}
+use Rattle.path_plan.proofs.Members.{has_backwards}
 use Rattle.abi_stands.proofs.EventOrder.{Before, before_closed, built_has, Behind, Lacks, behind_closed, lacks_closed, ended_has}
 
 -- the last step leads to objects of this class
 abbrev pub IsMemberClass : Classes → List Step → ClassId → Type 0
 IsMemberClass h [] d = Unit {0}
 IsMemberClass h (step ∷ rest) d = (c e : ClassId) (member : Member ClassId) → class_of step.base ≡ Some c → slice_get (members_of h c) step.member ≡ Some member → member.ty ≡ Object e → e ≡ d
-
--- a list backwards has the same items
-turned : {X : Type 0} (xs : List X) (x : X) → Has (backwards xs) x → Has xs x
-turned [] x has = has
-turned (y ∷ xs) x has = ⊎_elim (λ front. inr (turned xs x front)) (λ last. ⊎_elim (λ same. inl same) (λ none. absurd none) last) (has_cases (backwards xs) (y ∷ []) x has)
 
 -- there is a b at the end, and one behind each a
 record EndsBehind (a b : Event) (es : List Event) : Type 0 where
@@ -82,7 +79,7 @@ module _ (h : Classes) (bodies : Bodies) (k : ℕ) (o : List Step) (d : ClassId)
       (λ b listed plain. whole_last n AsBase b.class (base_part p b) (base_class p.at c b class) (λ owns. absurd (as_owner p off (base_subobject p.at b) owns)))
       (λ v. whole_last n AsBase v (shared_part p v) refl (λ owns. absurd (as_owner p off (shared_base v) owns)))
       (λ m i e member there is. whole_last n InFull e (element p m i e) refl (element_is p c e m i member class there is))
-      bodies form (λ b has. contains_from_has (bases_of h c) b (turned (bases_of h c) b has))
+      bodies form (λ b has. contains_from_has (bases_of h c) b (has_backwards (bases_of h c) b has))
       ((λ e. let same : p ≡ part k o x = cc in absurd (off (record { object = ap (λ (q : ObjectPart). q.object) same; owner = ap (λ (q : ObjectPart). q.owner) same }))), tt)
       ((λ e. absurd (cc)), tt) ((λ e. absurd (cc)), tt) ((λ e. absurd (cc)), tt))
       (owner_cases p k o)
@@ -103,15 +100,6 @@ none_before [] v d e = refl
 none_before (x ∷ []) v d e = absurd (cc)
 none_before (x ∷ y ∷ path) v d e = absurd (cc)
 
-fronts_one : (xs ys : List ClassId) (x y : ClassId) → xs ++ x ∷ [] ≡ ys ++ y ∷ [] → xs ≡ ys
-fronts_one [] ys x y e = sym (none_before ys x y e)
-fronts_one (a ∷ xs) [] x y e = none_before (a ∷ xs) y x (sym e)
-fronts_one (a ∷ xs) (b ∷ ys) x y e =
-    let first : a ≡ b = cc in
-    let more : xs ++ x ∷ [] ≡ ys ++ y ∷ [] = cc in
-    let rest = fronts_one xs ys x y more in
-    cc
-
 -- a part begins before its base that is not virtual
 module _ (h : Classes) (bodies : Bodies) (t : ObjectPart) (b : Base ClassId) (some : t.at.path ≡ [] → ⊥) where
   abbrev lower : ObjectPart
@@ -131,7 +119,7 @@ module _ (h : Classes) (bodies : Bodies) (t : ObjectPart) (b : Base ClassId) (so
       let object : p.object ≡ t.object = ap (λ (q : ObjectPart). q.object) same in
       let owner : p.owner ≡ t.owner = ap (λ (q : ObjectPart). q.owner) same in
       let root : p.at.root ≡ t.at.root = ap (λ (q : ObjectPart). q.at.root) same in
-      let path = fronts_one p.at.path t.at.path base.class b.class (ap (λ (q : ObjectPart). q.at.path) same) in
+      let path = (same_from_push p.at.path t.at.path base.class b.class (ap (λ (q : ObjectPart). q.at.path) same)).0 in
       λ i. part (object i) (owner i) (subobject (root i) (path i))
 
   pub around_first : (n : ℕ) (form : Form) (c : ClassId) (p : ObjectPart) → (p ≡ lower → ⊥) → Before (Begin t) (Begin lower) (build h bodies n form c p)

@@ -1,6 +1,6 @@
 -- In every run the plan of an object has played its first events, and at each statement what is ready has a view, and lies in what has begun.
 use Rattle.std.proofs.Common.{◌≡◌, ℕ, ⊎_elim, inl, inr, true, false, Some, None, List, [], ◌∷◌, ◌++◌, length, refl, ap, sym, subst, ◌∙◌, append_assoc, arith}
-use Rattle.std.specs.Prelude.{if◌then◌else◌, slice_get}
+use Rattle.std.specs.Prelude.{slice_get}
 use Rattle.std.proofs.lemmas.Option.{slice_get_within}
 use Rattle.foundation.proofs.Members.{Has}
 use Rattle.foundation.proofs.Places.{get_last, get_pushed}
@@ -11,30 +11,19 @@ use Rattle.cxx_hierarchy.specs.Hierarchies.{IsHierarchy}
 use Rattle.cxx_subobject.specs.declared.Subobject.{Subobject}
 use Rattle.cxx_subobject.specs.Subobjects.{subobject, whole_of}
 use Rattle.cxx_subobject.specs.Locations.{Step}
-use Rattle.path_plan.specs.Places.{part, IsIn, here, same_owner, same_part}
-use Rattle.path_plan.specs.Phases.{Raw, InBases, ReadyBuilding, Complete, ReadyEnding, EndingBases, Ended, is_complete, Phases, Event, Begin, Ready, Init, Body, Done, Ending, Bases, End, part_of, rest_of, after, after_all}
+use Rattle.path_plan.specs.Places.{part, IsIn, here}
+use Rattle.path_plan.specs.Phases.{Raw, Complete, Ended, is_complete, Phases, Event, part_of, after, after_all}
 use Rattle.path_plan.specs.Plans.{Bodies}
 use Rattle.path_plan.specs.Views.{view}
 use Rattle.path_plan.specs.Whole.{IsStanding, construction, destruction, whole_part}
 use Rattle.path_plan.specs.Runs.{Frame, InBody, InPlan, Run, renewed, entered, in_plan, in_body, Moves, event, finish, call, leave, make, delete, Reached, starts, moves}
 use Rattle.path_plan.proofs.Around.{is_completed}
 use Rattle.path_plan.proofs.Construction.{in_object}
-use Rattle.path_plan.proofs.Other.{IsSameAt, other_after, other_renewed, renewed_new, IsAtRest, stands, is_gone}
+use Rattle.path_plan.proofs.Other.{IsSameAt, other_after, other_renewed, renewed_new, IsAtRest, stands, is_gone, same_after}
 use Rattle.path_plan.proofs.Frames.{objects, has_object, object_has, has_or_not, not_body, entered_has, same_class}
 use Rattle.path_plan.proofs.Kept.{IsKept, reached_kept}
 use Rattle.abi_stands.proofs.PlanOrder.{IsMemberClass}
 use Rattle.abi_stands.proofs.Played.{IsPlayed, builds, ends, played_view, played_around}
-
--- an event does the same to objects that are alike
-alike_after : (k : ℕ) (s s' : Phases) → IsSameAt k s s' → (e : Event) → IsSameAt k (after s e) (after s' e)
-alike_after k s s' a (Begin p) = record { phase = λ q ob. λ i. if same_part p q then InBases else a.phase q ob i; running = λ o. λ i. if same_owner p.object p.owner k o then p.at ∷ a.running o i else a.running o i }
-alike_after k s s' a (Ready p) = record { phase = λ q ob. λ i. if same_part p q then ReadyBuilding else a.phase q ob i; running = a.running }
-alike_after k s s' a (Init p m) = a
-alike_after k s s' a (Body p) = a
-alike_after k s s' a (Done p) = record { phase = λ q ob. λ i. if same_part p q then Complete else a.phase q ob i; running = λ o. λ i. if same_owner p.object p.owner k o then rest_of (a.running o i) else a.running o i }
-alike_after k s s' a (Ending p) = record { phase = λ q ob. λ i. if same_part p q then ReadyEnding else a.phase q ob i; running = λ o. λ i. if same_owner p.object p.owner k o then p.at ∷ a.running o i else a.running o i }
-alike_after k s s' a (Bases p) = record { phase = λ q ob. λ i. if same_part p q then EndingBases else a.phase q ob i; running = a.running }
-alike_after k s s' a (End p) = record { phase = λ q ob. λ i. if same_part p q then Ended else a.phase q ob i; running = λ o. λ i. if same_owner p.object p.owner k o then rest_of (a.running o i) else a.running o i }
 
 alike : (k : ℕ) (s t u : Phases) → IsSameAt k s t → IsSameAt k s u → IsSameAt k t u
 alike k s t u a b = record { phase = λ q ob. sym (a.phase q ob) ∙ b.phase q ob; running = λ o. sym (a.running o) ∙ b.running o }
@@ -45,8 +34,8 @@ after_last s (x ∷ xs) e = after_last (after s x) xs e
 
 -- a plan that takes its next event
 played_next : (h : Classes) (bodies : Bodies) (k : ℕ) (c : ClassId) (s : Phases) (e : Event) (es : List Event) → IsPlayed h bodies k c s (e ∷ es) → IsPlayed h bodies k c (after s e) es
-played_next h bodies k c s e es (builds first xs new list same) = builds first (xs ++ e ∷ []) new (append_assoc xs (e ∷ []) es ∙ list) (subst (λ (z : Phases). IsSameAt k (after s e) z) (sym (after_last first xs e)) (alike_after k s (after_all first xs) same e))
-played_next h bodies k c s e es (ends first xs standing list same) = ends first (xs ++ e ∷ []) standing (append_assoc xs (e ∷ []) es ∙ list) (subst (λ (z : Phases). IsSameAt k (after s e) z) (sym (after_last first xs e)) (alike_after k s (after_all first xs) same e))
+played_next h bodies k c s e es (builds first xs new list same) = builds first (xs ++ e ∷ []) new (append_assoc xs (e ∷ []) es ∙ list) (subst (λ (z : Phases). IsSameAt k (after s e) z) (sym (after_last first xs e)) (same_after k s (after_all first xs) same e))
+played_next h bodies k c s e es (ends first xs standing list same) = ends first (xs ++ e ∷ []) standing (append_assoc xs (e ∷ []) es ∙ list) (subst (λ (z : Phases). IsSameAt k (after s e) z) (sym (after_last first xs e)) (same_after k s (after_all first xs) same e))
 
 -- another object changes
 played_still : (h : Classes) (bodies : Bodies) (k : ℕ) (c : ClassId) (s t : Phases) (es : List Event) → IsSameAt k s t → IsPlayed h bodies k c s es → IsPlayed h bodies k c t es

@@ -1,16 +1,16 @@
 -- A view whose virtual pointers are set stands in memory, with its tables in the image.
-use Rattle.std.proofs.Common.{◌≡◌, ℕ, ◌+◌, ◌<◌, ◌^◌, Bool, true, false, Some, Result, Ok, Err, List, [], ◌∷◌, refl, ap, subst, sym, ◌∙◌, arith}
+use Rattle.std.proofs.Common.{◌≡◌, ℕ, ◌+◌, ◌<◌, ◌^◌, Bool, true, false, Some, Result, Ok, Err, [], refl, ap, subst, sym, ◌∙◌, arith}
 use Rattle.std.specs.Prelude.{if◌then◌else◌}
-use Rattle.foundation.proofs.Members.{Has}
 use Rattle.cxx_hierarchy.specs.declared.records.ClassId.{ClassId}
 use Rattle.cxx_hierarchy.specs.Classes.{Classes}
 use Rattle.cxx_hierarchy.specs.Hierarchies.{IsHierarchy}
 use Rattle.cxx_subobject.specs.declared.Root.TheVariants.{Whole}
 use Rattle.cxx_subobject.specs.declared.Subobject.{Subobject}
-use Rattle.cxx_subobject.specs.Subobjects.{IsSubobject, whole, shared, whole_of, join}
+use Rattle.cxx_subobject.specs.Subobjects.{IsSubobject, whole, shared, whole_of}
 use Rattle.cxx_subobject.specs.VirtualBases.{virtual_bases}
 use Rattle.cxx_subobject.specs.Locations.{ObjectPart}
 use Rattle.cxx_subobject.proofs.VirtualBaseLemmas.{has_virtual as base_listed}
+use Rattle.cxx_subobject.proofs.InsideLemmas.{whole_joined}
 use Rattle.path_plan.specs.Places.{part}
 use Rattle.path_model.specs.Values.{inner_part}
 use Rattle.path_model.specs.Places.{owner_class}
@@ -18,7 +18,8 @@ use Rattle.path_model.specs.TypedStates.{IsPartMade}
 use Rattle.abi_primary.specs.Kinds.{IsDynamic}
 use Rattle.abi_slots.specs.Views.{View, IsView, place}
 use Rattle.abi_slots.specs.Seen.{PlacedTables, IsPointOf}
-use Rattle.abi_vtt.specs.Vtts.{is_filled, has_virtual}
+use Rattle.abi_vtt.specs.Vtts.{has_virtual}
+use Rattle.abi_count.proofs.VttSums.{filled}
 use Rattle.byte_memory.specs.Store.{Store, load_of}
 use Rattle.byte_memory.specs.declared.memory.MemoryFault.{MemoryFault}
 use Rattle.byte_machine.specs.Running.{loaded}
@@ -39,19 +40,9 @@ loaded_ok : (r : Result ℕ MemoryFault) (word : ℕ) → loaded r ≡ Some word
 loaded_ok (Ok n) word e = let same : n ≡ word = cc in ap (λ (x : ℕ). Ok x) same
 loaded_ok (Err fault) word e = absurd (cc)
 
--- a class without virtual bases has subobjects in its own root alone
-filled : (xs : List ClassId) (v : ClassId) → Has xs v → is_filled xs ≡ true
-filled [] v has = absurd has
-filled (x ∷ xs) v has = refl
-
 pub plain_root : (h : Classes) (c : ClassId) (s : Subobject) → IsHierarchy h → has_virtual h c ≡ false → IsSubobject h c s → s.root ≡ Whole
 plain_root h c _ keeps plain (whole path leads) = refl
 plain_root h c _ keeps plain (shared v path has leads) = absurd (let f : false ≡ true = sym plain ∙ filled (virtual_bases h c) v (base_listed h keeps c v has) in cc)
-
--- a subobject of a class, as one of its whole
-pub whole_joined : (h : Classes) (c : ClassId) (s : Subobject) → IsSubobject h c s → join (whole_of c) s ≡ s
-whole_joined h c _ (whole path leads) = refl
-whole_joined h c _ (shared v path has leads) = refl
 
 -- a view stands where its pointers do
 stands_at : (w : World) (x : View) (placed : PlacedTables) (memory : Store) (start : ℕ) → IsWorld w → ArePlacedFor w x placed → IsView (classes_in w) x → ArePointed (classes_in w) (places_in w) x placed memory start → start < 2 ^ 41 →

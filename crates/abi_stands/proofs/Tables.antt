@@ -1,7 +1,7 @@
 -- What the tables of a world have: type information, the first address points of classes, and what a placed group gives.
-use Rattle.std.proofs.Common.{◌≡◌, ℕ, zero, suc, ◌+◌, ◌-◌, ◌*◌, ◌<◌, ◌≤◌, add-one, inl, ⊎_elim, Bool, true, false, Some, None, List, [], ◌∷◌, length, refl, ap, subst, sym, ◌∙◌, arith}
-use Rattle.std.specs.Prelude.{if◌then◌else◌, nat_le, slice_get}
-use Rattle.std.proofs.lemmas.Bool.{leb-true, cases_lt}
+use Rattle.std.proofs.Common.{◌≡◌, ℕ, zero, suc, ◌+◌, ◌-◌, ◌*◌, ◌<◌, ◌≤◌, add-one, inl, ⊎_elim, Some, List, [], ◌∷◌, length, refl, ap, subst, sym, ◌∙◌, arith}
+use Rattle.std.specs.Prelude.{if◌then◌else◌, slice_get}
+use Rattle.std.proofs.lemmas.Bool.{cases_lt}
 use Rattle.std.proofs.lemmas.Option.{slice_get_within}
 use Rattle.foundation.proofs.Truth.{split}
 use Rattle.foundation.proofs.Members.{Has, has_left, has_right, has_map, index_of}
@@ -27,28 +27,12 @@ use Rattle.abi_slots.proofs.Settings.{setting_of}
 use Rattle.abi_vtt.specs.Vtts.{has_virtual, views}
 use Rattle.abi_count.specs.Counts.{group_views}
 use Rattle.abi_tables.specs.Tables.{group_name, names_of, names_to, IsNamed}
-use Rattle.byte_code.specs.declared.code.ImageBytes.{ImageBytes}
-use Rattle.byte_code.specs.Images.{number_at, word_at}
+use Rattle.byte_code.specs.Images.{word_at}
+use Rattle.byte_code.proofs.Numbers.{word_inside}
 use Rattle.abi_casts.specs.Standing.{AreTyped, HasFirstPoint}
 use Rattle.abi_casts.proofs.FirstPoints.{first_point}
 use Rattle.abi_stands.specs.Worlds.{World, IsWorld, classes_in, places_in}
 use Rattle.abi_stands.specs.Columns.{ArePlacedFor}
-
--- words of an image
-
--- where a test decides whether there is a number, and one is there, the test holds
-test_holds : (b : Bool) (n word : ℕ) → (if b then Some n else None) ≡ Some word → b ≡ true
-test_holds true n word e = refl
-test_holds false n word e = absurd (let f : None ≡ Some word = e in cc)
-
-number_inside : (bytes : List ℕ) (i word : ℕ) → number_at bytes i ≡ Some word → i + 8 ≤ length bytes
-unfolding number_at
-number_inside bytes i word e = leb-true (i + 8) (length bytes) (test_holds (nat_le (i + 8) (length bytes)) _ word e)
-
-pub word_inside : (image : ImageBytes) (at word : ℕ) → word_at image at ≡ Some word → at < image.base + length image.bytes
-word_inside image at word e = split (nat_le image.base at) (λ b. nat_le image.base at ≡ b → (if b then number_at image.bytes (at - image.base) else None) ≡ Some word → at < image.base + length image.bytes)
-    (λ low _ there. let a = leb-true image.base at low in let b = number_inside image.bytes (at - image.base) word there in omega arith)
-    (λ _ _ f. absurd (let g : None ≡ Some word = f in cc)) refl e
 
 -- groups
 

@@ -8,10 +8,9 @@ use Rattle.cxx_subobject.specs.Subobjects.{IsSubobject, whole, whole_of, class_o
 use Rattle.cxx_subobject.specs.Inside.{IsInside}
 use Rattle.cxx_subobject.specs.Preorder.{preorder}
 use Rattle.cxx_subobject.specs.Locations.{ObjectPart}
-use Rattle.cxx_subobject.proofs.InsideLemmas.{join_class}
+use Rattle.cxx_subobject.proofs.InsideLemmas.{join_class, whole_joined, inside_valid}
 use Rattle.cxx_search.specs.Searches.{is_within}
 use Rattle.cxx_search.proofs.Within.{within_inside, inside_within}
-use Rattle.cxx_search.proofs.Finals.{inside_valid}
 use Rattle.path_plan.specs.Places.{part}
 use Rattle.path_model.specs.Values.{inner_part}
 use Rattle.path_model.specs.Places.{owner_class}
@@ -38,7 +37,7 @@ use Rattle.abi_casts.proofs.Joining.{within_can, within_answers}
 use Rattle.abi_stands.specs.Worlds.{World, IsWorld, classes_in, places_in}
 use Rattle.abi_stands.specs.Columns.{HasPointers}
 use Rattle.abi_stands.proofs.Owners.{same_class}
-use Rattle.abi_stands.proofs.Standing.{plain_root, whole_joined, stands_inside, stands_alone}
+use Rattle.abi_stands.proofs.Standing.{plain_root, stands_inside, stands_alone}
 use Rattle.abi_stands.proofs.Tables.{world_point}
 
 -- what a test that answers yes has found: a subobject of the view's class

@@ -1,5 +1,5 @@
 -- The entry of a deleting destructor stands behind that of the complete one, in the tables of each class (Itanium C++ ABI 2.5.2).
-use Rattle.std.proofs.Common.{◌≡◌, ℕ, zero, suc, ◌+◌, ◌<◌, ◌≤◌, Bool, true, false, Option, Some, None, List, [], ◌∷◌, ◌++◌, map, length, refl, ap, subst, sym, ◌∙◌, arith}
+use Rattle.std.proofs.Common.{◌≡◌, ℕ, zero, suc, ◌+◌, ◌<◌, Bool, true, false, Option, Some, None, List, [], ◌∷◌, ◌++◌, map, length, refl, ap, subst, sym, ◌∙◌, arith}
 use Rattle.std.specs.Prelude.{◌&&◌, ◌||◌, not, if◌then◌else◌, slice_get, Contains}
 use Rattle.std.specs.List.{list_any, find, filter, flat_map}
 use Rattle.foundation.proofs.Truth.{split}
@@ -106,10 +106,6 @@ next_place g all (plain_block f rest b) is =
 next_place g all (end_block f rest b) is =
     split (same_function g f) (λ t. ((t && true) || ((t && false) || list_any (same_key (key g Complete)) rest)) ≡ true → (if (t && false) then 0 else suc (if (t && true) then 0 else suc (place_in (same_key (key g Deleting)) rest))) ≡ (if (t && true) then 0 else suc (if (t && false) then 0 else suc (place_in (same_key (key g Complete)) rest))) + 1)
     (λ t e. refl) (λ t e. let i = next_place g rest b e in omega arith) is
-
-pub place_low : {A : Type 0} (p : A → Bool) (xs : List A) → place_in p xs ≤ length xs
-place_low p [] = omega arith
-place_low p (x ∷ xs) = let i = place_low p xs in split (p x) (λ t. (if t then 0 else suc (place_in p xs)) ≤ suc (length xs)) (λ t. omega arith) (λ t. omega arith)
 
 module _ (h : Classes) (l : Places) (keeps : IsHierarchy h) (are : ArePrimaries h l) where
   by_twins : (all : List EntryKey) (a b : EntryKey) → AreBlocks all → list_any (same_key a) all ≡ true → Twins a b → place_in (same_key b) all ≡ place_in (same_key a) all + 1

@@ -8,15 +8,15 @@ use Rattle.cxx_subobject.specs.declared.Subobject.{Subobject}
 use Rattle.cxx_subobject.specs.Subobjects.{IsSubobject, whole, whole_of}
 use Rattle.cxx_program.specs.declared.statement.Converted.{Converted}
 use Rattle.cxx_program.specs.declared.statement.PassedMember.{PassedMember}
-use Rattle.cxx_program.specs.declared.statement.TypedCast.{TypedCast}
 use Rattle.cxx_program.specs.declared.statement.TypedRight.{TypedRight}
-use Rattle.cxx_program.specs.Typed.{Scope, HasRight, an_operand, a_calculation, a_comparison, a_negation, a_read, an_address, a_result, an_object, a_cast, a_type_test, IsPath, IsPassed, Casts, cast_same, cast_up, cast_down, cast_dynamic, IsConverted, a_right, a_null_right}
+use Rattle.cxx_program.specs.Typed.{Scope, HasRight, an_operand, a_calculation, a_comparison, a_negation, a_read, an_address, a_result, an_object, a_cast, a_type_test, IsPath, IsPassed, IsConverted, a_right, a_null_right}
 use Rattle.cxx_program.specs.Typed.{IsWay as IsTypedWay}
 use Rattle.path_model.specs.Values.{Value, Unset, Number, Null, Pointer, Objects, Sight, value}
 use Rattle.path_model.specs.Places.{last_passed}
 use Rattle.path_model.specs.TypedStates.{IsValue}
-use Rattle.path_model.specs.Typed.{IsOf, IsRight, IsCast, IsWay}
+use Rattle.path_model.specs.Typed.{IsOf, IsRight, IsWay}
 use Rattle.path_model.proofs.TypedValues.{IsTypedSight, operand_typed}
+use Rattle.path_model.proofs.TypedRights.{cast_given}
 
 pub value_of : (h : Classes) (s : Objects) (v : Value) (c : ClassId) → IsValue h s.classes v (PointerType c) → IsOf s v c
 value_of h s Unset c typed = tt
@@ -27,12 +27,6 @@ value_of h s (Pointer p) c made = (made.of_class, (made.class, made.made))
 path_more : (h : Classes) (c : ClassId) (xs : List PassedMember) (x : PassedMember) → IsPath h c xs x.base → ((e : ClassId) → IsSubobject h e x.base → IsPassed h e x) → IsPath h c (xs ++ x ∷ []) (whole_of x.class)
 path_more h c [] x path passed = (passed c path, whole [] tt)
 path_more h c (y ∷ xs) x path passed = (path.0, path_more h y.class xs x path.1 passed)
-
-cast_given : (h : Classes) (c d : ClassId) (cast : TypedCast) → Casts h c cast d → IsCast h c cast
-cast_given h c d _ (cast_same _) = tt
-cast_given h c d _ (cast_up _ _ i proper) = (d, proper)
-cast_given h c d _ (cast_down _ _ i proper root known) = tt
-cast_given h c d _ (cast_dynamic _ _ polymorphic known) = tt
 
 pub way_given : (h : Classes) (c k : ClassId) (i : Option Subobject) → IsTypedWay h c i k → IsWay h c i
 way_given h c k None way = tt

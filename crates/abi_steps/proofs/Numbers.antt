@@ -20,6 +20,7 @@ use Rattle.byte_code.proofs.Words.{word_of-low, number_of-word_of}
 use Rattle.byte_machine.specs.Checks.{exact, is_number_of, is_same_number}
 use Rattle.byte_machine.specs.Values.{calculated, converted_word, truth_word, in_bytes}
 use Rattle.byte_machine.proofs.Ranges.{number_of-low_of, low_of_fits}
+use Rattle.byte_machine.proofs.Arithmetic.{low_rem}
 use Rattle.abi_ops.specs.Setups.{width_of, register_width, number_kind, word_width}
 use Rattle.abi_statements.specs.Rights.{arith_kind}
 use Rattle.abi_statements.specs.Statements.{written_width}
@@ -77,10 +78,6 @@ zero_word t z r e = sym (register_read t z r) ∙ ap (number_of (register_width 
     zero_read false = refl
 
 -- wrapped numbers
-
-low_rem : (n : ℕ) (z : ℤ) → int_rem_euclid z (pos (256 ^ n)) ≡ pos (low_of n z)
-low_rem n (pos a) = refl
-low_rem n (negsuc a) = refl
 
 -- some multiple of the range makes a number one without a sign
 lifted : (m : ℕ) (z : ℤ) → 0 < m → (k : ℕ) × (a : ℕ) × (z +ℤ pos (k * m) ≡ pos a)
@@ -181,9 +178,9 @@ number_converted s ULongLong z r = wide_converted ULongLong z (λ e. cc)
 
 -- Arith and Fits
 
-truth_word_is : (b : Bool) → truth_word b ≡ word_of (if b then pos 1 else pos 0)
-truth_word_is true = refl
-truth_word_is false = refl
+pub truth_result : (x : Bool) → truth_word x ≡ word_of (if x then pos 1 else pos 0)
+truth_result true = refl
+truth_result false = refl
 
 -- the number that two numbers of one type give
 abbrev pub result : Operator → Scalar → ℤ → ℤ → ℤ
@@ -208,10 +205,10 @@ calculated_as : (op : Operator) (t : Scalar) (a b : ℤ) → IsWide t → calcul
 calculated_as Add t a b wide = bytes_word t (a +ℤ b) wide
 calculated_as Subtract t a b wide = bytes_word t (a -ℤ b) wide
 calculated_as Multiply t a b wide = bytes_word t (a *ℤ b) wide
-calculated_as Less t a b wide = truth_word_is (int_lt a b)
-calculated_as LessEqual t a b wide = truth_word_is (not (int_lt b a))
-calculated_as Equal t a b wide = truth_word_is (not (int_lt a b) && not (int_lt b a))
-calculated_as NotEqual t a b wide = truth_word_is (not (not (int_lt a b) && not (int_lt b a)))
+calculated_as Less t a b wide = truth_result (int_lt a b)
+calculated_as LessEqual t a b wide = truth_result (not (int_lt b a))
+calculated_as Equal t a b wide = truth_result (not (int_lt a b) && not (int_lt b a))
+calculated_as NotEqual t a b wide = truth_result (not (not (int_lt a b) && not (int_lt b a)))
 
 -- Arith of the words of two numbers, read in a type
 pub word_calculated : (op : Operator) (t : Scalar) (y z : ℤ) → IsWide t → calculated (arith_kind op) (width_of t) (number_of (width_of t) (word_of y)) (number_of (width_of t) (word_of z)) ≡ word_of (result op t (wrapped t y) (wrapped t z))
@@ -344,7 +341,3 @@ zero_test t z r = by_word (word_of z) refl
     by_word : (word : ℕ) → word_of z ≡ word → nat_eq word 0 ≡ is_number_zero z
     by_word zero e = ap is_number_zero (sym (zero_word t z r e))
     by_word (suc word) e = let other : nat_eq (suc word) 0 ≡ false = grind (arith, nat_tests) in other ∙ some_number z (λ is. let none : word_of z ≡ 0 = ap word_of is in omega arith)
-
-pub truth_result : (x : Bool) → truth_word x ≡ word_of (if x then pos 1 else pos 0)
-truth_result true = refl
-truth_result false = refl

@@ -1,9 +1,10 @@
 -- A variable takes a value that stands in a register, and control goes on.
-use Rattle.std.proofs.Common.{◌≡◌, ℕ, zero, suc, ◌+◌, ◌<◌, ⊎_elim, Option, Some, List, [], ◌∷◌, length, map, set, length-set, refl, ap, sym, ◌∙◌, subst, arith}
+use Rattle.std.proofs.Common.{◌≡◌, ℕ, ◌+◌, ◌<◌, ⊎_elim, Option, Some, List, [], ◌∷◌, length, map, set, length-set, refl, ap, sym, ◌∙◌, subst, arith}
 use Rattle.std.specs.Prelude.{slice_get}
 use Rattle.std.proofs.lemmas.Bool.{cases_eq}
 use Rattle.std.proofs.lemmas.List.{map-set, length-map}
 use Rattle.std.proofs.lemmas.Option.{slice_get_within}
+use Rattle.foundation.proofs.Places.{get_set_other, get_set}
 use Rattle.cxx_hierarchy.specs.declared.records.ClassId.{ClassId}
 use Rattle.cxx_hierarchy.specs.declared.records.ValueType.{ValueType}
 use Rattle.cxx_program.specs.declared.operand.Variable.{Variable}
@@ -34,19 +35,6 @@ use Rattle.abi_steps.proofs.Moves.{move_in}
 use Rattle.abi_steps.proofs.Scenes.{Scene, here, scope, sees, values_count, registers_enough}
 use Rattle.abi_steps.proofs.Finish.{Reaches, to_next, finished}
 
--- items of a list that one was set in
-get_same : {X : Type 0} (xs : List X) (i : ℕ) (v : X) → i < length xs → slice_get (set xs i v) i ≡ Some v
-get_same [] i v h = absurd (omega arith)
-get_same (x ∷ xs) zero v h = refl
-get_same (x ∷ xs) (suc i) v h = get_same xs i v (omega arith)
-
-get_other : {X : Type 0} (xs : List X) (i j : ℕ) (v : X) → (j ≡ i → ⊥) → slice_get (set xs i v) j ≡ slice_get xs j
-get_other [] i j v h = refl
-get_other (x ∷ xs) zero zero v h = absurd (h refl)
-get_other (x ∷ xs) zero (suc j) v h = refl
-get_other (x ∷ xs) (suc i) zero v h = refl
-get_other (x ∷ xs) (suc i) (suc j) v h = get_other xs i j v (λ e. h (ap suc e))
-
 -- a local is set, and its register
 pub variables_set : (w : World) (g : Heap) (f : Body) (b : Running) (locals : List Value) (at next n : ℕ) (v : Value) (old : List (Option ℕ)) → HasVariables w g (body_on f locals at) old → n < length locals → n + 1 < length old → HasVariables w g (body_on f (set locals n v) next) (set old (n + 1) (register_of w g v))
 variables_set w g f b locals at next n v old a known inside = record {
@@ -54,10 +42,10 @@ variables_set w g f b locals at next n v old a known inside = record {
   this = set_there b old (n + 1) 0 (register_of w g v) (λ e. omega arith) ∙ a.this;
   local = λ m u there. ⊎_elim
       (λ (e : m ≡ n).
-      let same : Some v ≡ Some u = sym (get_same locals n v known) ∙ ap (λ i. slice_get (set locals n v) i) (sym e) ∙ there in
+      let same : Some v ≡ Some u = sym (get_set locals n v known) ∙ ap (λ i. slice_get (set locals n v) i) (sym e) ∙ there in
       let one : v ≡ u = cc in
       ap (λ i. byte_of (set old (n + 1) (register_of w g v)) (i + 1)) e ∙ set_here b old (n + 1) (register_of w g v) inside ∙ ap (register_of w g) one)
-      (λ (other : m ≡ n → ⊥). set_there b old (n + 1) (m + 1) (register_of w g v) (λ e. other (omega arith)) ∙ a.local m u (sym (get_other locals n m v other) ∙ there))
+      (λ (other : m ≡ n → ⊥). set_there b old (n + 1) (m + 1) (register_of w g v) (λ e. other (omega arith)) ∙ a.local m u (sym (get_set_other locals n m v other) ∙ there))
       (cases_eq m n);
   spare = ap (λ i. byte_of (set old (n + 1) (register_of w g v)) (i + 1)) (length-set locals n v) ∙ set_there b old (n + 1) (length locals + 1) (register_of w g v) (λ e. omega arith) ∙ a.spare;
 }

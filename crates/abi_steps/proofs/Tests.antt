@@ -85,7 +85,7 @@ number_less NotComplete = omega arith
 number_less MissingReturn = omega arith
 number_less Overflow = omega arith
 
-one_number : (r q : Undefined) → undefined_no r ≡ undefined_no q → r ≡ q
+pub one_number : (r q : Undefined) → undefined_no r ≡ undefined_no q → r ≡ q
 one_number r q e = let same : Some r ≡ Some q = sym (rule_at r) ∙ ap (λ n. slice_get rules (n - 1)) e ∙ rule_at q in cc
 
 -- rules with the numbers from n on

@@ -10,7 +10,6 @@ use Rattle.cxx_hierarchy.specs.Classes.{Classes}
 use Rattle.cxx_subobject.specs.declared.Subobject.{Subobject}
 use Rattle.cxx_subobject.specs.Subobjects.{IsSubobject, whole, shared}
 use Rattle.abi_primary.specs.Kinds.{IsDynamic}
-use Rattle.abi_slots.proofs.Dynamics.{base_dynamic}
 use Rattle.cxx_subobject.specs.Locations.{ObjectPart}
 use Rattle.cxx_program.specs.declared.operand.TypedOperand.{TypedOperand}
 use Rattle.cxx_program.specs.declared.operand.TypedOperand.TheVariants.{Variable as VariableOperand, This, Number as NumberOperand}
@@ -26,6 +25,7 @@ use Rattle.path_model.specs.Uses.{Use, Reads, Follows, Guards, Passes, Views, Ov
 use Rattle.path_model.specs.Rules.{breaks, is_unready, names, is_broken}
 use Rattle.path_model.specs.TypedStates.{IsPartMade, IsValue}
 use Rattle.path_model.proofs.TypedValues.{IsTypedSight, operand_typed}
+use Rattle.abi_primary.proofs.KindLemmas.{base_dynamic}
 use Rattle.byte_machine.specs.Running.{Running, Stop, register, moved}
 use Rattle.abi_ops.specs.Arguments.{Block, argument_used}
 use Rattle.abi_ops.specs.Operands.{operand_class, operand_register, pointed, pointed_in}

@@ -14,13 +14,13 @@ use Rattle.cxx_subobject.specs.Preorder.{preorder}
 use Rattle.cxx_subobject.specs.VirtualBases.{virtual_bases}
 use Rattle.cxx_subobject.proofs.TestLemmas.{class_below}
 use Rattle.abi_primary.specs.Kinds.{IsDynamic}
+use Rattle.abi_primary.proofs.KindLemmas.{base_dynamic}
 use Rattle.abi_sound.specs.Places.{Places}
 use Rattle.abi_slots.specs.Listing.{is_shared_root}
 use Rattle.abi_slots.specs.Views.{IsView, is_dynamic, is_dynamic_class}
 use Rattle.abi_slots.proofs.Lists.{Item, item_none, item_split, item_cases, from_map, from_filter, from_flat}
 use Rattle.abi_slots.proofs.Bases.{item_preorder, item_virtual}
 use Rattle.abi_slots.proofs.Chains.{same_some, down_valid}
-use Rattle.abi_slots.proofs.Dynamics.{base_dynamic}
 use Rattle.abi_slots.proofs.Heads.{test_dynamic}
 use Rattle.abi_vtt.specs.Vtts.{Item as VttItem, item, has_virtual, class_has_virtual, is_built_base, built_bases, is_proper_at, ends_in_primary, needs_word, words_of_bases, below, sub_items, shared_items, items, sub_views, shared_views, views}
 use Rattle.abi_count.specs.Counts.{group_views}

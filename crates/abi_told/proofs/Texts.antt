@@ -1,19 +1,13 @@
 -- The text of what is told, piece by piece.
-use Rattle.std.proofs.Common.{◌≡◌, ◌∙◌, ℕ, ◌+◌, ◌<◌, ◌≤◌, Bool, true, false, List, [], ◌∷◌, ◌++◌, get_or, take, length, refl, ap, sym, append_assoc, add-one, arith, zero, suc}
+use Rattle.std.proofs.Common.{◌≡◌, ◌∙◌, ℕ, ◌+◌, ◌<◌, ◌≤◌, Bool, true, false, List, [], ◌∷◌, ◌++◌, get_or, take, length, refl, ap, sym, append_assoc, add-one}
 use Rattle.std.specs.Prelude.{not, if◌then◌else◌}
-use Rattle.std.proofs.lemmas.List.{append-nil}
+use Rattle.std.proofs.lemmas.List.{append-nil, take_all}
 use Rattle.std.proofs.Math.Seq.{take-suc}
 use Rattle.foundation.proofs.Truth.{split}
 use Rattle.cxx_hierarchy.specs.Classes.{Classes}
 use Rattle.path_model.specs.declared.outs.Out.{Out}
 use Rattle.abi_sound.specs.Places.{Places}
 use Rattle.abi_out.specs.OutTexts.{is_traced, out_text, printed, shown, text_of}
-
-pub taken_all : {X : Type 0} (xs : List X) (n : ℕ) → length xs ≤ n → take n xs ≡ xs
-taken_all [] zero le = refl
-taken_all [] (suc n) le = refl
-taken_all (x ∷ xs) zero le = absurd (omega arith)
-taken_all (x ∷ xs) (suc n) le = ap (λ ys. x ∷ ys) (taken_all xs n (omega arith))
 
 -- the line of one out behind a text, or none
 
@@ -57,4 +51,4 @@ text_more h l trace old text more outs i x lt is so adds =
 
 -- all outs
 pub text_all : (h : Classes) (l : Places) (trace : Bool) (old text : List ℕ) (outs : List Out) (i : ℕ) → length outs ≤ i → text ≡ old ++ text_of h l (shown trace (take i outs)) → text ≡ old ++ text_of h l (shown trace outs)
-text_all h l trace old text outs i le so = so ∙ ap (λ (xs : List Out). old ++ text_of h l (shown trace xs)) (taken_all outs i le)
+text_all h l trace old text outs i le so = so ∙ ap (λ (xs : List Out). old ++ text_of h l (shown trace xs)) (take_all i outs le)

@@ -2,7 +2,8 @@
 use Rattle.std.proofs.Common.{◌≡◌, ℕ, ◌+◌, ◌<◌, true, Option, Some, None, List, length, get_or, refl, ap, subst, sym, ◌∙◌}
 use Rattle.std.specs.Prelude.{slice_get, if◌then◌else◌}
 use Rattle.std.proofs.lemmas.Option.{slice_get_within}
-use Rattle.foundation.proofs.Places.{get_within}
+use Rattle.std.proofs.lemmas.List.{length-map}
+use Rattle.foundation.proofs.Places.{get_within, get_read}
 use Rattle.cxx_hierarchy.specs.Classes.{Classes}
 use Rattle.cxx_hierarchy.specs.Hierarchies.{IsHierarchy}
 use Rattle.cxx_subobject.specs.declared.Subobject.{Subobject}
@@ -32,13 +33,12 @@ use Rattle.abi_vtable.specs.declared.view.ViewParts.{ViewParts}
 use Rattle.abi_vtable.specs.declared.words.Declarer.{Declarer}
 use Rattle.abi_vtable.specs.invariants.Parts.{IsNumberOf, number, IsPartOf, at_of, IsViewParts, view_in}
 use Rattle.abi_vtable.specs.invariants.Words.{HasVcall, IsDeclaredBy, nowhere, at_part, runs_at}
-use Rattle.abi_vtable.proofs.Lists.{there_at, map_size}
 use Rattle.abi_vtable.proofs.Parts.{class_known}
 use Rattle.abi_vtable.proofs.Over.{same_part, other_name, has_vcall}
 
 pub start_number : (h : Classes) (l : Places) (v : ViewParts) → IsViewParts h l v → (n : ℕ) → n < length v.parts → IsNumberOf (preorder h v.class) (Some n) (slice_get (preorder h v.class) n)
 start_number h l v view n lt =
-    let size : length (preorder h v.class) ≡ length v.parts = ap length (sym view.parts.subobjects) ∙ map_size at_of v.parts in
+    let size : length (preorder h v.class) ≡ length v.parts = ap length (sym view.parts.subobjects) ∙ length-map v.parts at_of in
     let r = get_within (preorder h v.class) n (subst (λ a. n < a) (sym size) lt) in
     subst (λ o. IsNumberOf (preorder h v.class) (Some n) o) (sym r.1) (number n r.0 r.1)
 
@@ -77,7 +77,7 @@ pub declares : (h : Classes) (rows : List ClassLayout) → IsHierarchy h → IsS
 declares h rows keeps sound v view items k o found part same is f =
     let l = places_of h rows in
     let lt = found_within h v.parts items k o found same f in
-    let one : f.part ≡ part = same_some f.part part (sym f.there ∙ ap (λ xs. slice_get xs found.part) (sym same) ∙ there_at items found.part part lt is) in
+    let one : f.part ≡ part = same_some f.part part (sym f.there ∙ ap (λ xs. slice_get xs found.part) (sym same) ∙ get_read items found.part part lt is) in
     let of = view.parts.each found.part f.part f.there in
     let class : class_of f.part.at ≡ Some found.function.class = of.class ∙ ap (λ a. Some a) (sym f.class) in
     let item : Item (own h found.function.class) found.function = subst (λ c. Item (own h c) found.function) (sym f.class) f.item in

@@ -4,6 +4,7 @@ use Rattle.std.specs.Prelude.{if◌then◌else◌, slice_get, ◌&&◌, ◌||◌
 use Rattle.std.specs.List.{list_any, filter, flat_map, filter_map}
 use Rattle.std.proofs.lemmas.Bool.{eq-eqb, eqb-true}
 use Rattle.std.proofs.lemmas.List.{append-nil}
+use Rattle.foundation.proofs.Places.{get_read}
 use Rattle.cxx_hierarchy.specs.declared.records.ClassId.{ClassId}
 use Rattle.cxx_hierarchy.specs.Classes.{Classes}
 use Rattle.cxx_subobject.specs.declared.Root.{Root}
@@ -22,7 +23,7 @@ use Rattle.abi_slots.proofs.Loops.{pushed_more, pushed_all}
 use Rattle.abi_vtable.specs.declared.view.Part.{Part}
 use Rattle.abi_vtable.specs.declared.view.ViewParts.{ViewParts}
 use Rattle.abi_vtable.specs.invariants.Parts.{IsNumberOf, nothing, number, at_of, IsKept, view_in, leads_to, numbered, heads_of_root, heads_of_bases}
-use Rattle.abi_vtable.proofs.Lists.{there_at, map_more}
+use Rattle.abi_vtable.proofs.Lists.{map_more}
 use Rattle.cxx_hierarchy.proofs.Listed.{get_map}
 
 -- the number of the next one says which that is
@@ -76,7 +77,7 @@ module _ (h : Classes) (l : Places) (v : ViewParts) (kept : IsKept h l v) where
       test ≡ (same_root root part.at.root && (part.is_dynamic && not (list_any (λ (other : Part). leads_to n other.next) parts))) → new ≡ (if test then numbers ++ n ∷ [] else numbers) →
       numbered (preorder h v.class) numbers ++ heads_of_root h l (view_in v) root (drop n parts) ≡ all → numbered (preorder h v.class) new ++ heads_of_root h l (view_in v) root (drop (n + 1) parts) ≡ all
   root_more root parts n part test numbers new all same lt is tested pushed inv =
-      let there : slice_get v.parts n ≡ Some part = ap (λ xs. slice_get xs n) (sym same) ∙ there_at parts n part lt is in
+      let there : slice_get v.parts n ≡ Some part = ap (λ xs. slice_get xs n) (sym same) ∙ get_read parts n part lt is in
       let found : test ≡ (same_root root part.at.root && is_head h l (view_in v) part.at) = tested ∙ ap (λ xs. same_root root part.at.root && (part.is_dynamic && not (list_any (λ (other : Part). leads_to n other.next) xs))) same ∙ ap (λ a. same_root root part.at.root && a) (sym (head_is n part there)) in
       let piece = (if test then Some part.at ∷ [] else []) in
       let opened : heads_of_root h l (view_in v) root (part ∷ drop (n + 1) parts) ≡ piece ++ heads_of_root h l (view_in v) root (drop (n + 1) parts) =

@@ -2,7 +2,7 @@
 use Rattle.std.proofs.Common.{◌≡◌, ℕ, ◌+◌, ◌<◌, ◌≤◌, ⊎_elim, true, Option, Some, List, [], ◌∷◌, ◌++◌, length, get_or, refl, ap, subst, sym, ◌∙◌, arith, below_more}
 use Rattle.std.specs.Prelude.{slice_get, ℤ, pos, ◌-ℤ◌, IfSome}
 use Rattle.std.proofs.lemmas.Option.{slice_get_within}
-use Rattle.foundation.proofs.Places.{get_pushed}
+use Rattle.foundation.proofs.Places.{get_pushed, get_read, get_mapped}
 use Rattle.cxx_hierarchy.specs.declared.records.ClassId.{ClassId}
 use Rattle.cxx_hierarchy.specs.Classes.{Classes}
 use Rattle.cxx_hierarchy.specs.Hierarchies.{IsHierarchy}
@@ -12,6 +12,7 @@ use Rattle.cxx_subobject.specs.declared.Subobject.{Subobject}
 use Rattle.cxx_subobject.specs.Subobjects.{IsSubobject, whole, shared, shared_base, last_of, class_of}
 use Rattle.cxx_subobject.specs.Inside.{IsInside}
 use Rattle.cxx_subobject.specs.Preorder.{preorder}
+use Rattle.cxx_subobject.proofs.PathLemmas.{class_inside, same_id}
 use Rattle.cxx_overrider.specs.declared.FunctionId.{FunctionId}
 use Rattle.cxx_overrider.specs.declared.Overrider.{Overrider}
 use Rattle.cxx_overrider.specs.Overriding.{IsFinalOverrider}
@@ -29,25 +30,25 @@ use Rattle.abi_slots.specs.Groups.{between, named_in, return_adjust, vbase_bytes
 use Rattle.abi_slots.proofs.Calls.{vcall_there}
 use Rattle.abi_slots.proofs.Chains.{Setting, same_some, known}
 use Rattle.abi_slots.proofs.Lists.{Item, any_item}
-use Rattle.abi_slots.proofs.Names.{same_class, name_is, name_back}
+use Rattle.abi_slots.proofs.Names.{name_is, name_back}
 use Rattle.abi_vtable.specs.declared.returns.KnownReturn.{KnownReturn}
 use Rattle.abi_vtable.specs.declared.view.Part.{Part}
 use Rattle.abi_vtable.specs.declared.view.ViewParts.{ViewParts}
 use Rattle.abi_vtable.specs.invariants.Parts.{IsPartOf, at_of, AreParts, AreStarts, IsViewParts, IsSomeView}
 use Rattle.abi_vtable.specs.invariants.Returns.{AreKnown}
 use Rattle.abi_vtable.specs.invariants.Words.{IsOver, AreNotOver, HasVcall, runs_at}
-use Rattle.abi_vtable.proofs.Lists.{there_at, read_at, from_map_get}
-use Rattle.abi_vtable.proofs.Parts.{listed_place, class_within}
+use Rattle.abi_vtable.proofs.Lists.{read_at}
+use Rattle.abi_vtable.proofs.Parts.{listed_place}
 
 pub view_known : (h : Classes) → IsHierarchy h → (x : View) → IsView h x → x.class.0 < length h
-view_known h keeps x view = class_within h keeps x.complete x.class x.at_sub view.known view.valid view.of_class
+view_known h keeps x view = class_inside h keeps x.complete x.class x.at_sub view.known view.valid view.of_class
 
 pub some_view : (h : Classes) (l : Places) (v : ViewParts) → IsViewParts h l v → IsSomeView h v
 some_view h l v view = record { places = l; view = view }
 
 -- the part at a number of the preorder
 pub part_listed : (h : Classes) (l : Places) (x : View) (parts : List Part) → AreParts h l x parts → (n : ℕ) (s : Subobject) → slice_get (preorder h x.class) n ≡ Some s → (part : Part) × (slice_get parts n ≡ Some part) × (part.at ≡ s)
-part_listed h l x parts are n s e = from_map_get at_of parts n s (ap (λ xs. slice_get xs n) are.subobjects ∙ e)
+part_listed h l x parts are n s e = get_mapped at_of parts n s (ap (λ xs. slice_get xs n) are.subobjects ∙ e)
 
 -- no part so far
 
@@ -62,7 +63,7 @@ none_over h starts items parts s d n same are is = record {
 pub one_not_over : (h : Classes) (parts : List Part) (s : Subobject) (d : ClassId) (i : ℕ) (part : Part) → i < length parts → part ≡ get_or parts i part → (part.class ≡ d → IsInside h part.at s → ⊥) → AreNotOver h parts s d i → AreNotOver h parts s d (i + 1)
 one_not_over h parts s d i part lt is none so = record {
   each = λ k q less. below_more (λ k. slice_get parts k ≡ Some q → q.class ≡ d → IsInside h q.at s → ⊥) i (λ j small. so.each j q small)
-      (λ there. let same : part ≡ q = same_some part q (sym (there_at parts i part lt is) ∙ there) in subst (λ (a : Part). a.class ≡ d → IsInside h a.at s → ⊥) same none) k less;
+      (λ there. let same : part ≡ q = same_some part q (sym (get_read parts i part lt is) ∙ there) in subst (λ (a : Part). a.class ≡ d → IsInside h a.at s → ⊥) same none) k less;
 }
 
 -- each class has such a part where it has such a subobject
@@ -116,7 +117,7 @@ pub known_is : (h : Classes) (l : Places) (known : List KnownReturn) (i : ℕ) (
 known_is h l known i d c are lt from to =
     let one = get_or known i d in
     let make : ClassId → ClassId → Conversion = λ a b. record { from = a; to = b } in
-    let same : make one.classes.from one.classes.to ≡ make c.from c.to = ap (λ a. make a one.classes.to) (same_class one.classes.from c.from from) ∙ ap (make c.from) (same_class one.classes.to c.to to) in
+    let same : make one.classes.from one.classes.to ≡ make c.from c.to = ap (λ a. make a one.classes.to) (same_id one.classes.from c.from from) ∙ ap (make c.from) (same_id one.classes.to c.to to) in
     are.each i one (read_at known i d lt) ∙ ap (λ a. adjust_by h l (Some a)) same
 
 pub known_more : (h : Classes) (l : Places) (known new : List KnownReturn) (one : KnownReturn) → AreKnown h l known → new ≡ known ++ one ∷ [] → one.adjust ≡ adjust_by h l (Some one.classes) → AreKnown h l new

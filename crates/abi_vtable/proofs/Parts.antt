@@ -2,7 +2,7 @@
 use Rattle.std.proofs.Common.{◌≡◌, ℕ, ◌+◌, ◌<◌, ◌≤◌, ⊎_elim, Bool, true, false, Option, Some, None, List, [], ◌∷◌, ◌++◌, map, length, get_or, refl, ap, subst, sym, ◌∙◌, arith, below_more}
 use Rattle.std.specs.Prelude.{if◌then◌else◌, slice_get, MatchOption}
 use Rattle.std.proofs.lemmas.Option.{slice_get_within}
-use Rattle.foundation.proofs.Places.{contains_at, place_of, get_pushed}
+use Rattle.foundation.proofs.Places.{contains_at, place_of, get_pushed, get_read}
 use Rattle.cxx_hierarchy.specs.declared.records.ClassId.{ClassId}
 use Rattle.cxx_hierarchy.specs.Classes.{Classes}
 use Rattle.cxx_hierarchy.specs.Hierarchies.{IsHierarchy}
@@ -21,7 +21,7 @@ use Rattle.abi_slots.proofs.Loops.{pushed_more, pushed_all}
 use Rattle.abi_slots.proofs.Settings.{setting_of}
 use Rattle.abi_vtable.specs.declared.view.Part.{Part}
 use Rattle.abi_vtable.specs.invariants.Parts.{IsNumberOf, nothing, number, IsPartOf, at_of, AreParts, ArePartsTo, AreStarts, AreStartsTo}
-use Rattle.abi_vtable.proofs.Lists.{there_at, map_more}
+use Rattle.abi_vtable.proofs.Lists.{map_more}
 
 -- the class of a subobject of a view is known
 pub class_known : (h : Classes) → IsHierarchy h → (x : View) → IsView h x → (s : Subobject) (d : ClassId) → IsSubobject h x.class s → class_of s ≡ Some d → d.0 < length h
@@ -30,9 +30,6 @@ class_known h keeps x view s d valid e =
     let b = class_low h keeps x.complete x.class x.at_sub view.valid view.of_class in
     let k = view.known in
     omega arith
-
-pub class_within : (h : Classes) → IsHierarchy h → (c d : ClassId) (s : Subobject) → c.0 < length h → IsSubobject h c s → class_of s ≡ Some d → d.0 < length h
-class_within h keeps c d s k valid e = let a = class_low h keeps c d s valid e in omega arith
 
 -- what stands in the preorder is a subobject
 pub listed_valid : (h : Classes) → IsHierarchy h → (c : ClassId) (list : List Subobject) (i : ℕ) (s : Subobject) → list ≡ preorder h c → slice_get list i ≡ Some s → IsSubobject h c s
@@ -93,7 +90,7 @@ parts_all h l x list i parts le is so = record {
 pub start_more : (starts new : List ℕ) (parts : List Part) (i : ℕ) (part : Part) → i < length parts → part ≡ get_or parts i part → ((d k : ℕ) → get_or starts d 0 ≤ k → get_or new d 0 ≤ k) → get_or new part.class.0 0 ≤ i → AreStartsTo starts parts i → AreStartsTo new parts (i + 1)
 start_more starts new parts i part lt is kept noted so = record {
   each = λ k q less there. below_more (λ k. slice_get parts k ≡ Some q → get_or new q.class.0 0 ≤ k) i (λ j small at. kept q.class.0 j (so.each j q small at))
-      (λ at. let same : part ≡ q = same_some part q (sym (there_at parts i part lt is) ∙ at) in subst (λ (a : Part). get_or new a.class.0 0 ≤ i) same noted) k less there;
+      (λ at. let same : part ≡ q = same_some part q (sym (get_read parts i part lt is) ∙ at) in subst (λ (a : Part). get_or new a.class.0 0 ≤ i) same noted) k less there;
 }
 
 pub starts_all : (starts : List ℕ) (parts : List Part) (i : ℕ) → length parts ≤ i → AreStartsTo starts parts i → AreStarts starts parts

@@ -3,6 +3,8 @@ use Rattle.std.proofs.Common.{◌≡◌, ℕ, ◌-◌, ◌<◌, Option, Some, No
 use Rattle.std.specs.Prelude.{slice_get, IfSome}
 use Rattle.std.specs.Option.{option_and_then}
 use Rattle.std.proofs.lemmas.Option.{slice_get_within}
+use Rattle.std.proofs.lemmas.List.{length-map}
+use Rattle.foundation.proofs.Places.{get_read}
 use Rattle.cxx_hierarchy.specs.Classes.{Classes}
 use Rattle.cxx_hierarchy.specs.Hierarchies.{IsHierarchy}
 use Rattle.cxx_subobject.specs.declared.Subobject.{Subobject}
@@ -19,7 +21,6 @@ use Rattle.abi_vtable.specs.declared.view.ViewParts.{ViewParts}
 use Rattle.abi_vtable.specs.declared.words.Declarer.{Declarer}
 use Rattle.abi_vtable.specs.invariants.Parts.{IsNumberOf, nothing, number, at_of, IsViewParts, view_in}
 use Rattle.abi_vtable.specs.invariants.Words.{AreAlong, IsDeclaredBy}
-use Rattle.abi_vtable.proofs.Lists.{there_at, map_size}
 use Rattle.abi_vtable.proofs.Parts.{class_known}
 use Rattle.abi_vtable.proofs.Declaring.{number_some, along_next, first_here, first_below, declared_some, declared_none, declared_here}
 use Rattle.cxx_hierarchy.proofs.Listed.{get_map}
@@ -31,12 +32,12 @@ number_within list m size _ _ (number n s at) = let lt = slice_get_within list n
 module _ (h : Classes) (l : Places) (v : ViewParts) where
   -- the part of a number
   part_at : (items : List Part) (i : ℕ) (part : Part) → items ≡ v.parts → i < length v.parts → part ≡ get_or items i part → slice_get v.parts i ≡ Some part
-  part_at items i part same lt is = ap (λ xs. slice_get xs i) (sym same) ∙ there_at items i part (subst (λ (xs : List Part). i < length xs) (sym same) lt) is
+  part_at items i part same lt is = ap (λ xs. slice_get xs i) (sym same) ∙ get_read items i part (subst (λ (xs : List Part). i < length xs) (sym same) lt) is
 
   pub next_within : IsViewParts h l v → (items : List Part) (i : ℕ) (part : Part) → items ≡ v.parts → i < length v.parts → part ≡ get_or items i part → IfSome part.next (λ j. j < length v.parts)
   next_within view items i part same lt is =
       let of = view.parts.each i part (part_at items i part same lt is) in
-      let size : length (preorder h v.class) ≡ length v.parts = ap length (sym view.parts.subobjects) ∙ map_size at_of v.parts in
+      let size : length (preorder h v.class) ≡ length v.parts = ap length (sym view.parts.subobjects) ∙ length-map v.parts at_of in
       number_within (preorder h v.class) (length v.parts) size part.next (next l (view_in v) part.at) of.next
 
   -- the subobject of the number is the part's

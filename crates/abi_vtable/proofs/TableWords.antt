@@ -2,7 +2,8 @@
 use Rattle.std.proofs.Common.{◌≡◌, ℕ, ◌+◌, ◌<◌, ⊎_elim, Bool, true, Some, List, [], ◌∷◌, ◌++◌, map, length, reverse, ap, subst, sym, ◌∙◌, arith}
 use Rattle.std.specs.Prelude.{slice_get, ℤ, pos, ◌-ℤ◌}
 use Rattle.std.proofs.lemmas.Option.{slice_get_within}
-use Rattle.foundation.proofs.Places.{get_pushed}
+use Rattle.std.proofs.lemmas.List.{length-map}
+use Rattle.foundation.proofs.Places.{get_pushed, get_mapped}
 use Rattle.cxx_hierarchy.specs.Classes.{Classes}
 use Rattle.cxx_hierarchy.specs.Hierarchies.{IsHierarchy}
 use Rattle.cxx_subobject.specs.declared.Subobject.{Subobject}
@@ -27,7 +28,6 @@ use Rattle.abi_vtable.specs.declared.view.Part.{Part}
 use Rattle.abi_vtable.specs.declared.view.ViewParts.{ViewParts}
 use Rattle.abi_vtable.specs.invariants.Parts.{IsPartOf, at_of, IsViewParts, view_in, numbered}
 use Rattle.abi_vtable.specs.invariants.Words.{IsNamed, AreAlong, GoAlongTo}
-use Rattle.abi_vtable.proofs.Lists.{from_map_get, map_size}
 use Rattle.abi_vtable.proofs.Parts.{class_known}
 use Rattle.abi_vtable.proofs.Declaring.{entry_low, all_along}
 use Rattle.abi_vtable.proofs.Offsets.{shared_is_base, offset_named}
@@ -57,15 +57,15 @@ pub record IsHeadAt (list : List Subobject) (all : List Subobject) (i n : ℕ) :
 
 pub head_at : (list all : List Subobject) (numbers : List ℕ) (i n : ℕ) → numbered list numbers ≡ map Some all → slice_get numbers i ≡ Some n → IsHeadAt list all i n
 head_at list all numbers i n same e =
-    let r = from_map_get Some all i (slice_get list n) (ap (λ xs. slice_get xs i) (sym same) ∙ get_map (slice_get list) numbers i n e) in
+    let r = get_mapped Some all i (slice_get list n) (ap (λ xs. slice_get xs i) (sym same) ∙ get_map (slice_get list) numbers i n e) in
     record { head = r.0; there = r.1; at_number = sym r.2 }
 
 pub heads_size : (list all : List Subobject) (numbers : List ℕ) → numbered list numbers ≡ map Some all → length all ≡ length numbers
-heads_size list all numbers same = sym (map_size Some all) ∙ ap length (sym same) ∙ map_size (slice_get list) numbers
+heads_size list all numbers same = sym (length-map all Some) ∙ ap length (sym same) ∙ length-map numbers (slice_get list)
 
 pub number_below : (h : Classes) (l : Places) (v : ViewParts) → IsViewParts h l v → (n : ℕ) (s : Subobject) → slice_get (preorder h v.class) n ≡ Some s → n < length v.parts
 number_below h l v view n s e =
-    let size : length (preorder h v.class) ≡ length v.parts = ap length (sym view.parts.subobjects) ∙ map_size at_of v.parts in
+    let size : length (preorder h v.class) ≡ length v.parts = ap length (sym view.parts.subobjects) ∙ length-map v.parts at_of in
     let lt = slice_get_within (preorder h v.class) n s e in
     subst (λ a. n < a) size lt
 

@@ -56,7 +56,7 @@ in_turn h l go sized (d ∷ rest) b i = split (nat_eq d.0 b.0)
     later : ListItem (d ∷ rest) b → nat_eq d.0 b.0 ≡ false → ListItem rest b
     later j apart = ⊎_elim (λ same. absurd (let f : nat_eq d.0 d.0 ≡ false = subst (λ (a : ClassId). nat_eq d.0 a.0 ≡ false) (sym same) apart in grind arith)) (λ r. r) (item_split d rest b j)
 
-turn_length : (h : Classes) (l : Places) (go : ClassId → List Item) → ((d : ClassId) → length (go d) ≡ block_length h l d) → (list : List ClassId) → length (flat_map go list) ≡ lengths_of h l list
+pub turn_length : (h : Classes) (l : Places) (go : ClassId → List Item) → ((d : ClassId) → length (go d) ≡ block_length h l d) → (list : List ClassId) → length (flat_map go list) ≡ lengths_of h l list
 turn_length h l go sized [] = refl
 turn_length h l go sized (d ∷ rest) =
     let one = sized d in

@@ -2,6 +2,7 @@
 use Rattle.std.proofs.Common.{◌≡◌, ℕ, zero, suc, ◌+◌, ◌<◌, true, false, Option, Some, List, [], ◌∷◌, All, length, get_or, refl, ap, subst, sym, ◌∙◌, arith}
 use Rattle.std.specs.Prelude.{slice_get, ◌&&◌, ◌||◌, not}
 use Rattle.std.proofs.lemmas.Bool.{and_parts}
+use Rattle.foundation.proofs.Places.{get_read}
 use Rattle.cxx_hierarchy.specs.declared.records.ClassId.{ClassId}
 use Rattle.cxx_hierarchy.specs.Classes.{Classes}
 use Rattle.cxx_hierarchy.specs.Hierarchies.{IsHierarchy}
@@ -16,26 +17,25 @@ use Rattle.abi_slots.specs.Listing.{is_shared_root}
 use Rattle.abi_slots.specs.Views.{View, IsView, is_dynamic, is_dynamic_class}
 use Rattle.abi_slots.proofs.Chains.{same_some}
 use Rattle.abi_slots.proofs.Complete.{same_bool}
-use Rattle.abi_slots.proofs.Dynamics.{base_dynamic}
 use Rattle.abi_slots.proofs.Heads.{dynamic_test, test_dynamic}
 use Rattle.abi_vtable.specs.declared.view.Part.{Part}
 use Rattle.abi_vtable.specs.declared.view.ViewParts.{ViewParts}
 use Rattle.abi_vtable.specs.invariants.Parts.{IsPartOf, at_of, IsViewParts, view_in}
-use Rattle.abi_vtable.proofs.Lists.{there_at}
 use Rattle.abi_vtable.proofs.Parts.{class_known}
 use Rattle.abi_vtt.specs.Vtts.{class_has_virtual, is_proper_at, ends_in_primary, needs_word}
 use Rattle.abi_vtt.specs.invariants.Served.{HasNote, AreServing}
 use Rattle.abi_vtt.specs.invariants.Growing.{IsKnownPart}
 use Rattle.cxx_hierarchy.proofs.Listed.{get_map}
+use Rattle.abi_primary.proofs.KindLemmas.{base_dynamic}
 
-path_known : (h : Classes) → IsHierarchy h → (c : ClassId) (path : List ClassId) → c.0 < length h → Leads h c path → All (λ (d : ClassId). d.0 < length h) (c ∷ path)
+pub path_known : (h : Classes) → IsHierarchy h → (c : ClassId) (path : List ClassId) → c.0 < length h → Leads h c path → All (λ (d : ClassId). d.0 < length h) (c ∷ path)
 path_known h keeps c path known leads zero d lt = known
 path_known h keeps c [] known leads (suc k) d lt = absurd (omega arith)
 path_known h keeps c (b ∷ path) known leads (suc k) d lt =
     let less = base_before h keeps c b false leads.0 in
     path_known h keeps b path (omega arith) leads.1 k d (omega arith)
 
-subobject_known : (h : Classes) → IsHierarchy h → (c : ClassId) (s : Subobject) → c.0 < length h → IsSubobject h c s → All (λ (d : ClassId). d.0 < length h) s.path
+pub subobject_known : (h : Classes) → IsHierarchy h → (c : ClassId) (s : Subobject) → c.0 < length h → IsSubobject h c s → All (λ (d : ClassId). d.0 < length h) s.path
 subobject_known h keeps c _ known (whole path leads) = path_known h keeps c path known leads
 subobject_known h keeps c _ known (shared v path has leads) = let less = virtual_below h keeps c v has in path_known h keeps v path (omega arith) leads
 
@@ -48,7 +48,7 @@ known_part h keeps l x view list part of = record {
 }
 
 pub part_there : (h : Classes) (l : Places) (v : ViewParts) → IsViewParts h l v → (parts : List Part) (n : ℕ) (part : Part) → parts ≡ v.parts → n < length parts → part ≡ get_or parts n part → slice_get v.parts n ≡ Some part
-part_there h l v view parts n part same lt is = ap (λ ps. slice_get ps n) (sym same) ∙ there_at parts n part lt is
+part_there h l v view parts n part same lt is = ap (λ ps. slice_get ps n) (sym same) ∙ get_read parts n part lt is
 
 pub subobject_there : (h : Classes) (l : Places) (v : ViewParts) → IsViewParts h l v → (parts : List Part) (n : ℕ) (part : Part) → parts ≡ v.parts → n < length parts → part ≡ get_or parts n part → slice_get (preorder h v.class) n ≡ Some part.at
 subobject_there h l v view parts n part same lt is = ap (λ xs. slice_get xs n) (sym view.parts.subobjects) ∙ get_map at_of v.parts n part (part_there h l v view parts n part same lt is)
@@ -70,9 +70,3 @@ whole_noted h l v tables view serving = serving.noted 0 (whole_of v.class) v.cla
 
 pub view_dynamic : (h : Classes) (s : Subobject) (d : ClassId) → class_of s ≡ Some d → (v : ClassId) × HasVirtualBase h d v → (e : ClassId) → class_of s ≡ Some e → IsDynamic h e
 view_dynamic h s d of has e also = subst (λ a. IsDynamic h a) (same_some d e (sym of ∙ also)) (base_dynamic h d has.0 has.1)
-
--- a path of one class
-pub one_class_path : (l : Places) (path : List ClassId) → length path < 2 → false ≡ ends_in_primary l path
-one_class_path l [] lt = refl
-one_class_path l (c ∷ []) lt = refl
-one_class_path l (c ∷ d ∷ path) lt = absurd (omega arith)

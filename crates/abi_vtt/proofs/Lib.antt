@@ -3,7 +3,8 @@ pub mod ViewLemmas
 pub mod ValidViews
 mod Noting
 pub mod Serving
-mod KnownParts
+pub mod KnownParts
+pub mod PathEnds
 pub mod WordSteps
 pub mod BlockLemmas
 pub mod RunLemmas

@@ -2,28 +2,16 @@
 use Rattle.std.proofs.Common.{◌≡◌, ℕ, zero, suc, ◌-◌, ◌<◌, ◌⊎◌, inl, inr, ⊎_elim, Option, Some, None, List, [], ◌∷◌, ◌++◌, length, take, set, get_or, length-set, refl, ap, subst, sym, ◌∙◌, arith}
 use Rattle.std.specs.Prelude.{slice_get}
 use Rattle.std.proofs.lemmas.Bool.{cases_order}
+use Rattle.foundation.proofs.Places.{get_read, get_set_other, get_set}
 use Rattle.cxx_subobject.specs.declared.Subobject.{Subobject}
 use Rattle.abi_slots.specs.Views.{walk}
 use Rattle.abi_slots.proofs.Chains.{same_some}
 use Rattle.abi_vtable.specs.declared.view.Part.{Part}
 use Rattle.abi_vtable.specs.invariants.Parts.{IsNumberOf}
 use Rattle.abi_vtable.proofs.Declaring.{number_some}
-use Rattle.abi_vtable.proofs.Lists.{there_at}
 use Rattle.abi_vtt.specs.invariants.Served.{AreNumbered, HasNote, IsFrom, from_before, from_chain, IsNoted}
 
 -- lists in which an item was changed
-
-set_here : {A : Type 0} (xs : List A) (i : ℕ) (a : A) → i < length xs → slice_get (set xs i a) i ≡ Some a
-set_here [] i a lt = absurd (omega arith)
-set_here (x ∷ xs) zero a lt = refl
-set_here (x ∷ xs) (suc i) a lt = set_here xs i a (omega arith)
-
-set_elsewhere : {A : Type 0} (xs : List A) (i n : ℕ) (a : A) → (n ≡ i → ⊥) → slice_get (set xs i a) n ≡ slice_get xs n
-set_elsewhere [] i n a apart = refl
-set_elsewhere (x ∷ xs) zero zero a apart = absurd (apart refl)
-set_elsewhere (x ∷ xs) zero (suc n) a apart = refl
-set_elsewhere (x ∷ xs) (suc i) zero a apart = refl
-set_elsewhere (x ∷ xs) (suc i) (suc n) a apart = set_elsewhere xs i n a (λ e. apart (ap suc e))
 
 pub front_of : {A : Type 0} (xs ys : List A) (n : ℕ) → length xs ≡ n → take n (xs ++ ys) ≡ xs
 front_of xs ys n e = subst (λ m. take m (xs ++ ys) ≡ xs) e (whole xs)
@@ -46,7 +34,7 @@ module _ (list : List Subobject) (go : Subobject → Option Subobject) (once : (
   }
     where
       here : slice_get (set old number (Some table)) number ≡ Some (Some table)
-      here = set_here old number (Some table) within
+      here = get_set old number (Some table) within
 
       by_from : (n k : ℕ) (v : Subobject) → slice_get list n ≡ Some v → IsFrom (go) (go u) table (set old number (Some table)) n k v → IsFrom go (Some u) table old n k v
       by_from n k v there (from_chain i same leads) = from_chain (suc i) same leads
@@ -56,13 +44,13 @@ module _ (list : List Subobject) (go : Subobject → Option Subobject) (once : (
           let g : k ≡ table = same_some k table (same_some (Some k) (Some table) (sym f ∙ here)) in
           let one : u ≡ v = same_some u v (sym at ∙ subst (λ m. slice_get list m ≡ Some v) same there) in
           from_chain 0 g (ap (λ a. Some a) one))
-          (λ apart. from_before (sym (set_elsewhere old number n (Some table) apart) ∙ e))
+          (λ apart. from_before (sym (get_set_other old number n (Some table) apart) ∙ e))
           (apart_or n number)
 
       kept : (n : ℕ) → HasNote old n → HasNote (set old number (Some table)) n
       kept n note = ⊎_elim
           (λ same. (table, subst (λ m. slice_get (set old number (Some table)) m ≡ Some (Some table)) (sym same) here))
-          (λ apart. (note.0, set_elsewhere old number n (Some table) apart ∙ note.1))
+          (λ apart. (note.0, get_set_other old number n (Some table) apart ∙ note.1))
           (apart_or n number)
 
       each : (i n : ℕ) (v : Subobject) → i < suc steps → walk go i (Some u) ≡ Some v → slice_get list n ≡ Some v → HasNote new n
@@ -97,7 +85,7 @@ pub noted_more : (list : List Subobject) (go : Subobject → Option Subobject) (
     ((s : Option Subobject) → AreNumbered list go parts → IsNumberOf list after s → IsNoted list go s table (steps - 1) (set old number (Some table)) new) → IsNoted list go s table steps old new
 noted_more list go s parts at number part table steps old new are of is lt there size some after follows rest =
     let u = number_some list at number s is of in
-    let here = there_at parts number part lt there in
+    let here = get_read parts number part lt there in
     let same : u.0 ≡ part.at = same_some u.0 part.at (sym u.2 ∙ are.there number part here) in
     let next = are.next number part here in
     let tail = rest (go u.0) are (subst (λ a. IsNumberOf list a (go u.0)) (sym follows) (subst (λ a. IsNumberOf list part.next (go a)) (sym same) next)) in

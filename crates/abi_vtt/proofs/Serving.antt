@@ -4,6 +4,8 @@ use Rattle.std.specs.Prelude.{slice_get, IfSome}
 use Rattle.std.specs.List.{flat_map}
 use Rattle.std.proofs.lemmas.Bool.{cases_order}
 use Rattle.std.proofs.lemmas.Option.{slice_get_within}
+use Rattle.std.proofs.lemmas.List.{length-map}
+use Rattle.foundation.proofs.Places.{get_read, get_mapped}
 use Rattle.cxx_hierarchy.specs.declared.records.ClassId.{ClassId}
 use Rattle.cxx_hierarchy.specs.Classes.{Classes}
 use Rattle.cxx_hierarchy.specs.Hierarchies.{IsHierarchy}
@@ -23,7 +25,6 @@ use Rattle.abi_slots.proofs.Heads.{part_item, some_head}
 use Rattle.abi_vtable.specs.declared.view.Part.{Part}
 use Rattle.abi_vtable.specs.declared.view.ViewParts.{ViewParts}
 use Rattle.abi_vtable.specs.invariants.Parts.{IsNumberOf, nothing, number, at_of, IsViewParts, view_in, numbered}
-use Rattle.abi_vtable.proofs.Lists.{there_at, from_map_get, map_size}
 use Rattle.abi_vtt.specs.invariants.Served.{LeadWithin, AreNumbered, IsFrom, from_before, from_chain, IsNoted, IsServedAt, AreServingTo, AreServing}
 use Rattle.cxx_subobject.proofs.PathLemmas.{class_low}
 use Rattle.cxx_hierarchy.proofs.Listed.{get_map}
@@ -44,7 +45,7 @@ head_valid h l keeps x s i = part_valid h keeps x.class s (from_filter (is_head 
 
 module _ (h : Classes) (l : Places) (v : ViewParts) (view : IsViewParts h l v) where
   pub parts_size : length (preorder h v.class) ≡ length v.parts
-  parts_size = ap length (sym view.parts.subobjects) ∙ map_size at_of v.parts
+  parts_size = ap length (sym view.parts.subobjects) ∙ length-map v.parts at_of
 
   pub leads_within : (parts : List Part) → parts ≡ v.parts → LeadWithin parts
   leads_within parts same = subst LeadWithin (sym same) (record { each = λ n part e. number_within (preorder h v.class) (length v.parts) parts_size part.next (next l (view_in v) part.at) (view.parts.each n part e).next })
@@ -64,8 +65,8 @@ pub record IsHeadAt (h : Classes) (l : Places) (x : View) (i n : ℕ) : Type 0 w
 
 pub head_at : (h : Classes) (l : Places) (x : View) (numbers : List ℕ) (i n : ℕ) → numbered (preorder h x.class) numbers ≡ map Some (heads h l x) → i < length numbers → n ≡ get_or numbers i n → IsHeadAt h l x i n
 head_at h l x numbers i n are lt is =
-    let here = get_map (slice_get (preorder h x.class)) numbers i n (there_at numbers i n lt is) in
-    let r = from_map_get Some (heads h l x) i (slice_get (preorder h x.class) n) (ap (λ xs. slice_get xs i) (sym are) ∙ here) in
+    let here = get_map (slice_get (preorder h x.class)) numbers i n (get_read numbers i n lt is) in
+    let r = get_mapped Some (heads h l x) i (slice_get (preorder h x.class) n) (ap (λ xs. slice_get xs i) (sym are) ∙ here) in
     record { head = r.0; at_head = r.1; there = sym r.2 }
 
 pub head_within : (h : Classes) (l : Places) (x : View) (numbers : List ℕ) (i n m : ℕ) → numbered (preorder h x.class) numbers ≡ map Some (heads h l x) → i < length numbers → n ≡ get_or numbers i n → length (preorder h x.class) ≡ m → n < m
@@ -118,6 +119,6 @@ module _ (h : Classes) (l : Places) (x : View) (set : Setting h l x) where
         let r = some_head h l x set u d (item_preorder h set.keeps x.class u (record { index = n; there = there })) e dyn in
         let at = item_filter (is_head h l x) (by_part h x.class) r.0 (part_item h set.keeps x.class r.0 r.1.valid) r.1.head in
         let within = slice_get_within (heads h l x) at.index r.0 at.there in
-        let size : length numbers ≡ length (heads h l x) = sym (map_size (slice_get (preorder h x.class)) numbers) ∙ ap length are ∙ map_size Some (heads h l x) in
+        let size : length numbers ≡ length (heads h l x) = sym (length-map numbers (slice_get (preorder h x.class))) ∙ ap length are ∙ length-map (heads h l x) Some in
         inv.noted at.index r.1.steps n r.0 u (omega arith) at.there r.1.leads there;
   }

@@ -18,8 +18,8 @@ use Rattle.cxx_subobject.proofs.TestLemmas.{class_below}
 use Rattle.abi_slots.proofs.Lists.{Item, item_none, item_split, item_cases, from_flat, from_filter}
 use Rattle.abi_slots.proofs.Bases.{contains_item, chosen, item_virtual}
 use Rattle.abi_slots.proofs.Chains.{same_some, down_valid}
-use Rattle.abi_slots.proofs.Dynamics.{base_dynamic}
 use Rattle.abi_primary.specs.Kinds.{IsDynamic}
+use Rattle.abi_primary.proofs.KindLemmas.{base_dynamic}
 use Rattle.abi_vtt.proofs.MarkLemmas.{some_has}
 use Rattle.abi_vtt.proofs.ViewLemmas.{no_base, nth}
 use Rattle.abi_vtt.specs.Vtts.{has_virtual, is_built_base, built_bases, below, sub_views, shared_views, views, HasDynamicClass}

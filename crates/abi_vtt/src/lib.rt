@@ -10,12 +10,14 @@
 //! tables of a view's non-virtual part stand at the front of its group, at distances that depend on its class alone
 //! (`first_run`), and so each table is found by the class (`each_found`). In an image all this holds of addresses (`VttImages`,
 //! by the law `vtt_in_image`).
+//! What the path of a subobject tells of its virtual pointer stands in `path_ends`, for the settings of pointers too.
 //! No call reads a table's words. A VTT takes memory as its words and the subobjects of its views do.
 #![tactic(auto)]
 
 pub mod laws;
 pub mod marks;
 pub mod needs;
+pub mod path_ends;
 pub mod served;
 pub mod sub_vtt;
 pub mod view_list;

@@ -8,6 +8,7 @@ use Rattle.foundation.proofs.Members.{Has, has_at, has_cases, from_map, index_of
 use Rattle.cxx_hierarchy.specs.Hierarchies.{IsHierarchy}
 use Rattle.cxx_subobject.specs.declared.Subobject.{Subobject}
 use Rattle.cxx_subobject.specs.Subobjects.{whole_of}
+use Rattle.cxx_subobject.proofs.PathLemmas.{class_inside}
 use Rattle.cxx_overrider.specs.declared.Overrider.{Overrider}
 use Rattle.cxx_overrider.specs.Functions.{is_pure}
 use Rattle.cxx_overrider.specs.Overriding.{IsFinalOverrider}
@@ -30,7 +31,7 @@ use Rattle.abi_slots.specs.Views.{View, IsView, heads, seen}
 use Rattle.abi_slots.proofs.ClassEntries.{IsOwnKey, entry_own}
 use Rattle.abi_slots.proofs.Lists.{Item}
 use Rattle.abi_slots.proofs.WordPlaces.{reversed_at}
-use Rattle.abi_vtable.proofs.Parts.{class_known, class_within}
+use Rattle.abi_vtable.proofs.Parts.{class_known}
 use Rattle.abi_tables.specs.Tables.{AreGroups, names_to}
 use Rattle.abi_ops.specs.Setups.{Setup, places}
 use Rattle.abi_image.specs.Conditions.{HasCode, IsKnownWord, IsKnownTable, AreKnownTables, AreKnownGroups}
@@ -105,7 +106,7 @@ module _ (x : Setup) (codes : List CodeRow) (keeps : IsHierarchy x.h) (typed : I
 
       by_part : (word : TableWord) → Has (reverse is.offset_words ++ later) word → IsFine word
       by_part word has = ⊎_elim (of_offset word)
-          (λ rest. ⊎_elim (λ top. subst IsFine top tt) (λ more. ⊎_elim (λ info. subst IsFine info (class_within x.h keeps v.complete v.class v.at_sub view.known view.valid view.of_class)) (of_entry word) more) rest)
+          (λ rest. ⊎_elim (λ top. subst IsFine top tt) (λ more. ⊎_elim (λ info. subst IsFine info (class_inside x.h keeps v.complete v.class v.at_sub view.known view.valid view.of_class)) (of_entry word) more) rest)
           (has_cases (reverse is.offset_words) later word has)
 
   group_fine : (group : Group) → IsGroup x.h l group → AreKnownTables codes (length x.h) group.tables

@@ -50,7 +50,7 @@ all_viewed h l c i has = ⊎_elim
     (has_flat_map (shared_views h) (filter (has_virtual h) (virtual_bases h c)) r.0 i.view r.1 (sub_viewed h l (r.0.0 + 1) (shared_base r.0) r.0 i r.2)))
     (has_cases (sub_items h l (c.0 + 1) (whole_of c) c) (flat_map (shared_items h l) (filter (has_virtual h) (virtual_bases h c))) i has)
 
-item_viewed : (h : Classes) (l : Places) (c : ClassId) (i : Item) → Has (class_items h l c) i → Has (group_views h c) i.view
+pub item_viewed : (h : Classes) (l : Places) (c : ClassId) (i : Item) → Has (class_items h l c) i → Has (group_views h c) i.view
 item_viewed h l c i has = split (has_virtual h c) (λ b. Has (if b then items h l c else []) i → Has (if b then views h c else (if is_dynamic h c then whole_of c ∷ [] else [])) i.view)
     (λ t there. all_viewed h l c i there)
     (λ t none. absurd none)

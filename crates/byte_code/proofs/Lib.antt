@@ -1,3 +1,4 @@
 pub mod Pow
 pub mod Reading
 pub mod Words
+pub mod Numbers

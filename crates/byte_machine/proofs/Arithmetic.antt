@@ -12,7 +12,7 @@ use Rattle.byte_code.specs.Numbers.{signed_of, low_of, word_of, number_of, exten
 use Rattle.byte_code.proofs.Pow.{pow_pos}
 use Rattle.byte_code.proofs.Words.{word_of-low}
 
-low_rem : (n : ℕ) (z : ℤ) → int_rem_euclid z (pos (256 ^ n)) ≡ pos (low_of n z)
+pub low_rem : (n : ℕ) (z : ℤ) → int_rem_euclid z (pos (256 ^ n)) ≡ pos (low_of n z)
 low_rem n (pos a) = refl
 low_rem n (negsuc a) = refl
 

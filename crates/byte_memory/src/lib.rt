@@ -17,6 +17,3 @@ pub mod regions;
 
 pub use crate::flat::FlatMemory;
 pub use crate::memory::{Memory, MemoryFault, Region};
-
-#[cfg(test)]
-mod tests;

@@ -14,6 +14,3 @@ mod shadow;
 
 pub use crate::shadow::Shadow;
 pub use byte_code::Phase;
-
-#[cfg(test)]
-mod tests;

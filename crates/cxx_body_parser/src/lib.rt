@@ -11,7 +11,5 @@ pub mod body;
 pub mod place;
 pub mod right;
 pub mod statement;
-#[cfg(test)]
-mod tests;
 
 pub use crate::body::{block, parse_body};

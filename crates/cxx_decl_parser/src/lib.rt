@@ -13,7 +13,5 @@ mod class_part;
 mod function;
 mod item;
 pub mod source;
-#[cfg(test)]
-mod source_tests;
 
 pub use crate::source::parse_source;

@@ -114,11 +114,11 @@ c_as_function h at name_at looked.Ambiguous = complete_fail _ _
 c_as_function h at name_at (looked.Member s n) = complete_fail _ _
 c_as_function h at name_at (looked.Function s n) = c_function_in h name_at s n (class_of_subobject s)
 
-c_function : (h : Classes) (at : ℕ) (c : ClassId) (x : Spot) → IsComplete (function_of h at c x)
+pub c_function : (h : Classes) (at : ℕ) (c : ClassId) (x : Spot) → IsComplete (function_of h at c x)
 unfolding function_of
 c_function h at c x = c_as_function h at x.at (looked_up h c x.name)
 
-c_counted : (at n : ℕ) (f : FoundFunction) → IsComplete (counted at n f)
+pub c_counted : (at n : ℕ) (f : FoundFunction) → IsComplete (counted at n f)
 c_counted at n f = complete_if (nat_eq n (length f.parameters)) (pure f) (warn rule.TypeMismatch at f) (complete_pure _) (complete_warn _ _ _)
 
 c_target : (h : Classes) (e : Setting) (s : Scene) (at : ℕ) (call : CallText) → IsComplete (target_of h e s at call)
@@ -145,10 +145,10 @@ unfolding plain_call
 c_plain_call h e s at call = complete_bind _ _ (complete_along _ _ (c_target h e s at call) (λ t. c_arguments h e s at (parameters_in t) 0 call.arguments))
     (λ r. complete_pure (dispatched r.0 (is_virtual h r.0.found.function) r.1))
 
-c_defined : (at : ℕ) (f : FoundFunction) → IsComplete (defined at f)
+pub c_defined : (at : ℕ) (f : FoundFunction) → IsComplete (defined at f)
 c_defined at f = complete_if f.is_pure (warn rule.Abstract at f) (pure f) (complete_warn _ _ _) (complete_pure _)
 
-c_named : (h : Classes) (at : ℕ) (k : ClassId) (call : CallText) → IsComplete (named_function h at k call)
+pub c_named : (h : Classes) (at : ℕ) (k : ClassId) (call : CallText) → IsComplete (named_function h at k call)
 unfolding named_function
 c_named h at k call = complete_bind _ _ (c_function h at k call.name) (λ f. complete_bind (defined call.name.at f) (λ g. counted at (length call.arguments) g) (c_defined call.name.at f) (λ g. c_counted at (length call.arguments) g))
 

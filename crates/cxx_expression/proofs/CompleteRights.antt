@@ -149,7 +149,7 @@ c_address : (h : Classes) (e : Setting) (s : Scene) (at : ℕ) (x : PlaceText) �
 unfolding address_right
 c_address h e s at x = complete_bind _ _ (c_object_place h e s at x) (λ object. complete_pure _)
 
-c_as_result : (at : ℕ) (call : TypedCall) (r : ReturnType ClassId) → IsComplete (as_result at call r)
+pub c_as_result : (at : ℕ) (call : TypedCall) (r : ReturnType ClassId) → IsComplete (as_result at call r)
 c_as_result at call returns.Void = complete_fail _ _
 c_as_result at call (returns.Value t) = complete_pure _
 

@@ -2,6 +2,6 @@ pub mod Finding
 pub mod Knowing
 mod ArgumentSteps
 pub mod Complete
-mod CompleteValues
-mod CompletePlaces
-mod CompleteRights
+pub mod CompleteValues
+pub mod CompletePlaces
+pub mod CompleteRights

@@ -12,8 +12,6 @@
 pub mod piece;
 pub mod source;
 pub mod telling;
-#[cfg(test)]
-mod tests;
 
 pub use crate::source::generate;
 pub use crate::telling::{count_lines, last_line, summary};

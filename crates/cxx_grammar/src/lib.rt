@@ -13,8 +13,6 @@ pub mod cursor;
 pub mod laws;
 pub mod lexing;
 pub mod sort;
-#[cfg(test)]
-mod tests;
 pub mod words;
 
 pub use crate::cursor::{name_of, next, refusal, take, take_name, take_number};

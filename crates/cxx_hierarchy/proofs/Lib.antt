@@ -7,3 +7,4 @@ pub mod Kept
 pub mod VirtualRows
 pub mod Builds
 pub mod Orders
+pub mod Returns

@@ -19,8 +19,6 @@ pub mod names;
 pub mod records;
 mod resolution;
 pub mod stop;
-#[cfg(test)]
-mod tests;
 mod virtual_rows;
 
 pub use crate::hierarchy::{Hierarchy, build};

@@ -27,8 +27,8 @@ only_finding h c d (one ∷ other ∷ rest) are = record { one = one; other = ot
 
 of_class : (h : Classes) → IsHierarchy h → (c d : ClassId) → AreOfClass h c d (filter (is_of_class d) (preorder h c))
 of_class h keeps c d = record {
-  valid = λ s has. let k = has_filter (is_of_class d) (preorder h c) s has in record { valid = has_preorder h c s k.0; class = tells_class d (class_of s) k.1 };
-  listed = λ s is. filter_has (is_of_class d) (preorder h c) s (preorder_has h c keeps s is.valid) (told_class d (class_of s) is.class);
+  valid = λ s has. let k = has_filter (is_of_class d) (preorder h c) s has in record { valid = has_preorder h c s k.0; class = tells_class d s k.1 };
+  listed = λ s is. filter_has (is_of_class d) (preorder h c) s (preorder_has h c keeps s is.valid) (told_class d s is.class);
   once = once_filter (is_of_class d) (preorder h c) (firsts_once (tree h (c.0 + 1) c (whole_of c)));
 }
 

@@ -1,5 +1,5 @@
 -- Declarations of a name in the class of a subobject.
-use Rattle.std.proofs.Common.{◌≡◌, ℕ, List, [], ◌∷◌, ◌++◌, sym, ◌∙◌, ap, subst, refl, append-nil}
+use Rattle.std.proofs.Common.{◌≡◌, ℕ, List, [], ◌∷◌, ◌++◌, sym, ◌∙◌, ap, subst, refl}
 use Rattle.std.specs.Prelude.{Option, Some, None, slice_get, position, get_or}
 use Rattle.std.specs.Option.{option_map}
 use Rattle.std.specs.Str.{bytes_eq}
@@ -14,6 +14,7 @@ use Rattle.cxx_hierarchy.specs.Classes.{Class, Classes, class_at, members_of, me
 use Rattle.cxx_hierarchy.specs.Hierarchies.{IsHierarchy}
 use Rattle.cxx_subobject.specs.declared.Subobject.{Subobject}
 use Rattle.cxx_subobject.specs.Subobjects.{class_of, subobject}
+use Rattle.cxx_subobject.proofs.InsideLemmas.{copied}
 use Rattle.cxx_lookup.specs.declared.Found.{Found}
 use Rattle.cxx_lookup.specs.declared.Found.TheVariants.{Member, Function}
 use Rattle.cxx_lookup.specs.Lookup.{name_in, name_of}
@@ -57,10 +58,6 @@ function_name h s d m class = ap (λ (o : Option ClassId). name_in h o (Function
 
 no_name : (h : Classes) (found : Found) (name : List ℕ) → name_in h None found ≡ Some name → ⊥
 no_name h found name e = absurd (cc)
-
--- the copy of a subobject is it
-pub copied : (s t : Subobject) → t ≡ subobject s.root (s.path ++ []) → t ≡ s
-copied s t e = e ∙ ap (λ (p : List ClassId). subobject s.root p) (append-nil s.path)
 
 pub member_here : (h : Classes) (s t : Subobject) (d : ClassId) (class : Class) (members : List (MemberRecord ClassId)) (name : List ℕ) (m : ℕ) → t ≡ subobject s.root (s.path ++ []) → class_of s ≡ Some d → class_at h d ≡ Some class →
     members ≡ class.members → position (λ (x : MemberRecord ClassId). bytes_eq x.name name) members ≡ Some m → IsDeclaredAt h s name (Member t m)

@@ -4,28 +4,28 @@ use Rattle.std.specs.Prelude.{Option, Some, None, slice_get, position, is_some}
 use Rattle.std.proofs.lemmas.List.{get_or-drop, take_all, length-drop}
 use Rattle.std.proofs.lemmas.List.Quantifiers.{position-Some}
 use Rattle.std.proofs.lemmas.Option.{slice_get-get_or, slice_get_within, get_or_from_slice_get}
-use Rattle.std.proofs.lemmas.Bool.{cases_order}
-use Rattle.std.proofs.lemmas.Bool.Decides.{nat_tests}
+use Rattle.std.proofs.lemmas.Bool.{cases_order, eqb-true, eq-eqb}
 use Rattle.foundation.proofs.Places.{contains_at}
 use Rattle.cxx_hierarchy.specs.declared.records.ClassId.{ClassId}
 use Rattle.cxx_hierarchy.specs.Classes.{Classes}
 use Rattle.cxx_subobject.specs.declared.Subobject.{Subobject}
 use Rattle.cxx_subobject.specs.Subobjects.{class_of, whole_of}
 use Rattle.cxx_subobject.specs.Preorder.{ListsSubobjects}
+use Rattle.cxx_subobject.proofs.PathLemmas.{same_id}
 use Rattle.cxx_lookup.specs.UniqueBase.{IsOfClass, IsUniqueBase, HasTwoBases}
 use Rattle.cxx_lookup.specs.Findings.{is_class, is_of_class}
 use Rattle.cxx_lookup.proofs.Listing.{at_place, none_passes}
 
-same_id : (c d : ClassId) → c.0 ≡ d.0 → c ≡ d
-same_id c d e = ap (λ (n : ℕ). let k : ClassId = record { 0 = n } in k) e
+-- the test of a class says which one it is
+pub tells_class : (d : ClassId) (s : Subobject) → is_of_class d s ≡ true → class_of s ≡ Some d
+tells_class d s = by_class (class_of s)
+  where
+    by_class : (o : Option ClassId) → is_class d o ≡ true → o ≡ Some d
+    by_class None e = absurd (cc)
+    by_class (Some c) e = ap Some (same_id c d (eqb-true c.0 d.0 e))
 
-pub tells_class : (d : ClassId) (o : Option ClassId) → is_class d o ≡ true → o ≡ Some d
-tells_class d None e = absurd (cc)
-tells_class d (Some c) e = ap Some (same_id c d (grind (arith, nat_tests)))
-
-pub told_class : (d : ClassId) (o : Option ClassId) → o ≡ Some d → is_class d o ≡ true
-told_class d None e = absurd (cc)
-told_class d (Some c) e = let f : c ≡ d = cc in let n : c.0 ≡ d.0 = ap (λ (k : ClassId). k.0) f in grind (arith, nat_tests)
+pub told_class : (d : ClassId) (s : Subobject) → class_of s ≡ Some d → is_of_class d s ≡ true
+told_class d s e = ap (is_class d) e ∙ eq-eqb d.0 d.0 refl
 
 past_drop : {X : Type 0} (xs : List X) (n k : ℕ) (x : X) → n ≤ k → slice_get xs k ≡ Some x → slice_get (drop n xs) (k - n) ≡ Some x
 past_drop xs n k x less at =
@@ -41,10 +41,10 @@ whole_rest xs n = take_all (length xs - n) (drop n xs) (omega (arith, length-dro
 pub none_of_class : (h : Classes) (c d : ClassId) (list : List Subobject) → ListsSubobjects h c list → position (is_of_class d) list ≡ None → (s : Subobject) → IsOfClass h c d s → ⊥
 none_of_class h c d list lists nothing s of_class =
     let has = lists.listed s of_class.valid in
-    none_passes (is_of_class d) list has.0 s nothing (at_place list s has) (told_class d (class_of s) of_class.class)
+    none_passes (is_of_class d) list has.0 s nothing (at_place list s has) (told_class d s of_class.class)
 
 of_class_at : (h : Classes) (c d : ClassId) (list : List Subobject) (k : ℕ) (s : Subobject) → ListsSubobjects h c list → slice_get list k ≡ Some s → is_of_class d s ≡ true → IsOfClass h c d s
-of_class_at h c d list k s lists at passes = record { valid = lists.valid s (contains_at list k s at); class = tells_class d (class_of s) passes }
+of_class_at h c d list k s lists at passes = record { valid = lists.valid s (contains_at list k s at); class = tells_class d s passes }
 
 -- one is, where no other place is
 one_of_class : (h : Classes) (c d : ClassId) (list : List Subobject) (n : ℕ) (s : Subobject) → ListsSubobjects h c list → position (is_of_class d) list ≡ Some n → s ≡ get_or list n s →
@@ -57,7 +57,7 @@ one_of_class h c d list n s lists found is rest =
       only = λ t other.
           let has = lists.listed t other.valid in
           let there = at_place list t has in
-          let passes = told_class d (class_of t) other.class in
+          let passes = told_class d t other.class in
           ⊎_elim
           (λ same. let e : Some t ≡ Some s = sym there ∙ ap (slice_get list) same ∙ here in cc)
           (λ o. ⊎_elim

@@ -16,7 +16,7 @@ use Rattle.cxx_overrider.specs.declared.Overrider.{Overrider}
 use Rattle.cxx_overrider.specs.Functions.{Signature, signature_of, says_virtual, is_pure, return_of}
 use Rattle.cxx_overrider.specs.Overriding.{HasPart, HasVirtual, IsVirtual, IsFinalOverrider, HasTwoFinalOverriders, IsAbstract}
 use Rattle.cxx_overrider.specs.Covariance.{Overrides, IsMismatch, IsIncompleteReturn, IsAmbiguousBase, IsAmbiguousReturn, HasOverridden, HasMismatch, HasIncompleteReturn, HasAmbiguousReturn}
-use Rattle.cxx_overrider.specs.Faults.{function_of}
+use Rattle.cxx_overrider.specs.Faults.{function_of, HasNoFault, too_large}
 use Rattle.std.proofs.lemmas.Bool.{cases_lt}
 use Rattle.cxx_overrider.proofs.Numbering.{signature_index}
 use Rattle.cxx_overrider.proofs.CovarianceLemmas.{same_pointee}
@@ -260,3 +260,7 @@ decide_within h c = ⊎_elim
     (λ large. inr (λ k. let few = k.subobjects in omega arith))
     (λ subobjects. ⊎_elim (λ large. inr (λ k. let few = k.parts in omega arith)) (λ parts. inl (record { subobjects = subobjects; parts = parts })) (cases_lt 65536 (parts_of h c)))
     (cases_lt 1024 (length (preorder h c)))
+
+-- in a hierarchy that no condition refuses each class is within the limits on parts
+pub limits_hold : (h : Classes) → HasNoFault h → (c : ClassId) → c.0 < length h → IsWithinLimits h c
+limits_hold h fine c known = ⊎_elim (λ is. is) (λ no_room. absurd (fine.none _ _ (too_large c known no_room))) (decide_within h c)

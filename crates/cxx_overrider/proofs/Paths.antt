@@ -162,14 +162,6 @@ place_shared h c w _ (shared v p has l) e =
     let same : v ≡ w = cc in
     (p, ap (λ (x : ClassId). subobject (Shared x) (x ∷ p)) same, subst (λ (x : ClassId). Leads h x p) same l, subst (λ (x : ClassId). HasVirtualBase h c x) same has)
 
--- the whole has each of its subobjects in it
-pub whole_inside : (h : Classes) (c : ClassId) (s : Subobject) → IsSubobject h c s → IsInside h (whole_of c) s
-whole_inside h c s valid = record { class = c; of_class = refl; part = s; valid = valid; joined = joined_whole s valid }
-  where
-    joined_whole : (x : Subobject) → IsSubobject h c x → x ≡ join (whole_of c) x
-    joined_whole _ (whole p l) = refl
-    joined_whole _ (shared v p has l) = refl
-
 -- subobjects of a direct base stay apart in the class
 joined_apart : (h : Classes) → IsHierarchy h → (w : Bool) (c b v : ClassId) (p q : List ClassId) → HasVirtualBase h b v → subobject (Shared v) (v ∷ q) ≡ join (base_subobject w c b) (subobject Whole (b ∷ p)) → ⊥
 joined_apart h keeps true c b v p q has e = let same : v.0 ≡ b.0 = ap root_number e in let lt = virtual_below h keeps b v has in omega arith

@@ -11,7 +11,7 @@ use Rattle.cxx_subobject.specs.declared.Root.TheVariants.{Shared}
 use Rattle.cxx_subobject.specs.declared.Subobject.{Subobject}
 use Rattle.cxx_subobject.specs.Subobjects.{IsSubobject, whole, shared, subobject, whole_of, class_of, join}
 use Rattle.cxx_subobject.specs.Inside.{IsInside}
-use Rattle.cxx_subobject.proofs.InsideLemmas.{join_valid, inside_through, join_class, inside_virtual, virtual_inside}
+use Rattle.cxx_subobject.proofs.InsideLemmas.{join_valid, inside_through, join_class, inside_virtual, virtual_inside, whole_inside}
 use Rattle.cxx_overrider.specs.declared.FunctionId.{FunctionId}
 use Rattle.cxx_overrider.specs.declared.Overrider.{Overrider}
 use Rattle.cxx_overrider.specs.declared.places.Place.{Place}
@@ -29,7 +29,7 @@ use Rattle.foundation.proofs.Places.{get_front, get_last, get_pushed, contains_a
 use Rattle.std.proofs.lemmas.Bool.{cases_lt}
 use Rattle.cxx_overrider.proofs.Numbering.{same_function}
 use Rattle.cxx_overrider.proofs.MarkLemmas.{part_itself}
-use Rattle.cxx_overrider.proofs.Paths.{inside_antisymmetric, through_cases, through_valid, through_class, through_place, through_inside, through_join, place_through, place_shared, inside_cases, whole_inside}
+use Rattle.cxx_overrider.proofs.Paths.{inside_antisymmetric, through_cases, through_valid, through_class, through_place, through_inside, through_join, place_through, place_shared, inside_cases}
 
 abbrev pub overrider : Subobject → FunctionId → Overrider
 overrider s f = record { at = s; function = f }

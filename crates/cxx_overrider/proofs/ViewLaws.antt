@@ -8,7 +8,7 @@ use Rattle.cxx_subobject.specs.declared.Root.TheVariants.{Whole, Shared}
 use Rattle.cxx_subobject.specs.declared.Subobject.{Subobject}
 use Rattle.cxx_subobject.specs.Subobjects.{Leads, IsSubobject, whole, shared, subobject, whole_of, last_of, class_of, join}
 use Rattle.cxx_subobject.specs.Inside.{IsInside}
-use Rattle.cxx_subobject.proofs.InsideLemmas.{join_valid, join_class, join_inside, virtual_inside}
+use Rattle.cxx_subobject.proofs.InsideLemmas.{join_valid, join_class, join_inside, virtual_inside, whole_joined}
 use Rattle.cxx_subobject.proofs.PathLemmas.{class_there, last_below, virtual_below, class_low}
 use Rattle.cxx_overrider.specs.declared.FunctionId.{FunctionId}
 use Rattle.cxx_overrider.specs.declared.Overrider.{Overrider}
@@ -97,18 +97,13 @@ one_in_view h keeps c x s f o p a b =
     let at = inside_antisymmetric h keeps o.at p.at (a.all p other) (b.all o mine) in
     same_overrider o p at (same_class h keeps a.signature o.at p.at o.function p.function at a.candidate.candidate.class other.candidate.class a.candidate.candidate.same other.candidate.same)
 
--- the view of the whole object
-whole_joined : (h : Classes) (c : ClassId) (s : Subobject) → IsSubobject h c s → s ≡ join (whole_of c) s
-whole_joined h c _ (whole p l) = refl
-whole_joined h c _ (shared v p has l) = refl
-
 pub whole_final : (h : Classes) → IsHierarchy h → (c : ClassId) (s : Subobject) (f : FunctionId) (o : Overrider) → IsFinalOverrider h c s f o → IsFinalIn h c (whole_of c) s f o
 whole_final h keeps c s f o k = record {
   signature = k.signature;
   is = k.is;
   candidate = record {
     candidate = k.left.candidate;
-    inside = record { class = c; of_class = refl; part = o.at; valid = k.left.candidate.valid; joined = whole_joined h c o.at k.left.candidate.valid };
+    inside = record { class = c; of_class = refl; part = o.at; valid = k.left.candidate.valid; joined = (sym (whole_joined h c o.at k.left.candidate.valid)) };
   };
   all = λ p other. (final_top h keeps c s f o k).all p other.candidate;
 }

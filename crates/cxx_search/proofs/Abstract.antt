@@ -16,7 +16,7 @@ use Rattle.cxx_search.specs.Searches.{final_in, is_pure_overrider, has_pure_in, 
 use Rattle.cxx_search.proofs.Finals.{found_in_whole, whole_found}
 use Rattle.cxx_search.proofs.Virtuals.{own_virtual, virtual_own}
 
-pure_some : (h : Classes) (o : Option Overrider) → is_pure_overrider h o ≡ true → (p : Overrider) × (o ≡ Some p) × (is_pure h p.function ≡ true)
+pub pure_some : (h : Classes) (o : Option Overrider) → is_pure_overrider h o ≡ true → (p : Overrider) × (o ≡ Some p) × (is_pure h p.function ≡ true)
 pure_some h None e = cc
 pure_some h (Some p) e = (p, refl, e)
 

@@ -56,16 +56,16 @@ where_found f (Some s) t e = split (f s) (λ b. f s ≡ b → (if b then Some s 
 found_where : (f : Subobject → Bool) (o : Option Subobject) (t : Subobject) → o ≡ Some t → f t ≡ true → where_it f o ≡ Some t
 found_where f o t e is = ap (where_it f) e ∙ (rw is refl)
 
-of_class : (target : ClassId) (o : Option ClassId) → is_class target o ≡ true → o ≡ Some target
+pub of_class : (target : ClassId) (o : Option ClassId) → is_class target o ≡ true → o ≡ Some target
 of_class target None e = cc
 of_class target (Some d) e = ap (λ z. Some z) (sym (same_id target d (eqb-true target.0 d.0 e)))
 
-class_of_is : (target : ClassId) (o : Option ClassId) → o ≡ Some target → is_class target o ≡ true
-class_of_is target o e = subst (λ z. is_class target z ≡ true) (sym e) (eq-eqb target.0 target.0 refl)
+pub is_the_class : (target : ClassId) (o : Option ClassId) → o ≡ Some target → is_class target o ≡ true
+is_the_class target o e = subst (λ z. is_class target z ≡ true) (sym e) (eq-eqb target.0 target.0 refl)
 
 module _ (h : Classes) (keeps : IsHierarchy h) (c : ClassId) (x : Subobject) (there : IsSubobject h c x) (target : ClassId) where
   target_has : (t : Subobject) → IsTarget h target x t → Has (targets h target x) t
-  target_has t k = filter_has (is_of_class target) (parts_of h x) t (inside_parts h keeps x t k.inside) (class_of_is target (class_of t) k.class)
+  target_has t k = filter_has (is_of_class target) (parts_of h x) t (inside_parts h keeps x t k.inside) (is_the_class target (class_of t) k.class)
 
   has_target : (t : Subobject) → Has (targets h target x) t → IsTarget h target x t
   has_target t has = let r = has_filter (is_of_class target) (parts_of h x) t has in record { inside = parts_inside h x t r.0; class = of_class target (class_of t) r.1 }

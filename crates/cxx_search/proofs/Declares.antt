@@ -1,5 +1,5 @@
 -- The functions that a class declares are those that have a signature, each once.
-use Rattle.std.proofs.Common.{◌≡◌, ℕ, ◌+◌, ◌<◌, ◌≤◌, ◌⊎◌, inl, inr, ⊎_elim, Bool, true, false, Option, Some, None, List, [], ◌∷◌, length, map, refl, ap, subst, sym, ◌∙◌, arith}
+use Rattle.std.proofs.Common.{◌≡◌, ℕ, ◌+◌, ◌<◌, ◌≤◌, ◌⊎◌, inl, inr, ⊎_elim, Bool, true, false, Option, Some, None, length, map, refl, ap, subst, sym, ◌∙◌, arith}
 use Rattle.std.specs.Prelude.{nat_eq, if◌then◌else◌, slice_get}
 use Rattle.std.specs.List.{filter_map}
 use Rattle.std.proofs.lemmas.Bool.{eqb-true}
@@ -20,7 +20,7 @@ use Rattle.cxx_overrider.specs.declared.FunctionId.{FunctionId}
 use Rattle.cxx_overrider.specs.Functions.{Signature, signature_at, signature_in, signature_of}
 use Rattle.cxx_overrider.specs.Virtuals.{function_at, index_of, implicit_index, indices_in, functions_in, declared}
 use Rattle.cxx_overrider.proofs.Numbering.{signature_there}
-use Rattle.foundation.proofs.Members.{Has, EachOnce, has_at, has_left, has_right, has_cases, has_map, from_map, once_append}
+use Rattle.foundation.proofs.Members.{Has, EachOnce, has_at, has_left, has_right, has_cases, has_map, from_map, once_append, first_of}
 use Rattle.foundation.proofs.Chosen.{has_filter, filter_has, has_filter_map, from_filter_map}
 use Rattle.cxx_search.proofs.Once.{has_range, range_once, once_map, has_some_length, once_numbered}
 
@@ -46,10 +46,6 @@ index_kind class Member number i e = cc
 index_kind class FunctionPart number i e = inl (refl, let f : number ≡ i = cc in f)
 index_kind class Constructor number i e = cc
 index_kind class Destructor number i e = inr (refl, let f : length class.functions ≡ i = cc in f)
-
-first_of : {A : Type 0} (xs : List A) → length xs ≡ 1 → (x : A) × Has xs x
-first_of [] e = absurd (omega arith)
-first_of (x ∷ xs) e = (x, inl refl)
 
 function_index : (class : Class) → HasOrder class → (i : ℕ) → i < length class.functions → Has (indices_in class) i
 function_index class order i lt =

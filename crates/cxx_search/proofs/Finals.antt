@@ -1,14 +1,13 @@
 -- The search for a final overrider in a view finds it.
-use Rattle.std.proofs.Common.{◌≡◌, Option, Some, None, [], ◌∷◌, refl, ap, subst, sym, ◌∙◌}
+use Rattle.std.proofs.Common.{◌≡◌, Option, Some, None, [], refl, ap, subst, sym, ◌∙◌}
 use Rattle.std.specs.List.{filter}
 use Rattle.cxx_hierarchy.specs.declared.records.ClassId.{ClassId}
 use Rattle.cxx_hierarchy.specs.Classes.{Classes}
 use Rattle.cxx_hierarchy.specs.Hierarchies.{IsHierarchy}
-use Rattle.cxx_subobject.specs.declared.Root.TheVariants.{Whole, Shared}
 use Rattle.cxx_subobject.specs.declared.Subobject.{Subobject}
-use Rattle.cxx_subobject.specs.Subobjects.{IsSubobject, whole, shared, subobject, whole_of, class_of, join}
+use Rattle.cxx_subobject.specs.Subobjects.{IsSubobject, whole, whole_of, class_of, join}
 use Rattle.cxx_subobject.specs.Inside.{IsInside}
-use Rattle.cxx_subobject.proofs.InsideLemmas.{join_valid, join_class}
+use Rattle.cxx_subobject.proofs.InsideLemmas.{join_class, whole_inside, inside_valid}
 use Rattle.cxx_overrider.specs.declared.FunctionId.{FunctionId}
 use Rattle.cxx_overrider.specs.declared.Overrider.{Overrider}
 use Rattle.cxx_overrider.specs.Functions.{Signature, signature_of}
@@ -19,21 +18,12 @@ use Rattle.cxx_overrider.proofs.Finals.{top_final}
 use Rattle.cxx_overrider.proofs.FinalLaws.{some_final}
 use Rattle.cxx_overrider.proofs.ViewLaws.{view_final, one_in_view, whole_final}
 use Rattle.foundation.proofs.Members.{Has, has_map, from_map, has_flat_map, from_flat_map}
-use Rattle.foundation.proofs.Chosen.{has_filter, filter_has, all_each, each_all}
+use Rattle.foundation.proofs.Chosen.{has_filter, filter_has, all_each, each_all, find_passes}
 use Rattle.cxx_search.specs.Searches.{parts_of, is_within, overrider, overriders_in, contains_all, candidates, final_in}
-use Rattle.cxx_search.proofs.Finding.{find_passes, finds_some}
+use Rattle.cxx_search.proofs.Finding.{finds_some}
 use Rattle.cxx_search.proofs.Within.{parts_inside, inside_parts, within_inside, inside_within}
 use Rattle.cxx_search.proofs.Names.{name_signature, signature_name}
 use Rattle.cxx_search.proofs.Declares.{signature_declared, declared_class}
-
--- what lies in a subobject of c is one of c
-pub inside_valid : (h : Classes) (c : ClassId) (x t : Subobject) → IsSubobject h c x → IsInside h x t → IsSubobject h c t
-inside_valid h c x t valid k = subst (λ z. IsSubobject h c z) (sym k.joined) (join_valid h c k.class x k.part valid k.of_class k.valid)
-
--- a subobject of c lies in the whole object
-in_whole : (h : Classes) (c : ClassId) (s : Subobject) → IsSubobject h c s → IsInside h (whole_of c) s
-in_whole h c _ (whole p l) = record { class = c; of_class = refl; part = subobject Whole (c ∷ p); valid = whole p l; joined = refl }
-in_whole h c _ (shared v p has l) = record { class = c; of_class = refl; part = subobject (Shared v) (v ∷ p); valid = shared v p has l; joined = refl }
 
 module _ (h : Classes) (keeps : IsHierarchy h) (c : ClassId) (x : Subobject) (there : IsSubobject h c x) (y : Subobject) (f : FunctionId) where
   -- a candidate, with the signature that it shares with f
@@ -108,7 +98,7 @@ module _ (h : Classes) (keeps : IsHierarchy h) (c : ClassId) (x : Subobject) (th
 
 -- in the view of the whole object it is the final overrider
 view_of_whole : (h : Classes) → IsHierarchy h → (c : ClassId) (y : Subobject) (f : FunctionId) (o : Overrider) → IsFinalIn h c (whole_of c) y f o → IsFinalOverrider h c y f o
-view_of_whole h keeps c y f o k = top_final h keeps c y f k.signature o k.is (record { candidate = k.candidate.candidate; all = λ p cand. k.all p (record { candidate = cand; inside = in_whole h c p.at cand.valid }) })
+view_of_whole h keeps c y f o k = top_final h keeps c y f k.signature o k.is (record { candidate = k.candidate.candidate; all = λ p cand. k.all p (record { candidate = cand; inside = whole_inside h c p.at cand.valid }) })
 
 pub found_in_whole : (h : Classes) → IsHierarchy h → (c : ClassId) (y : Subobject) (f : FunctionId) (o : Overrider) → final_in h (whole_of c) y f ≡ Some o → IsFinalOverrider h c y f o
 found_in_whole h keeps c y f o e = view_of_whole h keeps c y f o (found_final h keeps c (whole_of c) (whole [] tt) y f o e)

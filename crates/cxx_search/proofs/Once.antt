@@ -3,7 +3,7 @@ use Rattle.std.proofs.Common.{◌≡◌, ℕ, zero, suc, ◌+◌, ◌<◌, ◌�
 use Rattle.std.specs.List.{filter, filter_map, cons_option, range_with_len}
 use Rattle.foundation.proofs.Truth.{split}
 use Rattle.foundation.proofs.Members.{Has, EachOnce, has_map, from_map}
-use Rattle.foundation.proofs.Chosen.{filter_has, from_filter_map}
+use Rattle.foundation.proofs.Chosen.{filter_has, from_filter_map, filter_first}
 
 pub has_range : (a n i : ℕ) → Has (range_with_len a n) i → (a ≤ i) × (i < a + n)
 has_range a zero i has = absurd has
@@ -30,9 +30,6 @@ has_some_length (y ∷ xs) x has = omega arith
 -- what passes a test behind the first item passes it among all
 filter_behind : {X : Type 0} (p : X → Bool) (x : X) (xs : List X) (P : List X → Type 0) → ((ys : List X) → P (x ∷ ys) → P ys) → P (filter p (x ∷ xs)) → P (filter p xs)
 filter_behind {X} p x xs P less = split (p x) (λ b. P (cond b (x ∷ filter p xs) (filter p xs)) → P (filter p xs)) (λ e all. less (filter p xs) all) (λ e all. all)
-
-filter_first : {X : Type 0} (p : X → Bool) (x : X) (xs : List X) → p x ≡ true → filter p (x ∷ xs) ≡ x ∷ filter p xs
-filter_first p x xs e = rw e refl
 
 -- items under the numbers below n in turn, and one more at most, under n
 module _ {X : Type 0} (p q : X → Bool) (number : X → ℕ) (f : X → Option ℕ) (n : ℕ)

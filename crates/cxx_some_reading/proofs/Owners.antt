@@ -1,10 +1,9 @@
 -- The bodies of a source are those of its records.
-use Rattle.std.proofs.Common.{◌≡◌, ℕ, ◌<◌, Bool, true, false, List, [], ◌∷◌, ◌++◌, map, Option, Some, None, slice_get, length, length-append, refl, sym, ap, subst, ◌∙◌, append_assoc, arith}
+use Rattle.std.proofs.Common.{◌≡◌, ℕ, Bool, true, false, List, [], ◌∷◌, ◌++◌, map, Option, Some, None, slice_get, length, refl, sym, ap, subst, ◌∙◌, append_assoc}
 use Rattle.std.specs.List.{filter_map, flat_map, AllByRecursion}
 use Rattle.std.proofs.lemmas.List.{map-append}
 use Rattle.std.proofs.lemmas.List.Elements.{filter_map-append, All-from_recursion}
-use Rattle.std.proofs.lemmas.Option.{slice_get-get_or}
-use Rattle.std.proofs.Math.Seq.{get_or-append_seam}
+use Rattle.foundation.proofs.Places.{get_behind}
 use Rattle.cxx_grammar.specs.declared.sort.Lexeme.{Lexeme}
 use Rattle.cxx_grammar.specs.Lexemes.{bytes_of}
 use Rattle.cxx_hierarchy.specs.declared.records.Base.{Base}
@@ -46,16 +45,9 @@ parts_fit : {text : List ℕ} {is_public : Bool} {ps : List Part} {ts rest : Lis
 parts_fit no_part = tt
 parts_fit (one_part h hs) = (part_fits h, parts_fit hs)
 
--- the item between two lists
-seam : {X : Type 0} (xs : List X) (y : X) (ys : List X) → slice_get (xs ++ y ∷ ys) (length xs) ≡ Some y
-seam xs y ys =
-    let l = length-append xs (y ∷ ys) in
-    let within : length xs < length (xs ++ y ∷ ys) = omega (arith, l) in
-    slice_get-get_or (xs ++ y ∷ ys) (length xs) y within ∙ ap Some (get_or-append_seam xs y ys y)
-
 -- the function that a part names
 named : (before ps : List Part) (f : Function Spelled) (ty_at : ℕ) (b : Option BodyTree) → slice_get (functions_of (before ++ part.Function f ty_at b ∷ ps)) (length (functions_of before)) ≡ Some f
-named before ps f ty_at b = rw (filter_map-append function_in before (part.Function f ty_at b ∷ ps)) (seam (functions_of before) f (functions_of ps))
+named before ps f ty_at b = rw (filter_map-append function_in before (part.Function f ty_at b ∷ ps)) (get_behind (functions_of before) f (functions_of ps))
 
 pure_owner : (f : Function Spelled) (n : ℕ) → f.is_pure ≡ true → function_owner n (Some f) ≡ None
 pure_owner f n e = rw e refl

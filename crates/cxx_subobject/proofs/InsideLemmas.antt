@@ -56,6 +56,23 @@ inside_through h s t u a b =
 pub join_whole : (s : Subobject) (c : ClassId) → join s (whole_of c) ≡ s
 join_whole s c = let e : subobject s.root (s.path ++ []) ≡ subobject s.root s.path = ap (λ p. subobject s.root p) (append-nil s.path) in e
 
+-- a subobject of a class, as one of its whole
+pub whole_joined : (h : Classes) (c : ClassId) (s : Subobject) → IsSubobject h c s → join (whole_of c) s ≡ s
+whole_joined h c _ (whole p l) = refl
+whole_joined h c _ (shared v p has l) = refl
+
+-- the whole has each of its subobjects in it
+pub whole_inside : (h : Classes) (c : ClassId) (s : Subobject) → IsSubobject h c s → IsInside h (whole_of c) s
+whole_inside h c s valid = record { class = c; of_class = refl; part = s; valid = valid; joined = sym (whole_joined h c s valid) }
+
+-- what lies in a subobject is a subobject
+pub inside_valid : (h : Classes) (c : ClassId) (s t : Subobject) → IsSubobject h c s → IsInside h s t → IsSubobject h c t
+inside_valid h c s t valid k = subst (λ z. IsSubobject h c z) (sym k.joined) (join_valid h c k.class s k.part valid k.of_class k.valid)
+
+-- the copy of a subobject is it
+pub copied : (s t : Subobject) → t ≡ subobject s.root (s.path ++ []) → t ≡ s
+copied s t e = e ∙ ap (λ (p : List ClassId). subobject s.root p) (append-nil s.path)
+
 pub inside_back : (h : Classes) (s t : Subobject) → IsHierarchy h → IsInside h s t → IsInside h t s → s ≡ t
 inside_back h s t keeps a b =
     let one : class_of a.part ≡ Some b.class = sym (join_class h a.class s a.part a.of_class a.valid) ∙ (ap class_of (sym a.joined) ∙ b.of_class) in

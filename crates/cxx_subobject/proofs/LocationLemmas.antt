@@ -1,10 +1,12 @@
 -- Owners and hops say the same of the parts of an object.
-use Rattle.std.proofs.Common.{◌≡◌, ℕ, Some, List, [], ◌∷◌, ◌++◌, refl, ap, subst, sym, ◌∙◌, append_assoc}
+use Rattle.std.proofs.Common.{◌≡◌, ℕ, Some, List, [], ◌∷◌, ◌++◌, refl, ap, subst, sym, ◌∙◌, append_assoc, ◌<◌}
+use Rattle.foundation.proofs.Places.{contains_at}
 use Rattle.cxx_hierarchy.specs.declared.records.ClassId.{ClassId}
 use Rattle.cxx_hierarchy.specs.declared.records.ValueType.{ValueType}
 use Rattle.cxx_hierarchy.specs.declared.records.FieldType.{FieldType}
 use Rattle.cxx_hierarchy.specs.declared.records.FieldType.TheVariants.{Value, Object}
-use Rattle.cxx_hierarchy.specs.Classes.{Classes}
+use Rattle.cxx_hierarchy.specs.Classes.{Classes, members_of}
+use Rattle.cxx_hierarchy.specs.Hierarchies.{IsHierarchy}
 use Rattle.cxx_subobject.specs.declared.Subobject.{Subobject}
 use Rattle.cxx_subobject.specs.declared.locations.Hop.{Hop}
 use Rattle.cxx_subobject.specs.declared.locations.Hop.TheVariants.{Inherit, Member as MemberHop}
@@ -78,3 +80,7 @@ hops_to h _ _ _ (to_inner c d e s m i hops type valid class element leads) = inn
 pub leads_by : (h : Classes) (c : ClassId) (hops : List Hop) (type : FieldType ClassId) → IsHopsTo h c hops type → LeadsTo h c hops type
 leads_by h c hops (Object e) r = subst (λ (hs : List Hop). LeadsTo h c hs (Object e)) (sym r.is) (hops_lead h c r.steps r.complete e r.at r.owner r.valid r.class)
 leads_by h c hops (Value type) r = subst (λ (hs : List Hop). LeadsTo h c hs (Value type)) (sym r.is) (hops_lead_to_leaf h c r.steps r.complete r.class r.at r.member r.index type r.owner r.valid r.class_is r.element)
+
+-- a member object is of a class before
+pub element_low : (h : Classes) → IsHierarchy h → (d e : ClassId) (m i : ℕ) → IsElement h d m i (Object e) → e.0 < d.0
+element_low h keeps d e m i element = keeps.objects d e element.member (contains_at (members_of h d) m element.member element.there) element.type_is

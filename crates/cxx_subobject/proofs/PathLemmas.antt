@@ -1,5 +1,5 @@
 -- Paths of classes and virtual bases.
-use Rattle.std.proofs.Common.{◌≡◌, ℕ, ◌<◌, ◌≤◌, ◌⊎◌, inl, inr, Bool, Some, List, [], ◌∷◌, ◌++◌, refl, ap, subst, sym, ◌∙◌, arith}
+use Rattle.std.proofs.Common.{◌≡◌, ℕ, ◌<◌, ◌≤◌, ◌⊎◌, inl, inr, Bool, Some, List, [], ◌∷◌, ◌++◌, refl, ap, subst, sym, ◌∙◌, arith, length}
 use Rattle.std.specs.Prelude.{true, false}
 use Rattle.cxx_hierarchy.specs.declared.records.ClassId.{ClassId}
 use Rattle.cxx_hierarchy.specs.Classes.{Classes}
@@ -46,6 +46,9 @@ pub class_there : (h : Classes) (c : ClassId) (s : Subobject) → IsSubobject h 
 class_there h c _ (whole p l) = (last_of c p, refl)
 class_there h c _ (shared v p has l) = (last_of v p, refl)
 
+pub class_found : (h : Classes) (c b : ClassId) (s : Subobject) → IsSubobject h c s → ((d : ClassId) → class_of s ≡ Some d → b ≡ d) → class_of s ≡ Some b
+class_found h c b s valid told = let k = class_there h c s valid in k.1 ∙ ap (λ (d : ClassId). Some d) (sym (told k.0 k.1))
+
 -- a virtual base of the class of a subobject is one of the whole's class
 pub part_virtual : (h : Classes) (c d v : ClassId) (s : Subobject) → IsSubobject h c s → class_of s ≡ Some d → HasVirtualBase h d v → HasVirtualBase h c v
 part_virtual h c d v _ (whole p l) e has = let same : last_of c p ≡ d = cc in virtual_along h c v p l (subst (λ (x : ClassId). HasVirtualBase h x v) (sym same) has)
@@ -70,6 +73,10 @@ class_low h keeps c d _ (shared v p has l) e =
     let r = last_below h keeps v p l in
     let g : last_of v p ≡ d = cc in
     let n : (last_of v p).0 ≡ d.0 = ap (λ (x : ClassId). x.0) g in omega arith
+
+-- the class of a subobject is one of the hierarchy
+pub class_inside : (h : Classes) → IsHierarchy h → (c d : ClassId) (s : Subobject) → c.0 < length h → IsSubobject h c s → class_of s ≡ Some d → d.0 < length h
+class_inside h keeps c d s known valid class = let low = class_low h keeps c d s valid class in omega arith
 
 -- a subobject of a class is the whole or of a class before
 pub smaller : (h : Classes) → IsHierarchy h → (c d : ClassId) (s : Subobject) → IsSubobject h c s → class_of s ≡ Some d → (s ≡ whole_of c) ⊎ (d.0 < c.0)

@@ -20,6 +20,7 @@ use Rattle.cxx_subobject.specs.Preorder.{tree, firsts, preorder, ListsSubobjects
 pub use Rattle.foundation.proofs.Chosen.{has_filter, filter_has, once_filter}
 use Rattle.foundation.proofs.Truth.{split}
 use Rattle.foundation.proofs.Members.{Has, EachOnce, has_flat_map, from_flat_map, flat_map_same, has_at, contains_from_has, has_from_contains, once_by_place}
+use Rattle.foundation.proofs.Places.{get_read}
 
 -- t is what a walk down from s, of class c, leads to
 pub data IsBelow (h : Classes) (c : ClassId) (s : Subobject) : Subobject → Type 0 where
@@ -168,6 +169,12 @@ preorder_has h c keeps s valid = firsts_has (tree h (c.0 + 1) c (whole_of c)) s 
 
 pub has_preorder : (h : Classes) (c : ClassId) (s : Subobject) → Has (preorder h c) s → IsSubobject h c s
 has_preorder h c s has = whole_below h c s (tree_sound h (c.0 + 1) c (whole_of c) s (has_firsts (tree h (c.0 + 1) c (whole_of c)) s has))
+
+-- an item of the list of a class's subobjects is one
+pub valid_at : (h : Classes) (c : ClassId) (list : List Subobject) (j : ℕ) (s : Subobject) → list ≡ preorder h c → j < length list → s ≡ get_or list j s → IsSubobject h c s
+valid_at h c list j s is less at =
+    let has : Has list s = has_at list j s (get_read list j s less at) in
+    has_preorder h c s (subst (λ (l : List Subobject). Has l s) is has)
 
 pub preorder_once : (h : Classes) (c : ClassId) → EachOnce (preorder h c)
 preorder_once h c = firsts_once (tree h (c.0 + 1) c (whole_of c))

@@ -13,8 +13,6 @@ pub mod blank;
 pub mod bytes;
 pub mod longest;
 pub mod scan;
-#[cfg(test)]
-mod tests;
 pub mod token;
 
 pub use crate::scan::{one_token_list, some_token_list, tokens};

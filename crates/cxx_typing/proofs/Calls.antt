@@ -17,7 +17,6 @@ use Rattle.cxx_hierarchy.specs.Hierarchies.{IsHierarchy}
 use Rattle.cxx_hierarchy.specs.NameTables.{Text}
 use Rattle.cxx_subobject.specs.declared.Subobject.{Subobject}
 use Rattle.cxx_subobject.specs.Subobjects.{IsSubobject, class_of as class_of_subobject}
-use Rattle.cxx_overrider.specs.declared.FunctionId.{FunctionId}
 use Rattle.cxx_overrider.specs.Functions.{declaration_of}
 use Rattle.cxx_overrider.specs.Virtuals.{function_at, is_virtual}
 use Rattle.cxx_syntax.specs.declared.tree.Spot.{Spot}
@@ -29,7 +28,6 @@ use Rattle.cxx_program.specs.Typed.{Scope, HasType, IsWay, IsArgument, IsCall, p
 use Rattle.cxx_expression.specs.declared.faults.Fault.{Fault}
 use Rattle.cxx_expression.specs.declared.look_up.Looked.{Looked}
 use Rattle.cxx_expression.specs.declared.look_up.Looked.TheVariants as looked
-use Rattle.cxx_expression.specs.declared.look_up.Based.{Based}
 use Rattle.cxx_expression.specs.declared.look_up.Based.TheVariants as based
 use Rattle.cxx_expression.specs.declared.scene.Scene.{Scene}
 use Rattle.cxx_expression.specs.declared.scene.Setting.{Setting}
@@ -37,10 +35,12 @@ use Rattle.cxx_expression.specs.declared.typed.Pointer.{Pointer}
 use Rattle.cxx_expression.specs.declared.typed.CallValue.{CallValue}
 use Rattle.cxx_expression.specs.Checked.{pure, warn, noted, along, both}
 use Rattle.cxx_expression.specs.Laws.{IsComplete, PiecesAreComplete}
-use Rattle.cxx_expression.specs.Lookups.{looked_up, function_record, base_up}
-use Rattle.cxx_expression.specs.Values.{pointer_of, class_of, path_to, as_base}
+use Rattle.cxx_expression.specs.Lookups.{looked_up, function_record}
+use Rattle.cxx_expression.specs.Values.{pointer_of, class_of, path_to}
 use Rattle.cxx_expression.specs.Calls.{found_function, as_found, function_in, as_function, function_of, counted, target, target_of, plain_operand, argument_of, arguments_of, parameters_in, dispatched, plain_call, defined, named_function, receiver, receiver_of, parameters_of, qualified, qualified_call, call_by, call_of}
-use Rattle.cxx_expression.proofs.Complete.{complete_pure, complete_fail, complete_warn, complete_bind, complete_along, complete_both, complete_if}
+use Rattle.cxx_expression.proofs.Complete.{complete_pure, complete_bind, complete_along, complete_both}
+use Rattle.cxx_expression.proofs.CompletePlaces.{c_function, c_counted, c_defined, c_named}
+use Rattle.cxx_expression.proofs.CompleteValues.{c_path}
 use Rattle.cxx_typing.proofs.Steps.{then_both, pair_both, IsClean, clean_both, clean_along, clean_pair}
 use Rattle.cxx_typing.proofs.PieceTypes.{FoundFunction, Target, Receiver}
 use Rattle.cxx_typing.specs.Scopes.{PureAreVirtual, IsSetting, IsScene}
@@ -83,35 +83,10 @@ function_typed h keeps at c x f t = as_function_typed h keeps at x.at c x.name (
 
 -- faults are only added
 
-found_grows : (name_at : ℕ) (s : Subobject) (f : FunctionId) (o : Option (Function ClassId)) → IsComplete (as_found name_at s f o)
-found_grows name_at s f None = complete_fail _ _
-found_grows name_at s f (Some m) = complete_pure _
-
-in_grows : (h : Classes) (name_at : ℕ) (s : Subobject) (n : ℕ) (o : Option ClassId) → IsComplete (function_in h name_at s n o)
-unfolding function_in
-in_grows h name_at s n None = complete_fail _ _
-in_grows h name_at s n (Some d) = found_grows name_at s (function_at d n) (function_record h d n)
-
-as_grows : (h : Classes) (at name_at : ℕ) (l : Looked) → IsComplete (as_function h at name_at l)
-as_grows h at name_at looked.Missing = complete_fail _ _
-as_grows h at name_at looked.Ambiguous = complete_fail _ _
-as_grows h at name_at (looked.Member s n) = complete_fail _ _
-as_grows h at name_at (looked.Function s n) = in_grows h name_at s n (class_of_subobject s)
-
-function_grows : (h : Classes) (at : ℕ) (c : ClassId) (x : Spot) → IsComplete (function_of h at c x)
-unfolding function_of
-function_grows h at c x = as_grows h at x.at (looked_up h c x.name)
-
-counted_grows : (at n : ℕ) (f : FoundFunction) → IsComplete (counted at n f)
-counted_grows at n f = complete_if (nat_eq n (length f.parameters)) _ _ (complete_pure _) (complete_warn _ _ _)
-
-defined_grows : (at : ℕ) (f : FoundFunction) → IsComplete (defined at f)
-defined_grows at f = complete_if f.is_pure _ _ (complete_warn _ _ _) (complete_pure _)
-
 target_grows : PiecesAreComplete → (h : Classes) (e : Setting) (s : Scene) (at : ℕ) (call : CallText) → IsComplete (target_of h e s at call)
 unfolding target_of
 target_grows q h e s at call =
-    complete_bind _ _ (q.pointer e s at call.pointer) (λ p. complete_bind _ _ (function_grows h at p.class call.name) (λ f. complete_bind _ _ (counted_grows at (length call.arguments) f) (λ g. complete_pure _)))
+    complete_bind _ _ (q.pointer e s at call.pointer) (λ p. complete_bind _ _ (c_function h at p.class call.name) (λ f. complete_bind _ _ (c_counted at (length call.arguments) f) (λ g. complete_pure _)))
 
 operand_grows : PiecesAreComplete → (e : Setting) (s : Scene) (at : ℕ) (x : Operand) → IsComplete (plain_operand e s at x)
 unfolding plain_operand
@@ -128,22 +103,9 @@ arguments_grow q h e s at parameters n [] = complete_pure _
 arguments_grow q h e s at parameters n (x ∷ xs) =
     complete_bind _ _ (complete_both _ _ (argument_grows q h e s at (slice_get parameters n) x) (arguments_grow q h e s at parameters (n + 1) xs)) (λ r. complete_pure _)
 
-base_grows : (at : ℕ) (b : Based) → IsComplete (as_base at b)
-base_grows at based.NotBase = complete_fail _ _
-base_grows at based.TwoBases = complete_fail _ _
-base_grows at (based.Base s) = complete_pure _
-
-path_grows : (h : Classes) (at : ℕ) (c d : ClassId) → IsComplete (path_to h at c d)
-unfolding path_to
-path_grows h at c d = complete_if (nat_eq c.0 d.0) _ _ (complete_pure _) (base_grows at (base_up h c d))
-
 receiver_grows : PiecesAreComplete → (h : Classes) (e : Setting) (s : Scene) (at : ℕ) (c : ClassId) (x : PointerText) → IsComplete (receiver_of h e s at c x)
 unfolding receiver_of
-receiver_grows q h e s at c x = complete_bind _ _ (q.pointer e s at x) (λ p. complete_bind _ _ (path_grows h at p.class c) (λ path. complete_pure _))
-
-named_grows : (h : Classes) (at : ℕ) (c : ClassId) (call : CallText) → IsComplete (named_function h at c call)
-unfolding named_function
-named_grows h at c call = complete_bind _ _ (function_grows h at c call.name) (λ f. complete_bind _ _ (defined_grows call.name.at f) (λ g. counted_grows at (length call.arguments) g))
+receiver_grows q h e s at c x = complete_bind _ _ (q.pointer e s at x) (λ p. complete_bind _ _ (c_path h at p.class c) (λ path. complete_pure _))
 
 -- what no fault says
 
@@ -221,9 +183,9 @@ target_is h k n p f g t has found is same = subst (IsTarget h k n) same (record 
 target_typed : PiecesAreComplete → (h : Classes) → IsHierarchy h → (e : Setting) (s : Scene) (k : Scope) → IsSetting e k → IsScene s k → (at : ℕ) (call : CallText) (t : Target) → IsClean (target_of h e s at call) t → IsTarget h k (length call.arguments) t
 unfolding target_of
 target_typed q h keeps e s k f g at call t i =
-    let p = clean_both (pointer_of e s at call.pointer) _ t (q.pointer e s at call.pointer) (λ p. complete_bind _ _ (function_grows h at p.class call.name) (λ f. complete_bind _ _ (counted_grows at (length call.arguments) f) (λ g. complete_pure _))) i in
-    let r = clean_both (function_of h at p.0.class call.name) _ t (function_grows h at p.0.class call.name) (λ f. complete_bind _ _ (counted_grows at (length call.arguments) f) (λ g. complete_pure _)) p.2 in
-    let o = clean_both (counted at (length call.arguments) r.0) _ t (counted_grows at (length call.arguments) r.0) (λ g. complete_pure _) r.2 in
+    let p = clean_both (pointer_of e s at call.pointer) _ t (q.pointer e s at call.pointer) (λ p. complete_bind _ _ (c_function h at p.class call.name) (λ f. complete_bind _ _ (c_counted at (length call.arguments) f) (λ g. complete_pure _))) i in
+    let r = clean_both (function_of h at p.0.class call.name) _ t (c_function h at p.0.class call.name) (λ f. complete_bind _ _ (c_counted at (length call.arguments) f) (λ g. complete_pure _)) p.2 in
+    let o = clean_both (counted at (length call.arguments) r.0) _ t (c_counted at (length call.arguments) r.0) (λ g. complete_pure _) r.2 in
     let last = o.2.typed in
     target_is h k (length call.arguments) p.0 r.0 o.0 t (pointer_typed e s k f g at call.pointer p.0 p.1.typed) (function_typed h keeps at p.0.class call.name r.0 r.1.typed) (counted_clean at (length call.arguments) r.0 o.0 o.1) (cc)
 
@@ -267,8 +229,8 @@ record IsNamed (h : Classes) (c : ClassId) (n : ℕ) (f : FoundFunction) : Type 
 named_typed : (h : Classes) → IsHierarchy h → (at : ℕ) (c : ClassId) (call : CallText) (f : FoundFunction) → IsClean (named_function h at c call) f → IsNamed h c (length call.arguments) f
 unfolding named_function
 named_typed h keeps at c call f i =
-    let r = clean_both (function_of h at c call.name) _ f (function_grows h at c call.name) (λ x. complete_bind _ _ (defined_grows call.name.at x) (λ y. counted_grows at (length call.arguments) y)) i in
-    let d = clean_both (defined call.name.at r.0) _ f (defined_grows call.name.at r.0) (λ y. counted_grows at (length call.arguments) y) r.2 in
+    let r = clean_both (function_of h at c call.name) _ f (c_function h at c call.name) (λ x. complete_bind _ _ (c_defined call.name.at x) (λ y. c_counted at (length call.arguments) y)) i in
+    let d = clean_both (defined call.name.at r.0) _ f (c_defined call.name.at r.0) (λ y. c_counted at (length call.arguments) y) r.2 in
     let u = clean_unless r.0.is_pure rule.Abstract call.name.at r.0 d.0 d.1 in
     let n = counted_clean at (length call.arguments) d.0 f d.2 in
     let same = u.1 ∙ n.1 in
@@ -312,12 +274,12 @@ qualified_typed : PiecesAreComplete → (h : Classes) → IsHierarchy h → (e :
 unfolding qualified_call
 qualified_typed q h keeps e s k f g at call x v i =
     let grows = λ (c : ClassId) (o : Option FoundFunction). arguments_grow q h e s at (parameters_of o) 0 call.arguments in
-    let call_grows = λ (c : ClassId). complete_along _ _ (named_grows h at c call) (grows c) in
+    let call_grows = λ (c : ClassId). complete_along _ _ (c_named h at c call) (grows c) in
     let all_grow = λ (c : ClassId). complete_both _ _ (receiver_grows q h e s at c call.pointer) (call_grows c) in
     let c = clean_both (class_of h x) _ v (q.class_of h x) (λ c. complete_bind _ _ (all_grow c) (λ r. complete_pure _)) i in
     let r = clean_both (both (receiver_of h e s at c.0 call.pointer) (along (named_function h at c.0 call) (λ o. arguments_of h e s at (parameters_of o) 0 call.arguments))) _ v (all_grow c.0) (λ r. complete_pure _) c.2 in
     let p = clean_pair (receiver_of h e s at c.0 call.pointer) (along (named_function h at c.0 call) (λ o. arguments_of h e s at (parameters_of o) 0 call.arguments)) r.0 (receiver_grows q h e s at c.0 call.pointer) (call_grows c.0) r.1 in
-    let b = clean_along (named_function h at c.0 call) (λ o. arguments_of h e s at (parameters_of o) 0 call.arguments) r.0.1 (named_grows h at c.0 call) (grows c.0) p.1 in
+    let b = clean_along (named_function h at c.0 call) (λ o. arguments_of h e s at (parameters_of o) 0 call.arguments) r.0.1 (c_named h at c.0 call) (grows c.0) p.1 in
     let last = r.2.typed in
     qualified_by h keeps e s k f g at c.0 call.arguments r.0.0 r.0.1.0 r.0.1.1 v (receiver_typed h keeps e s k f g at c.0 call.pointer r.0.0 p.0.typed) (named_typed h keeps at c.0 call r.0.1.0 b.0) b.1.typed (cc)
 

@@ -1,11 +1,11 @@
 -- The parts of a class record that have a body: which they are, and that none stands twice.
-use Rattle.std.proofs.Common.{◌≡◌, inl, ℕ, zero, suc, ◌≤◌, Bool, true, false, cond, if◌then◌else◌, Option, Some, None, List, [], ◌∷◌, map, length, refl, sym, ◌∙◌, ap, subst, arith, slice_get}
+use Rattle.std.proofs.Common.{◌≡◌, ℕ, zero, suc, ◌≤◌, Bool, true, false, cond, if◌then◌else◌, Option, Some, None, List, [], ◌∷◌, map, length, refl, sym, ◌∙◌, ap, subst, arith, slice_get}
 use Rattle.std.specs.List.{filter, filter_map, cons_option}
 use Rattle.std.proofs.lemmas.List.{length-map}
 use Rattle.std.proofs.lemmas.Option.{slice_get_within}
 use Rattle.foundation.proofs.Truth.{split}
-use Rattle.foundation.proofs.Members.{Has, EachOnce, has_at, index_of, has_map}
-use Rattle.foundation.proofs.Chosen.{has_filter, filter_has, has_filter_map, from_filter_map}
+use Rattle.foundation.proofs.Members.{Has, EachOnce, has_at, index_of, has_map, first_of}
+use Rattle.foundation.proofs.Chosen.{has_filter, filter_has, has_filter_map, from_filter_map, filter_first}
 use Rattle.cxx_hierarchy.specs.declared.records.Function.{Function}
 use Rattle.cxx_hierarchy.specs.declared.records.PartAt.{PartAt}
 use Rattle.cxx_hierarchy.specs.declared.records.PartKind.{PartKind}
@@ -23,9 +23,6 @@ use Rattle.cxx_syntax.specs.declared.source_text.BodyOwner.TheVariants as own
 use Rattle.cxx_syntax.specs.Owners.{function_owner, kind_owner, owner_at, owners_of}
 
 -- lists
-
-filter_first : {X : Type 0} (p : X → Bool) (x : X) (xs : List X) → p x ≡ true → filter p (x ∷ xs) ≡ x ∷ filter p xs
-filter_first p x xs e = rw e refl
 
 once_behind : {X : Type 0} (p : X → Bool) (number : X → ℕ) (x : X) (xs : List X) → EachOnce (map number (filter p (x ∷ xs))) → EachOnce (map number (filter p xs))
 once_behind {X} p number x xs = split (p x) (λ b. EachOnce (map number (cond b (x ∷ filter p xs) (filter p xs))) → EachOnce (map number (filter p xs))) (λ e once. once.1) (λ e once. once)
@@ -64,10 +61,6 @@ given_once {X} {Y} f (x ∷ xs) apart = by_option (f x) refl (given_once f xs (�
           omega arith,
       rest,
     )
-
-first_of : {A : Type 0} (xs : List A) → length xs ≡ 1 → (x : A) × Has xs x
-first_of [] e = absurd (omega arith)
-first_of (x ∷ xs) e = (x, inl refl)
 
 -- parts
 

@@ -25,13 +25,14 @@ use Rattle.cxx_program.specs.Typed.{Scope, an_operand, a_read, an_address, a_res
 use Rattle.cxx_expression.specs.declared.scene.Scene.{Scene}
 use Rattle.cxx_expression.specs.declared.scene.Setting.{Setting}
 use Rattle.cxx_expression.specs.declared.typed.RightValue.{RightValue}
-use Rattle.cxx_expression.specs.Laws.{IsComplete, PiecesAreComplete}
+use Rattle.cxx_expression.specs.Laws.{PiecesAreComplete}
 use Rattle.cxx_expression.specs.Values.{operand_of, class_of, conversion_of}
 use Rattle.cxx_expression.specs.Places.{leaf_of, object_place_of}
 use Rattle.cxx_expression.specs.Calls.{call_of}
 use Rattle.cxx_expression.specs.Operators.{right_value}
 use Rattle.cxx_expression.specs.Rights.{operand_right, place_right, address_right, as_result, call_right, made, new_right, right_of, converted, converted_right}
-use Rattle.cxx_expression.proofs.Complete.{complete_pure, complete_fail, complete_bind}
+use Rattle.cxx_expression.proofs.Complete.{complete_pure, complete_bind}
+use Rattle.cxx_expression.proofs.CompleteRights.{c_as_result}
 use Rattle.cxx_typing.proofs.Steps.{then_both, IsClean, clean_both}
 use Rattle.cxx_typing.specs.Scopes.{PureAreVirtual, IsSetting, IsScene}
 use Rattle.cxx_typing.proofs.Values.{operand_typed, BecomesNull, conversion_typed}
@@ -63,10 +64,6 @@ address_typed h keeps e s k f g at x r t =
     let same : result ≡ r = let last = v.2 in cc in
     right_is h k result r same refl (an_address v.0.place v.0.class (object_place_typed h keeps e s k f g at x v.0 v.1))
 
-result_grows : (at : ℕ) (call : TypedCall) (ty : ReturnType ClassId) → IsComplete (as_result at call ty)
-result_grows at call returns.Void = complete_fail _ _
-result_grows at call (returns.Value t) = complete_pure _
-
 result_typed : (h : Classes) (k : Scope) (at : ℕ) (call : TypedCall) (f : Function ClassId) (ty : ReturnType ClassId) → IsCall h k call f → f.ret ≡ ty → (r : RightValue) → (as_result at call ty).typed ≡ Some r → IsRight h k r
 result_typed h k at call f returns.Void is ret r t = absurd (cc)
 result_typed h k at call f (returns.Value ty) is ret r t =
@@ -76,7 +73,7 @@ result_typed h k at call f (returns.Value ty) is ret r t =
 call_right_typed : PiecesAreComplete → (h : Classes) → IsHierarchy h → PureAreVirtual h → (e : Setting) (s : Scene) (k : Scope) → IsSetting e k → IsScene s k → (at : ℕ) (x : CallText) (r : RightValue) → IsClean (call_right h e s at x) r → IsRight h k r
 unfolding call_right
 call_right_typed q h keeps virtual e s k f g at x r i =
-    let v = clean_both (call_of h e s at x) _ r (q.call h e s at x) (λ v. result_grows at v.call v.returns) i in
+    let v = clean_both (call_of h e s at x) _ r (q.call h e s at x) (λ v. c_as_result at v.call v.returns) i in
     let is = call_typed q h keeps virtual e s k f g at x v.0 v.1 in
     result_typed h k at v.0.call is.function v.0.returns is.call is.returns r v.2.typed
 

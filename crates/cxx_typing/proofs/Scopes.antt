@@ -7,6 +7,7 @@ use Rattle.std.proofs.lemmas.List.{reverse-append}
 use Rattle.std.proofs.lemmas.List.Elements.{Contains-append_cases}
 use Rattle.foundation.proofs.Places.{get_front, get_last}
 use Rattle.foundation.proofs.Members.{Has, contains_from_has, has_cases, has_from_contains}
+use Rattle.foundation.proofs.Chosen.{find_passes}
 use Rattle.cxx_hierarchy.specs.declared.records.ClassId.{ClassId}
 use Rattle.cxx_hierarchy.specs.declared.records.ValueType.{ValueType}
 use Rattle.cxx_hierarchy.specs.NameTables.{Text}
@@ -14,7 +15,6 @@ use Rattle.cxx_program.specs.Typed.{Scope}
 use Rattle.cxx_expression.specs.declared.scene.Entry.{Entry}
 use Rattle.cxx_expression.specs.declared.scene.Scene.{Scene}
 use Rattle.cxx_expression.specs.Scenes.{last_of, declared, opened, closed}
-use Rattle.cxx_search.proofs.Finding.{find_passes}
 use Rattle.cxx_typing.specs.Scopes.{IsScene}
 
 later : {X : Type 0} (y : X) (ys : List X) (x : X) → (Has (reverse ys) x → Has ys x) → Has (reverse ys) x ⊎ Has (y ∷ []) x → Has (y ∷ ys) x

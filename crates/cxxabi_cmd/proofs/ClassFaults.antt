@@ -41,14 +41,18 @@ laid_fine h count rows keeps well le _ _ (of_meaning at stop fault) lt = fault
 laid_fine h count rows keeps well le _ _ (large c known is) lt = absurd (not_large h count rows c keeps le lt well is)
 laid_fine h count rows keeps well le _ _ (shared c class at is) lt = absurd (not_shared h count rows c keeps le lt well is)
 
-pub fault_class : (h : Classes) (at : Spot) (stop : Stop) → Fault h at stop → at.class.0 < length h
-fault_class h _ _ (of_meaning at stop fault) = fault_known h at stop fault
-fault_class h _ _ (large c known is) = known
-fault_class h _ _ (shared c class at is) = slice_get_within h c.0 class at
+-- a hierarchy has no fault where no class of it has one
+pub none_of_known : (h : Classes) → ((at : Spot) (stop : Stop) → Fault h at stop → at.class.0 < length h → ⊥) → HasNoFault h
+none_of_known h none = record { none = λ at stop fault. none at stop fault (known at stop fault) }
+  where
+    known : (at : Spot) (stop : Stop) → Fault h at stop → at.class.0 < length h
+    known _ _ (of_meaning at stop fault) = fault_known h at stop fault
+    known _ _ (large c is_known is) = is_known
+    known _ _ (shared c class at is) = slice_get_within h c.0 class at
 
 -- no fault is met where the meanings have none and all classes are well laid
 pub none_met : (h : Classes) (rows : List ClassLayout) → IsHierarchy h → HasNoMeaning h → IsWellLaid h (length h) rows → HasNoFault h
-none_met h rows keeps meaning well = record { none = λ at stop fault. meaning.none at stop (laid_fine h (length h) rows keeps well (omega arith) at stop fault (fault_class h at stop fault)) }
+none_met h rows keeps meaning well = none_of_known h (λ at stop fault known. meaning.none at stop (laid_fine h (length h) rows keeps well (omega arith) at stop fault known))
 
 -- no meaning refuses the classes up to this one
 abbrev pub NoMeaningTo : Classes → ClassId → Type 0

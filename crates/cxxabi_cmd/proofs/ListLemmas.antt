@@ -2,6 +2,7 @@
 use Rattle.std.proofs.Common.{◌≡◌, ℕ, zero, suc, ◌+◌, ◌<◌, ◌≤◌, Option, Some, None, Result, Ok, Err, List, [], ◌∷◌, ◌++◌, length, drop, get_or, sym, ◌∙◌, ap, subst, arith, append_assoc, append-nil, length-append, add-one}
 use Rattle.std.specs.Prelude.{IfOk, MatchOption, All, Contains, slice_get}
 use Rattle.std.proofs.lemmas.List.Elements.{recursion_from_All, All-from_recursion}
+use Rattle.std.proofs.lemmas.List.{drop_all}
 use Rattle.foundation.proofs.Places.{any_default}
 use Rattle.foundation.specs.declared.memory.NoMemory.{NoMemory as Want}
 use Rattle.cxx_hierarchy.specs.declared.records.ClassId.{ClassId}
@@ -9,7 +10,7 @@ use Rattle.cxx_hierarchy.specs.declared.stop.LimitNo.TheVariants.{L9}
 use Rattle.cxx_hierarchy.specs.declared.stop.Rule.TheVariants.{UnknownName}
 use Rattle.cxx_hierarchy.specs.Classes.{Classes, class_names}
 use Rattle.abi_sound.specs.declared.class_layout.ClassLayout.{ClassLayout}
-use Rattle.abi_slots.proofs.Loops.{rest_is, rest_none}
+use Rattle.abi_slots.proofs.Loops.{rest_is}
 use Rattle.cxxabi_cmd.specs.declared.listing.Listing.{Listing}
 use Rattle.cxxabi_cmd.specs.declared.reply.Reply.{Reply}
 use Rattle.cxxabi_cmd.specs.declared.status.Status.TheVariants.{Limit, Refused}
@@ -39,7 +40,7 @@ completes_more h rows listing classes i d before after lt put so = λ rest are.
 pub completes_all : (h : Classes) (rows : List ClassLayout) (listing : Listing) (classes : List ClassId) (i : ℕ) (text : List ℕ) → length classes ≤ i → Completes h rows listing classes (drop i classes) text → AreTexts h rows listing classes text
 completes_all h rows listing classes i text le so =
     subst (λ (t : List ℕ). AreTexts h rows listing classes t) (append-nil text)
-    (so [] (subst (λ (left : List ClassId). AreTexts h rows listing left []) (sym (rest_none classes i le)) no_texts))
+    (so [] (subst (λ (left : List ClassId). AreTexts h rows listing left []) (sym (drop_all i classes le)) no_texts))
 
 dropped_known : (h : Classes) (i : ℕ) (classes : List ClassId) → AreKnown h classes → AreKnown h (drop i classes)
 dropped_known h zero classes known = known

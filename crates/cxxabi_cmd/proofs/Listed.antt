@@ -2,6 +2,7 @@
 use Rattle.std.proofs.Common.{◌≡◌, ℕ, zero, suc, ◌<◌, ◌≤◌, Some, List, [], ◌∷◌, ◌++◌, length, refl, sym, ◌∙◌, ap, arith}
 use Rattle.std.specs.Prelude.{slice_get}
 use Rattle.std.specs.List.{AllByRecursion}
+use Rattle.std.proofs.ByRecursion.{All-push}
 use Rattle.cxx_hierarchy.specs.declared.records.ClassId.{ClassId}
 use Rattle.cxx_hierarchy.specs.Classes.{Classes, class_names}
 use Rattle.cxx_hierarchy.specs.Hierarchies.{IsHierarchy}
@@ -59,13 +60,9 @@ one_texts law h rows listing _ _ _ keeps sound known (more_texts c classes text 
 
 -- the classes that a command asks for are known
 
-pushed_known : (h : Classes) (classes : List ClassId) (c : ClassId) → AreKnown h classes → c.0 < length h → AreKnown h (classes ++ c ∷ [])
-pushed_known h [] c known lt = (lt, tt)
-pushed_known h (d ∷ classes) c known lt = (known.0, pushed_known h classes c known.1 lt)
-
 pub first_known : (h : Classes) (n : ℕ) → n ≤ length h → AreKnown h (first_classes n)
 first_known h zero le = tt
-first_known h (suc n) le = pushed_known h (first_classes n) (numbered n) (first_known h n (omega arith)) (omega arith)
+first_known h (suc n) le = All-push (λ (c : ClassId). c.0 < length h) (first_classes n) (numbered n) (first_known h n (omega arith)) (omega arith)
 
 -- a number that has a name is that of a class
 pub named_below : (h : Classes) (n : ℕ) (name : List ℕ) → slice_get (class_names h) n ≡ Some name → n < length h

@@ -8,6 +8,7 @@ use Rattle.std.proofs.lemmas.List.{length-map, length-append}
 use Rattle.std.proofs.lemmas.List.Sums.{sum_by-cons}
 use Rattle.foundation.proofs.Members.{Has}
 use Rattle.foundation.proofs.Places.{contains_at}
+use Rattle.foundation.proofs.Chosen.{find_passes}
 use Rattle.cxx_hierarchy.specs.declared.records.ClassId.{ClassId}
 use Rattle.cxx_hierarchy.specs.declared.records.Param.{Param}
 use Rattle.cxx_hierarchy.specs.declared.records.Function.{Function}
@@ -28,7 +29,6 @@ use Rattle.cxx_program.specs.declared.program.Owner.TheVariants as owner
 use Rattle.cxx_program.specs.declared.program.TypedInit.{TypedInit}
 use Rattle.cxx_program.specs.declared.program.TypedBody.{TypedBody}
 use Rattle.cxx_program.specs.declared.program.TypedProgram.{TypedProgram}
-use Rattle.cxx_search.proofs.Finding.{find_passes}
 use Rattle.cxx_expression.specs.declared.scene.Entry.{Entry}
 use Rattle.cxx_expression.specs.declared.scene.Setting.{Setting}
 use Rattle.cxx_resolve.specs.declared.draft.Draft.{Draft}

@@ -9,7 +9,7 @@ use Rattle.abi_layout.specs.Refusals.{IsLargeClass, HasSharedPlace}
 use Rattle.foundation.proofs.Places.{get_within}
 use Rattle.cxxabi_cmd.specs.Output.{numbered}
 use Rattle.cxxabi_cmd.specs.Verdict.{Fault, of_meaning, large, shared, IsFirstFault, HasNoFault}
-use Rattle.cxxabi_cmd.proofs.ClassFaults.{NoMeaningTo, before_size, before_place, at_class, class_before, fault_class}
+use Rattle.cxxabi_cmd.proofs.ClassFaults.{NoMeaningTo, before_size, before_place, at_class, class_before, none_of_known}
 use Rattle.cxxabi_cmd.proofs.MeaningFaults.{part_below}
 
 -- what is decided of each class of a hierarchy
@@ -119,5 +119,5 @@ found h decided (suc n) le =
 pub some_fault : (h : Classes) → IsDecided h → ((stop : Stop) × IsFirstFault h stop) ⊎ HasNoFault h
 some_fault h decided =
     ⊎_elim (λ first. inl first)
-    (λ none. inr (record { none = λ at stop fault. none at stop fault (fault_class h at stop fault) }))
+    (λ none. inr (none_of_known h none))
     (found h decided (length h) (omega arith))

@@ -6,7 +6,7 @@
 //!
 //! Whoever calls it may rely on: the text and the status are those of `Output`; a fault is answered only where
 //! the count of the object that was handed in rose; nothing is written after a fault of reading or without
-//! memory; the whole text is made before the first byte is written.
+//! memory; the whole text is made before the first byte is written. `judge` makes the passes over a source alone, by `Verdict`.
 #![tactic(auto)]
 
 mod answer;
@@ -21,9 +21,7 @@ pub mod sinks;
 pub mod source;
 pub mod sources;
 pub mod status;
-#[cfg(test)]
-mod tests;
-mod verdict;
+pub mod verdict;
 pub mod writing;
 
 pub use crate::run::{one_output, run_cxxabi, some_output};
@@ -32,3 +30,4 @@ pub use crate::sinks::{BytesSink, StdoutSink, SteadySink};
 pub use crate::source::{Source, SourceFailed};
 pub use crate::sources::{BytesSource, StdinSource, SteadySource};
 pub use crate::status::Status;
+pub use crate::verdict::{Accepted, judge};

@@ -23,16 +23,16 @@ use cxx_text::tokens;
 use cxx_typing::programs_are_typed;
 use std::alloc::Global;
 
-// A source that is accepted, its classes, what its globals and bodies resolve to, the final overriders and the layout of the
-// classes, and what they list for their tables.
+/// A source that is accepted, its classes, what its globals and bodies resolve to, the final overriders and the layout of the
+/// classes, and what they list for their tables.
 #[derive(Drop)]
-pub(crate) struct Accepted {
-    pub(crate) source: SourceText,
-    pub(crate) hierarchy: Hierarchy,
-    pub(crate) program: TypedProgram,
-    pub(crate) overriders: Overriders,
-    pub(crate) layout: AbiLayout,
-    pub(crate) slots: Slots,
+pub struct Accepted {
+    pub source: SourceText,
+    pub hierarchy: Hierarchy,
+    pub program: TypedProgram,
+    pub overriders: Overriders,
+    pub layout: AbiLayout,
+    pub slots: Slots,
 }
 
 // The first fault of classes of which the meaning refuses one: that of the layout of a class before it, or else this.
@@ -95,10 +95,10 @@ fn check_tables(
     Ok(slots)
 }
 
-// Makes the passes over the bytes of a source.
-//
-// Errors: the first refusal or limit that they meet, or want of memory.
-pub(crate) fn judge(alloc: Global, bytes: &[u8]) -> Result<Accepted, Stop>
+/// Makes the passes over the bytes of a source.
+///
+/// Errors: the first refusal or limit that they meet, or want of memory.
+pub fn judge(alloc: Global, bytes: &[u8]) -> Result<Accepted, Stop>
     requires { length bytes.now ≤ source_limit }
     ensures ok { IfOk result (λ accepted. Verdict bytes.now (Accepts accepted.source accepted.hierarchy accepted.program)) }
     ensures ready { IfOk result (λ accepted. IsReady accepted) }

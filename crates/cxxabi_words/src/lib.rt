@@ -14,8 +14,6 @@
 pub mod command;
 pub mod laws;
 mod numbers;
-#[cfg(test)]
-mod tests;
 mod words;
 
 pub use crate::command::{Command, command_of};

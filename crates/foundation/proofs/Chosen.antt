@@ -1,6 +1,6 @@
 -- What a test or a partial function chooses from a list.
 use Rattle.std.proofs.Common.{◌≡◌, inl, inr, ⊎_elim, Bool, true, false, cond, Option, Some, None, List, [], ◌∷◌, refl, ap, subst, sym, ◌∙◌}
-use Rattle.std.specs.Prelude.{filter, ◌||◌}
+use Rattle.std.specs.Prelude.{filter, ◌||◌, find, if◌then◌else◌}
 use Rattle.std.specs.List.{filter_map, cons_option, list_any, list_all}
 use Rattle.std.proofs.lemmas.Bool.{and_parts}
 use Rattle.foundation.proofs.Truth.{split, or_left, or_right}
@@ -32,6 +32,13 @@ pub filter_all : {X : Type 0} (p : X → Bool) (xs : List X) → ((x : X) → Ha
 filter_all p [] all = refl
 filter_all p (x ∷ xs) all = let t = all x (inl refl) in let r = filter_all p xs (λ y h. all y (inr h)) in rw t (ap (λ ys. x ∷ ys) r)
 
+pub filter_none : {X : Type 0} (p : X → Bool) (xs : List X) → ((x : X) → Has xs x → p x ≡ false) → filter p xs ≡ []
+filter_none p [] none = refl
+filter_none p (x ∷ xs) none = rw (none x (inl refl)) (filter_none p xs (λ y has. none y (inr has)))
+
+pub filter_first : {X : Type 0} (p : X → Bool) (x : X) (xs : List X) → p x ≡ true → filter p (x ∷ xs) ≡ x ∷ filter p xs
+filter_first p x xs e = rw e refl
+
 pub filter_same : {X : Type 0} (p q : X → Bool) (xs : List X) → ((x : X) → Has xs x → p x ≡ q x) → filter p xs ≡ filter q xs
 filter_same p q [] same = refl
 filter_same {X} p q (x ∷ xs) same = ap (λ b. cond b (x ∷ filter p xs) (filter p xs)) (same x (inl refl)) ∙ ap (λ (ys : List X). cond (q x) (x ∷ ys) ys) (filter_same p q xs (λ y has. same y (inr has)))
@@ -57,6 +64,13 @@ from_filter_map {X} {Y} f (z ∷ xs) y h = by_option (f z) refl (λ k. from_filt
     by_option : (o : Option Y) → f z ≡ o → (Has (filter_map f xs) y → (x : X) × Has xs x × (f x ≡ Some y)) → Has (cons_option o (filter_map f xs)) y → (x : X) × Has (z ∷ xs) x × (f x ≡ Some y)
     by_option None e next k = further (next k)
     by_option (Some w) e next k = ⊎_elim (λ same. (z, inl refl, e ∙ ap (λ (u : Y). Some u) same)) (λ r. further (next r)) k
+
+-- what is found passes
+pub find_passes : {X : Type 0} (p : X → Bool) (xs : List X) (x : X) → find p xs ≡ Some x → Has xs x × (p x ≡ true)
+find_passes p [] x e = cc
+find_passes p (z ∷ xs) x e = split (p z) (λ b. p z ≡ b → (if b then Some z else find p xs) ≡ Some x → Has (z ∷ xs) x × (p x ≡ true))
+    (λ t same f. let g : z ≡ x = cc in (inl g, ap p (sym g) ∙ same))
+    (λ t same f. let r = find_passes p xs x f in (inr r.0, r.1)) refl e
 
 -- a test of each, and of some
 pub record HasAny {X : Type 0} (p : X → Bool) (xs : List X) : Type 0 where

@@ -5,3 +5,4 @@ pub mod Chosen
 pub mod Each
 pub mod Deciding
 pub mod Greatest
+pub mod Zips

@@ -1,5 +1,5 @@
 -- Which elements a list has, and lists in which none stands twice.
-use Rattle.std.proofs.Common.{◌≡◌, ℕ, zero, suc, ◌⊎◌, inl, inr, ⊎_elim, Some, List, [], ◌∷◌, ◌++◌, map, refl, ap, subst, sym, ◌∙◌, arith}
+use Rattle.std.proofs.Common.{◌≡◌, ℕ, zero, suc, ◌⊎◌, inl, inr, ⊎_elim, Some, List, [], ◌∷◌, ◌++◌, map, refl, ap, subst, sym, ◌∙◌, arith, length}
 use Rattle.std.specs.List.{slice_get, Contains, flat_map}
 
 -- x is an element
@@ -39,6 +39,16 @@ pub has_from_contains : {X : Type 0} (xs : List X) (x : X) → Contains xs x →
 has_from_contains [] x (k, lt, e) = absurd (omega arith)
 has_from_contains (y ∷ xs) x (zero, lt, e) = inl e
 has_from_contains (y ∷ xs) x (suc k, lt, e) = inr (has_from_contains xs x (k, omega arith, e))
+
+-- nothing stands in a list of which nothing can be
+pub none_in : {X : Type 0} (xs : List X) → ((x : X) → Has xs x → ⊥) → xs ≡ []
+none_in [] never = refl
+none_in (x ∷ xs) never = absurd (never x (inl refl))
+
+-- the item of a list of one
+pub first_of : {X : Type 0} (xs : List X) → length xs ≡ 1 → (x : X) × Has xs x
+first_of [] e = absurd (omega arith)
+first_of (x ∷ xs) e = (x, inl refl)
 
 -- of a list behind another
 pub has_left : {X : Type 0} (xs ys : List X) (x : X) → Has xs x → Has (xs ++ ys) x

@@ -3,10 +3,10 @@ use Rattle.std.proofs.Common.{◌≡◌, ℕ, zero, suc, ◌+◌, Bool, true, fa
 use Rattle.std.specs.Prelude.{nat_eq, ◌&&◌, if◌then◌else◌, is_some, not, find, slice_get}
 use Rattle.std.specs.List.{position_from}
 use Rattle.std.proofs.lemmas.Bool.{eqb-true}
-use Rattle.std.proofs.Math.Seq.{take-suc}
 use Rattle.cxx_hierarchy.specs.declared.records.ClassId.{ClassId}
 use Rattle.cxx_program.specs.declared.program.TypedInit.{TypedInit}
 use Rattle.foundation.proofs.Truth.{split, is_false, not_both}
+use Rattle.foundation.proofs.Places.{take_next}
 use Rattle.path_bodies.specs.declared.table.MemberKey.{MemberKey}
 use Rattle.path_bodies.specs.Places.{same_key, first_place, key, sets}
 use Rattle.path_bodies.specs.invariants.Firsts.{first_or, only_if, item_at}
@@ -95,9 +95,6 @@ put_new places k q n r absent is = is ∙ cases (same_key q k) refl (places q) r
     cases true e (Some m) f = absurd (let g : places k ≡ Some m = ap places (sym (same_is q k e)) ∙ f in cc)
     cases false e None f = refl
     cases false e (Some m) f = refl
-
-pub take_next : {A : Type 0} (xs : List A) (i : ℕ) (x : A) → i < length xs → x ≡ get_or xs i x → take (i + 1) xs ≡ take i xs ++ x ∷ []
-take_next xs i x less is = ap (λ n. take n xs) (let e : i + 1 ≡ suc i = omega arith in e) ∙ (take-suc xs i x less ∙ ap (λ y. take i xs ++ y ∷ []) (sym is))
 
 take_length : {A : Type 0} (xs : List A) (i : ℕ) → i < length xs → length (take i xs) ≡ i
 take_length [] i less = absurd (omega arith)

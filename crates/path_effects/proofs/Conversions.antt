@@ -22,8 +22,9 @@ use Rattle.path_model.specs.Effects.{right_value}
 use Rattle.path_values.specs.Conversions.{CanReach, CanConvert}
 use Rattle.path_model.specs.TypedStates.{IsValue}
 use Rattle.path_values.specs.Given.{IsSeen}
+use Rattle.path_values.proofs.Seen.{sight_typed}
 use Rattle.path_effects.proofs.Clear.{clear_front, clear_back, clear_rest, is_clear_by, ready_begun, guarded}
-use Rattle.path_effects.proofs.Pointers.{seen_types, seen_value}
+use Rattle.path_effects.proofs.Pointers.{seen_value}
 use Rattle.path_effects.proofs.Targets.{IsTo, typed_to, right_to}
 
 -- a pointer to the class, which is guarded
@@ -86,7 +87,7 @@ by_conversion : (h : Classes) (e : Scope) (s : Sight) → IsSeen h e s → (r : 
     → refused h s.objects (right_uses h (is_clear h s.objects) s r c) ≡ None → CanConvert h s.objects (right_value h s r) c
 by_conversion h e s seen r _ _ has _ (to_number t u) clear = tt
 by_conversion h e s seen r _ _ has _ (to_same t) clear = tt
-by_conversion h e s seen r _ _ has _ (to_base k d i b) clear = right_reaches h s e r (PointerType k) has k refl i b.valid (right_to h e s (seen_types h e s seen) r (PointerType k) has k refl) clear
+by_conversion h e s seen r _ _ has _ (to_base k d i b) clear = right_reaches h s e r (PointerType k) has k refl i b.valid (right_to h e s (sight_typed h e s seen) r (PointerType k) has k refl) clear
 
 pub right_converts : (h : Classes) (e : Scope) (s : Sight) → IsSeen h e s → (x : Converted) (t : ValueType ClassId) → IsConverted h e x t
     → refused h s.objects (right_uses h (is_clear h s.objects) s x.right x.conversion) ≡ None → CanConvert h s.objects (right_value h s x.right) x.conversion

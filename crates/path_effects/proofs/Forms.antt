@@ -11,12 +11,7 @@ use Rattle.cxx_program.specs.declared.statement.TypedPlace.{TypedPlace}
 use Rattle.cxx_program.specs.declared.statement.TypedCast.{TypedCast}
 use Rattle.cxx_program.specs.declared.statement.TypedRight.{TypedRight}
 use Rattle.cxx_program.specs.declared.statement.TypedRight.TheVariants.{SamePointer, Read, Address, Cast}
-use Rattle.std.specs.Prelude.{pos}
-use Rattle.cxx_hierarchy.specs.declared.records.Scalar.TheVariants.{Int}
-use Rattle.cxx_hierarchy.specs.declared.records.ValueType.TheVariants.{Number as NumberType}
-use Rattle.cxx_program.specs.declared.statement.Converted.{Converted}
-use Rattle.path_model.proofs.TypedRanges.{zero_in_range}
-use Rattle.cxx_program.specs.Typed.{IsConverted, a_right, a_null_right, zero_operand, of_number, Scope, HasType, IsArgument, Casts, IsPlace, HasRight, an_operand, a_calculation, a_comparison, a_negation, a_read, an_address, a_result, an_object, a_cast, a_type_test}
+use Rattle.cxx_program.specs.Typed.{Scope, HasType, IsArgument, Casts, IsPlace, HasRight, an_operand, a_calculation, a_comparison, a_negation, a_read, an_address, a_result, an_object, a_cast, a_type_test}
 
 -- two pointers to one class
 pub record Compares (h : Classes) (e : Scope) (a b : Argument) : Type 0 where
@@ -87,8 +82,3 @@ casting h e _ _ (a_cast cast0 x0 k d0 has casts) cast x same =
     let g : x0 ≡ x = cc in
     record { from = k; to = d0; pointer = subst (λ (z : TypedOperand). HasType e z (PointerType k)) g has; casts = subst (λ (z : TypedCast). Casts h k z d0) f casts }
 casting h e _ _ (a_type_test x0 k d0 has poly known) cast x same = absurd (cc)
-
--- a converted right side has a type, or is a null pointer constant, which has one too
-pub has_type : (h : Classes) (e : Scope) (x : Converted) (t : ValueType ClassId) → IsConverted h e x t → (u : ValueType ClassId) × HasRight h e x.right u
-has_type h e _ _ (a_right x u t has fits) = (u, has)
-has_type h e _ _ (a_null_right d) = (NumberType Int, an_operand zero_operand (NumberType Int) (of_number (pos 0) Int (zero_in_range Int)))

@@ -14,8 +14,8 @@ use Rattle.path_model.specs.TypedStates.{IsValue}
 use Rattle.path_model.proofs.TypedValues.{argument_typed, converted_value}
 use Rattle.path_values.specs.Conversions.{CanConvert}
 use Rattle.path_values.specs.Given.{IsSeen, GivesBack}
+use Rattle.path_values.proofs.Seen.{sight_typed}
 use Rattle.path_effects.proofs.Clear.{clear_front, clear_back}
-use Rattle.path_effects.proofs.Pointers.{seen_types}
 use Rattle.path_effects.proofs.Conversions.{can_convert}
 use Rattle.path_effects.proofs.Targets.{IsTo, typed_to}
 
@@ -39,7 +39,7 @@ return_converts h e s seen w a t is fits gives clear =
     let vs : List Use = convert v w.found in
     let ws : List Use = convert u w.target in
     let behind = clear_back h s.objects us (vs ++ ws) clear in
-    let typed = argument_typed h e s (seen_types h e s seen) a t fits in
+    let typed = argument_typed h e s (sight_typed h e s seen) a t fits in
     let moved = converted_value h cs t g.0 w.found g.2 v typed in
     record {
       argument = clear_front h s.objects us (vs ++ ws) clear;

@@ -2,7 +2,6 @@ pub mod Clear
 pub mod Pointers
 pub mod Targets
 pub mod Telling
-pub mod Returns
 pub mod Conversions
 pub mod Reading
 pub mod Meaning

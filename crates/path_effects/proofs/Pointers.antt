@@ -21,7 +21,7 @@ use Rattle.path_model.specs.Uses.{Use, Reads, Follows, Guards, arrow, of_part, p
 use Rattle.path_model.specs.Rules.{refused}
 use Rattle.path_model.specs.Typed.{AllSettled}
 use Rattle.path_model.specs.TypedStates.{IsPartMade, IsValue}
-use Rattle.path_model.proofs.TypedValues.{IsTypedSight, inner_made, operand_typed}
+use Rattle.path_model.proofs.TypedValues.{inner_made, operand_typed}
 use Rattle.path_model.proofs.TypedUses.{followed}
 use Rattle.path_heap.specs.declared.state.Value.TheVariants.{Pointer as PointerCode}
 use Rattle.path_heap.specs.Points.{Points}
@@ -29,13 +29,11 @@ use Rattle.path_heap.specs.Stands.{HasBegun, Means}
 use Rattle.path_values.specs.Open.{IsOpen}
 use Rattle.path_values.specs.Conversions.{CanReach, CanGo}
 use Rattle.path_values.specs.Given.{IsSeen}
+use Rattle.path_values.proofs.Seen.{sight_typed}
 use Rattle.path_effects.proofs.Clear.{clear_back, ready_begun, guarded, inner_ready, path_open}
 
-pub seen_types : (h : Classes) (e : Scope) (s : Sight) → IsSeen h e s → IsTypedSight h e s
-seen_types h e s a = record { globals = a.globals; locals = a.locals; this = a.this; leaves = a.leaves }
-
 pub seen_value : (h : Classes) (e : Scope) (s : Sight) → IsSeen h e s → (x : TypedOperand) (t : ValueType ClassId) → HasType e x t → IsValue h s.objects.classes (value s x) t
-seen_value h e s a x t has = operand_typed h e s (seen_types h e s a) x t has
+seen_value h e s a x t has = operand_typed h e s (sight_typed h e s a) x t has
 
 -- the value is a pointer to a part that is ready, of class c
 pub record NamesReady (h : Classes) (s : Objects) (v : Value) (c : ClassId) : Type 0 where

@@ -3,7 +3,7 @@ use Rattle.std.proofs.Common.{◌≡◌, Bool, Option, Some, None, List, [], ◌
 use Rattle.std.specs.Prelude.{filter, ◌&&◌, if◌then◌else◌}
 use Rattle.foundation.proofs.Truth.{split}
 use Rattle.foundation.proofs.Members.{Has}
-use Rattle.foundation.proofs.Chosen.{has_filter}
+use Rattle.foundation.proofs.Chosen.{has_filter, find_passes}
 use Rattle.cxx_hierarchy.specs.declared.records.ClassId.{ClassId}
 use Rattle.cxx_hierarchy.specs.declared.records.ValueType.{ValueType}
 use Rattle.cxx_hierarchy.specs.declared.records.ValueType.TheVariants.{Pointer as PointerType}
@@ -14,7 +14,7 @@ use Rattle.cxx_subobject.specs.Subobjects.{class_of, join, same_subobject}
 use Rattle.cxx_subobject.specs.Locations.{ObjectPart}
 use Rattle.cxx_subobject.proofs.InsideLemmas.{join_class}
 use Rattle.cxx_search.specs.Searches.{is_within, is_of_class, is_public_in, parts_of, the_only, where_it, targets, cast_down, cast_across, or_else, cast_in, preorder_of}
-use Rattle.cxx_search.proofs.Finding.{find_passes}
+use Rattle.cxx_search.proofs.Casts.{of_class}
 use Rattle.cxx_program.specs.declared.statement.TypedCast.{TypedCast}
 use Rattle.cxx_program.specs.declared.statement.TypedPlace.{TypedPlace}
 use Rattle.cxx_program.specs.declared.statement.TypedRight.{TypedRight}
@@ -26,7 +26,7 @@ use Rattle.path_model.specs.Effects.{right_value}
 use Rattle.path_model.specs.TypedStates.{IsValue}
 use Rattle.path_model.proofs.TypedValues.{IsTypedSight, operand_typed}
 use Rattle.path_model.proofs.TypedPlaces.{leaf_made, object_made}
-use Rattle.path_model.proofs.TypedViews.{of_class, both_left}
+use Rattle.path_model.proofs.TypedViews.{both_left}
 
 -- a pointer is one to the class; of other values nothing is said
 abbrev pub IsTo : Value → ClassId → Type 0

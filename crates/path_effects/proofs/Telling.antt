@@ -35,9 +35,6 @@ pub part_class : (h : Classes) (classes : List ClassId) (code : Part) (p : Objec
 part_class h classes code p a =
     sym a.is_class ∙ sym (ap class_or_first (sym (ap (λ (t : ObjectPart). class_of t.at) a.is_part) ∙ (at_good h (sizes_of h) classes a.node a.at).class))
 
-pub part_points : (h : Classes) (classes : List ClassId) (code : Part) (p : ObjectPart) → IsPart h classes code p → Points h classes code.number p
-part_points h classes code p a = record { node = a.node; at = a.at; is_part = a.is_part; is_number = a.is_number }
-
 -- the view of a part that is asked for
 pub view_is_told : (h : Classes) (s : Objects) (n : ℕ) (v : Option ℕ) (out : Option Out) → ((p : ObjectPart) (x : Option Subobject) → PointsView h s.classes p v x → out ≡ part_out s (part_at p x))
     → ((p : ObjectPart) → Points h s.classes n p → HasBegun s p → PointsView h s.classes p v (view_of h s p)) → (w : Value) → Means h s.classes (PointerCode n) w → refused h s (Reads w ∷ Guards w ∷ Views w ∷ []) ≡ None → out ≡ view_out h s w

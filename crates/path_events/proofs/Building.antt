@@ -4,6 +4,8 @@ use Rattle.std.specs.Prelude.{slice_get, if◌then◌else◌}
 use Rattle.std.specs.List.{flat_map}
 use Rattle.std.proofs.Math.ListN.{drop}
 use Rattle.std.proofs.lemmas.Option.{slice_get_past, slice_get_cases}
+use Rattle.std.proofs.lemmas.List.{drop_all}
+use Rattle.foundation.proofs.Places.{get_none}
 use Rattle.cxx_hierarchy.specs.declared.records.ClassId.{ClassId}
 use Rattle.cxx_hierarchy.specs.declared.records.Base.{Base}
 use Rattle.cxx_hierarchy.specs.declared.records.Member.{Member}
@@ -18,7 +20,7 @@ use Rattle.path_plan.specs.Plans.{Bodies, Form, InFull, AsBase, upto, virtual_or
 use Rattle.path_plan.specs.Pieces.{Piece, Own, Sub, shared_pieces, base_pieces, init_pieces, body_pieces, typed_pieces, member_pieces, built_pieces}
 use Rattle.path_events.specs.Frames.{built_body, built_members, built_bases, built_left}
 use Rattle.path_events.specs.declared.frame.Stage.TheVariants.{Shared as SharedStage, Bases as BasesStage}
-use Rattle.path_events.proofs.Lists.{drop_at, drop_past, upto_length, upto_at}
+use Rattle.path_events.proofs.Lists.{drop_at, upto_length, upto_at}
 
 -- a virtual base
 pub shared_one : (h : Classes) (bodies : Bodies) (c : ClassId) (p : ObjectPart) (j : ℕ) (v : ClassId) → slice_get (virtual_order h c) j ≡ Some v
@@ -26,7 +28,7 @@ pub shared_one : (h : Classes) (bodies : Bodies) (c : ClassId) (p : ObjectPart) 
 shared_one h bodies c p j v at = ap (λ t. map (λ v. Sub AsBase v (shared_part p v)) t ++ built_bases h bodies c p 0) (drop_at (virtual_order h c) j v at)
 
 none_left : {X : Type 0} (xs : List X) (i : ℕ) → slice_get xs i ≡ None → drop i xs ≡ []
-none_left xs i e = drop_past xs i (⊎_elim (λ some. absurd (let f = some.2 in cc)) (λ past. past.0) (slice_get_cases xs i).1)
+none_left xs i e = drop_all i xs (⊎_elim (λ some. absurd (let f = some.2 in cc)) (λ past. past.0) (slice_get_cases xs i).1)
 
 pub shared_none : (h : Classes) (bodies : Bodies) (c : ClassId) (p : ObjectPart) (j : ℕ) → slice_get (virtual_order h c) j ≡ None
     → built_left h bodies InFull c p (SharedStage j) ≡ built_left h bodies InFull c p (BasesStage 0)
@@ -48,13 +50,10 @@ past_more : (n i : ℕ) → n ≤ i → n ≤ i + 1
 past_more n i le = omega arith
 
 pub base_past : (h : Classes) (bodies : Bodies) (c : ClassId) (p : ObjectPart) (i : ℕ) → length (bases_of h c) ≤ i → built_bases h bodies c p i ≡ Own (Ready p) ∷ built_members h bodies c p 0 0
-base_past h bodies c p i past = ap (λ t. flat_map (base_pieces p) t ++ Own (Ready p) ∷ built_members h bodies c p 0 0) (drop_past (bases_of h c) i past)
-
-get_past : {X : Type 0} (xs : List X) (i : ℕ) → slice_get xs i ≡ None → length xs ≤ i
-get_past xs i e = ⊎_elim (λ some. absurd (let f = some.2 in cc)) (λ past. past.0) (slice_get_cases xs i).1
+base_past h bodies c p i past = ap (λ t. flat_map (base_pieces p) t ++ Own (Ready p) ∷ built_members h bodies c p 0 0) (drop_all i (bases_of h c) past)
 
 pub base_none : (h : Classes) (bodies : Bodies) (c : ClassId) (p : ObjectPart) (i : ℕ) → slice_get (bases_of h c) i ≡ None → built_bases h bodies c p i ≡ built_bases h bodies c p (i + 1)
-base_none h bodies c p i e = let past = get_past (bases_of h c) i e in base_past h bodies c p i past ∙ sym (base_past h bodies c p (i + 1) (past_more (length (bases_of h c)) i past))
+base_none h bodies c p i e = let past = get_none (bases_of h c) i e in base_past h bodies c p i past ∙ sym (base_past h bodies c p (i + 1) (past_more (length (bases_of h c)) i past))
 
 -- the members, each in full
 abbrev each_member : Classes → Bodies → ClassId → ObjectPart → ℕ → List Piece
@@ -69,9 +68,9 @@ from_member h bodies c p m = ⊎_elim
     let n = upto_length (length (members_of h c)) in let le = past.0 in
     let a : length (upto (length (members_of h c))) ≤ m = omega arith in
     let b : length (upto (length (members_of h c))) ≤ m + 1 = omega arith in
-    ap (flat_map (each_member h bodies c p)) (drop_past (upto (length (members_of h c))) m a)
+    ap (flat_map (each_member h bodies c p)) (drop_all m (upto (length (members_of h c))) a)
     ∙ sym (ap (λ o. member_pieces (bodies.initializer c m) (λ is. is) p m o ++ flat_map (each_member h bodies c p) (drop (m + 1) (upto (length (members_of h c))))) past.1
-    ∙ ap (flat_map (each_member h bodies c p)) (drop_past (upto (length (members_of h c))) (m + 1) b)))
+    ∙ ap (flat_map (each_member h bodies c p)) (drop_all (m + 1) (upto (length (members_of h c))) b)))
     (slice_get_cases (members_of h c) m).1
 
 pub behind_member : (h : Classes) (bodies : Bodies) (c : ClassId) (p : ObjectPart) (m : ℕ) → flat_map (each_member h bodies c p) (drop m (upto (length (members_of h c)))) ++ built_body bodies c p ≡ built_members h bodies c p m 0
@@ -108,13 +107,13 @@ object_one h bodies c p m i member d at type lt =
 pub object_none : (h : Classes) (bodies : Bodies) (c : ClassId) (p : ObjectPart) (m i : ℕ) (member : Member ClassId) (d : ClassId) → slice_get (members_of h c) m ≡ Some member → member.ty ≡ Object d → elements_of member.count ≤ i
     → built_members h bodies c p m i ≡ built_members h bodies c p (m + 1) 0
 object_none h bodies c p m i member d at type past = member_over h bodies c p m i
-    (pieces_at h (bodies.initializer c m) c p m i member (Object d) at type ∙ ap (map (λ i. Sub InFull d (element p m i d))) (drop_past (upto (elements_of member.count)) i (subst (λ n. n ≤ i) (sym (upto_length (elements_of member.count))) past)))
+    (pieces_at h (bodies.initializer c m) c p m i member (Object d) at type ∙ ap (map (λ i. Sub InFull d (element p m i d))) (drop_all i (upto (elements_of member.count)) (subst (λ n. n ≤ i) (sym (upto_length (elements_of member.count))) past)))
 
 pub members_past : (h : Classes) (bodies : Bodies) (c : ClassId) (p : ObjectPart) (m i : ℕ) → length (members_of h c) ≤ m → built_members h bodies c p m i ≡ built_body bodies c p
 members_past h bodies c p m i past =
     let n = upto_length (length (members_of h c)) in let b : length (upto (length (members_of h c))) ≤ m + 1 = omega arith in
     ap (λ o. member_pieces (bodies.initializer c m) (drop i) p m o ++ (flat_map (each_member h bodies c p) (drop (m + 1) (upto (length (members_of h c)))) ++ built_body bodies c p)) (slice_get_past (members_of h c) m past)
-    ∙ ap (λ t. flat_map (each_member h bodies c p) t ++ built_body bodies c p) (drop_past (upto (length (members_of h c))) (m + 1) b)
+    ∙ ap (λ t. flat_map (each_member h bodies c p) t ++ built_body bodies c p) (drop_all (m + 1) (upto (length (members_of h c))) b)
 
 -- the body
 pub body_on : (bodies : Bodies) (c : ClassId) (p : ObjectPart) → bodies.constructor c ≡ true → built_body bodies c p ≡ Own (Body p) ∷ (Own (Done p) ∷ [])

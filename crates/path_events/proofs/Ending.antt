@@ -1,8 +1,9 @@
 -- What is left of a destruction, from each stage to the next.
-use Rattle.std.proofs.Common.{◌≡◌, ℕ, ◌+◌, ◌<◌, ◌≤◌, ⊎_elim, true, false, Option, Some, None, List, [], ◌∷◌, ◌++◌, map, length, refl, ap, sym, ◌∙◌, arith, append_assoc, take}
+use Rattle.std.proofs.Common.{◌≡◌, ℕ, ◌+◌, ◌<◌, ◌≤◌, true, false, Option, Some, None, List, [], ◌∷◌, ◌++◌, map, length, refl, ap, sym, ◌∙◌, arith, append_assoc, take}
 use Rattle.std.specs.Prelude.{slice_get, ◌-◌, if◌then◌else◌}
 use Rattle.std.specs.List.{flat_map}
-use Rattle.std.proofs.lemmas.Option.{slice_get_cases}
+use Rattle.std.proofs.lemmas.List.{take_all}
+use Rattle.foundation.proofs.Places.{get_none}
 use Rattle.cxx_hierarchy.specs.declared.records.ClassId.{ClassId}
 use Rattle.cxx_hierarchy.specs.declared.records.Base.{Base}
 use Rattle.cxx_hierarchy.specs.declared.records.Member.{Member}
@@ -18,7 +19,7 @@ use Rattle.path_plan.specs.Pieces.{Piece, Own, Sub, shared_pieces, base_pieces, 
 use Rattle.path_events.specs.Frames.{ended_shared, ended_bases, ended_members, ended_left}
 use Rattle.path_events.specs.declared.frame.Stage.TheVariants.{Body as BodyStage}
 use Rattle.path_events.specs.invariants.Steps.{elements_in, elements_at}
-use Rattle.path_events.proofs.Lists.{take_back, take_over, upto_length, upto_at, upto_back}
+use Rattle.path_events.proofs.Lists.{take_back, upto_length, upto_at, upto_back}
 
 -- virtual bases
 pub shared_none : (h : Classes) (c : ClassId) (p : ObjectPart) (j : ℕ) → take j (virtual_order h c) ≡ [] → ended_shared h InFull c p j ≡ Own (End p) ∷ []
@@ -45,13 +46,10 @@ base_over h form c p i b at virtual =
     ap (λ t. flat_map (base_pieces p) t ++ behind_bases h form c p) (take_back (bases_of h c) i b at)
     ∙ ap (λ t. ((if t then [] else Sub AsBase b.class (base_part p b) ∷ []) ++ flat_map (base_pieces p) (backwards (take i (bases_of h c)))) ++ behind_bases h form c p) virtual
 
-get_past : {X : Type 0} (xs : List X) (i : ℕ) → slice_get xs i ≡ None → length xs ≤ i
-get_past xs i e = ⊎_elim (λ some. absurd (let f = some.2 in cc)) (λ past. past.0) (slice_get_cases xs i).1
-
 pub base_none : (h : Classes) (form : Form) (c : ClassId) (p : ObjectPart) (i : ℕ) → slice_get (bases_of h c) i ≡ None → ended_bases h form c p (i + 1) ≡ ended_bases h form c p i
 base_none h form c p i e =
-    let past = get_past (bases_of h c) i e in let more : length (bases_of h c) ≤ i + 1 = omega arith in
-    ap (λ t. flat_map (base_pieces p) (backwards t) ++ behind_bases h form c p) (take_over (bases_of h c) (i + 1) more ∙ sym (take_over (bases_of h c) i past))
+    let past = get_none (bases_of h c) i e in let more : length (bases_of h c) ≤ i + 1 = omega arith in
+    ap (λ t. flat_map (base_pieces p) (backwards t) ++ behind_bases h form c p) (take_all (i + 1) (bases_of h c) more ∙ sym (take_all i (bases_of h c) past))
 
 -- members
 abbrev each_member : Classes → ClassId → ObjectPart → ℕ → List Piece
@@ -101,7 +99,7 @@ object_one h form c p m i place member d at type lt same =
 -- from one member to the one before it, with all its elements
 all_elements : (p : ObjectPart) (m : ℕ) (o : Option (Member ClassId)) → member_pieces false (λ is. backwards (take (elements_in o) is)) p m o ≡ member_pieces false backwards p m o
 all_elements p m None = refl
-all_elements p m (Some member) = ap (λ t. typed_pieces false p m (backwards t) member.ty) (take_over (upto (elements_of member.count)) (elements_of member.count) (let e = upto_length (elements_of member.count) in omega arith))
+all_elements p m (Some member) = ap (λ t. typed_pieces false p m (backwards t) member.ty) (take_all (elements_of member.count) (upto (elements_of member.count)) (let e = upto_length (elements_of member.count) in omega arith))
 
 pub member_before : (h : Classes) (form : Form) (c : ClassId) (p : ObjectPart) (m : ℕ) → ended_members h form c p (m + 1) 0 ≡ ended_members h form c p m (elements_at h c m)
 member_before h form c p m =
@@ -128,6 +126,6 @@ pub ended_first : (h : Classes) (bodies : Bodies) (form : Form) (c : ClassId) (p
 ended_first h bodies form c p =
     ap (λ t. Own (Ending p) ∷ (body_pieces (bodies.destructor c) p ++ t))
     (ap (λ t. flat_map (each_member h c p) (backwards (upto (length (members_of h c)))) ++ Own (Bases p) ∷ t)
-    (ap (λ t. flat_map (base_pieces p) (backwards t) ++ (shared_pieces form p (backwards (virtual_order h c)) ++ Own (End p) ∷ [])) (sym (take_over (bases_of h c) (length (bases_of h c)) (omega arith)))
-    ∙ ap (λ t. flat_map (base_pieces p) (backwards (take (length (bases_of h c)) (bases_of h c))) ++ (shared_pieces form p (backwards t) ++ Own (End p) ∷ [])) (sym (take_over (virtual_order h c) (length (virtual_order h c)) (omega arith))))
+    (ap (λ t. flat_map (base_pieces p) (backwards t) ++ (shared_pieces form p (backwards (virtual_order h c)) ++ Own (End p) ∷ [])) (sym (take_all (length (bases_of h c)) (bases_of h c) (omega arith)))
+    ∙ ap (λ t. flat_map (base_pieces p) (backwards (take (length (bases_of h c)) (bases_of h c))) ++ (shared_pieces form p (backwards t) ++ Own (End p) ∷ [])) (sym (take_all (length (virtual_order h c)) (virtual_order h c) (omega arith))))
     ∙ sym (none_at_zero h form c p (length (members_of h c))))

@@ -1,9 +1,9 @@
 -- What lies right inside a part stands as such, where the code adds its distance.
-use Rattle.std.proofs.Common.{◌≡◌, ℕ, ◌+◌, ◌*◌, ◌%◌, ◌^◌, ◌<◌, ◌≤◌, false, Option, Some, None, List, [], ◌∷◌, length, refl, ap, subst, sym, ◌∙◌, arith}
+use Rattle.std.proofs.Common.{◌≡◌, ℕ, ◌+◌, ◌*◌, ◌%◌, ◌^◌, ◌<◌, ◌≤◌, false, Option, Some, None, List, [], length, refl, ap, subst, sym, ◌∙◌, arith}
 use Rattle.std.specs.Prelude.{slice_get, unwrap_or}
 use Rattle.std.proofs.lemmas.Option.{slice_get_past}
 use Rattle.foundation.proofs.Places.{contains_at}
-use Rattle.foundation.proofs.Members.{Has, has_at}
+use Rattle.foundation.proofs.Members.{has_at}
 use Rattle.cxx_hierarchy.specs.declared.records.ClassId.{ClassId}
 use Rattle.cxx_hierarchy.specs.declared.records.Base.{Base}
 use Rattle.cxx_hierarchy.specs.declared.records.Member.{Member}
@@ -149,11 +149,6 @@ element_stands h keeps classes code form p a m i d member listed type within kid
       };
       room = r.room;
     }
-
--- nothing stands in a list of which nothing can be
-pub none_in : {X : Type 0} (xs : List X) → ((x : X) → Has xs x → ⊥) → xs ≡ []
-none_in [] never = refl
-none_in (x ∷ xs) never = absurd (never x (has_at (x ∷ xs) 0 x refl))
 
 -- the classes of elements are of the hierarchy
 pub object_within : (h : Classes) → IsHierarchy h → (c d : ClassId) (m : ℕ) (member : Member ClassId) → slice_get (members_of h c) m ≡ Some member → member.ty ≡ Object d → d.0 < length h

@@ -3,33 +3,23 @@ use Rattle.std.proofs.Common.{◌≡◌, ℕ, zero, suc, ◌+◌, ◌<◌, ◌�
 use Rattle.std.specs.Prelude.{slice_get, min, ◌-◌}
 use Rattle.std.proofs.Math.ListN.{drop}
 use Rattle.std.proofs.Math.Nat.{min-le_right}
+use Rattle.std.proofs.lemmas.List.{take_all}
 use Rattle.path_plan.specs.Plans.{count_from, upto, backwards}
+use Rattle.path_plan.proofs.Members.{count_last}
 
 pub drop_at : {X : Type 0} (xs : List X) (i : ℕ) (x : X) → slice_get xs i ≡ Some x → drop i xs ≡ x ∷ drop (i + 1) xs
 drop_at [] i x e = absurd (cc)
 drop_at (y ∷ xs) zero x e = let f : y ≡ x = cc in ap (λ z. z ∷ xs) f
 drop_at (y ∷ xs) (suc i) x e = drop_at xs i x e ∙ ap (λ n. x ∷ drop n (y ∷ xs)) (let f : suc (i + 1) ≡ suc i + 1 = omega arith in f)
 
-pub drop_past : {X : Type 0} (xs : List X) (i : ℕ) → length xs ≤ i → drop i xs ≡ []
-drop_past [] zero le = refl
-drop_past [] (suc i) le = refl
-drop_past (x ∷ xs) zero le = absurd (omega arith)
-drop_past (x ∷ xs) (suc i) le = drop_past xs i (omega arith)
-
 pub take_back : {X : Type 0} (xs : List X) (i : ℕ) (x : X) → slice_get xs i ≡ Some x → backwards (take (i + 1) xs) ≡ x ∷ backwards (take i xs)
 take_back [] i x e = absurd (cc)
 take_back (y ∷ xs) zero x e = let f : y ≡ x = cc in ap (λ z. z ∷ []) f
 take_back (y ∷ xs) (suc i) x e = ap (λ n. backwards (take n (y ∷ xs))) (let f : suc i + 1 ≡ suc (i + 1) = omega arith in f) ∙ ap (λ t. t ++ y ∷ []) (take_back xs i x e)
 
-pub take_over : {X : Type 0} (xs : List X) (i : ℕ) → length xs ≤ i → take i xs ≡ xs
-take_over [] zero le = refl
-take_over [] (suc i) le = refl
-take_over (x ∷ xs) zero le = absurd (omega arith)
-take_over (x ∷ xs) (suc i) le = ap (λ t. x ∷ t) (take_over xs i (omega arith))
-
 -- the place that is tried is the one before i, or the end before it
 pub taken_left : {X : Type 0} (xs : List X) (i left : ℕ) → (length xs ≤ i → left ≡ length xs) → (i ≤ length xs → left ≡ i) → take left xs ≡ take i xs
-taken_left [] i left over under = let e = over (omega arith) in ap (λ n. take n []) e ∙ sym (take_over [] i (omega arith))
+taken_left [] i left over under = let e = over (omega arith) in ap (λ n. take n []) e ∙ sym (take_all i [] (omega arith))
 taken_left (x ∷ xs) zero left over under = ap (λ n. take n (x ∷ xs)) (under (omega arith))
 taken_left (x ∷ xs) (suc i) zero over under = absurd (some i (length xs) over under)
   where
@@ -52,10 +42,6 @@ count_at a (suc n) (suc i) lt = count_at (suc a) n i (omega arith) ∙ ap Some (
 pub upto_at : (n i : ℕ) → i < n → slice_get (upto n) i ≡ Some i
 upto_at n i lt = count_at 0 n i lt ∙ ap Some (let e : 0 + i ≡ i = omega arith in e)
 
-count_more : (a n : ℕ) → count_from a (suc n) ≡ count_from a n ++ (a + n) ∷ []
-count_more a zero = ap (λ m. m ∷ []) (let e : a ≡ a + 0 = omega arith in e)
-count_more a (suc n) = ap (λ t. a ∷ t) (count_more (suc a) n ∙ ap (λ m. count_from (suc a) n ++ m ∷ []) (let e : suc a + n ≡ a + suc n = omega arith in e))
-
 backwards_pushed : {X : Type 0} (xs : List X) (x : X) → backwards (xs ++ x ∷ []) ≡ x ∷ backwards xs
 backwards_pushed [] x = refl
 backwards_pushed (y ∷ xs) x = ap (λ t. t ++ y ∷ []) (backwards_pushed xs x)
@@ -63,7 +49,7 @@ backwards_pushed (y ∷ xs) x = ap (λ t. t ++ y ∷ []) (backwards_pushed xs x)
 pub upto_back : (n : ℕ) → backwards (upto (n + 1)) ≡ n ∷ backwards (upto n)
 upto_back n =
     ap (λ m. backwards (upto m)) (let e : n + 1 ≡ suc n = omega arith in e)
-    ∙ (ap backwards (count_more 0 n) ∙ (backwards_pushed (upto n) (0 + n) ∙ ap (λ m. m ∷ backwards (upto n)) (let e : 0 + n ≡ n = omega arith in e)))
+    ∙ (ap backwards (count_last 0 n) ∙ (backwards_pushed (upto n) (0 + n) ∙ ap (λ m. m ∷ backwards (upto n)) (let e : 0 + n ≡ n = omega arith in e)))
 
 -- the smaller of a number and a length
 pub min_over : (i n left : ℕ) → left ≡ min i n → n ≤ i → left ≡ n

@@ -13,15 +13,10 @@ use Rattle.path_model.specs.States.{State, Running, Frame, InBody, InPlan, with_
 use Rattle.path_model.specs.Runs.{heap_total, rounded, most_heap_bytes}
 use Rattle.path_heap.specs.declared.heap.Heap.{Heap}
 use Rattle.path_heap.specs.declared.state.Value.{Value as ValueCode}
-use Rattle.cxx_subobject.specs.Locations.{ObjectPart}
 use Rattle.path_plan.specs.Whole.{whole_part}
-use Rattle.path_heap.specs.declared.state.Part.{Part}
-use Rattle.path_heap.specs.Points.{IsPart}
 use Rattle.path_heap.specs.Stands.{HeapStands, Means}
-use Rattle.path_heap.proofs.Growing.{means_more, owner_more}
-use Rattle.path_numbers.specs.Sizes.{sizes_of}
-use Rattle.path_numbers.proofs.Heap.{at_more}
-use Rattle.path_events.proofs.Growing.{plan_more}
+use Rattle.path_heap.proofs.Growing.{means_more}
+use Rattle.path_events.proofs.Growing.{plan_more, part_more}
 use Rattle.path_frames.specs.declared.frames.BodyFrame.{BodyFrame}
 use Rattle.path_frames.specs.declared.frames.Frame.{Frame as FrameCode}
 use Rattle.path_frames.specs.declared.frames.Frame.TheVariants.{Body, Plan}
@@ -109,15 +104,12 @@ global_set h sizes program machine new s n value v a m e1 e2 e3 e4 e5 = record {
 zip_grown : (h : Classes) (classes : List ClassId) (c : ClassId) (xs : List ValueCode) (vs : List Value) → AllZip (Means h classes) xs vs → AllZip (Means h (classes ++ c ∷ [])) xs vs
 zip_grown h classes c xs vs a = zip_more (Means h classes) (Means h (classes ++ c ∷ [])) (means_more h classes c) xs vs a
 
-part_grown : (h : Classes) (classes : List ClassId) (c : ClassId) (code : Part) (p : ObjectPart) → IsPart h classes code p → IsPart h (classes ++ c ∷ []) code p
-part_grown h classes c code p a = record { node = a.node; at = at_more h (sizes_of h) classes c a.node a.at; is_part = a.is_part; is_number = a.is_number; is_class = a.is_class; owned = owner_more h classes c a.node code.whole code.owner a.owned }
-
 -- a frame
 pub frame_grown : (h : Classes) (program : TypedProgram) (classes : List ClassId) (c : ClassId) (code : FrameCode) (f : Frame) → FrameStands h program classes code f → FrameStands h program (classes ++ c ∷ []) code f
 frame_grown h program classes c (Body code) (InPlan f) a = absurd a
 frame_grown h program classes c (Plan code) (InBody f) a = absurd a
 frame_grown h program classes c (Body code) (InBody f) a = record { same_owner = a.same_owner; this_means = means_more h classes c code.this f.this a.this_means; locals_mean = zip_grown h classes c code.locals.items f.locals a.locals_mean; same_next = a.same_next; same_found = a.same_found; same_target = a.same_target; plain_main = a.plain_main }
-frame_grown h program classes c (Plan code) (InPlan f) a = record { plan_stands = plan_more h program classes c code.plan f.events a.plan_stands; same_kind = a.same_kind; made = get_front classes (c ∷ []) f.object code.whole.class a.made; whole = part_grown h classes c code.whole (whole_part f.object code.whole.class) a.whole; ends_whole = a.ends_whole; same_target = a.same_target }
+frame_grown h program classes c (Plan code) (InPlan f) a = record { plan_stands = plan_more h program classes c code.plan f.events a.plan_stands; same_kind = a.same_kind; made = get_front classes (c ∷ []) f.object code.whole.class a.made; whole = part_more h classes c code.whole (whole_part f.object code.whole.class) a.whole; ends_whole = a.ends_whole; same_target = a.same_target }
 
 frames_grown : (h : Classes) (program : TypedProgram) (classes : List ClassId) (c : ClassId) (codes : List FrameCode) (frames : List Frame) → FramesStand h program classes codes frames → FramesStand h program (classes ++ c ∷ []) codes frames
 frames_grown h program classes c [] [] a = a

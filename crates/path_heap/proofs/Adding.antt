@@ -4,7 +4,7 @@ use Rattle.std.specs.Prelude.{slice_get, replicate, nat_eq, if◌then◌else◌}
 use Rattle.std.proofs.lemmas.Bool.{eq-eqb}
 use Rattle.std.proofs.lemmas.List.{length-replicate, length-append}
 use Rattle.foundation.proofs.Truth.{split}
-use Rattle.foundation.proofs.Places.{get_front, get_pushed, get_last, length_pushed}
+use Rattle.foundation.proofs.Places.{get_front, get_pushed, get_last, length_pushed, get_kept}
 use Rattle.cxx_hierarchy.specs.declared.records.ClassId.{ClassId}
 use Rattle.cxx_hierarchy.specs.Classes.{Classes}
 use Rattle.cxx_hierarchy.specs.Hierarchies.{IsHierarchy}
@@ -18,7 +18,7 @@ use Rattle.path_numbers.specs.Heap.{IsAt, start_of, root_at}
 use Rattle.path_numbers.proofs.Intervals.{size_of, size_some}
 use Rattle.path_numbers.proofs.Sized.{sizes_are}
 use Rattle.path_numbers.proofs.Leaves.{leaf_own}
-use Rattle.path_numbers.proofs.Heap.{at_within, at_range, at_object}
+use Rattle.path_numbers.proofs.Heap.{at_within, at_range, at_object, before_more}
 use Rattle.path_model.specs.Values.{Value, Unset, Leaf, Objects}
 use Rattle.path_model.specs.Effects.{made}
 use Rattle.path_heap.specs.declared.state.Value.TheVariants.{Unset as UnsetCode}
@@ -27,10 +27,10 @@ use Rattle.path_heap.specs.Points.{Points, PointsLeaf}
 use Rattle.path_heap.specs.Running.{entry_in, entry_at, AreRunning, StackStands, ViewsStand}
 use Rattle.path_heap.specs.Stands.{Means, CellStands, LeafStands, ObjectStands, HeapStands}
 use Rattle.path_heap.specs.invariants.Columns.{raw_cell, Made}
-use Rattle.path_heap.proofs.Sets.{get_kept, get_longer}
+use Rattle.path_heap.proofs.Sets.{get_longer}
 use Rattle.path_heap.proofs.Asking.{root_is_at}
 use Rattle.path_heap.proofs.Viewing.{at_less}
-use Rattle.path_heap.proofs.Growing.{total_more, before_all, before_kept, old_or_new, object_before, part_before, owner_more, means_more, running_renewed, stack_more}
+use Rattle.path_heap.proofs.Growing.{total_more, before_all, old_or_new, object_before, part_before, owner_more, means_more, running_renewed, stack_more}
 
 abbrev all : Classes → List ClassId → ℕ
 all h classes = total (sizes_of h InFull) classes
@@ -128,7 +128,7 @@ row_made h heap new s stands c size start did k d listed = ⊎_elim
       row = o.row;
       listed = ap (λ t. slice_get t k) did.objects ∙ get_front heap.objects.items (record { class = c; start = start; is_closed = false } ∷ []) k o.row o.listed;
       class = o.class;
-      start = o.start ∙ sym (before_kept (sizes_of h InFull) k s.classes d c before);
+      start = o.start ∙ sym (before_more (sizes_of h InFull) k s.classes d c before);
       closed = o.closed ∙ ap (λ b. if b then false else s.is_closed k) (sym (object_before s.classes k d before));
     })
     (λ e. record {

@@ -1,10 +1,10 @@
 -- One more object: what stood for the objects before still does.
-use Rattle.std.proofs.Common.{◌≡◌, ℕ, zero, suc, ◌+◌, ◌<◌, ◌⊎◌, inl, inr, ⊎_elim, false, Option, Some, None, List, [], ◌∷◌, ◌++◌, length, refl, ap, subst, sym, ◌∙◌, arith}
+use Rattle.std.proofs.Common.{◌≡◌, ℕ, ◌+◌, ◌<◌, ◌⊎◌, inl, inr, ⊎_elim, false, Option, Some, None, List, [], ◌∷◌, ◌++◌, length, refl, ap, subst, sym, ◌∙◌, arith}
 use Rattle.std.specs.Prelude.{slice_get, nat_eq, if◌then◌else◌}
 use Rattle.std.proofs.lemmas.Bool.{eqb-true}
 use Rattle.std.proofs.lemmas.Option.{slice_get_within}
 use Rattle.foundation.proofs.Truth.{is_false}
-use Rattle.foundation.proofs.Places.{get_pushed}
+use Rattle.foundation.proofs.Places.{get_pushed, get_kept}
 use Rattle.cxx_hierarchy.specs.declared.records.ClassId.{ClassId}
 use Rattle.cxx_hierarchy.specs.Classes.{Classes}
 use Rattle.cxx_hierarchy.specs.Hierarchies.{IsHierarchy}
@@ -15,14 +15,13 @@ use Rattle.path_plan.specs.Plans.{InFull}
 use Rattle.path_numbers.specs.Sizes.{sizes_of, total, before}
 use Rattle.path_numbers.specs.Nodes.{Node, Under}
 use Rattle.path_numbers.specs.Heap.{IsAt, root_at}
-use Rattle.path_numbers.proofs.Heap.{at_more, at_object}
+use Rattle.path_numbers.proofs.Heap.{at_more, at_object, before_more}
 use Rattle.path_model.specs.Values.{Value, Unset, Number, Null, Pointer}
 use Rattle.path_heap.specs.declared.state.Value.{Value as ValueCode}
 use Rattle.path_heap.specs.declared.state.Value.TheVariants.{Unset as UnsetCode, Number as NumberCode, Null as NullCode, Pointer as PointerCode}
 use Rattle.path_heap.specs.Points.{Points, IsOwner}
 use Rattle.path_heap.specs.Running.{is_running, entry_in, entry_at, AreRunning, StackStands}
 use Rattle.path_heap.specs.Stands.{Means}
-use Rattle.path_heap.proofs.Sets.{get_kept}
 use Rattle.path_heap.proofs.Viewing.{at_less}
 
 pub total_more : {X : Type 0} (f : X → ℕ) (xs : List X) (x : X) → total f (xs ++ x ∷ []) ≡ total f xs + f x
@@ -33,11 +32,6 @@ pub before_all : {X : Type 0} (f : X → ℕ) (xs : List X) (x : X) → before f
 before_all f [] x = refl
 before_all f (y ∷ xs) x = ap (λ n. f y + n) (before_all f xs x)
 
-pub before_kept : {X : Type 0} (f : X → ℕ) (k : ℕ) (xs : List X) (x y : X) → slice_get xs k ≡ Some x → before f k (xs ++ y ∷ []) ≡ before f k xs
-before_kept f zero xs x y e = refl
-before_kept f (suc k) [] x y e = absurd (cc)
-before_kept f (suc k) (z ∷ xs) x y e = ap (λ n. f z + n) (before_kept f k xs x y e)
-
 -- a part of the objects before, or of the new one
 pub old_or_new : (h : Classes) (classes : List ClassId) (c : ClassId) (y : Node) → IsAt h (sizes_of h) (classes ++ c ∷ []) y → IsAt h (sizes_of h) classes y ⊎ (y.part.object ≡ length classes)
 old_or_new h classes c y a = ⊎_elim
@@ -45,7 +39,7 @@ old_or_new h classes c y a = ⊎_elim
       object = a.object;
       class = a.class;
       listed = listed;
-      under = subst (λ n. Under h (sizes_of h) y (record { form = InFull; class = a.class; part = (root_at (sizes_of h) classes a.object a.class).part; number = n })) (before_kept (sizes_of h InFull) a.object classes a.class c listed) a.under;
+      under = subst (λ n. Under h (sizes_of h) y (record { form = InFull; class = a.class; part = (root_at (sizes_of h) classes a.object a.class).part; number = n })) (before_more (sizes_of h InFull) a.object classes a.class c listed) a.under;
     }))
     (λ new. inr (at_object h (sizes_of h) (classes ++ c ∷ []) y a ∙ new.0))
     (get_pushed classes c a.object a.class a.listed)

@@ -1,8 +1,8 @@
 -- Distances lead to the parts that are meant.
-use Rattle.std.proofs.Common.{◌≡◌, ℕ, ◌+◌, ◌-◌, ◌*◌, ◌%◌, ◌^◌, ◌<◌, ◌≤◌, Some, List, [], ◌∷◌, ◌++◌, length, get_or, refl, ap, subst, sym, ◌∙◌, arith}
+use Rattle.std.proofs.Common.{◌≡◌, ℕ, ◌+◌, ◌-◌, ◌*◌, ◌%◌, ◌^◌, ◌<◌, ◌≤◌, Some, List, [], ◌∷◌, ◌++◌, length, refl, ap, subst, sym, ◌∙◌, arith}
 use Rattle.std.specs.Prelude.{slice_get, take}
 use Rattle.std.proofs.lemmas.List.{take_all}
-use Rattle.std.proofs.lemmas.Option.{slice_get_past, slice_get_within, slice_get-get_or}
+use Rattle.std.proofs.lemmas.Option.{slice_get_past, slice_get_within}
 use Rattle.foundation.proofs.Members.{Has, has_from_contains, index_of}
 use Rattle.foundation.proofs.Places.{contains_at}
 use Rattle.cxx_hierarchy.specs.declared.records.ClassId.{ClassId}
@@ -17,23 +17,23 @@ use Rattle.cxx_subobject.specs.declared.Root.TheVariants.{Whole, Shared}
 use Rattle.cxx_subobject.specs.declared.Subobject.{Subobject}
 use Rattle.cxx_subobject.specs.Subobjects.{IsSubobject, whole, shared, Leads, subobject, last_of, class_of, tail_of}
 use Rattle.cxx_subobject.specs.Locations.{IsElement}
-use Rattle.cxx_subobject.proofs.PathLemmas.{virtual_along, virtual_through}
+use Rattle.cxx_subobject.proofs.PathLemmas.{part_virtual}
 use Rattle.path_plan.specs.Places.{ObjectPart, part, shared_part, element}
 use Rattle.path_plan.specs.Plans.{InFull, AsBase, virtual_order}
 use Rattle.path_plan.proofs.Order.{order_has}
 use Rattle.path_numbers.specs.Sizes.{sizes_of, member_offset, shared_offset}
 use Rattle.path_numbers.specs.Nodes.{Node, node, shared_kid, element_kid, Under, here, deeper, LeafAt}
 use Rattle.path_numbers.specs.Heap.{IsAt, root_at}
-use Rattle.path_numbers.specs.Hops.{IsPath}
 use Rattle.path_numbers.specs.Numbers.{base_number, shared_number, path_number}
 use Rattle.path_numbers.proofs.Sized.{sizes_are}
 use Rattle.path_numbers.proofs.Ways.{under_through, path_arrives}
 use Rattle.path_numbers.proofs.Leaves.{leaf_own}
 use Rattle.path_numbers.proofs.Heap.{at_good, at_within}
-use Rattle.path_numbers.proofs.Placed.{placed, base_number_at, shared_number_at}
+use Rattle.path_numbers.proofs.Placed.{shared_number_at}
 use Rattle.path_numbers.proofs.Paths.{first_of, rest_of, stepped}
 use Rattle.path_model.specs.Values.{Objects, inner_part}
 use Rattle.path_model.specs.Places.{leaf}
+use Rattle.path_numbers.proofs.Within.{path_leads}
 use Rattle.path_heap.specs.declared.state.Cell.{Cell}
 use Rattle.path_heap.specs.declared.heap.Heap.{Heap}
 use Rattle.path_heap.specs.Points.{Points, PointsLeaf}
@@ -56,14 +56,6 @@ element_past h c m i t e past =
     let f : members_of h c ≡ [] = ap members_in (slice_get_past h c.0 past) in
     let g : slice_get [] m ≡ Some e.member = subst (λ l. slice_get l m ≡ Some e.member) f e.there in absurd (cc)
 
--- a path as hops of bases
-path_is : (h : Classes) → IsHierarchy h → (c : ClassId) (path : List ClassId) → Leads h c path → IsPath h (sizes_of h) c path (path_number h c path) (last_of c path)
-path_is h keeps c [] leads = (refl, refl)
-path_is h keeps c (b ∷ path) leads =
-    let p = placed h c b leads.0 in
-    let n = ap (base_number h c) (sym p.class) ∙ base_number_at h keeps c p.index p.base p.at in
-    (p.index, p.base, path_number h b path, p.at, p.own, p.class, ap (λ k. k + path_number h b path) n, path_is h keeps b path leads.1)
-
 -- a sum below 2 ^ 32, with its parts taken up to whole turns
 turned_sum : (a b n : ℕ) → a + b < 2 ^ 32 → n ≡ (a + b % 2 ^ 32) % 2 ^ 32 → n ≡ a + b
 turned_sum a b n lt is = omega arith
@@ -71,10 +63,10 @@ turned_sum a b n lt is = omega arith
 turned_three : (a b d n : ℕ) → a + (b + d) < 2 ^ 32 → n ≡ (a + (b + d % 2 ^ 32) % 2 ^ 32) % 2 ^ 32 → n ≡ a + (b + d)
 turned_three a b d n lt is = omega arith
 
-at_below : (h : Classes) (classes : List ClassId) (y z : Node) → IsAt h (sizes_of h) classes y → Under h (sizes_of h) z y → IsAt h (sizes_of h) classes z
+pub at_below : (h : Classes) (classes : List ClassId) (y z : Node) → IsAt h (sizes_of h) classes y → Under h (sizes_of h) z y → IsAt h (sizes_of h) classes z
 at_below h classes y z a under = record { object = a.object; class = a.class; listed = a.listed; under = under_through h (sizes_of h) z y (root_at (sizes_of h) classes a.object a.class) a.under under }
 
-at_small : (h : Classes) (heap : Heap) (s : Objects) → HeapStands h heap s → (y : Node) → IsAt h (sizes_of h) s.classes y → y.number < 2 ^ 32
+pub at_small : (h : Classes) (heap : Heap) (s : Objects) → HeapStands h heap s → (y : Node) → IsAt h (sizes_of h) s.classes y → y.number < 2 ^ 32
 at_small h heap s stands y at = let a = at_less h stands.hierarchy s.classes y at in let b = stands.counts.few in omega arith
 
 -- an element of a member
@@ -122,11 +114,6 @@ leaf_reached h heap s stands n p q begun c class cell is m i ty e k told =
       leaf = record { member = f.member; type = ty; listed = f.there; leaf = f.type_is; within = f.within; is = let r = q.is_number in omega arith };
     }
 
--- a virtual base of a subobject's class is one of the whole's
-subobject_virtual : (h : Classes) (d c v : ClassId) (s : Subobject) → IsSubobject h d s → class_of s ≡ Some c → HasVirtualBase h c v → HasVirtualBase h d v
-subobject_virtual h d c v _ (whole path l) e has = let same : last_of d path ≡ c = cc in virtual_along h d v path l (subst (λ (x : ClassId). HasVirtualBase h x v) (sym same) has)
-subobject_virtual h d c v _ (shared w path hw l) e has = let same : last_of w path ≡ c = cc in virtual_through h d w v hw (virtual_along h w v path l (subst (λ (x : ClassId). HasVirtualBase h x v) (sym same) has))
-
 -- a base that no virtual base leads to
 own_base : (h : Classes) (heap : Heap) (s : Objects) → HeapStands h heap s → (n : ℕ) (p : ObjectPart) → Points h s.classes n p → HasBegun s p → (c : ClassId) → class_of p.at ≡ Some c → (cell : Cell) → cell ≡ cell_at heap n
     → (path : List ClassId) → Leads h c path → (step k : ℕ) → (Leads h cell.class path → step ≡ path_number h cell.class path % 2 ^ 32) → k ≡ (n + step) % 2 ^ 32 → Points h s.classes k (inner_part p (subobject Whole (c ∷ path)))
@@ -136,7 +123,7 @@ own_base h heap s stands n p q begun c class cell is path leads step k told k_is
     let same : y.class ≡ c = let f = ap (λ (t : ObjectPart). class_of t.at) q.is_part in cc in
     let cell_class : cell.class ≡ y.class = class_node h heap s stands n p q begun cell is in
     let l = subst (λ t. Leads h t path) (sym same) leads in
-    let a = path_arrives h (sizes_of h) y path (path_number h y.class path) (last_of y.class path) (path_is h stands.hierarchy y.class path l) in
+    let a = path_arrives h (sizes_of h) y path (path_number h y.class path) (last_of y.class path) (path_leads h stands.hierarchy y.class path l) in
     let end_at = at_below h s.classes y a.end q.at a.under in
     let lt = at_small h heap s stands a.end end_at in
     let t : step ≡ path_number h y.class path % 2 ^ 32 = told (subst (λ t. Leads h t path) (sym cell_class) l) ∙ ap (λ t. path_number h t path % 2 ^ 32) cell_class in
@@ -159,10 +146,10 @@ shared_base_reached h heap s stands n p q begun c class cell is v path has leads
     let o = owner_told h heap s stands n p q begun cell is in
     let w = o.node in
     let y_class : class_of q.node.part.at ≡ Some c = ap (λ (t : ObjectPart). class_of t.at) q.is_part ∙ class in
-    let found = subobject_virtual h w.class c v q.node.part.at o.valid y_class has in
+    let found = part_virtual h w.class c v q.node.part.at o.valid y_class has in
     let place = index_of (virtual_order h w.class) v (order_has h stands.hierarchy w.class v found) in
     let z = node AsBase v (shared_part w.part v) (w.number + shared_offset h (sizes_of h) w.class place.0) in
-    let a = path_arrives h (sizes_of h) z path (path_number h v path) (last_of v path) (path_is h stands.hierarchy v path leads) in
+    let a = path_arrives h (sizes_of h) z path (path_number h v path) (last_of v path) (path_leads h stands.hierarchy v path leads) in
     let end_at = at_below h s.classes w a.end o.at (deeper w z (shared_kid place.0 v o.full place.1 refl) a.under) in
     let lt = at_small h heap s stands a.end end_at in
     let far_is : far ≡ shared_offset h (sizes_of h) w.class place.0 = far_told (subst (λ t. HasVirtualBase h t v) o.is_class found) ∙ (ap (λ t. shared_number h t v) (sym o.is_class) ∙ shared_number_at h w.class v place.0 place.1) in
@@ -241,7 +228,3 @@ slot_value h c m i t e list field is at n offset unit told size =
 -- past the end there is no member
 pub element_none : (h : Classes) (c : ClassId) (m i : ℕ) (t : FieldType ClassId) → IsElement h c m i t → (list : List (Member ClassId)) → list ≡ members_of h c → length list ≤ m → ⊥
 element_none h c m i t e list is past = let f : slice_get list m ≡ Some e.member = ap (λ l. slice_get l m) is ∙ e.there in let lt = slice_get_within list m e.member f in omega arith
-
--- the item that an index reads
-pub place_found : {X : Type 0} (xs : List X) (i : ℕ) (x : X) → i < length xs → x ≡ get_or xs i x → slice_get xs i ≡ Some x
-place_found xs i x lt e = slice_get-get_or xs i x lt ∙ ap (λ t. Some t) (sym e)

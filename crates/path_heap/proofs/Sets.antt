@@ -36,9 +36,3 @@ pub get_longer : {X : Type 0} (xs : List X) (n i : ℕ) (x : X) → length xs �
 get_longer [] n i x le lt = get_equal n i x (omega arith)
 get_longer (y ∷ xs) n zero x le lt = absurd (omega arith)
 get_longer (y ∷ xs) n (suc i) x le lt = get_longer xs n i x (omega arith) (omega arith)
-
--- and before it what was there
-pub get_kept : {X : Type 0} (xs ys : List X) (i : ℕ) → i < length xs → slice_get (xs ++ ys) i ≡ slice_get xs i
-get_kept [] ys i lt = absurd (omega arith)
-get_kept (x ∷ xs) ys zero lt = refl
-get_kept (x ∷ xs) ys (suc i) lt = get_kept xs ys i (omega arith)

@@ -1,7 +1,7 @@
 -- A leaf is read and written: what changes, and what stays.
-use Rattle.std.proofs.Common.{◌≡◌, ℕ, ◌+◌, ⊎_elim, Bool, true, false, ◌&&◌, List, length, refl, ap, subst, sym, ◌∙◌}
+use Rattle.std.proofs.Common.{◌≡◌, ℕ, ◌+◌, ⊎_elim, true, ◌&&◌, List, length, refl, ap, subst, sym, ◌∙◌}
 use Rattle.std.specs.Prelude.{slice_get, slice_set, nat_eq, if◌then◌else◌}
-use Rattle.std.proofs.lemmas.Bool.{eqb-true, eq-eqb}
+use Rattle.std.proofs.lemmas.Bool.{eqb-true, eq-eqb, and_parts}
 use Rattle.std.proofs.lemmas.List.{length-set}
 use Rattle.std.proofs.lemmas.Option.{slice_get_within}
 use Rattle.foundation.proofs.Truth.{split}
@@ -30,19 +30,13 @@ leaf_told h heap s stands k l q value is =
     let o = stands.leaves k l q in
     subst (λ (t : ValueCode). Means h s.classes t (s.leaf l)) (sym (is ∙ ap value_or_unset o.listed)) o.means
 
--- the test on leaves
-both : (a b : Bool) → (a && b) ≡ true → (a ≡ true) × (b ≡ true)
-both true true e = (refl, refl)
-both true false e = absurd (cc)
-both false b e = absurd (cc)
-
 alike : (p q : ObjectPart) (m n i j : ℕ) → p ≡ q → m ≡ n → i ≡ j → leaf p m i ≡ leaf q n j
 alike p q m n i j e f g = ap (λ t. leaf t m i) e ∙ (ap (λ t. leaf q t i) f ∙ ap (λ t. leaf q n t) g)
 
 leaf_same : (l m : Leaf) → same_leaf l m ≡ true → l ≡ m
 leaf_same l m e =
-    let a = both (same_part l.part m.part) (nat_eq l.member m.member && nat_eq l.index m.index) e in
-    let b = both (nat_eq l.member m.member) (nat_eq l.index m.index) a.1 in
+    let a = and_parts (same_part l.part m.part) (nat_eq l.member m.member && nat_eq l.index m.index) e in
+    let b = and_parts (nat_eq l.member m.member) (nat_eq l.index m.index) a.1 in
     alike l.part m.part l.member m.member l.index m.index (part_same l.part m.part a.0) (eqb-true l.member m.member b.0) (eqb-true l.index m.index b.1)
 
 leaf_itself : (l : Leaf) → same_leaf l l ≡ true

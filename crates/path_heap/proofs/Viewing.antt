@@ -11,7 +11,7 @@ use Rattle.path_plan.specs.Places.{Step, ObjectPart, part}
 use Rattle.path_plan.specs.Phases.{Phase, Phases, put, first_of, rest_of, pushed, popped}
 use Rattle.path_plan.specs.Plans.{InFull}
 use Rattle.path_plan.specs.Views.{IsOnTop}
-use Rattle.path_plan.proofs.Same.{put_same, put_other, part_cases, Owns, owner_cases, pushed_same, popped_same, pushed_other, popped_other}
+use Rattle.path_plan.proofs.Same.{put_same, put_other, part_cases, Owns, owner_cases, pushed_same, popped_same, pushed_other, popped_other, part_owns}
 use Rattle.path_numbers.specs.Sizes.{sizes_of, total}
 use Rattle.path_numbers.specs.Nodes.{Node}
 use Rattle.path_numbers.specs.Heap.{IsAt}
@@ -43,9 +43,6 @@ running_kept phase p v runs k o (x ∷ xs) are = (
   are.1,
   running_kept phase p v runs k o xs are.2,
 )
-
-owns_of : (p : ObjectPart) (k : ℕ) (o : List Step) (x : Subobject) → p ≡ part k o x → Owns p k o
-owns_of p k o x e = record { object = ap (λ (t : ObjectPart). t.object) e; owner = ap (λ (t : ObjectPart). t.owner) e }
 
 -- not running, it is not listed
 unlisted : (phase : ObjectPart → Phase) (p : ObjectPart) (xs : List Subobject) → AreRunning phase p.object p.owner xs → is_running (phase p) ≡ false → (x : Subobject) → Has xs x → p ≡ part p.object p.owner x → ⊥
@@ -145,7 +142,7 @@ begins_stand h keeps classes phases tops around views code p r idle v runs lt le
         running_other phases.phase p v p.object p.owner (phases.running p.object p.owner) (unlisted phases.phase p (phases.running p.object p.owner) (views.running p.object p.owner) idle) (views.running p.object p.owner),
       ))))
       (λ other. subst (λ (t : List Subobject). AreRunning (put phases.phase p v) k o t) (sym (pushed_other phases.running p k o other))
-      (running_other phases.phase p v k o (phases.running k o) (λ x has e. other (owns_of p k o x e)) (views.running k o)))
+      (running_other phases.phase p v k o (phases.running k o) (λ x has e. other (part_owns p k o x e)) (views.running k o)))
       (owner_cases p k o);
   stacks = λ w at full. ⊎_elim
       (λ e. subst (λ (t : Node). StackStands h classes (slice_set around code.number (entry_at tops code.whole)) t.part.object t.part.owner (entry_at (slice_set tops code.whole (Some code.number)) t.number) (pushed phases.running p t.part.object t.part.owner)) e
@@ -158,7 +155,7 @@ begins_stand h keeps classes phases tops around views code p r idle v runs lt le
       )))))
       (λ a. subst (λ n. StackStands h classes (slice_set around code.number (entry_at tops code.whole)) w.part.object w.part.owner n (pushed phases.running p w.part.object w.part.owner)) (sym (ap entry_in (set_other tops code.whole w.number (Some code.number) a.1)))
       (subst (λ (t : List Subobject). StackStands h classes (slice_set around code.number (entry_at tops code.whole)) w.part.object w.part.owner (entry_at tops w.number) t) (sym (pushed_other phases.running p w.part.object w.part.owner a.0))
-      (stack_other h keeps classes around code.number (entry_at tops code.whole) p (points_of h classes code p r) w.part.object w.part.owner (entry_at tops w.number) (phases.running w.part.object w.part.owner) (λ x has e. a.0 (owns_of p w.part.object w.part.owner x e)) (views.stacks w at full))))
+      (stack_other h keeps classes around code.number (entry_at tops code.whole) p (points_of h classes code p r) w.part.object w.part.owner (entry_at tops w.number) (phases.running w.part.object w.part.owner) (λ x has e. a.0 (part_owns p w.part.object w.part.owner x e)) (views.stacks w at full))))
       (whole_cases h keeps classes code p r w at full);
 }
 
@@ -173,7 +170,7 @@ ends_stand h keeps classes phases tops around views code p r top v lt = record {
       (running_other phases.phase p v p.object p.owner (rest_of (phases.running p.object p.owner)) (first_once phases.phase p (phases.running p.object p.owner) (views.running p.object p.owner) top)
       (rest_runs phases.phase p.object p.owner (phases.running p.object p.owner) (views.running p.object p.owner))))))
       (λ other. subst (λ (t : List Subobject). AreRunning (put phases.phase p v) k o t) (sym (popped_other phases.running p k o other))
-      (running_other phases.phase p v k o (phases.running k o) (λ x has e. other (owns_of p k o x e)) (views.running k o)))
+      (running_other phases.phase p v k o (phases.running k o) (λ x has e. other (part_owns p k o x e)) (views.running k o)))
       (owner_cases p k o);
   stacks = λ w at full. ⊎_elim
       (λ e. subst (λ (t : Node). StackStands h classes around t.part.object t.part.owner (entry_at (slice_set tops code.whole (entry_at around code.number)) t.number) (popped phases.running p t.part.object t.part.owner)) e

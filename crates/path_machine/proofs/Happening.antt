@@ -4,7 +4,7 @@ use Rattle.std.specs.Prelude.{slice_get, nat_eq}
 use Rattle.std.specs.List.{AllZip}
 use Rattle.std.proofs.lemmas.List.{append-nil}
 use Rattle.std.proofs.lemmas.Bool.{eqb-true}
-use Rattle.foundation.proofs.Members.{Has, contains_from_has}
+use Rattle.foundation.proofs.Chosen.{find_passes}
 use Rattle.cxx_hierarchy.specs.declared.records.ClassId.{ClassId}
 use Rattle.cxx_hierarchy.specs.declared.records.Member.{Member}
 use Rattle.cxx_hierarchy.specs.declared.records.ValueType.{ValueType}
@@ -14,13 +14,10 @@ use Rattle.cxx_hierarchy.specs.Declarations.{elements_of}
 use Rattle.cxx_hierarchy.specs.Classes.{Classes, members_of, leaf_type, leaf_type_in, value_type_in}
 use Rattle.cxx_subobject.specs.Subobjects.{class_of}
 use Rattle.cxx_subobject.specs.Locations.{ObjectPart, IsElement}
-use Rattle.cxx_search.proofs.Finding.{find_passes}
-use Rattle.cxx_program.specs.declared.program.Owner.{Owner}
 use Rattle.cxx_program.specs.declared.program.Owner.TheVariants.{Constructor}
 use Rattle.cxx_program.specs.declared.program.TypedInit.{TypedInit}
-use Rattle.cxx_program.specs.declared.program.TypedBody.{TypedBody}
 use Rattle.cxx_program.specs.declared.program.TypedProgram.{TypedProgram}
-use Rattle.cxx_program.specs.Typed.{IsTypedInit, AreInitsOf, IsTypedProgram}
+use Rattle.cxx_program.specs.Typed.{IsTypedProgram}
 use Rattle.path_plan.specs.Phases.{Phase, Raw, InBases, ReadyBuilding, Complete, ReadyEnding, EndingBases, Ended, is_half, Event, Begin, Ready, Init, Body, Done, Ending, Bases, End}
 use Rattle.path_plan.specs.Views.{Fits}
 use Rattle.path_numbers.specs.Sizes.{sizes_of}
@@ -34,7 +31,7 @@ use Rattle.path_model.specs.Runs.{heap_total}
 use Rattle.path_model.specs.Outs.{class_or_first, location_of}
 use Rattle.path_model.specs.Effects.{leaf_set}
 use Rattle.path_model.specs.Steps.{init_value, class_of_part, objects_after}
-use Rattle.path_model.proofs.TypedBodies.{body_typed}
+use Rattle.path_model.proofs.TypedEvents.{inits_of}
 use Rattle.path_heap.specs.declared.state.Part.{Part}
 use Rattle.path_heap.specs.declared.state.Value.{Value as ValueCode}
 use Rattle.path_heap.specs.declared.heap.Heap.{Heap}
@@ -115,13 +112,6 @@ plain_type (Object d) count t e = absurd (cc)
 plain_in : (h : Classes) (c : ClassId) (m : ℕ) (t : ValueType ClassId) (o : Option (Member ClassId)) → slice_get (members_of h c) m ≡ o → leaf_type_in o ≡ Some t → IsPlain h c m
 plain_in h c m t None is e = absurd (cc)
 plain_in h c m t (Some member) is e = let p = plain_type member.ty member.count t e in record { type = t; element = record { member = member; there = is; type_is = p.0; within = p.1 } }
-
-inits_of : (h : Classes) (program : TypedProgram) → IsTypedProgram h program → (c : ClassId) (o : Option TypedBody) → body_of program (Constructor c) ≡ o → (init : TypedInit) → Has (inits_in o) init → IsTypedInit h c init
-inits_of h program a c None e init has = absurd has
-inits_of h program a c (Some body) e init has =
-    let b = body_typed h program a (Constructor c) body e in
-    let inits = subst (λ (o : Owner). AreInitsOf h o body.inits) b.0 b.1.inits in
-    inits.each init (contains_from_has body.inits init has)
 
 -- what has an initializer is such a member
 plain_member : (h : Classes) (program : TypedProgram) → IsTypedProgram h program → (c : ClassId) (m : ℕ) (o : Option TypedInit) → init_of program c m ≡ o → is_init o ≡ true → IsPlain h c m

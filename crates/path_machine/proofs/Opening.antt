@@ -59,7 +59,7 @@ arguments_mean h heap globals this locals call list values is told e s scene a =
     (told e s (parameter_types a.function) scene a.seen (subst (λ xs. AllZip (IsArgument h e) xs (parameter_types a.function)) (sym is) a.typed.arguments)
     (subst (λ xs. refused h s.objects (flat_map (argument_uses s) xs) ≡ None) (sym is) (arguments_clear h s call a.clear)))
 
-unset_mean : (h : Classes) (classes : List ClassId) (n : ℕ) → AllZip (Means h classes) (replicate n UnsetCode) (replicate n Unset)
+pub unset_mean : (h : Classes) (classes : List ClassId) (n : ℕ) → AllZip (Means h classes) (replicate n UnsetCode) (replicate n Unset)
 unset_mean h classes zero = tt
 unset_mean h classes (suc n) = (tt, unset_mean h classes n)
 

@@ -1,5 +1,5 @@
 -- How a plan goes on behind an event.
-use Rattle.std.proofs.Common.{◌≡◌, ℕ, zero, suc, ◌+◌, ◌-◌, Bool, true, false, Option, Some, None, List, [], ◌∷◌, ◌++◌, length, refl, ap, subst, sym, ◌∙◌, arith}
+use Rattle.std.proofs.Common.{◌≡◌, ℕ, ◌+◌, ◌-◌, Bool, true, false, Option, Some, None, List, [], ◌∷◌, ◌++◌, length, refl, ap, subst, sym, ◌∙◌, arith}
 use Rattle.std.specs.Prelude.{replicate, if◌then◌else◌}
 use Rattle.std.specs.List.{AllZip, fold}
 use Rattle.cxx_hierarchy.specs.declared.records.ClassId.{ClassId}
@@ -47,6 +47,7 @@ use Rattle.path_machine.specs.invariants.Steps.{StepAgrees, CanGive}
 use Rattle.path_machine.specs.invariants.Setups.{IsPlanTaken, IsPlanNext}
 use Rattle.path_machine.specs.invariants.Events.{body_part, with_events, Happens, Tells, CanEnd, Resumes, Enters}
 use Rattle.path_machine.proofs.Happening.{part_class, half_begun}
+use Rattle.path_machine.proofs.Opening.{unset_mean}
 
 -- frames
 
@@ -81,10 +82,6 @@ plan_moved h program classes frame plan f e events advances a = record {
 }
 
 -- bodies
-
-unset_mean : (h : Classes) (classes : List ClassId) (n : ℕ) → AllZip (Means h classes) (replicate n UnsetCode) (replicate n Unset)
-unset_mean h classes zero = tt
-unset_mean h classes (suc n) = (tt, unset_mean h classes n)
 
 less_none : (n : ℕ) → n - 0 ≡ n
 less_none n = omega arith

@@ -82,7 +82,7 @@ convert_clear h s v (ToBase i) e f = let r = base_rank h s v i in let g = guard_
 pub convert_off : (h : Classes) (s : Objects) (v : Value) (c : Conversion) → is_pointer v ≡ false → rank h s (convert v c) ≡ 12
 convert_off h s v c e = convert_clear h s v c (off_unready s v e) (off_outside h s v e)
 
-views_top : (h : Classes) (s : Objects) (b : Bool) (v : Value) → rank h s (views b v) < 12 → rank h s (views b v) ≤ 3
+pub views_top : (h : Classes) (s : Objects) (b : Bool) (v : Value) → rank h s (views b v) < 12 → rank h s (views b v) ≤ 3
 views_top h s true v l = split (names (is_outside h s) v) (λ b. rank h s (Views v ∷ []) ≤ 3) (λ e. let r = view_rank h s v true e in omega (arith, r)) (λ e. let r = view_rank h s v false e in omega (arith, r, l))
 views_top h s false v l = let n = none_rank h s in omega (arith, n, l)
 

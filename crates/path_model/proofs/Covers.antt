@@ -116,7 +116,7 @@ complete_covers h s (suc n) c p class settled full = flat_kept (λ a b. 12 ≤ a
     subst (λ (b : Option ClassId). 12 ≤ rank h s (own_members h (covers h n) b (inner_part p i))) (sym k.1)
     (complete_own h s (covers h n) k.0 (inner_part p i) (join_class h c p.at i class valid ∙ k.1) settled (settled.complete_in p (inner_part p i) refl (inner_in h c p i class valid) full) (λ d e. complete_covers h s n d e)))
 
-join_whole : (p : ObjectPart) (c : ClassId) → inner_part p (whole_of c) ≡ p
+pub join_whole : (p : ObjectPart) (c : ClassId) → inner_part p (whole_of c) ≡ p
 join_whole p c = ap (λ (x : List ClassId). part p.object p.owner (subobject p.at.root x)) (append-nil p.at.path)
 
 -- the members of one class, where those that are ready are asked alike inside

@@ -73,7 +73,7 @@ outside_unset h s target p e = by_view (view_of h s p) e
     by_view None e = refl
     by_view (Some x) e = split (is_within h x p.at) (λ b. not b ≡ true → (if b then value_or p Null (cast_in h target x p.at) else Unset) ≡ Unset) (λ _ f. absurd (cc)) (λ _ _. refl) e
 
-cast_off : (h : Classes) (s : Objects) (cast : TypedCast) (v : Value) → is_pointer v ≡ false → is_pointer (cast_value h s cast v) ≡ false
+pub cast_off : (h : Classes) (s : Objects) (cast : TypedCast) (v : Value) → is_pointer v ≡ false → is_pointer (cast_value h s cast v) ≡ false
 cast_off h s SameClass v e = e
 cast_off h s (Up i) Unset e = refl
 cast_off h s (Up i) (Number z) e = refl
@@ -158,7 +158,7 @@ end_at h s p c (y ∷ rest) x last class settled e path shared =
     end_whole h s (passed_part p y) y.class (rest ++ x ∷ []) last (passed_whole h s p c y class settled path.0)
     (passed_done h s p c y class settled path.0 (base_done h s p c y.base class settled path.0.valid (shared_proper c y.base shared) (ready_of s p e))) path.1
 
-asked_two : (h : Classes) (s : Objects) (p : ObjectPart) (xs : List PassedMember) → rank h s (asked_members p xs) < 12 → rank h s (asked_members p xs) ≤ 2
+pub asked_two : (h : Classes) (s : Objects) (p : ObjectPart) (xs : List PassedMember) → rank h s (asked_members p xs) < 12 → rank h s (asked_members p xs) ≤ 2
 asked_two h s p [] less = let n = none_rank h s in omega (arith, n, less)
 asked_two h s p (x ∷ rest) less = split (is_shared x.base) (λ b. rank h s (if b then [] else Passes e ∷ asked_members e rest) < 12 → rank h s (if b then [] else Passes e ∷ asked_members e rest) ≤ 2)
     (λ _ l. let n = none_rank h s in omega (arith, n, l))

@@ -1,11 +1,12 @@
 -- What the rules mean, by the relations of subobjects, overriders and numbers in place of searches.
-use Rattle.std.proofs.Common.{arith, ◌≡◌, ℕ, ◌-◌, ◌%◌, ◌<◌, Bool, true, false, not, ◌||◌, ◌&&◌, Option, Some, None, List, [], ◌∷◌, refl, ap, subst, sym, ◌∙◌, pos, ◌+ℤ◌, ◌-ℤ◌, ◌*ℤ◌, ◌≤ℤ◌, ◌<ℤ◌}
+use Rattle.std.proofs.Common.{arith, ◌≡◌, ℕ, ◌-◌, ◌<◌, Bool, true, false, not, ◌||◌, ◌&&◌, Option, Some, None, List, [], ◌∷◌, refl, ap, subst, sym, ◌∙◌, pos, ◌+ℤ◌, ◌-ℤ◌, ◌*ℤ◌, ◌≤ℤ◌, ◌<ℤ◌}
 use Rattle.std.specs.Prelude.{ℤ, negsuc, int_lt, ◌↔◌, slice_get}
 use Rattle.std.specs.List.{find}
 use Rattle.std.specs.Int.{int_rem_euclid}
 use Rattle.std.proofs.lemmas.Int.{ints}
-use Rattle.std.proofs.lemmas.Bool.{eqb-true, eq-eqb, and_parts, and_from}
-use Rattle.std.proofs.Math.Nat.{mod-lt, mod-eq_of_lt}
+use Rattle.std.proofs.lemmas.Bool.{and_parts, and_from}
+use Rattle.std.proofs.Math.Nat.{mod-eq_of_lt}
+use Rattle.foundation.proofs.Chosen.{find_passes}
 use Rattle.cxx_hierarchy.specs.declared.records.ClassId.{ClassId}
 use Rattle.cxx_hierarchy.specs.declared.records.Scalar.{Scalar}
 use Rattle.cxx_hierarchy.specs.declared.records.Scalar.TheVariants.{Bool as TheBool, Char, SChar, UChar, Short, UShort, Int, UInt, Long, ULong, LongLong, ULongLong}
@@ -17,21 +18,24 @@ use Rattle.cxx_subobject.specs.Subobjects.{IsSubobject, class_of, join, same_sub
 use Rattle.cxx_subobject.specs.Preorder.{preorder}
 use Rattle.cxx_subobject.specs.Inside.{IsInside}
 use Rattle.cxx_subobject.specs.Locations.{Step, ObjectPart}
-use Rattle.cxx_subobject.proofs.PathLemmas.{same_id}
 use Rattle.cxx_subobject.proofs.TreeLemmas.{subobject_same, same_itself, preorder_has, has_preorder}
 use Rattle.cxx_overrider.specs.declared.FunctionId.{FunctionId}
 use Rattle.cxx_overrider.specs.declared.Overrider.{Overrider}
 use Rattle.cxx_overrider.specs.Functions.{is_pure}
 use Rattle.cxx_overrider.specs.Overriding.{IsFinalIn}
-use Rattle.cxx_search.specs.Searches.{is_within, is_class, is_of_class, final_in, is_pure_overrider, preorder_of}
+use Rattle.cxx_search.specs.Searches.{is_within, is_of_class, final_in, is_pure_overrider, preorder_of}
 use Rattle.cxx_search.proofs.Within.{within_inside, inside_within}
 use Rattle.cxx_search.proofs.Finals.{found_final, final_found}
-use Rattle.cxx_search.proofs.Finding.{find_passes, finds_some}
+use Rattle.cxx_search.proofs.Finding.{finds_some}
+use Rattle.cxx_search.proofs.Casts.{of_class, is_the_class}
+use Rattle.cxx_search.proofs.Abstract.{pure_some}
 use Rattle.path_plan.specs.Places.{part}
 use Rattle.path_plan.specs.Phases.{Phase, Raw, InBases, ReadyBuilding, Complete, ReadyEnding, EndingBases, Ended, is_complete}
 use Rattle.path_model.specs.Values.{Objects}
 use Rattle.path_model.specs.Uses.{class_of_owner, view_of, derived_of}
 use Rattle.path_model.specs.Rules.{is_outside, is_outside_of, is_pure_by, is_pure_at, is_nowhere, is_in_heap_object, is_whole_of, is_no_whole, is_whole_complete, is_incomplete, differ, is_over}
+use Rattle.path_model.specs.Effects.{overrider_by}
+use Rattle.path_model.proofs.TypedRanges.{euclid_range}
 
 untrue : (b : Bool) → not b ≡ false → b ≡ true
 untrue true e = refl
@@ -47,28 +51,21 @@ view_law h keeps s p x seen = (λ e. within_inside h x p.at (untrue (is_within h
 
 -- pure overriders
 
-pure_one : (h : Classes) (found : Option Overrider) → is_pure_overrider h found ≡ true → (o : Overrider) × (found ≡ Some o) × (is_pure h o.function ≡ true)
-pure_one h None e = cc
-pure_one h (Some o) e = (o, refl, e)
-
 pub pure_law : (h : Classes) → IsHierarchy h → (c : ClassId) (s : Objects) (p : ObjectPart) (x : Subobject) (f : FunctionId) → view_of h s p ≡ Some x → IsSubobject h c x
     → (is_pure_at h s f p ≡ true) ↔ ((o : Overrider) × IsFinalIn h c x p.at f o × (is_pure h o.function ≡ true))
 pure_law h keeps c s p x f seen there = (
-  λ e. let r = pure_one h (final_in h x p.at f) (sym by_view ∙ e) in (r.0, found_final h keeps c x there p.at f r.0 r.1, r.2),
+  λ e. let r = pure_some h (final_in h x p.at f) (sym by_view ∙ e) in (r.0, found_final h keeps c x there p.at f r.0 r.1, r.2),
   λ r. by_view ∙ (ap (λ o. is_pure_overrider h o) (final_found h keeps c x there p.at f r.0 r.1) ∙ r.2),
 )
   where
     by_view : is_pure_at h s f p ≡ is_pure_overrider h (final_in h x p.at f)
     by_view = ap (λ w. is_pure_by h w p.at f) seen
 
+pub pure_by : (h : Classes) (o : Option Subobject) (y : Subobject) (f : FunctionId) → is_pure_by h o y f ≡ is_pure_overrider h (overrider_by h o y f)
+pure_by h None y f = refl
+pure_by h (Some x) y f = refl
+
 -- downcasts
-
-class_is : (target : ClassId) (o : Option ClassId) → is_class target o ≡ true → o ≡ Some target
-class_is target None e = cc
-class_is target (Some d) e = ap Some (sym (same_id target d (eqb-true target.0 d.0 e)))
-
-is_the_class : (target : ClassId) (o : Option ClassId) → o ≡ Some target → is_class target o ≡ true
-is_the_class target o e = subst (λ k. is_class target k ≡ true) (sym e) (eq-eqb target.0 target.0 refl)
 
 somewhere : (o : Option Subobject) → is_nowhere o ≡ false → (t : Subobject) × (o ≡ Some t)
 somewhere None e = cc
@@ -89,7 +86,7 @@ down_law h keeps s p d target i owner = (one, other)
         let found = somewhere (derived_of h s target i p) e in
         let passed = find_passes test (preorder h d) found.0 (sym by_class ∙ found.1) in
         let both = and_parts (is_of_class target found.0) (same_subobject (join found.0 i) p.at) passed.1 in
-        (found.0, has_preorder h d found.0 passed.0, class_is target (class_of found.0) both.0, subobject_same (join found.0 i) p.at both.1)
+        (found.0, has_preorder h d found.0 passed.0, of_class target (class_of found.0) both.0, subobject_same (join found.0 i) p.at both.1)
 
     other : (t : Subobject) × IsSubobject h d t × (class_of t ≡ Some target) × (join t i ≡ p.at) → is_nowhere (derived_of h s target i p) ≡ false
     other r =
@@ -139,10 +136,6 @@ count_positive Long = omega arith
 count_positive ULong = omega arith
 count_positive LongLong = omega arith
 count_positive ULongLong = omega arith
-
-euclid_range : (y : ℤ) (n : ℕ) → 0 < n → (pos 0 ≤ℤ int_rem_euclid y (pos n)) × (int_rem_euclid y (pos n) <ℤ pos n)
-euclid_range (pos a) n h = let l : a % n < n = mod-lt a h in (omega (arith, ints), omega (arith, ints))
-euclid_range (negsuc a) n h = let l : n - 1 - a % n < n = omega arith in (omega (arith, ints), omega (arith, ints))
 
 euclid_same : (y : ℤ) (n : ℕ) → pos 0 ≤ℤ y → y <ℤ pos n → int_rem_euclid y (pos n) ≡ y
 euclid_same (pos a) n low high = let l : a < n = omega (arith, ints) in ap pos (mod-eq_of_lt l)

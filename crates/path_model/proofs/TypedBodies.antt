@@ -3,12 +3,13 @@ use Rattle.std.proofs.Common.{◌≡◌, ℕ, ◌-◌, arith, true, false, Optio
 use Rattle.std.specs.Prelude.{find, nat_eq, replicate, ◌≢◌}
 use Rattle.std.proofs.lemmas.Bool.{eqb-true, eq-eqb}
 use Rattle.foundation.proofs.Members.{contains_from_has, has_from_contains}
+use Rattle.foundation.proofs.Chosen.{find_passes}
 use Rattle.cxx_hierarchy.specs.declared.records.ClassId.{ClassId}
 use Rattle.cxx_hierarchy.specs.declared.records.ValueType.{ValueType}
 use Rattle.cxx_hierarchy.specs.declared.records.ValueType.TheVariants.{Number as NumberType, Pointer as PointerType}
 use Rattle.cxx_hierarchy.specs.Classes.{Classes}
 use Rattle.cxx_overrider.specs.declared.FunctionId.{FunctionId}
-use Rattle.cxx_search.proofs.Finding.{find_passes, finds_some}
+use Rattle.cxx_search.proofs.Finding.{finds_some}
 use Rattle.cxx_program.specs.declared.operand.Conversion.{Conversion}
 use Rattle.cxx_program.specs.declared.operand.Conversion.TheVariants.{Same as ToSame}
 use Rattle.cxx_program.specs.declared.program.Owner.{Owner}
@@ -60,7 +61,7 @@ body_typed h program a (Function f) body e = listed_typed h program a (Function 
 body_typed h program a (Constructor c) body e = listed_typed h program a (Constructor c) body e
 body_typed h program a (Destructor c) body e = listed_typed h program a (Destructor c) body e
 
-same_function_itself : (f : FunctionId) → same_owner (Function f) (Function f) ≡ true
+pub same_function_itself : (f : FunctionId) → same_owner (Function f) (Function f) ≡ true
 same_function_itself f = rw (eq-eqb f.class.0 f.class.0 refl, eq-eqb f.index f.index refl) refl
 
 -- a function that has a body is found

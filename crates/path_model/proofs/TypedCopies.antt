@@ -1,8 +1,10 @@
 -- A copy leads from a typed state to a typed one: the leaves of two parts of one class go along with each other.
-use Rattle.std.proofs.Common.{◌≡◌, ℕ, zero, suc, ◌+◌, arith, inl, inr, ⊎_elim, Option, Some, None, List, [], ◌∷◌, ◌++◌, map, length, refl, subst, sym, ◌∙◌}
+use Rattle.std.proofs.Common.{◌≡◌, ℕ, zero, suc, ◌+◌, arith, ⊎_elim, Option, Some, None, List, [], ◌∷◌, map, length, refl, subst, sym, ◌∙◌}
 use Rattle.std.specs.Prelude.{slice_get, find, zip}
-use Rattle.std.specs.List.{AllZip, flat_map}
+use Rattle.std.specs.List.{AllZip}
 use Rattle.foundation.proofs.Members.{Has}
+use Rattle.foundation.proofs.Zips.{zip_flat_map}
+use Rattle.foundation.proofs.Chosen.{find_passes}
 use Rattle.cxx_hierarchy.specs.declared.records.ClassId.{ClassId}
 use Rattle.cxx_hierarchy.specs.declared.records.Member.{Member}
 use Rattle.cxx_hierarchy.specs.declared.records.ValueType.{ValueType}
@@ -16,7 +18,6 @@ use Rattle.cxx_subobject.specs.Locations.{ObjectPart, IsElement}
 use Rattle.cxx_subobject.proofs.InsideLemmas.{join_class}
 use Rattle.cxx_subobject.proofs.PathLemmas.{class_there}
 use Rattle.cxx_subobject.proofs.TreeLemmas.{has_preorder}
-use Rattle.cxx_search.proofs.Finding.{find_passes}
 use Rattle.cxx_program.specs.declared.program.TypedProgram.{TypedProgram}
 use Rattle.path_plan.specs.Places.{element}
 use Rattle.path_plan.specs.Plans.{upto}
@@ -47,16 +48,6 @@ along_made h cs l m t a b =
     record { class = a.class; part = a.made; element = subst (λ i. IsElement h a.class m.member i (ValueField t)) a.index (subst (λ n. IsElement h a.class n l.index (ValueField t)) a.member at) }
 
 -- lists that go along
-
-zip_append : {A B : Type 0} (R : A → B → Type 0) (as_ cs : List A) (bs ds : List B) → AllZip R as_ bs → AllZip R cs ds → AllZip R (as_ ++ cs) (bs ++ ds)
-zip_append R [] cs [] ds a b = b
-zip_append R [] cs (y ∷ bs) ds a b = absurd a
-zip_append R (x ∷ as_) cs [] ds a b = absurd a
-zip_append R (x ∷ as_) cs (y ∷ bs) ds a b = (a.0, zip_append R as_ cs bs ds a.1 b)
-
-zip_flat_map : {X A B : Type 0} (R : A → B → Type 0) (f : X → List A) (g : X → List B) (xs : List X) → ((x : X) → Has xs x → AllZip R (f x) (g x)) → AllZip R (flat_map f xs) (flat_map g xs)
-zip_flat_map R f g [] a = tt
-zip_flat_map R f g (x ∷ xs) a = zip_append R (f x) (flat_map f xs) (g x) (flat_map g xs) (a x (inl refl)) (zip_flat_map R f g xs (λ y has. a y (inr has)))
 
 zip_map : {X A B : Type 0} (R : A → B → Type 0) (f : X → A) (g : X → B) (xs : List X) → ((x : X) → R (f x) (g x)) → AllZip R (map f xs) (map g xs)
 zip_map R f g [] a = tt

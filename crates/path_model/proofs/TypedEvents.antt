@@ -4,6 +4,7 @@ use Rattle.std.specs.Prelude.{slice_get, nat_eq, ◌&&◌, if◌then◌else◌}
 use Rattle.std.proofs.lemmas.Bool.{eqb-true}
 use Rattle.foundation.proofs.Truth.{split}
 use Rattle.foundation.proofs.Members.{Has, contains_from_has}
+use Rattle.foundation.proofs.Chosen.{find_passes}
 use Rattle.cxx_hierarchy.specs.declared.records.ClassId.{ClassId}
 use Rattle.cxx_hierarchy.specs.declared.records.ValueType.{ValueType}
 use Rattle.cxx_hierarchy.specs.declared.records.FieldType.{FieldType}
@@ -11,7 +12,6 @@ use Rattle.cxx_hierarchy.specs.declared.records.FieldType.TheVariants.{Value as 
 use Rattle.cxx_hierarchy.specs.Classes.{Classes, leaf_type, leaf_type_in, value_type_in}
 use Rattle.cxx_subobject.specs.declared.Subobject.{Subobject}
 use Rattle.cxx_subobject.specs.Locations.{Step, ObjectPart, IsElement, IsPartOf}
-use Rattle.cxx_search.proofs.Finding.{find_passes}
 use Rattle.cxx_program.specs.declared.operand.TypedOperand.{TypedOperand}
 use Rattle.cxx_program.specs.declared.operand.Argument.{Argument}
 use Rattle.cxx_program.specs.declared.operand.Variable.TheVariants.{Global, Local}
@@ -56,7 +56,7 @@ leaf_type_is ty (Some n) t u e is = absurd (let f : None ≡ Some u = subst (λ 
 member_type : (h : Classes) (c : ClassId) (m i : ℕ) (t u : ValueType ClassId) → leaf_type h c m ≡ Some u → IsElement h c m i (ValueField t) → u ≡ t
 member_type h c m i t u e el = leaf_type_is el.member.ty el.member.count t u (sym (ap leaf_type_in el.there) ∙ e) el.type_is
 
-inits_of : (h : Classes) (program : TypedProgram) → IsTypedProgram h program → (c : ClassId) (o : Option TypedBody) → body_of program (Constructor c) ≡ o → (init : TypedInit) → Has (inits_in o) init → IsTypedInit h c init
+pub inits_of : (h : Classes) (program : TypedProgram) → IsTypedProgram h program → (c : ClassId) (o : Option TypedBody) → body_of program (Constructor c) ≡ o → (init : TypedInit) → Has (inits_in o) init → IsTypedInit h c init
 inits_of h program a c None e init has = absurd has
 inits_of h program a c (Some body) e init has =
     let b = body_typed h program a (Constructor c) body e in

@@ -3,6 +3,7 @@ use Rattle.std.proofs.Common.{◌≡◌, ℕ, Bool, true, false, inl, inr, Optio
 use Rattle.std.specs.Prelude.{slice_get, find, nat_eq, if◌then◌else◌, ◌≢◌}
 use Rattle.std.proofs.lemmas.Bool.{eqb-true, eq-eqb}
 use Rattle.foundation.proofs.Truth.{split, not_both}
+use Rattle.foundation.proofs.Chosen.{find_passes}
 use Rattle.cxx_hierarchy.specs.declared.records.ClassId.{ClassId}
 use Rattle.cxx_hierarchy.specs.declared.records.Function.{Function}
 use Rattle.cxx_hierarchy.specs.declared.records.ValueType.{ValueType}
@@ -27,12 +28,12 @@ use Rattle.cxx_overrider.specs.Faults.{HasNoFault}
 use Rattle.cxx_overrider.proofs.Numbering.{same_function}
 use Rattle.cxx_overrider.proofs.ReturnLaws.{fits}
 use Rattle.cxx_search.specs.Searches.{is_class, is_of_class, final_in}
-use Rattle.cxx_search.proofs.Finding.{find_passes, finds_some}
+use Rattle.cxx_search.proofs.Finding.{finds_some}
 use Rattle.cxx_search.proofs.Finals.{found_final}
+use Rattle.cxx_search.proofs.Casts.{of_class}
 use Rattle.cxx_program.specs.declared.operand.Conversion.TheVariants.{Same as ToSame}
 use Rattle.cxx_program.specs.Typed.{Types, Converts, to_same, to_base, parameter_types}
 use Rattle.path_model.specs.Effects.{base_conversion, class_conversion, result_conversion}
-use Rattle.path_model.proofs.TypedViews.{of_class}
 
 -- signatures and declarations
 

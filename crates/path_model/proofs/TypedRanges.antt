@@ -22,7 +22,7 @@ count_positive ULong = omega arith
 count_positive LongLong = omega arith
 count_positive ULongLong = omega arith
 
-euclid_range : (y : ℤ) (n : ℕ) → 0 < n → (pos 0 ≤ℤ int_rem_euclid y (pos n)) × (int_rem_euclid y (pos n) <ℤ pos n)
+pub euclid_range : (y : ℤ) (n : ℕ) → 0 < n → (pos 0 ≤ℤ int_rem_euclid y (pos n)) × (int_rem_euclid y (pos n) <ℤ pos n)
 euclid_range (pos a) n h = let l : a % n < n = mod-lt a h in (omega (arith, ints), omega (arith, ints))
 euclid_range (negsuc a) n h = let l : n - 1 - a % n < n = omega arith in (omega (arith, ints), omega (arith, ints))
 

@@ -1,10 +1,10 @@
 -- The value of a right side that calls nothing and makes nothing fits its type.
 use Rattle.std.proofs.Common.{◌≡◌, Bool, Option, Some, None, List, refl}
-use Rattle.std.specs.Prelude.{ℤ, ◌+ℤ◌, ◌-ℤ◌, ◌*ℤ◌, int_lt, not, ◌&&◌, nat_eq, if◌then◌else◌}
+use Rattle.std.specs.Prelude.{ℤ, ◌+ℤ◌, ◌-ℤ◌, ◌*ℤ◌, int_lt, not, ◌&&◌, nat_eq, if◌then◌else◌, pos}
 use Rattle.foundation.proofs.Truth.{split}
 use Rattle.cxx_hierarchy.specs.declared.records.ClassId.{ClassId}
 use Rattle.cxx_hierarchy.specs.declared.records.Scalar.{Scalar}
-use Rattle.cxx_hierarchy.specs.declared.records.Scalar.TheVariants.{Bool as TheBool}
+use Rattle.cxx_hierarchy.specs.declared.records.Scalar.TheVariants.{Bool as TheBool, Int}
 use Rattle.cxx_hierarchy.specs.declared.records.ValueType.{ValueType}
 use Rattle.cxx_hierarchy.specs.declared.records.ValueType.TheVariants.{Number as NumberType, Pointer as PointerType}
 use Rattle.cxx_hierarchy.specs.Scalars.{wrapped, common_type}
@@ -19,17 +19,18 @@ use Rattle.cxx_program.specs.declared.statement.Arithmetic.{Arithmetic as Operat
 use Rattle.cxx_program.specs.declared.statement.Arithmetic.TheVariants.{Add, Subtract, Multiply, Less, LessEqual, Equal, NotEqual}
 use Rattle.cxx_program.specs.declared.statement.TypedRight.{TypedRight}
 use Rattle.cxx_program.specs.declared.statement.Converted.{Converted}
-use Rattle.cxx_program.specs.Typed.{Scope, Casts, cast_same, cast_up, cast_down, cast_dynamic, calculated_type, HasRight, an_operand, a_calculation, a_comparison, a_negation, a_read, an_address, a_result, an_object, a_cast, a_type_test, IsConverted, a_right, a_null_right, IsPlace}
+use Rattle.cxx_program.specs.Typed.{Scope, Casts, cast_same, cast_up, cast_down, cast_dynamic, calculated_type, HasRight, an_operand, a_calculation, a_comparison, a_negation, a_read, an_address, a_result, an_object, a_cast, a_type_test, IsConverted, a_right, a_null_right, IsPlace, zero_operand, of_number}
 use Rattle.cxx_hierarchy.specs.declared.records.FieldType.TheVariants.{Value as ValueField, Object}
 use Rattle.path_model.specs.Values.{Value, Unset, Number, Null, Pointer, Objects, Sight, value, converted, argument_value}
 use Rattle.path_model.specs.Places.{leaf_at, leaf_value, address_value}
 use Rattle.path_model.specs.Uses.{cast_value, view_cast, view_of, value_or, derived_of}
 use Rattle.path_model.specs.Effects.{truth, calculated, arithmetic_value, is_same_pointer, negated, is_number_zero, is_type, type_of, type_equal, right_value}
 use Rattle.path_model.specs.TypedStates.{IsPartMade, IsValue}
-use Rattle.path_model.proofs.TypedRanges.{wrapped_in_range, bit_in_range}
+use Rattle.path_model.proofs.TypedRanges.{wrapped_in_range, bit_in_range, zero_in_range}
 use Rattle.path_model.proofs.TypedValues.{IsTypedSight, inner_made, operand_typed, converted_value}
 use Rattle.path_model.proofs.TypedPlaces.{leaf_made, object_made}
 use Rattle.path_model.proofs.TypedViews.{AreRunningParts, derived_made, cast_made}
+use Rattle.path_model.specs.Typed.{IsCast}
 
 pub truth_typed : (h : Classes) (cs : List ClassId) (b : Bool) → IsValue h cs (truth b) (NumberType TheBool)
 truth_typed h cs b = bit_in_range b
@@ -129,3 +130,14 @@ right_typed h keeps e s runs a _ _ (a_type_test x c d has poly known) = type_equ
 pub converted_right_typed : (h : Classes) → IsHierarchy h → (e : Scope) (s : Sight) → AreRunningParts h s.objects → IsTypedSight h e s → (x : Converted) (t : ValueType ClassId) → IsConverted h e x t → IsValue h s.objects.classes (converted (right_value h s x.right) x.conversion) t
 converted_right_typed h keeps e s runs a _ _ (a_right x u t has fits) = converted_value h s.objects.classes u t x.conversion fits (right_value h s x.right) (right_typed h keeps e s runs a x.right u has)
 converted_right_typed h keeps e s runs a _ _ (a_null_right d) = tt
+
+-- a right side that is converted has a type
+pub converted_type : (h : Classes) (e : Scope) (x : Converted) (t : ValueType ClassId) → IsConverted h e x t → (u : ValueType ClassId) × HasRight h e x.right u
+converted_type h e _ _ (a_right x u t has fits) = (u, has)
+converted_type h e _ _ (a_null_right d) = (NumberType Int, an_operand zero_operand (NumberType Int) (of_number (pos 0) Int (zero_in_range Int)))
+
+pub cast_given : (h : Classes) (c d : ClassId) (cast : TypedCast) → Casts h c cast d → IsCast h c cast
+cast_given h c d _ (cast_same _) = tt
+cast_given h c d _ (cast_up _ _ i proper) = (d, proper)
+cast_given h c d _ (cast_down _ _ i proper root known) = tt
+cast_given h c d _ (cast_dynamic _ _ polymorphic known) = tt

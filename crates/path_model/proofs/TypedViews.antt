@@ -1,9 +1,9 @@
 -- The view of a part that was made is a subobject of its complete object, and so is what a cast leads to.
 use Rattle.std.proofs.Common.{◌≡◌, ℕ, Bool, true, false, Option, Some, None, List, [], ◌∷◌, inl, refl, ap, subst, sym, ◌∙◌}
 use Rattle.std.specs.Prelude.{slice_get, find, ◌&&◌, if◌then◌else◌}
-use Rattle.std.proofs.lemmas.Bool.{eqb-true}
 use Rattle.foundation.proofs.Truth.{split}
 use Rattle.foundation.proofs.Members.{Has}
+use Rattle.foundation.proofs.Chosen.{find_passes}
 use Rattle.cxx_hierarchy.specs.declared.records.ClassId.{ClassId}
 use Rattle.cxx_hierarchy.specs.Classes.{Classes}
 use Rattle.cxx_hierarchy.specs.Hierarchies.{IsHierarchy}
@@ -11,13 +11,11 @@ use Rattle.cxx_subobject.specs.declared.Subobject.{Subobject}
 use Rattle.cxx_subobject.specs.Subobjects.{IsSubobject, whole, class_of, whole_of, join, same_subobject}
 use Rattle.cxx_subobject.specs.Preorder.{preorder}
 use Rattle.cxx_subobject.specs.Locations.{Step, ObjectPart, IsOwner, IsPartOf}
-use Rattle.cxx_subobject.proofs.PathLemmas.{same_id}
 use Rattle.cxx_subobject.proofs.TreeLemmas.{has_preorder}
-use Rattle.cxx_search.specs.Searches.{is_class, is_of_class, cast_in, preorder_of}
+use Rattle.cxx_subobject.proofs.InsideLemmas.{inside_valid}
+use Rattle.cxx_search.specs.Searches.{is_of_class, cast_in, preorder_of}
 use Rattle.cxx_search.specs.Casts.{IsCast, leads_down, leads_across, leads_nowhere, IsTarget}
-use Rattle.cxx_search.proofs.Casts.{cast_is}
-use Rattle.cxx_search.proofs.Finals.{inside_valid}
-use Rattle.cxx_search.proofs.Finding.{find_passes}
+use Rattle.cxx_search.proofs.Casts.{cast_is, of_class}
 use Rattle.path_plan.specs.Places.{part}
 use Rattle.path_plan.specs.Phases.{first_of, is_complete}
 use Rattle.path_model.specs.Values.{Objects}
@@ -55,10 +53,6 @@ view_valid h s runs p c a x e =
     split (is_complete (s.phases.phase (part p.object p.owner (whole_of d)))) (λ b. (if b then Some (whole_of d) else first_of (s.phases.running p.object p.owner)) ≡ Some x → IsSubobject h d x)
     (λ _ f. let same : whole_of d ≡ x = cc in subst (λ (y : Subobject). IsSubobject h d y) same (whole [] tt))
     (λ _ f. running_valid h s runs p c a x f) seen
-
-pub of_class : (target : ClassId) (o : Option ClassId) → is_class target o ≡ true → o ≡ Some target
-of_class target None e = absurd (let f : false ≡ true = e in cc)
-of_class target (Some d) e = ap (λ (x : ClassId). Some x) (sym (same_id target d (eqb-true target.0 d.0 e)))
 
 -- both tests hold
 pub both_left : (a b : Bool) → (a && b) ≡ true → a ≡ true

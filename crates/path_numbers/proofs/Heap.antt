@@ -68,7 +68,7 @@ heap_number h size keeps classes y z a b p =
     one_number h size keeps (orders_once h) y z (root_at size classes b.object b.class) (root_good size classes b.object b.class) (at_one h size classes y a b.object b.class b.listed e) b.under p
 
 -- one more object leaves the numbers as they are
-before_more : {X : Type 0} (f : X → ℕ) (k : ℕ) (xs : List X) (x y : X) → slice_get xs k ≡ Some x → before f k (xs ++ y ∷ []) ≡ before f k xs
+pub before_more : {X : Type 0} (f : X → ℕ) (k : ℕ) (xs : List X) (x y : X) → slice_get xs k ≡ Some x → before f k (xs ++ y ∷ []) ≡ before f k xs
 before_more f zero xs x y e = refl
 before_more f (suc k) [] x y e = absurd (cc)
 before_more f (suc k) (z ∷ xs) x y e = ap (λ n. f z + n) (before_more f k xs x y e)

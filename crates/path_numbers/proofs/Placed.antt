@@ -1,5 +1,5 @@
 -- The offset of a base or of a virtual base by its class, and how far a path leads.
-use Rattle.std.proofs.Common.{◌≡◌, ℕ, zero, suc, ◌+◌, ◌<◌, ◌≤◌, Bool, true, false, ◌||◌, inl, inr, ⊎_elim, List, [], ◌∷◌, length, get_or, refl, ap, subst, sym, ◌∙◌, arith}
+use Rattle.std.proofs.Common.{◌≡◌, ℕ, zero, suc, ◌+◌, ◌<◌, ◌≤◌, Bool, true, false, ⊎_elim, List, [], ◌∷◌, length, get_or, refl, ap, subst, sym, ◌∙◌, arith}
 use Rattle.std.specs.Prelude.{Option, Some, None, nat_eq, if◌then◌else◌, slice_get}
 use Rattle.std.proofs.lemmas.Bool.{eqb-true, eq-eqb, cases_lt}
 use Rattle.std.proofs.lemmas.List.{get_or_past}
@@ -15,7 +15,7 @@ use Rattle.foundation.proofs.Truth.{split, not_both, is_false, or_left, or_right
 use Rattle.foundation.proofs.Members.{Has, index_of, once_by_place}
 use Rattle.foundation.proofs.Places.{place_of}
 use Rattle.path_plan.specs.Plans.{InFull, AsBase, is_among, virtual_order}
-use Rattle.path_plan.proofs.Order.{order_has, order_virtual}
+use Rattle.path_plan.proofs.Order.{order_has, order_virtual, among_has}
 use Rattle.path_numbers.specs.declared.numbers.ClassNumbers.{ClassNumbers}
 use Rattle.path_numbers.specs.Sizes.{before, base_size, sizes_of, base_offset, shared_offset}
 use Rattle.path_numbers.specs.Numbers.{before_first, base_number, shared_number, path_number, IsSharedAt, IsRow}
@@ -44,11 +44,6 @@ pub shared_number_at : (h : Classes) (c v : ClassId) (j : ℕ) → slice_get (vi
 unfolding shared_number shared_offset
 shared_number_at h c v j at = ap (λ n. sizes_of h AsBase c + n) (first_at (sizes_of h AsBase) (λ w. nat_eq w.0 v.0) (virtual_order h c) j v at (eq-eqb v.0 v.0 refl)
     (λ k w lt e. is_false (nat_eq w.0 v.0) (λ t. let s : k ≡ j = once_by_place (virtual_order h c) ((orders_once h).once c) k j v (e ∙ ap (λ (u : ClassId). Some u) (same_id w v (eqb-true w.0 v.0 t))) at in absurd (omega arith))))
-
-pub among_has : (met : List ClassId) (v : ClassId) → is_among met v ≡ true → Has met v
-among_has [] v e = absurd (cc)
-among_has (w ∷ met) v e = split (nat_eq w.0 v.0) (λ b. nat_eq w.0 v.0 ≡ b → (b || is_among met v) ≡ true → Has (w ∷ met) v)
-    (λ _ f g. inl (same_id w v (eqb-true w.0 v.0 f))) (λ _ f g. inr (among_has met v g)) refl e
 
 pub has_among : (met : List ClassId) (v : ClassId) → Has met v → is_among met v ≡ true
 has_among [] v h = absurd h

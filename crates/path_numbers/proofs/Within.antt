@@ -5,8 +5,9 @@ use Rattle.cxx_hierarchy.specs.Classes.{Classes}
 use Rattle.cxx_hierarchy.specs.Hierarchies.{IsHierarchy}
 use Rattle.cxx_subobject.specs.declared.Root.TheVariants.{Whole, Shared}
 use Rattle.cxx_subobject.specs.declared.Subobject.{Subobject}
-use Rattle.cxx_subobject.specs.Subobjects.{Leads, IsSubobject, whole, shared, subobject, last_of, join, whole_of}
+use Rattle.cxx_subobject.specs.Subobjects.{Leads, IsSubobject, whole, shared, subobject, last_of, join}
 use Rattle.foundation.proofs.Members.{index_of}
+use Rattle.cxx_subobject.proofs.InsideLemmas.{whole_joined}
 use Rattle.path_plan.specs.Places.{part}
 use Rattle.path_plan.specs.Plans.{InFull, AsBase, virtual_order}
 use Rattle.path_plan.proofs.Order.{order_has}
@@ -18,7 +19,7 @@ use Rattle.path_numbers.proofs.Naming.{one_number}
 use Rattle.path_numbers.proofs.Ways.{orders_once, way_arrives}
 use Rattle.path_numbers.proofs.Placed.{placed, base_number_at, shared_number_at}
 
-path_leads : (h : Classes) → IsHierarchy h → (c : ClassId) (path : List ClassId) → Leads h c path → IsPath h (sizes_of h) c path (path_number h c path) (last_of c path)
+pub path_leads : (h : Classes) → IsHierarchy h → (c : ClassId) (path : List ClassId) → Leads h c path → IsPath h (sizes_of h) c path (path_number h c path) (last_of c path)
 path_leads h keeps c [] leads = (refl, refl)
 path_leads h keeps c (b ∷ path) leads =
     let p = placed h c b leads.0 in
@@ -45,10 +46,6 @@ has_way h keeps c _ (shared v path has leads) =
           (share c v (last_of v path) (last_of v path) path [] p.0 (path_number h v path) 0 p.1 (path_leads h keeps v path leads) (stop AsBase (last_of v path)));
     }
 
-whole_join : (h : Classes) (c : ClassId) (s : Subobject) → IsSubobject h c s → join (whole_of c) s ≡ s
-whole_join h c _ (whole path leads) = refl
-whole_join h c _ (shared v path has leads) = refl
-
 -- the node of a subobject of a complete object
 pub record IsPartAt (h : Classes) (x : Node) (s : Subobject) (y : Node) : Type 0 where
   pub under : Under h (sizes_of h) y x
@@ -62,7 +59,7 @@ part_at h keeps x s good full valid =
       a.end,
       record {
         under = a.under;
-        is_part = a.is_part ∙ ap (λ (t : Subobject). part x.part.object x.part.owner t) (ap (λ (t : Subobject). join t s) (good.whole full) ∙ whole_join h x.class s valid);
+        is_part = a.is_part ∙ ap (λ (t : Subobject). part x.part.object x.part.owner t) (ap (λ (t : Subobject). join t s) (good.whole full) ∙ whole_joined h x.class s valid);
         number = a.is_number;
       },
     )

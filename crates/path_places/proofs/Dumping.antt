@@ -17,6 +17,8 @@ use Rattle.cxx_subobject.specs.declared.locations.Hop.TheVariants.{Inherit, Memb
 use Rattle.cxx_subobject.specs.Subobjects.{IsSubobject, class_of}
 use Rattle.cxx_subobject.specs.Locations.{ObjectPart, hops_of_steps}
 use Rattle.cxx_subobject.specs.Preorder.{preorder}
+use Rattle.cxx_subobject.proofs.TreeLemmas.{valid_at}
+use Rattle.cxx_subobject.proofs.PathLemmas.{class_found}
 use Rattle.path_plan.specs.Places.{element}
 use Rattle.path_plan.specs.Plans.{InFull, upto}
 use Rattle.path_plan.specs.Whole.{whole_part}
@@ -42,7 +44,7 @@ use Rattle.path_places.specs.invariants.Leaves.{Grows, base_leaves, element_leav
 use Rattle.path_places.specs.invariants.Dumps.{Seen, seen, IsSite, IsPlace, IsDumped, DumpsLeaf, DumpsValues, DumpsElements, DumpsMember, DumpsMembers, DumpsOwn, DumpsBases, DumpsWhole}
 use Rattle.path_places.proofs.Growing.{grows_none, grows_more, grows_pushed, grows_next, grows_counted, upto_more}
 use Rattle.path_places.proofs.Opening.{leaves_open, leaves_past}
-use Rattle.path_places.proofs.Listing.{leaf_points, element_there, base_there, valid_at, class_at}
+use Rattle.path_places.proofs.Listing.{leaf_points, element_there, base_there}
 
 -- one leaf
 
@@ -164,7 +166,7 @@ pub bases_step : (g : Seen) → IsHierarchy g.classes → (hops : List Hop) (c :
 bases_step g keeps hops c k list j x is lt at d told number number_told old mid new before one =
     let h = g.classes in
     let valid = valid_at h c list j x is lt at in
-    let class = class_at h c d x valid told in
+    let class = class_found h c d x valid told in
     bases_next g keeps hops c k list j x lt (subst (λ (t : Subobject). IsSubobject h c t) at valid) d (ap class_of (sym at) ∙ class) number (number_told ∙ ap (number_in h c) at) old mid new before
     (subst (λ (t : Subobject). DumpsOwn g hops t d ((k + number) % 2 ^ 32) mid new) at one)
 

@@ -3,14 +3,9 @@ use Rattle.std.proofs.Common.{◌≡◌, ℕ, zero, suc, ◌+◌, ◌<◌, ◌�
 use Rattle.std.specs.List.{AllZip, flat_map}
 use Rattle.std.proofs.lemmas.List.{append-nil, append_assoc, flat_map_more, take_more, take_all}
 use Rattle.foundation.proofs.Members.{Has}
+use Rattle.foundation.proofs.Zips.{zip_append}
 use Rattle.path_plan.specs.Plans.{count_from, upto}
 use Rattle.path_places.specs.invariants.Leaves.{Grows}
-
-pub zip_append : {A B : Type 0} (R : A → B → Type 0) (as_ cs : List A) (bs ds : List B) → AllZip R as_ bs → AllZip R cs ds → AllZip R (as_ ++ cs) (bs ++ ds)
-zip_append R [] cs [] ds a b = b
-zip_append R [] cs (y ∷ bs) ds a b = absurd a
-zip_append R (x ∷ as_) cs [] ds a b = absurd a
-zip_append R (x ∷ as_) cs (y ∷ bs) ds a b = (a.0, zip_append R as_ cs bs ds a.1 b)
 
 pub zip_map : {X A B : Type 0} (R : A → B → Type 0) (f : X → A) (g : X → B) (xs : List X) → ((x : X) → Has xs x → R (f x) (g x)) → AllZip R (map f xs) (map g xs)
 zip_map R f g [] a = tt

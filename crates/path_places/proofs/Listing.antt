@@ -3,8 +3,7 @@ use Rattle.std.proofs.Common.{◌≡◌, ℕ, ◌+◌, ◌*◌, ◌%◌, ◌^◌
 use Rattle.std.specs.Prelude.{slice_get}
 use Rattle.std.specs.List.{AllZip, flat_map}
 use Rattle.std.proofs.lemmas.List.{take_more, take_all}
-use Rattle.std.proofs.lemmas.Option.{slice_get-get_or}
-use Rattle.foundation.proofs.Members.{Has, has_at}
+use Rattle.std.proofs.Math.Nat.{mod-eq_of_lt}
 use Rattle.cxx_hierarchy.specs.declared.records.ClassId.{ClassId}
 use Rattle.cxx_hierarchy.specs.declared.records.Member.{Member}
 use Rattle.cxx_hierarchy.specs.declared.records.ValueType.{ValueType}
@@ -14,20 +13,18 @@ use Rattle.cxx_hierarchy.specs.Classes.{Classes, members_of}
 use Rattle.cxx_hierarchy.specs.Declarations.{elements_of}
 use Rattle.cxx_hierarchy.specs.Hierarchies.{IsHierarchy}
 use Rattle.cxx_subobject.specs.declared.Subobject.{Subobject}
-use Rattle.cxx_subobject.specs.Subobjects.{IsSubobject, whole, shared, whole_of, class_of, join}
+use Rattle.cxx_subobject.specs.Subobjects.{IsSubobject, whole, class_of, join}
 use Rattle.cxx_subobject.specs.Preorder.{preorder}
-use Rattle.cxx_subobject.proofs.InsideLemmas.{join_class}
-use Rattle.cxx_subobject.proofs.PathLemmas.{class_there, class_low}
-use Rattle.cxx_subobject.proofs.TreeLemmas.{has_preorder}
+use Rattle.cxx_subobject.proofs.InsideLemmas.{join_class, whole_joined}
+use Rattle.cxx_subobject.proofs.PathLemmas.{class_found}
+use Rattle.cxx_subobject.proofs.TreeLemmas.{valid_at}
 use Rattle.path_plan.specs.Places.{ObjectPart, part, element}
 use Rattle.path_plan.specs.Plans.{InFull, upto}
 use Rattle.path_plan.proofs.Members.{has_count}
 use Rattle.path_numbers.specs.Sizes.{sizes_of, member_offset}
-use Rattle.path_numbers.specs.Nodes.{Node, node, element_kid, Under, here, deeper, LeafAt}
-use Rattle.path_numbers.specs.Heap.{IsAt, root_at}
+use Rattle.path_numbers.specs.Nodes.{Node, node, element_kid, here, deeper, LeafAt}
 use Rattle.path_numbers.specs.Numbers.{number_in}
 use Rattle.path_numbers.proofs.Sized.{sizes_are}
-use Rattle.path_numbers.proofs.Ways.{under_through}
 use Rattle.path_numbers.proofs.Leaves.{leaf_own}
 use Rattle.path_numbers.proofs.Heap.{at_good, at_within}
 use Rattle.path_numbers.proofs.Within.{part_at, number_is}
@@ -37,6 +34,7 @@ use Rattle.path_heap.specs.declared.heap.Heap.{Heap}
 use Rattle.path_heap.specs.Points.{Points, PointsLeaf}
 use Rattle.path_heap.specs.Stands.{HeapStands, HasBegun}
 use Rattle.path_heap.proofs.Viewing.{at_less}
+use Rattle.path_heap.proofs.Reaching.{at_below}
 use Rattle.path_places.specs.invariants.Leaves.{Grows, base_leaves, element_leaves, leaves_in, IsNumbered, ListsBases, ListsMembers, IsMemberAt, ListsMember, ListsElements, ListsWhole, ListsOwn, ListsPart}
 use Rattle.path_places.proofs.Growing.{zip_map, grows_none, grows_pushed, grows_next, grows_counted, flat_more}
 use Rattle.path_places.proofs.Opening.{leaves_open, leaves_past}
@@ -47,12 +45,6 @@ turned_two n a b k lt is = omega arith
 
 turned_inner : (n a b k : ℕ) → n + (a + b) < 2 ^ 32 → k ≡ (n + a) % 2 ^ 32 → (k + b % 2 ^ 32) % 2 ^ 32 ≡ n + (a + b)
 turned_inner n a b k lt is = omega arith
-
-turned_one : (n a : ℕ) → n + a < 2 ^ 32 → (n + a) % 2 ^ 32 ≡ n + a
-turned_one n a lt = omega arith
-
-pub at_below : (h : Classes) (classes : List ClassId) (y z : Node) → IsAt h (sizes_of h) classes y → Under h (sizes_of h) z y → IsAt h (sizes_of h) classes z
-at_below h classes y z a under = record { object = a.object; class = a.class; listed = a.listed; under = under_through h (sizes_of h) z y (root_at (sizes_of h) classes a.object a.class) a.under under }
 
 -- a member that is a number or a pointer
 
@@ -159,10 +151,6 @@ members_all h c k i list is past within old new told = subst (λ n. ListsMembers
 
 -- the subobjects of a complete object
 
-join_whole : (h : Classes) (c : ClassId) (i : Subobject) → IsSubobject h c i → join (whole_of c) i ≡ i
-join_whole h c _ (whole path leads) = refl
-join_whole h c _ (shared v path has leads) = refl
-
 pub bases_none : (h : Classes) (c : ClassId) (k : ℕ) (old : List ℕ) → ListsBases h c k [] old old
 bases_none h c k old = record { lists = λ classes y a full. grows_none (PointsLeaf h classes) old }
 
@@ -198,10 +186,10 @@ base_there h keeps classes c d k y a full s valid class number number_told =
         few = few;
         at = z_at;
         class = cc;
-        number = sym (turned_one k number (omega arith) ∙ (let e : k + number ≡ z.0.number = omega arith in e));
+        number = sym (mod-eq_of_lt (omega arith) ∙ (let e : k + number ≡ z.0.number = omega arith in e));
       };
       own = z.1.is_part;
-      is_part = z.1.is_part ∙ ap (λ (t : Subobject). part y.part.object y.part.owner t) (sym (ap (λ (t : Subobject). join t s) (good.whole full) ∙ join_whole h y.class s valid_y));
+      is_part = z.1.is_part ∙ ap (λ (t : Subobject). part y.part.object y.part.owner t) (sym (ap (λ (t : Subobject). join t s) (good.whole full) ∙ whole_joined h y.class s valid_y));
     }
 
 bases_next : (h : Classes) → IsHierarchy h → (c : ClassId) (k : ℕ) (list : List Subobject) (j : ℕ) (i : Subobject) → j < length list → IsSubobject h c (get_or list j i) → (d : ClassId) → class_of (get_or list j i) ≡ Some d → (number : ℕ) → number ≡ number_in h c (get_or list j i)
@@ -213,23 +201,11 @@ bases_next h keeps c k list j i lt valid d class number number_told old mid new 
       grows_next (PointsLeaf h classes) (base_leaves h y.part) list j i old mid new lt (before.lists classes y a full) (own_is h classes d y.part s z.node class z.is_part mid new (one.lists classes z.node z.numbered));
 }
 
--- a subobject of a list that a loop is at
-pub valid_at : (h : Classes) (c : ClassId) (list : List Subobject) (j : ℕ) (x : Subobject) → list ≡ preorder h c → j < length list → x ≡ get_or list j x → IsSubobject h c x
-valid_at h c list j x is lt at =
-    let has : Has list x = has_at list j x (slice_get-get_or list j x lt ∙ ap (λ (t : Subobject). Some t) (sym at)) in
-    has_preorder h c x (subst (λ (l : List Subobject). Has l x) is has)
-
-pub class_at : (h : Classes) (c d : ClassId) (x : Subobject) → IsSubobject h c x → ((e : ClassId) → class_of x ≡ Some e → d ≡ e) → class_of x ≡ Some d
-class_at h c d x valid told = let e = class_there h c x valid in e.1 ∙ ap (λ (t : ClassId). Some t) (sym (told e.0 e.1))
-
-pub class_known : (h : Classes) → IsHierarchy h → (c d : ClassId) (x : Subobject) → IsSubobject h c x → class_of x ≡ Some d → d.0 ≤ c.0
-class_known h keeps c d x valid class = class_low h keeps c d x valid class
-
 pub bases_step : (h : Classes) → IsHierarchy h → (c : ClassId) (k : ℕ) (list : List Subobject) (j : ℕ) (x : Subobject) → list ≡ preorder h c → j < length list → x ≡ get_or list j x → (d : ClassId) → ((e : ClassId) → class_of x ≡ Some e → d ≡ e) → (number : ℕ) → number ≡ number_in h c x
     → (old mid new : List ℕ) → ListsBases h c k (take j list) old mid → ListsOwn h d ((k + number) % 2 ^ 32) mid new → ListsBases h c k (take (j + 1) list) old new
 bases_step h keeps c k list j x is lt at d told number number_told old mid new before one =
     let valid = valid_at h c list j x is lt at in
-    let class = class_at h c d x valid told in
+    let class = class_found h c d x valid told in
     bases_next h keeps c k list j x lt (subst (λ (t : Subobject). IsSubobject h c t) at valid) d (ap class_of (sym at) ∙ class) number (number_told ∙ ap (number_in h c) at) old mid new before one
 
 -- the subobjects of a part
@@ -243,7 +219,7 @@ pub part_next : (h : Classes) (heap : Heap) (n : ℕ) (c : ClassId) (list : List
 part_next h heap n c list j x is lt at d told start reached mid new before one = record {
   lists = λ s p stands q begun p_class.
       let valid = valid_at h c list j x is lt at in
-      let class = class_at h c d x valid told in
+      let class = class_found h c d x valid told in
       let z = reached s p c stands q begun p_class valid in
       let z_class : Some z.node.class ≡ Some d =
       sym (at_good h (sizes_of h) s.classes z.node z.at).class ∙ (ap (λ (t : ObjectPart). class_of t.at) z.is_part ∙ (join_class h c p.at x p_class valid ∙ class)) in

@@ -4,6 +4,7 @@ use mathlib.Core.Path.{fun_ext}
 use Rattle.std.specs.Prelude.{slice_get, Some, if◌then◌else◌}
 use Rattle.std.specs.List.{AllZip, zip, find}
 use Rattle.std.proofs.lemmas.List.{take_all}
+use Rattle.foundation.proofs.Zips.{zip_append}
 use Rattle.cxx_hierarchy.specs.Classes.{Classes}
 use Rattle.path_model.specs.Values.{Value, Leaf, Objects}
 use Rattle.path_model.specs.Effects.{same_leaf, leaf_set, value_behind}
@@ -12,7 +13,6 @@ use Rattle.path_heap.specs.declared.state.Value.{Value as ValueCode}
 use Rattle.path_heap.specs.Points.{PointsLeaf}
 use Rattle.path_heap.specs.Stands.{HeapStands, Means}
 use Rattle.path_places.specs.invariants.Stores.{moved, MeansLeaf, ReadsAll, StoresFrom}
-use Rattle.path_places.proofs.Growing.{zip_append}
 
 -- what goes along with an item
 pub record IsAlong {A B : Type 0} (R : A → B → Type 0) (x : A) (ys : List B) (i : ℕ) : Type 0 where

@@ -12,7 +12,7 @@ use Rattle.path_plan.specs.Places.{ObjectPart}
 use Rattle.path_plan.specs.Whole.{whole_part}
 use Rattle.path_numbers.specs.Sizes.{sizes_of}
 use Rattle.path_numbers.specs.Nodes.{Node, Under}
-use Rattle.path_numbers.specs.Heap.{IsAt, root_at}
+use Rattle.path_numbers.specs.Heap.{root_at}
 use Rattle.path_numbers.proofs.Sized.{sizes_are}
 use Rattle.path_numbers.proofs.Intervals.{under_lies}
 use Rattle.path_numbers.proofs.Heap.{at_object, heap_number}
@@ -26,13 +26,9 @@ use Rattle.path_heap.specs.declared.heap.Heap.{Heap}
 use Rattle.path_heap.specs.Points.{Points}
 use Rattle.path_heap.specs.Stands.{HeapStands, Means}
 use Rattle.path_heap.proofs.Asking.{root_is_at}
-use Rattle.path_heap.proofs.Viewing.{at_less}
+use Rattle.path_heap.proofs.Reaching.{at_small}
 use Rattle.path_places.specs.declared.locations.Spot.{Spot}
 use Rattle.path_places.specs.invariants.Walks.{form_of, IsSpot, Walks}
-
--- each number has 32 bits
-pub at_small : (h : Classes) (heap : Heap) (s : Objects) → HeapStands h heap s → (y : Node) → IsAt h (sizes_of h) s.classes y → y.number < 2 ^ 32
-at_small h heap s stands y at = let a = at_less h stands.hierarchy s.classes y at in let b = stands.counts.few in omega arith
 
 -- a part lies in the root of its heap object, whose number is that of the whole
 pub record InRoot (h : Classes) (s : Objects) (n start : ℕ) (p : ObjectPart) (c : ClassId) : Type 0 where

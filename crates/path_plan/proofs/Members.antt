@@ -10,10 +10,10 @@ use Rattle.cxx_hierarchy.specs.Classes.{Classes, members_of}
 use Rattle.cxx_hierarchy.specs.Hierarchies.{IsHierarchy}
 use Rattle.cxx_subobject.specs.Subobjects.{class_of}
 use Rattle.cxx_hierarchy.specs.Declarations.{elements_of}
-use Rattle.foundation.proofs.Members.{Has, has_at, contains_from_has}
+use Rattle.foundation.proofs.Members.{Has, has_at, contains_from_has, has_cases}
 use Rattle.path_plan.specs.Places.{ObjectPart, element, member_kid, IsIn, here, deeper}
 use Rattle.path_plan.specs.Phases.{Complete, is_half, Phases}
-use Rattle.path_plan.specs.Plans.{InFull, Inner, Bodies, init_events, typed_events, member_events, count_from, upto}
+use Rattle.path_plan.specs.Plans.{InFull, Inner, Bodies, init_events, typed_events, member_events, count_from, upto, backwards}
 use Rattle.path_plan.proofs.Names.{Token, Member, Index, owner_name, sub_name, name, Begins, begins_child, not_child, IsRaw}
 use Rattle.path_plan.proofs.Growth.{went_none, went_wider, stays, EventsIn, events_wider, Plays, Ran}
 use Rattle.path_plan.proofs.Loop.{Follows, Loop, loop}
@@ -31,6 +31,15 @@ count_has a (suc n) i low high = ⊎_elim (λ e. inl e) (λ r. inr (count_has (s
   where
     apart : (a i : ℕ) → a ≤ i → (a ≡ i) ⊎ (suc a ≤ i)
     apart a i low = grind arith
+
+pub count_last : (a n : ℕ) → count_from a (suc n) ≡ count_from a n ++ (a + n) ∷ []
+count_last a zero = let e : a ≡ a + zero = omega arith in ap (λ k. k ∷ []) e
+count_last a (suc n) = ap (λ t. a ∷ t) (count_last (suc a) n ∙ let e : suc a + n ≡ a + suc n = omega arith in ap (λ k. count_from (suc a) n ++ k ∷ []) e)
+
+-- a list backwards has the same items
+pub has_backwards : {X : Type 0} (xs : List X) (x : X) → Has (backwards xs) x → Has xs x
+has_backwards [] x has = has
+has_backwards (y ∷ xs) x has = ⊎_elim (λ front. inr (has_backwards xs x front)) (λ last. ⊎_elim (λ same. inl same) (λ none. absurd none) last) (has_cases (backwards xs) (y ∷ []) x has)
 
 count_follows : (token : ℕ → Token) (end : ℕ) → ((i j : ℕ) → token i ≡ token j → i ≡ j) → (done : List ℕ) (a n : ℕ) → a + n ≤ end → Follows token (λ done i. i < end) done (count_from a n)
 count_follows token end one done a zero fits = tt

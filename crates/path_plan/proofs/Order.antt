@@ -17,7 +17,7 @@ use Rattle.path_plan.specs.Plans.{walk, is_among, unmet, virtual_order}
 use Rattle.path_plan.proofs.Names.{At}
 use Rattle.path_plan.proofs.Loop.{Follows}
 
-among_has : (met : List ClassId) (v : ClassId) → is_among met v ≡ true → Has met v
+pub among_has : (met : List ClassId) (v : ClassId) → is_among met v ≡ true → Has met v
 among_has [] v e = absurd (cc)
 among_has (w ∷ met) v e = split (nat_eq w.0 v.0) (λ b. (b || is_among met v) ≡ true → Has (w ∷ met) v)
     (λ f g. inl (same_id w v (eqb-true w.0 v.0 f))) (λ f g. inr (among_has met v g)) e

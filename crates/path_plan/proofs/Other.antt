@@ -57,7 +57,7 @@ same_pushed k s s' p o a = λ i. if same_owner p.object p.owner k o then p.at �
 same_popped : (k : ℕ) (s s' : Phases) (p : ObjectPart) (o : List Step) → IsSameAt k s s' → popped s.running p k o ≡ popped s'.running p k o
 same_popped k s s' p o a = λ i. if same_owner p.object p.owner k o then rest_of (a.running o i) else a.running o i
 
-same_after : (k : ℕ) (s s' : Phases) → IsSameAt k s s' → (e : Event) → IsSameAt k (after s e) (after s' e)
+pub same_after : (k : ℕ) (s s' : Phases) → IsSameAt k s s' → (e : Event) → IsSameAt k (after s e) (after s' e)
 same_after k s s' a (Begin p) = record { phase = λ q ob. same_put k s s' p InBases q a ob; running = λ o. same_pushed k s s' p o a }
 same_after k s s' a (Ready p) = record { phase = λ q ob. same_put k s s' p ReadyBuilding q a ob; running = a.running }
 same_after k s s' a (Init p m) = a

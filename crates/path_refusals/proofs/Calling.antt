@@ -2,7 +2,6 @@
 use Rattle.std.proofs.Common.{arith, ◌<◌, ◌≤◌, ◌≡◌, Bool, true, false, ◌||◌, Option, Some, None, List, [], ◌∷◌, ◌++◌, refl, ap, subst, ◌∙◌, append_assoc}
 use Rattle.std.specs.Prelude.{if◌then◌else◌}
 use Rattle.std.specs.List.{flat_map}
-use Rattle.foundation.proofs.Truth.{split}
 use Rattle.cxx_hierarchy.specs.declared.records.ClassId.{ClassId}
 use Rattle.cxx_hierarchy.specs.declared.records.Function.{Function}
 use Rattle.cxx_hierarchy.specs.Classes.{Classes}
@@ -16,10 +15,10 @@ use Rattle.cxx_program.specs.Typed.{Scope, IsWay, IsCall}
 use Rattle.path_rules.specs.declared.Undefined.TheVariants.{PureCall}
 use Rattle.path_model.specs.Values.{Value, Unset, Number, Null, Pointer, Objects, Sight, value, to_base}
 use Rattle.path_model.specs.Uses.{Use, Takes, takes, views, arrow, is_shared, is_shared_way, goes_to, argument_uses, call_uses}
-use Rattle.path_model.specs.Rules.{refused, names, is_unready, is_outside, is_pure_at}
-use Rattle.path_model.proofs.Ranks.{first_place, rank, rank_append}
-use Rattle.path_model.proofs.Single.{none_rank, view_rank, view_late, views_none}
-use Rattle.path_model.proofs.Conversions.{is_pointer, off_outside, base_steady, converted_of}
+use Rattle.path_model.specs.Rules.{refused, names, is_unready, is_pure_at}
+use Rattle.path_model.proofs.Ranks.{rank, rank_append}
+use Rattle.path_model.proofs.Single.{view_late, views_none, take_late}
+use Rattle.path_model.proofs.Conversions.{is_pointer, off_outside, base_steady, converted_of, views_top}
 use Rattle.cxx_program.specs.declared.operand.Conversion.TheVariants.{Base as ToBase}
 use Rattle.path_heap.specs.declared.state.Value.{Value as ValueCode}
 use Rattle.path_heap.specs.declared.heap.Heap.{Heap}
@@ -36,11 +35,6 @@ unfolding refused
 take_is h s p f true e = rw e refl
 take_is h s p f false e = rw e refl
 
-take_rank : (h : Classes) (s : Objects) (p : ObjectPart) (f : FunctionId) (b : Bool) → is_pure_at h s f p ≡ b → rank h s (Takes (Pointer p) f ∷ []) ≡ (if b then 5 else 12)
-unfolding rank first_place
-take_rank h s p f true e = rw e refl
-take_rank h s p f false e = rw e refl
-
 pub off_take : (h : Classes) (s : Objects) (x : Value) (f : FunctionId) (b : Bool) → is_pointer x ≡ false → None ≡ refused h s (takes b x f)
 unfolding refused
 off_take h s Unset f true e = refl
@@ -51,30 +45,18 @@ off_take h s Null f true e = refl
 off_take h s Null f false e = refl
 off_take h s (Pointer p) f b e = absurd (cc)
 
-takes_late : (h : Classes) (s : Objects) (b : Bool) (x : Value) (f : FunctionId) → 5 ≤ rank h s (takes b x f)
-takes_late h s false x f = let n = none_rank h s in omega (arith, n)
-takes_late h s true Unset f = let r = clear_rank h s (takes true Unset f) (off_take h s Unset f true refl) in omega (arith, r)
-takes_late h s true (Number z) f = let r = clear_rank h s (takes true (Number z) f) (off_take h s (Number z) f true refl) in omega (arith, r)
-takes_late h s true Null f = let r = clear_rank h s (takes true Null f) (off_take h s Null f true refl) in omega (arith, r)
-takes_late h s true (Pointer p) f = split (is_pure_at h s f p) (λ b. is_pure_at h s f p ≡ b → 5 ≤ rank h s (Takes (Pointer p) f ∷ []))
-    (λ _ e. let r = take_rank h s p f true e in omega (arith, r)) (λ _ e. let r = take_rank h s p f false e in omega (arith, r)) refl
-
-view_three : (h : Classes) (s : Objects) (b : Bool) (x : Value) → rank h s (views b x) < 12 → rank h s (views b x) ≤ 3
-view_three h s true x less = split (names (is_outside h s) x) (λ t. rank h s (views true x) ≤ 3) (λ e. let r = view_rank h s x true e in omega (arith, r)) (λ e. let r = view_rank h s x false e in omega (arith, r, less))
-view_three h s false x less = let n = none_rank h s in omega (arith, n, less)
-
 -- a view comes before what is asked behind it
 pub view_then : (h : Classes) (s : Objects) (b : Bool) (x : Value) (us : List Use) → 3 ≤ rank h s us → rank h s (views b x) < 12 → rank h s (views b x) ≤ rank h s us
-view_then h s b x us late less = let l = view_three h s b x less in omega (arith, l, late)
+view_then h s b x us late less = let l = views_top h s b x less in omega (arith, l, late)
 
 pub taken_late : (h : Classes) (s : Objects) (b : Bool) (x : Value) (f : FunctionId) → 3 ≤ rank h s (takes b x f)
-taken_late h s b x f = let l = takes_late h s b x f in omega (arith, l)
+taken_late h s b x f = let l = take_late h s b x f in omega (arith, l)
 
 pub found_late : (h : Classes) (s : Objects) (call : TypedCall) (y : Value) → 3 ≤ rank h s (found_asked call y)
 found_late h s call y =
     let r = rank_append h s (views (is_shared call.base) y) (takes call.is_dispatched (to_base call.base y) call.function) in
     let v = view_late h s (is_shared call.base) y in
-    let t = takes_late h s call.is_dispatched (to_base call.base y) call.function in
+    let t = take_late h s call.is_dispatched (to_base call.base y) call.function in
     omega (arith, r, v, t)
 
 pub way_late : (h : Classes) (s : Objects) (call : TypedCall) (x : Value) → 2 ≤ rank h s (way_asked call x)

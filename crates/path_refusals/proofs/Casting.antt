@@ -8,7 +8,7 @@ use Rattle.cxx_subobject.specs.declared.Subobject.{Subobject}
 use Rattle.cxx_subobject.specs.Subobjects.{IsSubobject}
 use Rattle.cxx_subobject.specs.Locations.{ObjectPart}
 use Rattle.cxx_program.specs.declared.statement.TypedCast.{TypedCast}
-use Rattle.cxx_program.specs.declared.statement.TypedCast.TheVariants.{Same as SameClass, Up, Down, Dynamic}
+use Rattle.cxx_program.specs.declared.statement.TypedCast.TheVariants.{Up}
 use Rattle.cxx_program.specs.declared.operand.Conversion.{Conversion}
 use Rattle.cxx_program.specs.Typed.{Casts, cast_same, cast_up, cast_down, cast_dynamic}
 use Rattle.path_rules.specs.declared.Undefined.TheVariants.{BadDowncast}
@@ -18,6 +18,7 @@ use Rattle.path_model.specs.Rules.{refused, names, is_unready, is_nowhere}
 use Rattle.path_model.proofs.Ranks.{first_place, rank, rank_append}
 use Rattle.path_model.proofs.Single.{guard_rank}
 use Rattle.path_model.proofs.Conversions.{is_pointer, convert_off}
+use Rattle.path_model.proofs.Rights.{cast_off}
 use Rattle.path_heap.specs.declared.state.Value.{Value as ValueCode}
 use Rattle.path_heap.specs.declared.state.Value.TheVariants.{Unset as UnsetCode, Number as NumberCode, Null as NullCode, Pointer as PointerCode}
 use Rattle.path_heap.specs.Stands.{Means}
@@ -87,21 +88,6 @@ down_then h s x target i less =
     (λ e. let g = guard_rank h s x false e in let l : rank h s (Reads x ∷ []) ≤ 4 = read_early h s x (omega (arith, r, g, less)) in omega (arith, r, d, l))
 
 -- of what is no pointer no cast gives one
-
-cast_off : (h : Classes) (s : Objects) (how : TypedCast) (x : Value) → is_pointer x ≡ false → is_pointer (cast_value h s how x) ≡ false
-cast_off h s SameClass x e = e
-cast_off h s (Up i) Unset e = refl
-cast_off h s (Up i) (Number z) e = refl
-cast_off h s (Up i) Null e = refl
-cast_off h s (Up i) (Pointer p) e = absurd (cc)
-cast_off h s (Down target i) Unset e = refl
-cast_off h s (Down target i) (Number z) e = refl
-cast_off h s (Down target i) Null e = refl
-cast_off h s (Down target i) (Pointer p) e = absurd (cc)
-cast_off h s (Dynamic target) Unset e = refl
-cast_off h s (Dynamic target) (Number z) e = refl
-cast_off h s (Dynamic target) Null e = refl
-cast_off h s (Dynamic target) (Pointer p) e = absurd (cc)
 
 pub off_cast : (h : Classes) (s : Objects) (how : TypedCast) (x : Value) (c : Conversion) → is_pointer x ≡ false → None ≡ refused h s (convert (cast_value h s how x) c)
 off_cast h s how x c e = full_none h s (convert (cast_value h s how x) c) (convert_off h s (cast_value h s how x) c (cast_off h s how x e))

@@ -12,7 +12,7 @@ use Rattle.cxx_hierarchy.specs.declared.records.Member.{Member}
 use Rattle.cxx_hierarchy.specs.declared.records.FieldType.{FieldType}
 use Rattle.cxx_hierarchy.specs.declared.records.ValueType.{ValueType}
 use Rattle.cxx_hierarchy.specs.declared.records.FieldType.TheVariants.{Value as ValueField, Object}
-use Rattle.cxx_hierarchy.specs.Classes.{Class, Classes, class_at, members_in, members_of}
+use Rattle.cxx_hierarchy.specs.Classes.{Classes, members_in, members_of}
 use Rattle.cxx_hierarchy.specs.Declarations.{elements_of}
 use Rattle.cxx_hierarchy.specs.Hierarchies.{IsHierarchy}
 use Rattle.cxx_subobject.specs.Locations.{ObjectPart, IsElement}
@@ -149,9 +149,6 @@ element_of h c m i member d n listed e is l = record { member = member; there = 
 
 pub member_below : (h : Classes) → IsHierarchy h → (c : ClassId) (m : ℕ) (member : Member ClassId) (d : ClassId) → slice_get (members_of h c) m ≡ Some member → member.ty ≡ Object d → d.0 < c.0
 member_below h keeps c m member d listed e = members_known h keeps c c.0 (members_of h c) refl refl member d (contains_at (members_of h c) m member listed) e
-
-pub members_same : (h : Classes) (c : ClassId) (x : Class) (list : List (Member ClassId)) → class_at h c ≡ Some x → list ≡ x.members → list ≡ members_of h c
-members_same h c x list at e = e ∙ sym (ap members_in at)
 
 -- the members of a class whose number is past the last have none
 pub past_covers : (h : Classes) (s : Objects) (k : ℕ) (c : ClassId) (p : ObjectPart) → length h ≤ c.0 → Covers h s true (asked_covers h k c p)

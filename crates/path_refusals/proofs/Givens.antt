@@ -26,20 +26,18 @@ use Rattle.path_model.specs.Rules.{refused, names, is_unready, is_clear, is_noth
 use Rattle.path_model.specs.Typed.{IsOf, IsPath, IsReturn, Converts as Leads}
 use Rattle.path_model.proofs.Ranks.{rank, rank_append, rank_full}
 use Rattle.path_model.proofs.Single.{guard_rank, pass_rank}
-use Rattle.path_model.proofs.TypedValues.{IsTypedSight, operand_typed}
+use Rattle.path_model.proofs.TypedValues.{operand_typed}
 use Rattle.path_heap.specs.declared.state.Value.{Value as ValueCode}
 use Rattle.path_heap.specs.declared.heap.Heap.{Heap}
 use Rattle.path_heap.specs.Stands.{Means}
 use Rattle.path_values.specs.Given.{IsSeen, GivesBack}
 use Rattle.path_values.specs.Conversions.{CanReach, CanConvert}
 use Rattle.path_values.specs.Open.{IsOpen}
+use Rattle.path_values.proofs.Seen.{sight_typed}
 use Rattle.path_refusals.specs.invariants.Pieces.{Stands, IsValueOf, way_uses}
 use Rattle.path_refusals.proofs.Refused.{clear_rank, goes_on}
 use Rattle.path_refusals.proofs.Reading.{begun_of, arrow_clear, full_none}
 use Rattle.path_refusals.proofs.Paths.{inner_begun}
-
-sight_typed : (h : Classes) (e : Scope) (s : Sight) → IsSeen h e s → IsTypedSight h e s
-sight_typed h e s a = record { globals = a.globals; locals = a.locals; this = a.this; leaves = a.leaves }
 
 -- the class of a type, where it is a pointer
 abbrev pub class_in : ValueType ClassId → ClassId
@@ -70,16 +68,13 @@ leads h _ _ _ (to_number s t) = refl
 leads h _ _ _ (to_same t) = refl
 leads h _ _ _ (to_base c d i a) = a
 
-returned : (h : Classes) (e : Scope) (s : Sight) (w : Wanted) → IsSeen h e s → GivesBack h e w → (a : Argument) (t : ValueType ClassId) → e.returns ≡ Some (ValueReturn t) → IsArgument h e a t → IsReturn h s w (Some a)
-returned h e s w seen back _ _ is (a_value a u t has fits) =
+pub return_given : (h : Classes) (e : Scope) (s : Sight) (w : Wanted) → IsSeen h e s → GivesBack h e w → (a : Argument) (t : ValueType ClassId) → e.returns ≡ Some (ValueReturn t) → IsArgument h e a t → IsReturn h s w (Some a)
+return_given h e s w seen back _ _ is (a_value a u t has fits) =
     let b = back t is in
     (class_in u, class_in t, class_in b.0, class_in b.1, of_value h s.objects (value s a.operand) u (operand_typed h e s (sight_typed h e s seen) a.operand u has), leads h u t a.conversion fits, leads h t b.0 w.found b.2, leads h b.0 b.1 w.target b.3)
-returned h e s w seen back _ _ is (a_null d) =
+return_given h e s w seen back _ _ is (a_null d) =
     let b = back (PointerType d) is in
     (d, d, class_in b.0, class_in b.1, tt, refl, leads h (PointerType d) b.0 w.found b.2, leads h b.0 b.1 w.target b.3)
-
-pub return_given : (h : Classes) (e : Scope) (s : Sight) (w : Wanted) → IsSeen h e s → GivesBack h e w → (a : Argument) (t : ValueType ClassId) → e.returns ≡ Some (ValueReturn t) → IsArgument h e a t → IsReturn h s w (Some a)
-return_given h e s w seen back a t is b = returned h e s w seen back a t is b
 
 -- a conversion that breaks no rule can be done
 pub can_convert : (h : Classes) (s : Objects) (x : Value) (c d : ClassId) (k : Conversion) → IsOf s x c → Leads h c k d → None ≡ refused h s (convert x k) → CanConvert h s x k

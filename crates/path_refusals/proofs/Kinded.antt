@@ -1,15 +1,13 @@
 -- What a typed statement is of each kind.
 use Rattle.std.proofs.Common.{◌≡◌, Some, subst}
-use Rattle.std.specs.Prelude.{ℕ, pos}
+use Rattle.std.specs.Prelude.{ℕ}
 use Rattle.cxx_hierarchy.specs.declared.records.ClassId.{ClassId}
 use Rattle.cxx_hierarchy.specs.declared.records.Function.{Function}
-use Rattle.cxx_hierarchy.specs.declared.records.Scalar.TheVariants.{Int}
 use Rattle.cxx_hierarchy.specs.declared.records.ValueType.{ValueType}
-use Rattle.cxx_hierarchy.specs.declared.records.ValueType.TheVariants.{Number as NumberType, Pointer as PointerType}
+use Rattle.cxx_hierarchy.specs.declared.records.ValueType.TheVariants.{Pointer as PointerType}
 use Rattle.cxx_hierarchy.specs.declared.records.FieldType.TheVariants.{Value as ValueField}
 use Rattle.cxx_hierarchy.specs.declared.records.ReturnType.TheVariants.{Value as ValueReturn}
 use Rattle.cxx_hierarchy.specs.Classes.{Classes}
-use Rattle.path_model.proofs.TypedRanges.{zero_in_range}
 use Rattle.cxx_program.specs.declared.operand.Variable.{Variable}
 use Rattle.cxx_program.specs.declared.operand.TypedOperand.{TypedOperand}
 use Rattle.cxx_program.specs.declared.operand.Argument.{Argument}
@@ -18,19 +16,15 @@ use Rattle.cxx_program.specs.declared.statement.TypedCall.{TypedCall}
 use Rattle.cxx_program.specs.declared.statement.Converted.{Converted}
 use Rattle.cxx_program.specs.declared.statement.TypedKind.{TypedKind}
 use Rattle.cxx_program.specs.declared.statement.TypedKind.TheVariants.{Declare, Assign, Write, Copy, Call, Return}
-use Rattle.cxx_program.specs.Typed.{Scope, HasType, of_number, IsArgument, IsPlace, IsCall, HasRight, an_operand, IsConverted, a_right, a_null_right, zero_operand, IsTyped, declares, begins, assigns, writes, copies, calls, deletes, branches, repeats, returns_nothing, returns_value, prints, prints_type, prints_view, dumps}
-
--- a right side that is converted has a type
-right_typed : (h : Classes) (e : Scope) (x : Converted) (t : ValueType ClassId) → IsConverted h e x t → (u : ValueType ClassId) × HasRight h e x.right u
-right_typed h e _ _ (a_right x u t a fits) = (u, a)
-right_typed h e _ _ (a_null_right d) = (NumberType Int, an_operand zero_operand (NumberType Int) (of_number (pos 0) Int (zero_in_range Int)))
+use Rattle.cxx_program.specs.Typed.{Scope, HasType, IsArgument, IsPlace, IsCall, HasRight, IsConverted, IsTyped, declares, begins, assigns, writes, copies, calls, deletes, branches, repeats, returns_nothing, returns_value, prints, prints_type, prints_view, dumps}
+use Rattle.path_model.proofs.TypedRights.{converted_type}
 
 pub record RightGiven (h : Classes) (e : Scope) (x : Converted) : Type 0 where
   pub type : ValueType ClassId
   pub right : HasRight h e x.right type
 
 given : (h : Classes) (e : Scope) (x : Converted) (t : ValueType ClassId) → IsConverted h e x t → RightGiven h e x
-given h e x t a = let r = right_typed h e x t a in record { type = r.0; right = r.1 }
+given h e x t a = let r = converted_type h e x t a in record { type = r.0; right = r.1 }
 
 pub declared_given : (h : Classes) (e : Scope) (r : TypedKind) (m : ℕ) (y : Converted) → r ≡ Declare m (Some y) → IsTyped h e r → RightGiven h e y
 declared_given h e _ m y same (declares n t is) = absurd (cc)

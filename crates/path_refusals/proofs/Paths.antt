@@ -1,5 +1,5 @@
 -- Class members on a path, from a part that is ready.
-use Rattle.std.proofs.Common.{arith, ◌<◌, ◌≤◌, ◌≡◌, true, false, Option, Some, None, List, [], ◌∷◌, ◌++◌, refl, ap, sym, subst, ◌∙◌, append-nil}
+use Rattle.std.proofs.Common.{arith, ◌<◌, ◌≤◌, ◌≡◌, true, false, Option, Some, None, List, [], ◌∷◌, ◌++◌, refl, ap, sym, subst, ◌∙◌}
 use Rattle.std.specs.Prelude.{ℕ, if◌then◌else◌, ◌-◌, length, get_or}
 use Rattle.std.proofs.Common.{take, drop}
 use Rattle.std.proofs.lemmas.List.{take_all}
@@ -28,6 +28,8 @@ use Rattle.path_model.proofs.Single.{none_rank, pass_rank, view_late, views_none
 use Rattle.path_model.proofs.Conversions.{is_pointer, off_outside}
 use Rattle.path_model.proofs.Facts.{base_done, not_unready, ready_of}
 use Rattle.path_model.proofs.Places.{asked_late, place_rank}
+use Rattle.path_model.proofs.Rights.{asked_two}
+use Rattle.path_model.proofs.Covers.{join_whole}
 use Rattle.path_heap.specs.declared.state.Value.{Value as ValueCode}
 use Rattle.path_heap.specs.declared.heap.Heap.{Heap}
 use Rattle.path_heap.specs.Points.{Points}
@@ -36,9 +38,6 @@ use Rattle.path_values.specs.Open.{OpensTo}
 use Rattle.path_refusals.specs.invariants.Pieces.{IsReadyPart, IsValueOf, way_uses, path_asked}
 use Rattle.path_refusals.proofs.Refused.{refused_alike, stops, goes_on}
 use Rattle.path_refusals.proofs.Reading.{nothing, full_none, pass_is, begun_of, arrow_then}
-
-join_whole : (p : ObjectPart) (c : ClassId) → inner_part p (whole_of c) ≡ p
-join_whole p c = ap (λ (x : List ClassId). part p.object p.owner (subobject p.at.root x)) (append-nil p.at.path)
 
 -- a subobject of what is ready is ready: the part itself, or a proper base
 pub inner_ready : (h : Classes) (s : Objects) (p : ObjectPart) (c : ClassId) (i : Subobject) → class_of p.at ≡ Some c → Settled h p.object s.phases → is_unready s p ≡ false → IsSubobject h c i → is_unready s (inner_part p i) ≡ false
@@ -98,22 +97,10 @@ swapped h s a b = refused_alike h s (a ++ b) (b ++ a) (let r = rank_append h s a
 
 -- behind the arrow
 
-members_two : (h : Classes) (s : Objects) (p : ObjectPart) (xs : List PassedMember) → rank h s (asked_members p xs) < 12 → rank h s (asked_members p xs) ≤ 2
-members_two h s p [] less = let n = none_rank h s in omega (arith, n, less)
-members_two h s p (x ∷ rest) less = split (is_shared x.base) (λ b. rank h s (if b then [] else Passes e ∷ asked_members e rest) < 12 → rank h s (if b then [] else Passes e ∷ asked_members e rest) ≤ 2)
-    (λ _ l. let n = none_rank h s in omega (arith, n, l))
-    (λ _ l. let r = rank_append h s (Passes e ∷ []) (asked_members e rest) in
-    split (is_unready s e) (λ b. rank h s (Passes e ∷ asked_members e rest) ≤ 2)
-    (λ f. let v = pass_rank h s e true f in omega (arith, r, v))
-    (λ f. let v = pass_rank h s e false f in let m : rank h s (asked_members e rest) ≤ 2 = members_two h s e rest (omega (arith, r, v, l)) in omega (arith, r, m))) less
-  where
-    e : ObjectPart
-    e = passed_part p x
-
 pub members_first : (h : Classes) (s : Objects) (p : ObjectPart) (place : TypedPlace) (r : Undefined) → Some r ≡ refused h s (asked_members p place.passed) → Some r ≡ refused h s (path_asked place (Pointer p))
 members_first h s p place r e =
     let b = is_shared (first_base place.passed place.base) in
-    stops h s (asked_members p place.passed) (views b (Pointer p)) r (λ less. let l = members_two h s p place.passed less in let v = view_late h s b (Pointer p) in omega (arith, l, v)) e
+    stops h s (asked_members p place.passed) (views b (Pointer p)) r (λ less. let l = asked_two h s p place.passed less in let v = view_late h s b (Pointer p) in omega (arith, l, v)) e
     ∙ swapped h s (asked_members p place.passed) (views b (Pointer p))
 
 pub members_then : (h : Classes) (s : Objects) (p : ObjectPart) (place : TypedPlace) (rule : Option Undefined) → None ≡ refused h s (asked_members p place.passed) → rule ≡ refused h s (views (is_shared (first_base place.passed place.base)) (Pointer p)) → rule ≡ refused h s (path_asked place (Pointer p))

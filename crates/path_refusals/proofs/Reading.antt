@@ -1,6 +1,6 @@
 -- What a value that is read, followed and guarded breaks.
 use Rattle.std.proofs.Common.{arith, ◌<◌, ◌≤◌, ◌≡◌, Bool, true, false, Option, Some, None, List, [], ◌∷◌, refl, ap, sym, subst, ◌∙◌}
-use Rattle.std.specs.Prelude.{ℕ, ℤ, if◌then◌else◌, not, IfOk, Result, Ok, Err}
+use Rattle.std.specs.Prelude.{ℕ, ℤ, if◌then◌else◌, not}
 use Rattle.cxx_hierarchy.specs.declared.records.ClassId.{ClassId}
 use Rattle.cxx_hierarchy.specs.Classes.{Classes}
 use Rattle.cxx_subobject.specs.Locations.{ObjectPart}
@@ -128,11 +128,6 @@ read_guard h s x b less =
 
 pub arrow_views : (h : Classes) (s : Objects) (x : Value) (b : Bool) → rank h s (arrow x) < 12 → rank h s (arrow x) ≤ rank h s (views b x)
 arrow_views h s x b less = arrow_then h s x (views b x) (λ e. views_none h s b x (off_outside h s x e)) (let v = view_late h s b x in omega (arith, v)) less
-
--- what every result that is one is, from what is so of it
-pub ok_is : {X E : Type 0} (P Q : X → Type 0) (r : Result X E) → IfOk r P → ((x : X) → P x → Q x) → IfOk r Q
-ok_is P Q (Ok x) a f = f x a
-ok_is P Q (Err e) a f = tt
 
 -- what is so of each value that the code's means
 pub unset_case : (h : Classes) (classes : List ClassId) (P : Value → Type 0) → P Unset → (v : ValueCode) → v ≡ UnsetCode → (x : Value) → Means h classes v x → P x

@@ -22,17 +22,18 @@ use Rattle.cxx_program.specs.declared.statement.TypedCast.TheVariants.{Same as S
 use Rattle.cxx_program.specs.declared.statement.TypedRight.{TypedRight}
 use Rattle.cxx_program.specs.declared.statement.TypedRight.TheVariants.{Read, Address, Call as CallRight, Cast}
 use Rattle.cxx_program.specs.declared.statement.TypedKind.TheVariants.{Copy, Return}
-use Rattle.cxx_program.specs.Typed.{Scope, HasType, IsPath, IsPlace, Casts, cast_same, cast_up, cast_down, cast_dynamic, IsCall, HasRight, an_operand, a_calculation, a_comparison, a_negation, a_read, an_address, a_result, an_object, a_cast, a_type_test}
+use Rattle.cxx_program.specs.Typed.{Scope, HasType, IsPath, IsPlace, Casts, IsCall, HasRight, an_operand, a_calculation, a_comparison, a_negation, a_read, an_address, a_result, an_object, a_cast, a_type_test}
 use Rattle.path_model.specs.Values.{Value, Objects, Sight, value, converted}
 use Rattle.path_model.specs.Places.{last_passed, address_value}
 use Rattle.path_model.specs.Uses.{Use, Reads, Downs, Views, views, is_shared, arrow, convert, cast_uses, cast_value, return_uses, Wanted}
 use Rattle.path_model.specs.Rules.{refused, names, is_unready, refusal}
-use Rattle.path_model.specs.Typed.{AllSettled, IsOf, IsCast, IsReturn}
+use Rattle.path_model.specs.Typed.{AllSettled, IsOf, IsReturn}
 use Rattle.path_model.specs.Order.{asked_place, asked_covered, sorted, first_broken}
 use Rattle.path_model.proofs.Ranks.{rank, rank_append}
 use Rattle.path_model.proofs.Sorted.{broken_append}
 use Rattle.path_model.proofs.Rights.{address_answers, cast_answers}
 use Rattle.path_model.proofs.Statements.{statement_answers}
+use Rattle.path_model.proofs.TypedRights.{cast_given}
 use Rattle.path_heap.specs.declared.state.Value.{Value as ValueCode}
 use Rattle.path_heap.specs.declared.heap.Heap.{Heap}
 use Rattle.path_refusals.specs.invariants.Pieces.{IsValueOf, way_uses}
@@ -84,17 +85,17 @@ pub record CastGiven (h : Classes) (e : Scope) (how : TypedCast) (of : TypedOper
   pub operand : HasType e of (PointerType from)
   pub casts : Casts h from how to
 
-pub cast_given : (h : Classes) (e : Scope) (r : TypedRight) (u : ValueType ClassId) (how : TypedCast) (of : TypedOperand) → r ≡ Cast how of → HasRight h e r u → CastGiven h e how of
-cast_given h e _ _ how of is (an_operand x t a) = absurd (cc)
-cast_given h e _ _ how of is (a_calculation op s t x y a b) = absurd (cc)
-cast_given h e _ _ how of is (a_comparison differ a b c p q) = absurd (cc)
-cast_given h e _ _ how of is (a_negation x t a) = absurd (cc)
-cast_given h e _ _ how of is (a_read place t a) = absurd (cc)
-cast_given h e _ _ how of is (an_address place d a) = absurd (cc)
-cast_given h e _ _ how of is (a_result call f t a b) = absurd (cc)
-cast_given h e _ _ how of is (an_object c a) = absurd (cc)
-cast_given h e _ _ how of is (a_cast cast x c d a b) = let same : cast ≡ how = cc in let one : x ≡ of = cc in record { from = c; to = d; operand = subst (λ (z : TypedOperand). HasType e z (PointerType c)) one a; casts = subst (λ (z : TypedCast). Casts h c z d) same b }
-cast_given h e _ _ how of is (a_type_test x c d a b l) = absurd (cc)
+pub cast_side_given : (h : Classes) (e : Scope) (r : TypedRight) (u : ValueType ClassId) (how : TypedCast) (of : TypedOperand) → r ≡ Cast how of → HasRight h e r u → CastGiven h e how of
+cast_side_given h e _ _ how of is (an_operand x t a) = absurd (cc)
+cast_side_given h e _ _ how of is (a_calculation op s t x y a b) = absurd (cc)
+cast_side_given h e _ _ how of is (a_comparison differ a b c p q) = absurd (cc)
+cast_side_given h e _ _ how of is (a_negation x t a) = absurd (cc)
+cast_side_given h e _ _ how of is (a_read place t a) = absurd (cc)
+cast_side_given h e _ _ how of is (an_address place d a) = absurd (cc)
+cast_side_given h e _ _ how of is (a_result call f t a b) = absurd (cc)
+cast_side_given h e _ _ how of is (an_object c a) = absurd (cc)
+cast_side_given h e _ _ how of is (a_cast cast x c d a b) = let same : cast ≡ how = cc in let one : x ≡ of = cc in record { from = c; to = d; operand = subst (λ (z : TypedOperand). HasType e z (PointerType c)) one a; casts = subst (λ (z : TypedCast). Casts h c z d) same b }
+cast_side_given h e _ _ how of is (a_type_test x c d a b l) = absurd (cc)
 
 -- addresses
 
@@ -111,16 +112,10 @@ address_staged h keeps heap s v x e place d c a of =
 
 -- casts
 
-is_cast : (h : Classes) (c d : ClassId) (how : TypedCast) → Casts h c how d → IsCast h c how
-is_cast h _ _ _ (cast_same c) = tt
-is_cast h _ _ _ (cast_up c d i a) = (d, a)
-is_cast h _ _ _ (cast_down c d i a root known) = tt
-is_cast h _ _ _ (cast_dynamic c d a known) = tt
-
 pub cast_staged : (h : Classes) (heap : Heap) (s : Objects) (v : ValueCode) (x : Value) (how : TypedCast) (from to : ClassId) (c : Conversion) → IsValueOf h heap s v x from → Casts h from how to
     → refused h s (cast_uses how x ++ convert (cast_value h s how x) c) ≡ option_or (refused h s (cast_uses how x)) (refused h s (convert (cast_value h s how x) c))
 cast_staged h heap s v x how from to c a b =
-    staged_two h s (cast_uses how x ++ convert (cast_value h s how x) c) (cast_uses how x) (convert (cast_value h s how x) c) (cast_answers h s a.settled how x from c a.of_class (is_cast h from to how b))
+    staged_two h s (cast_uses how x ++ convert (cast_value h s how x) c) (cast_uses how x) (convert (cast_value h s how x) c) (cast_answers h s a.settled how x from c a.of_class (cast_given h from to how b))
 
 pub cast_steady : (h : Classes) (s : Objects) (how : TypedCast) (x : Value) → None ≡ refused h s (cast_uses how x) → names (is_unready s) x ≡ false
 cast_steady h s SameClass x e = guard_clear h s x [] e

@@ -1,3 +1,2 @@
 pub mod SizeLists
 pub mod Turning
-pub mod Limits

@@ -2,8 +2,8 @@
 use Rattle.std.proofs.Common.{◌≡◌, ℕ, ◌<◌, ◌≤◌, ⊎_elim, Bool, true, false, List, [], ◌∷◌, ◌++◌, length, get_or, refl, ap, subst, sym, ◌∙◌, arith, append-nil}
 use Rattle.std.specs.Prelude.{Option, Some, None, Contains, find, slice_get}
 use Rattle.std.proofs.lemmas.List.{get_or-map}
-use Rattle.std.proofs.lemmas.Option.{slice_get-get_or, slice_get_past}
-use Rattle.std.proofs.lemmas.Bool.{cases_lt, eqb-true, eq-eqb}
+use Rattle.std.proofs.lemmas.Option.{slice_get-get_or, slice_get_past, slice_get_within}
+use Rattle.std.proofs.lemmas.Bool.{cases_lt}
 use Rattle.foundation.proofs.Truth.{not_both}
 use Rattle.cxx_hierarchy.specs.declared.records.ClassId.{ClassId}
 use Rattle.cxx_hierarchy.specs.declared.records.Base.{Base}
@@ -11,17 +11,16 @@ use Rattle.cxx_hierarchy.specs.Classes.{Class, Classes, bases_in}
 use Rattle.cxx_hierarchy.specs.VirtualBases.{IsDirectBase, HasVirtualBase, direct, further}
 use Rattle.cxx_hierarchy.specs.Hierarchies.{IsHierarchy}
 use Rattle.cxx_subobject.specs.declared.Subobject.{Subobject}
-use Rattle.cxx_subobject.specs.Subobjects.{IsSubobject, whole, shared, subobject, class_of, join, whole_of}
+use Rattle.cxx_subobject.specs.Subobjects.{IsSubobject, whole, shared, subobject, class_of, whole_of}
 use Rattle.cxx_subobject.specs.Inside.{IsInside}
 use Rattle.cxx_subobject.specs.Preorder.{preorder}
-use Rattle.cxx_subobject.proofs.PathLemmas.{same_id}
-use Rattle.cxx_subobject.proofs.InsideLemmas.{inside_itself}
+use Rattle.cxx_subobject.proofs.InsideLemmas.{inside_itself, whole_joined}
 use Rattle.cxx_overrider.specs.declared.FunctionId.{FunctionId}
 use Rattle.cxx_overrider.specs.Functions.{signature_in, signature_of}
 use Rattle.cxx_overrider.specs.Overriding.{IsVirtual}
-use Rattle.cxx_search.specs.Searches.{is_within, is_class, is_of_class, final_in, cast_in}
+use Rattle.cxx_search.specs.Searches.{is_within, is_of_class, final_in, cast_in}
 use Rattle.cxx_search.proofs.Within.{inside_within}
-use Rattle.cxx_search.proofs.Casts.{is_cast}
+use Rattle.cxx_search.proofs.Casts.{is_cast, is_the_class}
 use Rattle.path_numbers.specs.Numbers.{number_in}
 use Rattle.path_tables.specs.declared.finals.FinalAt.{FinalAt}
 use Rattle.path_tables.specs.declared.kept.CastKey.{CastKey}
@@ -31,7 +30,6 @@ use Rattle.path_tables.specs.Parts.{IsNumbered, IsPartList, IsFirstOf, number_of
 use Rattle.path_tables.specs.Kept.{id, function_of, IsCastAnswer, IsFinalAnswer}
 use Rattle.path_tables.specs.invariants.Targets.{IsCastTo}
 use Rattle.path_tables.proofs.Numbered.{one_numbered}
-use Rattle.path_tables.proofs.Targets.{get_length}
 
 pub final_for_all : (h : Classes) → IsHierarchy h → (key : FinalKey) (x y : Subobject) → IsNumbered h (id key.class) key.view x → IsNumbered h (id key.class) key.source y → (answer : Option FinalAt) → answer ≡ numbered h (id key.class) (final_in h x y (function_of key)) → IsFinalAnswer h key answer
 final_for_all h keeps key x y nx ny answer e = λ s t ns nt of_class is_virtual.
@@ -63,22 +61,11 @@ class_there h c y f valid class is_virtual = ⊎_elim (λ lt. lt)
     (λ past. let same : Some f.class ≡ Some c = sym class ∙ whole_class h c y past valid in let one : f.class ≡ c = cc in let lt = function_known h f is_virtual in let e = ap (λ (d : ClassId). d.0) one in absurd (omega arith))
     (cases_lt c.0 (length h))
 
-class_told : (d : ClassId) (o : Option ClassId) → is_class d o ≡ true → o ≡ Some d
-class_told d None e = absurd (cc)
-class_told d (Some c) e = ap (λ (x : ClassId). Some x) (same_id c d (sym (eqb-true d.0 c.0 e)))
-
--- what the test of a class tells
-pub is_the_class : (d : ClassId) (s : Subobject) → is_of_class d s ≡ true → class_of s ≡ Some d
-is_the_class d s e = class_told d (class_of s) e
-
-pub has_the_class : (d : ClassId) (s : Subobject) → class_of s ≡ Some d → is_of_class d s ≡ true
-has_the_class d s e = ap (is_class d) e ∙ eq-eqb d.0 d.0 refl
-
 -- nothing is asked of a source of another class
 pub final_other : (h : Classes) → IsHierarchy h → (key : FinalKey) (y : Subobject) → IsNumbered h (id key.class) key.source y → false ≡ is_of_class (id key.owner) y → IsFinalAnswer h key None
 final_other h keeps key y ny told = λ s t ns nt of_class is_virtual.
     let same = one_numbered h keeps (id key.class) key.source t y nt ny in
-    absurd (not_both (has_the_class (id key.owner) y (ap class_of (sym same) ∙ of_class)) (sym told))
+    absurd (not_both (is_the_class (id key.owner) (class_of y) (ap class_of (sym same) ∙ of_class)) (sym told))
 
 pub within_for_all : (h : Classes) → IsHierarchy h → (c : ClassId) (m n : ℕ) (x y : Subobject) → IsNumbered h c m x → IsNumbered h c n y → (answer : Bool) → answer ≡ is_within h x y → (s t : Subobject) → IsNumbered h c m s → IsNumbered h c n t → answer ≡ is_within h s t
 within_for_all h keeps c m n x y nx ny answer e s t ns nt =
@@ -92,14 +79,10 @@ within_itself h keeps c m n e s t ns nt =
 whole_number : (h : Classes) (c : ClassId) → IsNumbered h c 0 (whole_of c)
 whole_number h c = record { valid = whole [] tt; number = refl }
 
-in_the_whole : (h : Classes) (c : ClassId) (t : Subobject) → IsSubobject h c t → t ≡ join (whole_of c) t
-in_the_whole h c _ (whole path leads) = refl
-in_the_whole h c _ (shared v path has leads) = refl
-
 pub within_whole : (h : Classes) → IsHierarchy h → (c : ClassId) (m n : ℕ) → m ≡ 0 → (s t : Subobject) → IsNumbered h c m s → IsNumbered h c n t → true ≡ is_within h s t
 within_whole h keeps c m n e s t ns nt =
     let same = one_numbered h keeps c 0 (whole_of c) s (whole_number h c) (subst (λ k. IsNumbered h c k s) e ns) in
-    sym (inside_within h keeps s t (subst (λ (z : Subobject). IsInside h z t) same (record { class = c; of_class = refl; part = t; valid = nt.valid; joined = in_the_whole h c t nt.valid })))
+    sym (inside_within h keeps s t (subst (λ (z : Subobject). IsInside h z t) same (record { class = c; of_class = refl; part = t; valid = nt.valid; joined = (sym (whole_joined h c t nt.valid)) })))
 
 cast_for_all : (h : Classes) → IsHierarchy h → (key : CastKey) (x y : Subobject) → IsNumbered h (id key.class) key.view x → IsNumbered h (id key.class) key.source y → (answer : Option ℕ) → answer ≡ number_of h (id key.class) (cast_in h (id key.target) x y) → IsCastAnswer h key answer
 cast_for_all h keeps key x y nx ny answer e = λ s t ns nt.
@@ -115,7 +98,7 @@ pub cast_some : (h : Classes) → IsHierarchy h → (key : CastKey) (x y : Subob
 cast_some h keeps key x y parts list place n nx ny is e (t, at, k) number =
     let c = id key.class in
     let there : slice_get (preorder h c) place ≡ Some t = ap (λ (l : List Subobject). slice_get l place) (sym (e ∙ is.parts)) ∙ at in
-    let lt = get_length (preorder h c) place t there in
+    let lt = slice_get_within (preorder h c) place t there in
     let same : Some (get_or (preorder h c) place t) ≡ Some t = sym (slice_get-get_or (preorder h c) place t lt) ∙ there in
     let one : get_or (preorder h c) place t ≡ t = cc in
     let value : n ≡ number_in h c t = number ∙ (ap (λ (l : List ℕ). get_or l place 0) is.numbers ∙ (get_or-map (number_in h c) (preorder h c) place t 0 lt ∙ ap (number_in h c) one)) in

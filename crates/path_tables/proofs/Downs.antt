@@ -4,6 +4,7 @@ use Rattle.std.specs.Prelude.{Some, None, ◌&&◌, find}
 use Rattle.std.proofs.lemmas.Bool.{and_parts, and_from}
 use Rattle.foundation.proofs.Truth.{split, not_both, is_false}
 use Rattle.foundation.proofs.Members.{Has}
+use Rattle.foundation.proofs.Chosen.{find_passes}
 use Rattle.cxx_hierarchy.specs.declared.records.ClassId.{ClassId}
 use Rattle.cxx_hierarchy.specs.Classes.{Classes}
 use Rattle.cxx_hierarchy.specs.Hierarchies.{IsHierarchy}
@@ -16,14 +17,14 @@ use Rattle.cxx_subobject.proofs.PathLemmas.{leads_rest}
 use Rattle.cxx_subobject.proofs.InsideLemmas.{join_valid}
 use Rattle.cxx_subobject.proofs.TreeLemmas.{preorder_has, has_preorder, subobject_same, same_itself}
 use Rattle.cxx_search.specs.Searches.{is_of_class}
-use Rattle.cxx_search.proofs.Finding.{find_passes, finds_some}
+use Rattle.cxx_search.proofs.Finding.{finds_some}
+use Rattle.cxx_search.proofs.Casts.{of_class, is_the_class}
 use Rattle.path_numbers.specs.Numbers.{base_number, path_number, number_in}
 use Rattle.path_tables.specs.declared.kept.DownKey.{DownKey}
 use Rattle.path_tables.specs.Parts.{IsNumbered, number_of, derived_in}
 use Rattle.path_tables.specs.Kept.{id, IsDownAnswer}
 use Rattle.path_tables.proofs.Numbered.{one_numbered}
 use Rattle.path_tables.proofs.Within.{walked, same_some, cons_parts}
-use Rattle.path_tables.proofs.Answering.{is_the_class, has_the_class}
 
 -- what a search finds
 find_none : {X : Type 0} (p : X → Bool) (xs : List X) → ((x : X) → Has xs x → p x ≡ true → ⊥) → find p xs ≡ None
@@ -78,7 +79,7 @@ record IsDerived (h : Classes) (c target : ClassId) (t : Subobject) (offset sour
 derived_true : (h : Classes) (c target : ClassId) (i y t : Subobject) (offset source : ℕ) → IsNumbered h c source y → i.root ≡ Whole → path_number h target (tail_of i.path) ≡ offset → IsSubobject h c t → is_derived target i y t ≡ true → IsDerived h c target t offset source
 derived_true h c target i y t offset source ny root number vt e =
     let both = and_parts (is_of_class target t) (same_subobject (join t i) y) e in
-    let class = is_the_class target t both.0 in
+    let class = of_class target (class_of t) both.0 in
     let same : subobject t.root (t.path ++ tail_of i.path) ≡ y = sym (joined t i root) ∙ subobject_same (join t i) y both.1 in
     record { class = class; number = ap (λ k. number_in h c t + k) (sym number) ∙ (sym (number_below h c target t (tail_of i.path) vt class) ∙ (ap (number_in h c) same ∙ ny.number)) }
 
@@ -91,7 +92,7 @@ true_derived h keeps c target i y t offset source ny root leads number vt is =
       number = number_below h c target t (tail_of i.path) vt is.class ∙ (ap (λ k. number_in h c t + k) number ∙ is.number);
     } in
     let same = joined t i root ∙ one_numbered h keeps c source below y numbered ny in
-    and_from (is_of_class target t) (same_subobject (join t i) y) (has_the_class target t is.class) (ap (λ (z : Subobject). same_subobject z y) same ∙ same_itself y)
+    and_from (is_of_class target t) (same_subobject (join t i) y) (is_the_class target (class_of t) is.class) (ap (λ (z : Subobject). same_subobject z y) same ∙ same_itself y)
 
 -- none, where no subobject of the class has the number
 pub down_none : (h : Classes) (key : DownKey) → ((t : Subobject) → IsSubobject h (id key.class) t → class_of t ≡ Some (id key.target) → number_in h (id key.class) t + key.offset ≡ key.source → ⊥) → IsDownAnswer h key None
@@ -116,7 +117,7 @@ down_some h keeps key n t sum nt class = λ y i ny root leads number.
 pub derived_nowhere : (h : Classes) (c target : ClassId) (i y : Subobject) → i.root ≡ Whole → (Leads h target (tail_of i.path) → ⊥) → IsSubobject h c y → None ≡ number_of h c (derived_in h c target i y)
 derived_nowhere h c target i y root none vy = ap (number_of h c) (sym (find_none (is_derived target i y) (preorder h c) (λ t has e.
     let both = and_parts (is_of_class target t) (same_subobject (join t i) y) e in
-    none (leads_on h c target t y (tail_of i.path) (has_preorder h c t has) (is_the_class target t both.0) vy (sym (joined t i root) ∙ subobject_same (join t i) y both.1)))))
+    none (leads_on h c target t y (tail_of i.path) (has_preorder h c t has) (of_class target (class_of t) both.0) vy (sym (joined t i root) ∙ subobject_same (join t i) y both.1)))))
 
 and_true : (a : Bool) → (a && true) ≡ a
 and_true true = refl

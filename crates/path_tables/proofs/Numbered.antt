@@ -1,7 +1,7 @@
 -- A number names one subobject of a class.
 use Rattle.std.proofs.Common.{◌≡◌, ℕ, suc, ◌+◌, ◌<◌, Bool, true, List, ◌∷◌, length, get_or, map, drop, drop-cons, refl, ap, subst, sym, ◌∙◌, arith}
 use Rattle.std.specs.Prelude.{Some, None, find, slice_get}
-use Rattle.std.proofs.lemmas.Option.{slice_get-get_or}
+use Rattle.std.proofs.lemmas.Option.{slice_get-get_or, slice_get_within}
 use Rattle.std.proofs.lemmas.List.{get_or-map, length-map}
 use Rattle.cxx_hierarchy.specs.declared.records.ClassId.{ClassId}
 use Rattle.cxx_hierarchy.specs.Classes.{Classes}
@@ -20,7 +20,6 @@ use Rattle.path_numbers.proofs.Within.{part_at}
 use Rattle.path_tables.specs.declared.parts.PartList.{PartList}
 use Rattle.path_tables.specs.Parts.{IsNumbered, IsPartList}
 use Rattle.path_tables.specs.invariants.Places.{IsPlace}
-use Rattle.path_tables.proofs.Targets.{get_length}
 
 pub one_numbered : (h : Classes) → IsHierarchy h → (c : ClassId) (x : ℕ) (s t : Subobject) → IsNumbered h c x s → IsNumbered h c x t → s ≡ t
 one_numbered h keeps c x s t a b =
@@ -40,7 +39,7 @@ not_listed h keeps c x list numbers is e none s numbered =
     let there : Has (map (number_in h c) (preorder h c)) (number_in h c s) = has_map (number_in h c) (preorder h c) s (preorder_has h c keeps s numbered.valid) in
     let listed : Has numbers x = subst (λ (ns : List ℕ). Has ns x) (sym (e ∙ is.numbers)) (subst (Has (map (number_in h c) (preorder h c))) numbered.number there) in
     let place = index_of numbers x listed in
-    let lt = get_length numbers place.0 x place.1 in
+    let lt = slice_get_within numbers place.0 x place.1 in
     let same : Some (get_or numbers place.0 0) ≡ Some x = sym (slice_get-get_or numbers place.0 0 lt) ∙ place.1 in
     none place.0 lt (let one : get_or numbers place.0 0 ≡ x = cc in one)
 

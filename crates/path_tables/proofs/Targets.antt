@@ -1,8 +1,8 @@
 -- The one target of a cast, from two searches, and what follows for the cast.
-use Rattle.std.proofs.Common.{◌≡◌, ℕ, zero, suc, ◌+◌, ◌<◌, ◌≤◌, ⊎_elim, Bool, true, false, List, [], ◌∷◌, length, get_or, refl, ap, subst, sym, ◌∙◌, arith}
+use Rattle.std.proofs.Common.{◌≡◌, ℕ, ◌+◌, ◌<◌, ◌≤◌, ⊎_elim, Bool, true, false, List, length, get_or, refl, ap, subst, sym, ◌∙◌, arith}
 use Rattle.std.specs.Prelude.{Option, Some, None, nat_eq, IsTrue, ◌↔◌, slice_get}
 use Rattle.std.proofs.lemmas.Bool.{cases_lt, eqb-true, eq-eqb}
-use Rattle.std.proofs.lemmas.Option.{slice_get-get_or}
+use Rattle.std.proofs.lemmas.Option.{slice_get-get_or, slice_get_within}
 use Rattle.cxx_hierarchy.specs.declared.records.ClassId.{ClassId}
 use Rattle.cxx_hierarchy.specs.Classes.{Classes}
 use Rattle.cxx_hierarchy.specs.Hierarchies.{IsHierarchy}
@@ -13,8 +13,8 @@ use Rattle.cxx_subobject.specs.Inside.{IsInside, IsPublicWalk}
 use Rattle.cxx_subobject.proofs.TreeLemmas.{preorder_has, has_preorder, preorder_once}
 use Rattle.foundation.proofs.Members.{Has, has_at, index_of, once_by_place}
 use Rattle.foundation.proofs.Truth.{split, not_both}
+use Rattle.cxx_subobject.proofs.InsideLemmas.{inside_valid}
 use Rattle.cxx_search.specs.Casts.{IsOnly, IsTarget, IsTargetOver, CastsDown, CastsAcross, leads_down, leads_across, leads_nowhere}
-use Rattle.cxx_search.proofs.Finals.{inside_valid}
 use Rattle.path_tables.specs.invariants.Targets.{IsWanted, IsOtherAt, IsOnlyAt, IsDownTo, IsAcrossTo, IsCastTo}
 
 -- what a test tells
@@ -31,11 +31,6 @@ pub wanted_inside : (h : Classes) (target : ClassId) (x y t : Subobject) (over :
 wanted_inside h target x y t true k = k.is_target.inside
 wanted_inside h target x y t false k = k.inside
 
-pub get_length : {X : Type 0} (xs : List X) (i : ℕ) (x : X) → slice_get xs i ≡ Some x → i < length xs
-get_length [] i x e = absurd (cc)
-get_length (y ∷ xs) zero x e = omega arith
-get_length (y ∷ xs) (suc i) x e = let r = get_length xs i x e in omega arith
-
 -- none before, and not here
 pub none_more : (Q : ℕ → Subobject → Type 0) (parts : List Subobject) (i : ℕ) (x : Subobject) → i < length parts → x ≡ get_or parts i x → (Q i x → ⊥)
     → ((j : ℕ) (t : Subobject) → j < i → slice_get parts j ≡ Some t → Q j t → ⊥) → (j : ℕ) (t : Subobject) → j < i + 1 → slice_get parts j ≡ Some t → Q j t → ⊥
@@ -49,7 +44,7 @@ none_more Q parts i x lt is none before j t less at k = ⊎_elim
     (cases_lt j i)
 
 pub none_at_all : (Q : ℕ → Subobject → Type 0) (parts : List Subobject) (i : ℕ) → length parts ≤ i → ((j : ℕ) (t : Subobject) → j < i → slice_get parts j ≡ Some t → Q j t → ⊥) → (j : ℕ) (t : Subobject) → slice_get parts j ≡ Some t → Q j t → ⊥
-none_at_all Q parts i le before j t at k = before j t (let lt = get_length parts j t at in omega arith) at k
+none_at_all Q parts i le before j t at k = before j t (let lt = slice_get_within parts j t at in omega arith) at k
 
 pub here_at : (parts : List Subobject) (i : ℕ) (x : Subobject) → i < length parts → x ≡ get_or parts i x → slice_get parts i ≡ Some x
 here_at parts i x lt is = slice_get-get_or parts i x lt ∙ ap Some (sym is)
@@ -88,7 +83,7 @@ module _ (h : Classes) (keeps : IsHierarchy h) (c : ClassId) (target : ClassId) 
 -- the one that stands there is the one
 pub at_one : (P : Subobject → Type 0) (parts : List Subobject) (i : ℕ) (t : Subobject) → t ≡ get_or parts i t → (s : Subobject) × (slice_get parts i ≡ Some s) × IsOnly P s → (slice_get parts i ≡ Some t) × IsOnly P t
 at_one P parts i t is (s, at, only) =
-    let here : slice_get parts i ≡ Some t = here_at parts i t (get_length parts i s at) is in
+    let here : slice_get parts i ≡ Some t = here_at parts i t (slice_get_within parts i s at) is in
     let e : Some s ≡ Some t = sym at ∙ here in
     let same : s ≡ t = cc in (here, subst (IsOnly P) same only)
 

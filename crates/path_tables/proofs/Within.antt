@@ -1,6 +1,6 @@
 -- What lies in a subobject, as a subobject of its class alone; and the final overrider there.
 use Rattle.std.proofs.Common.{◌≡◌, ℕ, ◌<◌, ⊎_elim, Bool, true, false, List, [], ◌∷◌, ◌++◌, length, take, drop, ◌-◌, refl, ap, subst, sym, ◌∙◌, arith, append-nil}
-use Rattle.std.specs.Prelude.{Option, Some, None, Result, Ok, Err, IfOk, IsTrue, ◌↔◌}
+use Rattle.std.specs.Prelude.{Option, Some, None, IsTrue, ◌↔◌}
 use Rattle.std.proofs.Math.Seq.{drop-append_seam}
 use Rattle.std.proofs.lemmas.List.{take_rest}
 use Rattle.cxx_hierarchy.specs.declared.records.ClassId.{ClassId}
@@ -89,11 +89,6 @@ final_inside h keeps c d x y i f o at n there class joined final is number =
 pub within_is : (h : Classes) → IsHierarchy h → (x y : Subobject) (b : Bool) → (IsTrue b ↔ IsInside h x y) → b ≡ is_within h x y
 within_is h keeps x y true k = sym (inside_within h keeps x y (k.0 refl))
 within_is h keeps x y false k = sym (is_false (is_within h x y) (λ e. let f : false ≡ true = k.1 (within_inside h x y e) in cc))
-
--- what holds of a value that was made
-pub made_ok : {X E : Type 0} (P Q : X → Type 0) (result : Result X E) → IfOk result P → ((x : X) → P x → Q x) → IfOk result Q
-made_ok P Q (Ok x) k more = more x k
-made_ok P Q (Err e) k more = tt
 
 -- a class of a subobject is known where its whole is
 pub class_known : (h : Classes) → IsHierarchy h → (c d : ClassId) (n : ℕ) (x : Subobject) → IsSubobject h c x → class_of x ≡ Some d → c.0 < n → d.0 < n

@@ -1,5 +1,5 @@
 -- Where paths lead, step by step.
-use Rattle.std.proofs.Common.{◌≡◌, Some, List, [], ◌∷◌, ◌++◌, ◌∙◌, refl}
+use Rattle.std.proofs.Common.{◌≡◌, Some, List, [], ◌∷◌, ◌∙◌}
 use Rattle.cxx_hierarchy.specs.declared.records.ClassId.{ClassId}
 use Rattle.cxx_hierarchy.specs.Classes.{Classes}
 use Rattle.cxx_subobject.specs.declared.Subobject.{Subobject}
@@ -23,8 +23,3 @@ pub record Ends (h : Classes) (s : Objects) (p : ObjectPart) (last : Subobject) 
 pub ends : (h : Classes) (s : Objects) (p : ObjectPart) (c : ClassId) (passed : List PassedMember) (last : Subobject) → IsOpen h s p c passed last → Ends h s (end_part p passed) last
 ends h s p c [] last o = record { class = c; opens = o }
 ends h s p c (x ∷ rest) last o = ends h s (passed_part p x) x.class rest last o.2
-
--- one member more
-pub end_more : (p : ObjectPart) (passed : List PassedMember) (x : PassedMember) → end_part p (passed ++ x ∷ []) ≡ passed_part (end_part p passed) x
-end_more p [] x = refl
-end_more p (y ∷ passed) x = end_more (passed_part p y) passed x

@@ -2,3 +2,4 @@ pub mod Turns
 pub mod Reading
 pub mod Meaning
 pub mod Following
+pub mod Seen

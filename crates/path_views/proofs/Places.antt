@@ -8,12 +8,11 @@ use Rattle.cxx_subobject.specs.Subobjects.{IsSubobject}
 use Rattle.path_plan.specs.Places.{Step, ObjectPart, part}
 use Rattle.path_plan.specs.Plans.{InFull}
 use Rattle.path_numbers.specs.Sizes.{sizes_of, total}
-use Rattle.path_numbers.specs.Nodes.{Node, Under}
+use Rattle.path_numbers.specs.Nodes.{Node}
 use Rattle.path_numbers.specs.Numbers.{number_in}
 use Rattle.path_numbers.specs.Heap.{IsAt, root_at}
 use Rattle.path_numbers.proofs.Intervals.{size_some}
 use Rattle.path_numbers.proofs.Sized.{sizes_are}
-use Rattle.path_numbers.proofs.Ways.{under_through}
 use Rattle.path_numbers.proofs.Within.{part_at}
 use Rattle.path_numbers.proofs.Heap.{root_good, at_good, at_within, heap_number}
 use Rattle.path_numbers.proofs.Owners.{owned}
@@ -23,11 +22,9 @@ use Rattle.path_model.specs.Places.{owner_class}
 use Rattle.path_model.specs.Uses.{class_of_owner, view_of}
 use Rattle.path_heap.specs.Points.{Points, PointsWhole, PointsView}
 use Rattle.path_heap.proofs.Asking.{whole_class}
+use Rattle.path_heap.proofs.Reaching.{at_below}
 use Rattle.path_views.specs.declared.standing.Standing.{Standing}
 use Rattle.path_views.specs.invariants.Standing.{IsBehind, IsWholeOf, IsViewNumber, IsStanding}
-
-under_at : (h : Classes) (classes : List ClassId) (y z : Node) → IsAt h (sizes_of h) classes y → Under h (sizes_of h) z y → IsAt h (sizes_of h) classes z
-under_at h classes y z a under = record { object = a.object; class = a.class; listed = a.listed; under = under_through h (sizes_of h) z y (root_at (sizes_of h) classes a.object a.class) a.under under }
 
 pub whole_told : (h : Classes) (s : Objects) (p : ObjectPart) (n : ℕ) (c : ClassId) → PointsWhole h s.classes n p → class_of_owner h s p ≡ Some c → IsWholeOf h s.classes n c p
 whole_told h s p n c w class =
@@ -46,7 +43,7 @@ record HasNode (h : Classes) (classes : List ClassId) (w : Node) (x : Subobject)
 has_node : (h : Classes) → IsHierarchy h → (classes : List ClassId) (w : Node) → IsAt h (sizes_of h) classes w → w.form ≡ InFull → (x : Subobject) → IsSubobject h w.class x → HasNode h classes w x
 has_node h keeps classes w at full x valid =
     let p = part_at h keeps w x (at_good h (sizes_of h) classes w at) full valid in
-    record { node = p.0; at = under_at h classes w p.0 at p.1.under; is_part = p.1.is_part; number = p.1.number }
+    record { node = p.0; at = at_below h classes w p.0 at p.1.under; is_part = p.1.is_part; number = p.1.number }
 
 same_place : (k k' : ℕ) (o o' : List Step) (x : Subobject) → k ≡ k' → o ≡ o' → part k o x ≡ part k' o' x
 same_place k k' o o' x a b = ap (λ j. part j o x) a ∙ ap (λ t. part k' t x) b

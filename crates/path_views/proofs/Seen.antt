@@ -1,6 +1,8 @@
 -- What is told by the view, for the model's objects.
-use Rattle.std.proofs.Common.{◌≡◌, ℕ, ◌+◌, ◌<◌, ◌^◌, ◌%◌, Bool, true, false, Option, Some, None, refl, ap, subst, sym, ◌∙◌, arith}
+use Rattle.std.proofs.Common.{◌≡◌, ℕ, ◌+◌, ◌^◌, ◌%◌, Bool, true, false, Option, Some, None, refl, ap, subst, sym, ◌∙◌}
 use Rattle.std.specs.Prelude.{◌&&◌, find, if◌then◌else◌}
+use Rattle.std.proofs.Math.Nat.{mod-eq_of_lt}
+use Rattle.foundation.proofs.Chosen.{find_passes}
 use Rattle.cxx_hierarchy.specs.declared.records.ClassId.{ClassId}
 use Rattle.cxx_hierarchy.specs.Classes.{Classes}
 use Rattle.cxx_hierarchy.specs.Hierarchies.{IsHierarchy}
@@ -9,20 +11,21 @@ use Rattle.cxx_subobject.specs.Subobjects.{IsSubobject, join, same_subobject}
 use Rattle.cxx_subobject.specs.Inside.{IsInside}
 use Rattle.cxx_subobject.proofs.TreeLemmas.{has_preorder}
 use Rattle.cxx_subobject.specs.Preorder.{preorder}
+use Rattle.cxx_subobject.proofs.InsideLemmas.{inside_valid}
 use Rattle.cxx_overrider.specs.declared.FunctionId.{FunctionId}
 use Rattle.cxx_overrider.specs.declared.Overrider.{Overrider}
 use Rattle.cxx_overrider.specs.Functions.{is_pure}
 use Rattle.cxx_search.specs.Searches.{is_within, is_of_class, preorder_of, is_pure_overrider, cast_in}
 use Rattle.cxx_search.specs.Casts.{IsCast, leads_down, leads_across, leads_nowhere}
 use Rattle.cxx_search.proofs.Casts.{cast_is}
-use Rattle.cxx_search.proofs.Finals.{inside_valid, found_final}
-use Rattle.cxx_search.proofs.Finding.{find_passes}
+use Rattle.cxx_search.proofs.Finals.{found_final}
 use Rattle.path_plan.specs.Places.{ObjectPart, part}
 use Rattle.path_numbers.specs.Numbers.{number_in}
 use Rattle.path_model.specs.Values.{Value, Unset, Null, Pointer, Objects}
 use Rattle.path_model.specs.Uses.{view_of, value_or, view_cast, down_value, dynamic_value}
-use Rattle.path_model.specs.Rules.{is_pure_by, is_pure_at}
+use Rattle.path_model.specs.Rules.{is_pure_at}
 use Rattle.path_model.specs.Effects.{overrider_by, runs_at, dispatched}
+use Rattle.path_model.proofs.RuleLaws.{pure_by}
 use Rattle.path_heap.specs.declared.state.Value.{Value as ValueCode}
 use Rattle.path_heap.specs.declared.state.Value.TheVariants.{Unset as UnsetCode, Null as NullCode}
 use Rattle.path_heap.specs.declared.heap.Heap.{Heap}
@@ -51,10 +54,6 @@ view_some h c m None x e k = absurd (cc)
 view_some h c m (Some v) None e k = absurd k
 view_some h c m (Some v) (Some x) e k = record { view = x; is = refl; number = let same : v ≡ m = cc in subst (λ n. IsNumbered h c n x) same k }
 
-pure_by : (h : Classes) (v : Option Subobject) (y : Subobject) (f : FunctionId) → is_pure_by h v y f ≡ is_pure_overrider h (overrider_by h v y f)
-pure_by h None y f = refl
-pure_by h (Some x) y f = refl
-
 pure_told : (h : Classes) (c : ClassId) (o : Option Overrider) (found : FinalAt) → Some found ≡ numbered h c o → is_pure h found.function ≡ is_pure_overrider h o
 pure_told h c None found e = absurd (cc)
 pure_told h c (Some o) found e = let same : found ≡ record { at = number_in h c o.at; function = o.function } = cc in ap (λ (t : FinalAt). is_pure h t.function) same
@@ -77,16 +76,13 @@ view_valid h c None (Some x) k y e = absurd k
 view_valid h c (Some v) None k y e = absurd k
 view_valid h c (Some v) (Some x) k y e = let same : x ≡ y = cc in subst (λ (t : Subobject). IsSubobject h c t) same k.valid
 
-turned : (whole m : ℕ) → whole + m < 2 ^ 32 → (whole + m) % 2 ^ 32 ≡ whole + m
-turned whole m lt = omega (arith, lt)
-
 -- a subobject of the complete object, by the number that the code makes
 pub points_to : (h : Classes) (heap : Heap) (s : Objects) → HeapStands h heap s → (p : ObjectPart) (at : Standing) → IsStanding h s p at → (x : Subobject) (k : ℕ) → IsSubobject h at.class x → k ≡ (at.whole + number_in h at.class x) % 2 ^ 32
     → Points h s.classes k (part p.object p.owner x)
 points_to h heap s stands p at is x k valid e =
     let q = points_behind h stands.hierarchy s.classes p at.whole at.class is.complete x valid in
     let lt = is_small h stands.hierarchy s.classes stands.counts.few (at.whole + number_in h at.class x) (part p.object p.owner x) q in
-    subst (λ n. Points h s.classes n (part p.object p.owner x)) (sym (e ∙ turned at.whole (number_in h at.class x) lt)) q
+    subst (λ n. Points h s.classes n (part p.object p.owner x)) (sym (e ∙ mod-eq_of_lt lt)) q
 
 runs_told : (h : Classes) (heap : Heap) (s : Objects) → HeapStands h heap s → (p : ObjectPart) (at : Standing) → IsStanding h s p at → (o : Option Overrider) → ((a : Overrider) → o ≡ Some a → IsSubobject h at.class a.at) → (found : FinalAt) (this : ℕ) → Some found ≡ numbered h at.class o
     → this ≡ (at.whole + found.at) % 2 ^ 32 → IsRun h s.classes (Some (record { this = this; function = found.function })) (runs_at p o)

@@ -1,17 +1,31 @@
 //! Runs worked cases through the whole program and says which differ.
 //!
-//! Standard input has the cases: words, a source, and the text and the status that they are answered with. Each goes
-//! through `run_cxxabi` with a source and a sink over bytes, some of whose calls may fail. A case of `run` or of `paths` goes
-//! through it by both words, since both machines give one answer; after `run` the byte machine is handed out. A case of
-//! `layout` with the name of a class also goes through the calls below. For each case that differs there is a line, and
-//! the last line has the counts.
+//! Standard input has the cases: words, a source, and the text and the status that they are answered with. For each case
+//! that differs there is a line, and the last line has the counts. The first word says how a case is run:
+//!
+//! - `calls`: through public calls that no command makes.
+//! - `counted N WORDS`: by these words, and on the byte machine over a memory that counts its stores, of which there are N.
+//! - `adapted R W WORDS`: by these words, through the adapters of standard input and output, of which so many calls succeed.
+//! - `run` or `paths`, without a trace: by both words, since both machines give one answer; after `run` the byte machine is
+//!   handed out.
+//! - `layout`, with the name of a class: by these words, and by the calls below the program.
+//! - any other: by these words.
+//!
+//! Where nothing else is said a case goes through `run_cxxabi` with a source and a sink over bytes, some of whose calls may fail.
 #![tactic(auto)]
 
+mod adapters;
 mod case;
+mod counted_run;
+mod counting_memory;
+mod other_calls;
 mod own_layout;
 
+use adapters::is_adapted;
 use case::{Case, next_case};
+use counted_run::is_counted_run;
 use cxxabi_cmd::{BytesSink, BytesSource, run_cxxabi};
+use other_calls::is_answered;
 use own_layout::is_layout;
 use std::alloc::{AllocError, Global};
 use std::io::Read;
@@ -65,12 +79,33 @@ fn is_traced(words: &[String]) -> bool {
     words.iter().any(|word| word.as_str() == "--trace")
 }
 
+// Whether the program answers these words as the case says, and the byte machine over a memory that counts gives the same text
+// with so many stores.
+fn is_counted(alloc: Global, case: &Case, stores: &str, words: &[String]) -> anyhow::Result<bool> {
+    let Ok(stores) = stores.parse::<u64>() else {
+        return Ok(false);
+    };
+    let answered = machine_after(alloc, case, words)?.is_some();
+    let trace = is_traced(words);
+    Ok(answered && is_counted_run(alloc, case.source, trace, case.text, stores))
+}
+
 // Whether all is as the case says.
 fn is_right(alloc: Global, case: &Case) -> anyhow::Result<bool> {
-    if is_traced(&case.words) {
-        return Ok(machine_after(alloc, case, &case.words)?.is_some());
-    }
     match case.words.as_slice() {
+        [word, stores, words @ ..] if word.as_str() == "counted" => {
+            is_counted(alloc, case, stores.as_str(), words)
+        }
+        [word, reads, writes, words @ ..] if word.as_str() == "adapted" => {
+            let (Ok(reads), Ok(writes)) = (reads.parse::<u64>(), writes.parse::<u64>()) else {
+                return Ok(false);
+            };
+            Ok(is_adapted(alloc, case, reads, writes, words))
+        }
+        [word, calls @ ..] if word.as_str() == "calls" => {
+            Ok(is_answered(alloc, calls, case.source, case.text))
+        }
+        words if is_traced(words) => Ok(machine_after(alloc, case, words)?.is_some()),
         [word, ..] if word.as_str() == "run" || word.as_str() == "paths" => is_run(alloc, case),
         [word, name] if word.as_str() == "layout" && case.status == 0 => {
             let answered = machine_after(alloc, case, &case.words)?.is_some();

@@ -1,8 +1,9 @@
 -- What is known while the next class is laid out, and where classes end once it is.
-use Rattle.std.proofs.Common.{◌≡◌, ℕ, zero, suc, ◌+◌, ◌≤◌, ⊎_elim, Bool, true, false, Option, None, List, [], ◌∷◌, ◌++◌, map, inl, refl, ap, subst, sym, ◌∙◌, arith}
+use Rattle.std.proofs.Common.{◌≡◌, ℕ, zero, suc, ◌+◌, ◌≤◌, ⊎_elim, Bool, true, false, Option, None, List, [], ◌∷◌, ◌++◌, map, refl, ap, subst, sym, ◌∙◌, arith}
 use Rattle.std.specs.Prelude.{position}
 use Rattle.std.proofs.lemmas.Bool.{cases_order}
 use Rattle.std.proofs.lemmas.Option.{slice_get_within}
+use Rattle.foundation.proofs.Members.{none_in}
 use Rattle.cxx_hierarchy.specs.declared.records.ClassId.{ClassId}
 use Rattle.cxx_hierarchy.specs.Classes.{Class, Classes}
 use Rattle.cxx_hierarchy.specs.Hierarchies.{IsHierarchy}
@@ -34,7 +35,7 @@ use Rattle.abi_layout.proofs.algorithm.CanSettleLemmas.{AreNested}
 use Rattle.abi_layout.proofs.rules.NestedLemmas.{nested_more}
 use Rattle.abi_layout.proofs.rules.AgreeingRows.{agree_item, agree_push, virtual_primary_agrees}
 use Rattle.abi_layout.proofs.rules.AgreeingParts.{ArePossible, primary_is_virtual}
-use Rattle.abi_layout.proofs.rules.Stages.{Has, split}
+use Rattle.abi_layout.proofs.rules.Stages.{split}
 use Rattle.abi_layout.proofs.rules.KindLemmas.{has_of}
 use Rattle.cxx_subobject.proofs.VirtualBaseLemmas.{virtual_has}
 use Rattle.abi_layout.proofs.rules.AgreeingClasses.{primary_possible}
@@ -48,10 +49,6 @@ next_before h c class rows known members nearly ps primary has_pointer next = be
 -- the subobjects in preorder tell which of them hold virtual bases
 pub preorder_tells : (h : Classes) (ps : List Primary) (c : ClassId) → IsHierarchy h → TellsHolders h ps c (preorder h c)
 preorder_tells h ps c keeps = record { virtuals = refl; holder = λ v. refl; valid = (preorder_lists h c keeps).valid }
-
-none_there : {X : Type 0} (xs : List X) → ((x : X) → Has xs x → ⊥) → xs ≡ []
-none_there [] never = refl
-none_there (x ∷ xs) never = absurd (never x (inl refl))
 
 -- a class without virtual bases has no subobject whose primary base is virtual
 no_virtual_primary : (h : Classes) (ps : List Primary) (c v : ClassId) (s : Subobject) → IsHierarchy h → ArePossible h (c.0 + 1) ps → ((w : ClassId) → HasVirtualBase h c w → ⊥) → IsSubobject h c s → has_primary ps v s ≡ true → ⊥
@@ -69,7 +66,7 @@ no_virtual_primary h ps c v _ keeps possible never (whole path leads) e = by_pri
 pub listed_tells : (h : Classes) (ps : List Primary) (c : ClassId) (list : List Subobject) → IsHierarchy h → ArePossible h (c.0 + 1) ps → ListsVirtual h c list → TellsHolders h ps c list
 listed_tells h ps c list keeps possible (has_all e) = subst (TellsHolders h ps c) (sym e) (preorder_tells h ps c keeps)
 listed_tells h ps c list keeps possible (left_out never e) = subst (TellsHolders h ps c) (sym e) (record {
-  virtuals = sym (none_there (virtual_bases h c) (λ v has. never v (virtual_has h c v has)));
+  virtuals = sym (none_in (virtual_bases h c) (λ v has. never v (virtual_has h c v has)));
   holder = λ v. sym (none_found (has_primary ps v) (preorder h c) (λ s has. fails v s ((preorder_lists h c keeps).valid s has)));
   valid = λ s has. absurd (has_of [] s has);
 })

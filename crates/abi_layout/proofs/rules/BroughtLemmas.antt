@@ -1,5 +1,5 @@
 -- Lemmas on what a base brings.
-use Rattle.std.proofs.Common.{◌≡◌, ℕ, zero, suc, ◌+◌, ◌<◌, ◌≤◌, false, Option, Some, None, List, [], ◌∷◌, ◌++◌, map, take, length, get_or, refl, ap, sym, ◌∙◌, arith, append_assoc}
+use Rattle.std.proofs.Common.{◌≡◌, ℕ, zero, suc, ◌+◌, ◌<◌, false, Option, Some, None, List, [], ◌∷◌, ◌++◌, map, take, length, get_or, refl, ap, sym, ◌∙◌, arith, append_assoc}
 use Rattle.std.specs.Prelude.{if◌then◌else◌}
 use Rattle.std.specs.List.{Contains, flat_map}
 use Rattle.std.proofs.lemmas.List.{map-append, append-nil, take_more}
@@ -123,9 +123,3 @@ base_brought h rows by s inner d base at place old now way inner_is place_is e =
     ∙ ap (λ (t : List Part). old ++ t)
     (sym (moved_twice at place (by inner base.class))
     ∙ ap (map (moved at)) (ap (λ p. map (moved p) (by inner base.class)) place_is ∙ (ap (λ t. map (moved (base_place h rows d base.class)) (by t base.class)) (inner_is ∙ sym own) ∙ sym brings)))
-
-pub take_whole : {X : Type 0} (xs : List X) (i : ℕ) → length xs ≤ i → take i xs ≡ xs
-take_whole [] zero le = refl
-take_whole [] (suc i) le = refl
-take_whole (x ∷ xs) zero le = absurd (omega arith)
-take_whole (x ∷ xs) (suc i) le = ap (λ t. x ∷ t) (take_whole xs i (omega arith))

@@ -6,6 +6,7 @@ use Rattle.std.specs.List.{slice_get, list_any}
 use Rattle.std.proofs.lemmas.Bool.{eqb-true, cases_order}
 use Rattle.std.proofs.lemmas.Option.{slice_get-map, slice_get_read}
 use Rattle.std.proofs.lemmas.List.Folds.{list_any-append}
+use Rattle.foundation.proofs.Places.{get_kept}
 use Rattle.cxx_hierarchy.specs.declared.records.ClassId.{ClassId}
 use Rattle.cxx_hierarchy.specs.declared.records.Base.{Base}
 use Rattle.cxx_hierarchy.specs.Classes.{Class, Classes, class_at, bases_of, bases_in}
@@ -141,11 +142,6 @@ base_place_own h rows c class row fs ps e there are i base listed way =
     ∙ (ap number_in (slice_get-map (λ (x : Base ClassId). own_place fs ps x.class) plain first.index ∙ ap (option_map (λ (x : Base ClassId). own_place fs ps x.class)) first.there)
     ∙ ap (λ n. own_place fs ps (number n)) same))))
 
-get_front : {X : Type 0} (xs ys : List X) (i : ℕ) → i < length xs → slice_get (xs ++ ys) i ≡ slice_get xs i
-get_front [] ys i lt = absurd (omega arith)
-get_front (x ∷ xs) ys zero lt = refl
-get_front (x ∷ xs) ys (suc i) lt = get_front xs ys i (omega arith)
-
 get_last : {X : Type 0} (xs : List X) (x : X) (i : ℕ) → i ≡ length xs → slice_get (xs ++ x ∷ []) i ≡ Some x
 get_last [] x i e = rw e refl
 get_last (y ∷ xs) x zero e = absurd (omega arith)
@@ -177,7 +173,7 @@ nested_more h c class rows known members ps list holders row primary first place
     f = placed_component (empties_in known) h rows ps (parts_in known) c
 
     old : (n : ℕ) → n < c.0 → slice_get (rows ++ row ∷ []) n ≡ slice_get rows n
-    old n lt = let each = scene.row_each in get_front rows (row ∷ []) n (omega arith)
+    old n lt = let each = scene.row_each in get_kept rows (row ∷ []) n (omega arith)
 
     new : slice_get (rows ++ row ∷ []) c.0 ≡ Some row
     new = let each = scene.row_each in get_last rows row c.0 (sym each)

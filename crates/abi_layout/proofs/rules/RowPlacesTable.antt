@@ -1,5 +1,5 @@
 -- The places of virtual bases by the table, and what the virtual bases' places in a row leave as it was.
-use Rattle.std.proofs.Common.{◌≡◌, ℕ, zero, suc, ◌+◌, ◌<◌, Bool, Option, Some, None, List, [], ◌∷◌, ◌++◌, map, length, get_or, refl, ap, sym, ◌∙◌, append-nil, arith}
+use Rattle.std.proofs.Common.{◌≡◌, ℕ, zero, suc, ◌+◌, ◌<◌, Bool, Option, Some, None, List, [], ◌∷◌, ◌++◌, map, length, get_or, refl, ap, sym, ◌∙◌, arith}
 use Rattle.std.specs.Prelude.{Contains, filter, position, nat_eq}
 use Rattle.std.specs.Option.{option_map}
 use Rattle.std.specs.List.{slice_get}
@@ -75,10 +75,6 @@ held_is h ps c list holders v same are lt = at (get_or holders v.0 None) refl
     at (Some n) e =
         let x = get_within list n (holder_below ps list c.0 holders v n are lt e) in
         x.1 ∙ sym (holder_is h ps c list c.0 holders v n x.0 same are lt e (sym (get_or_from_slice_get list n x.0 x.0 x.1)))
-
--- a subobject with nothing put behind its path is the subobject
-pub copied : (s t : Subobject) → t ≡ subobject s.root (s.path ++ []) → t ≡ s
-copied s t e = e ∙ ap (subobject s.root) (append-nil s.path)
 
 pub below_of : (h : Classes) (c v : ClassId) → IsHierarchy h → Contains (virtual_bases h c) v → v.0 < c.0
 below_of h c v keeps has = All-contains (λ (w : ClassId). w.0 < c.0) (virtual_bases h c) v (virtuals_below h c keeps) has

@@ -201,10 +201,10 @@ pub record IsRowFine (mid last : Stage) (row : ClassLayout) : Type 0 where
   pub align : row.align ≡ last.align
   pub aligns : mid.align ≤ last.align
 
-pub row_fine : (h : Classes) (rows : List ClassLayout) (primaries : List Primary) (c : ClassId) (class : Class) (has_pointer : Bool) (row : ClassLayout) → IsRow h rows primaries c class has_pointer row → IsRowFine (mid_stage h rows primaries c class has_pointer row) (end_stage h rows primaries c class has_pointer row) row
+pub row_fine : (h : Classes) (rows : List ClassLayout) (primaries : List Primary) (c : ClassId) (class : Class) (has_pointer : Bool) (row : ClassLayout) → IsRow h rows primaries c class has_pointer row → IsRowFine (mid_stage h rows primaries c class has_pointer row) (end_stage h rows primaries c (mid_stage h rows primaries c class has_pointer row)) row
 row_fine h rows primaries c class has_pointer row is =
     let mid = mid_stage h rows primaries c class has_pointer row in
-    let last = end_stage h rows primaries c class has_pointer row in
+    let last = end_stage h rows primaries c mid in
     let g = grows mid _ _ is.frees_placed in
     let s : mid.size ≤ last.size = g.size in
     let a : mid.align ≤ last.align = g.align in
@@ -265,13 +265,13 @@ fine_row h rows nearly primaries keeps laid c lt low = of_row h rows c k.row k.r
     placed : IsRow h rows primaries c k.class hp k.row
     placed = k.laid.placed
 
-    f : IsRowFine (mid_stage h rows primaries c k.class hp k.row) (end_stage h rows primaries c k.class hp k.row) k.row
+    f : IsRowFine (mid_stage h rows primaries c k.class hp k.row) (end_stage h rows primaries c (mid_stage h rows primaries c k.class hp k.row)) k.row
     f = row_fine h rows primaries c k.class hp k.row placed
 
     fp : ArePut h rows primaries c first (mid_stage h rows primaries c k.class hp k.row) (front_items primaries c k.class k.row)
     fp = front_put h rows primaries c k.class hp k.row placed
 
-    al : ArePut h rows primaries c first (end_stage h rows primaries c k.class hp k.row) (all_items h primaries c k.class k.row)
+    al : ArePut h rows primaries c first (end_stage h rows primaries c (mid_stage h rows primaries c k.class hp k.row)) (all_items h primaries c k.class k.row)
     al = all_put h rows primaries c k.class hp k.row placed
 
     possible : IsPossible h c (primary_of primaries c)

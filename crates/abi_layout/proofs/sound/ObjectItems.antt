@@ -106,8 +106,9 @@ front_stage h rows primaries c class has_pointer = after_all (start_stage c has_
 abbrev pub mid_stage : Classes → List ClassLayout → List Primary → ClassId → Class → Bool → ClassLayout → Stage
 mid_stage h rows primaries c class has_pointer row = after_all (front_stage h rows primaries c class has_pointer) (map (member_component rows (object_parts h rows primaries)) class.members) row.member_places
 
-abbrev pub end_stage : Classes → List ClassLayout → List Primary → ClassId → Class → Bool → ClassLayout → Stage
-end_stage h rows primaries c class has_pointer row = after_all (mid_stage h rows primaries c class has_pointer row) (free_components h rows primaries (object_parts h rows primaries) c) (map (placed_place h rows c) (free_bases h primaries c))
+-- what the bases that come last add
+abbrev pub end_stage : Classes → List ClassLayout → List Primary → ClassId → Stage → Stage
+end_stage h rows primaries c mid = after_all mid (free_components h rows primaries (object_parts h rows primaries) c) (map (placed_place h rows c) (free_bases h primaries c))
 
 -- the rules place the items of a class in turn
 abbrev pub IsRow : Classes → List ClassLayout → List Primary → ClassId → Class → Bool → ClassLayout → Type 0
@@ -121,13 +122,13 @@ front_put h rows primaries c class has_pointer row is =
     both_put h rows primaries c (start_stage c has_pointer) (front_stage h rows primaries c class has_pointer) (mid_stage h rows primaries c class has_pointer row) (base_items (fronts primaries c class)) (member_items 0 class.members row.member_places) a.placed a.ends b
 
 pub all_put : (h : Classes) (rows : List ClassLayout) (primaries : List Primary) (c : ClassId) (class : Class) (has_pointer : Bool) (row : ClassLayout) → IsRow h rows primaries c class has_pointer row
-    → ArePut h rows primaries c (start_stage c has_pointer) (end_stage h rows primaries c class has_pointer row) (all_items h primaries c class row)
+    → ArePut h rows primaries c (start_stage c has_pointer) (end_stage h rows primaries c (mid_stage h rows primaries c class has_pointer row)) (all_items h primaries c class row)
 all_put h rows primaries c class has_pointer row is =
     let a = bases_put h rows primaries c (fronts primaries c class) (start_stage c has_pointer) is.fronts_placed in
     let b = members_put h rows primaries c 0 class.members row.member_places (front_stage h rows primaries c class has_pointer) is.members_placed in
     let v = bases_put h rows primaries c (free_bases h primaries c) (mid_stage h rows primaries c class has_pointer row) is.frees_placed in
-    both_put h rows primaries c (start_stage c has_pointer) (front_stage h rows primaries c class has_pointer) (end_stage h rows primaries c class has_pointer row) (base_items (fronts primaries c class)) (member_items 0 class.members row.member_places ++ base_items (free_bases h primaries c)) a.placed a.ends
-    (both_put h rows primaries c (front_stage h rows primaries c class has_pointer) (mid_stage h rows primaries c class has_pointer row) (end_stage h rows primaries c class has_pointer row) (member_items 0 class.members row.member_places) (base_items (free_bases h primaries c)) b.placed b.ends v)
+    both_put h rows primaries c (start_stage c has_pointer) (front_stage h rows primaries c class has_pointer) (end_stage h rows primaries c (mid_stage h rows primaries c class has_pointer row)) (base_items (fronts primaries c class)) (member_items 0 class.members row.member_places ++ base_items (free_bases h primaries c)) a.placed a.ends
+    (both_put h rows primaries c (front_stage h rows primaries c class has_pointer) (mid_stage h rows primaries c class has_pointer row) (end_stage h rows primaries c (mid_stage h rows primaries c class has_pointer row)) (member_items 0 class.members row.member_places) (base_items (free_bases h primaries c)) b.placed b.ends v)
 
 -- the placements of items, where `base` tells those of bases
 abbrev pub placement_of : List ClassLayout → (PlacedBase → Placement) → Item → Placement

@@ -8,7 +8,7 @@ use Rattle.cxx_hierarchy.specs.declared.records.Base.{Base}
 use Rattle.cxx_hierarchy.specs.declared.records.Member.{Member}
 use Rattle.cxx_hierarchy.specs.Classes.{Class, Classes, class_at, bases_of, bases_in}
 use Rattle.cxx_hierarchy.specs.Hierarchies.{IsHierarchy}
-use Rattle.cxx_hierarchy.specs.VirtualBases.{IsDirectBase, HasVirtualBase, direct, further}
+use Rattle.cxx_hierarchy.specs.VirtualBases.{IsDirectBase}
 use Rattle.abi_primary.specs.Kinds.{IsDynamic, declares, shares, inherits}
 use Rattle.abi_primary.proofs.KindLemmas.{empty_here, dynamic_not_empty}
 use Rattle.foundation.proofs.Chosen.{any_has, has_any}
@@ -65,11 +65,6 @@ dynamic_steps h keeps (suc n) c lt is = by_class (class_at h c) refl is (λ b le
     by_class : (o : Option Class) → class_at h c ≡ o → IsDynamic h c → ((b : ClassId) → b.0 < c.0 → IsDynamic h b → is_kind_in dynamic_kind h n b ≡ true) → in_class (dynamic_kind (is_kind_in dynamic_kind h n)) o ≡ true
     by_class None at d below = in_none c at d
     by_class (Some class) at d below = in_some c class at d below
-
--- a class with a virtual base is dynamic
-pub virtual_dynamic : (h : Classes) (c v : ClassId) → HasVirtualBase h c v → IsDynamic h c
-virtual_dynamic h _ _ (direct c v way) = shares c v way
-virtual_dynamic h _ _ (further c b v k way rest) = inherits c b k way (virtual_dynamic h b v rest)
 
 -- the test of dynamic classes is exact
 pub dynamic_test : (h : Classes) (c : ClassId) → IsHierarchy h → IsDynamic h c → is_kind dynamic_kind h c ≡ true

@@ -1,9 +1,10 @@
 -- A layout of a hierarchy by the rules is sound.
-use Rattle.std.proofs.Common.{◌≡◌, ℕ, ◌+◌, ◌<◌, ◌≤◌, Bool, Option, Some, List, [], ◌∷◌, ◌++◌, map, length, refl, ap, subst, sym, ◌∙◌, arith}
+use Rattle.std.proofs.Common.{◌≡◌, ℕ, ◌+◌, ◌<◌, ◌≤◌, Bool, Option, Some, List, [], ◌∷◌, ◌++◌, length, refl, ap, subst, sym, ◌∙◌, arith}
 use Rattle.std.proofs.Math.Nat.{le-max_right}
 use Rattle.std.specs.Prelude.{filter}
 use Rattle.std.specs.List.{slice_get}
 use Rattle.std.proofs.lemmas.Option.{slice_get_within}
+use Rattle.std.proofs.lemmas.List.{length-map}
 use Rattle.cxx_hierarchy.specs.declared.records.ClassId.{ClassId}
 use Rattle.cxx_hierarchy.specs.declared.records.ValueType.{ValueType}
 use Rattle.cxx_hierarchy.specs.declared.records.FieldType.TheVariants.{Value, Object}
@@ -171,10 +172,6 @@ subobjects_sound h rows keeps well = record {
     all_arranged : AreArranged (contents_of h rows ps) (measures_of h rows)
     all_arranged = arranged h rows nearly ps keeps well.by
 
-length_map : {X Y : Type 0} (f : X → Y) (xs : List X) → length (map f xs) ≡ length xs
-length_map f [] = refl
-length_map f (x ∷ xs) = let r = length_map f xs in omega arith
-
 -- each row tells of all parts of its class
 rows_full : (h : Classes) (rows : List ClassLayout) (nearly : List Bool) (ps : List Primary) → IsLaidOut h rows nearly ps → (c : ClassId) (row : ClassLayout) → slice_get rows c.0 ≡ Some row → IsFullRow h c row
 rows_full h rows nearly ps known c row there =
@@ -187,7 +184,7 @@ rows_full h rows nearly ps known c row there =
       each_base = laid.each_base ∙ ap (λ (o : Option Class). length (filter is_plain_base (class_bases_in o))) (sym k.1);
       virtuals = laid.virtuals;
       each_virtual = laid.each_virtual;
-      each_holder = ap length laid.holders ∙ length_map (holder_of h ps c) (virtual_bases h c);
+      each_holder = ap length laid.holders ∙ length-map (virtual_bases h c) (holder_of h ps c);
       each_member = member_length h rows nearly ps c r ∙ ap (λ (o : Option Class). length (class_members_in o)) (sym k.1);
     }
 

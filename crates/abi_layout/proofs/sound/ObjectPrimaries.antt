@@ -1,9 +1,10 @@
 -- Primary bases: each is a dynamic base, and a virtual one of a class lies at its start.
-use Rattle.std.proofs.Common.{◌≡◌, ℕ, zero, suc, ◌<◌, ◌≤◌, inl, inr, ⊎_elim, Bool, true, false, cond, Option, Some, None, List, [], ◌∷◌, length, get_or, refl, ap, subst, sym, ◌∙◌, arith}
+use Rattle.std.proofs.Common.{◌≡◌, ℕ, zero, suc, ◌<◌, ◌≤◌, ⊎_elim, Bool, true, false, Option, Some, None, List, [], ◌∷◌, length, get_or, refl, ap, subst, sym, ◌∙◌, arith}
 use Rattle.std.specs.Prelude.{not, ◌==◌}
 use Rattle.std.specs.List.{slice_get, find}
 use Rattle.std.proofs.lemmas.Bool.{and_parts, cases_order}
 use Rattle.std.proofs.lemmas.List.{get_or_past}
+use Rattle.foundation.proofs.Chosen.{find_passes}
 use Rattle.cxx_hierarchy.specs.declared.records.ClassId.{ClassId}
 use Rattle.cxx_hierarchy.specs.Classes.{Class, Classes, class_at, bases_of}
 use Rattle.cxx_hierarchy.specs.Hierarchies.{IsHierarchy}
@@ -29,7 +30,7 @@ use Rattle.abi_layout.specs.invariants.Scenes.{AreBefore}
 use Rattle.abi_layout.specs.PlacedBases.{IsPossible}
 use Rattle.abi_layout.specs.Layouts.{primary_of, placed_place, virtual_place, place_of, IsLaidRow, IsLaidBy}
 use Rattle.abi_layout.proofs.lists.Lists.{get_within, has_at}
-use Rattle.abi_layout.proofs.rules.Stages.{Has, split}
+use Rattle.abi_layout.proofs.rules.Stages.{Has}
 use Rattle.abi_layout.proofs.rules.KindLemmas.{contains_of}
 use Rattle.cxx_subobject.proofs.PathLemmas.{virtual_below}
 
@@ -47,12 +48,6 @@ row_of h rows nearly primaries c laid lt =
     let count = laid.one_each in
     let r = get_within rows c.0 (omega arith) in
     record { class = k.0; there = k.1; row = r.0; row_there = r.1; laid = laid.row c k.0 r.0 k.1 r.1 }
-
-pub found_has : {X : Type 0} (p : X → Bool) (xs : List X) (x : X) → find p xs ≡ Some x → Has xs x × (p x ≡ true)
-found_has p [] x e = let f : None ≡ Some x = e in cc
-found_has {X} p (y ∷ xs) x e = split (p y) (λ b. p y ≡ b → cond b (Some y) (find p xs) ≡ Some x → Has (y ∷ xs) x × (p x ≡ true))
-    (λ _ t same. let is : y ≡ x = cc in (inl is, ap p (sym is) ∙ t))
-    (λ _ f rest. let later = found_has p xs x rest in (inr later.0, later.1)) refl e
 
 root_is : (r : Root) (v : ClassId) → as_primary r ≡ Virtual v → r ≡ Shared v
 root_is Whole v e = let f : NoPrimary ≡ Virtual v = e in cc
@@ -73,9 +68,9 @@ nearly_virtual nearly list v s has near e =
 
 chosen : (nearly : List Bool) (earlier : List Primary) (list : List Subobject) (v : ClassId) (o q : Option Subobject) → find (is_free_base nearly earlier list) list ≡ o → find (is_nearly_base nearly) list ≡ q → choice o q ≡ Virtual v → IsNearlyVirtual nearly list v
 chosen nearly earlier list v (Some s) q e f is =
-    let x = found_has (is_free_base nearly earlier list) list s e in
+    let x = find_passes (is_free_base nearly earlier list) list s e in
     nearly_virtual nearly list v s x.0 (and_parts (is_nearly_base nearly s) (not (is_taken_root earlier list s.root)) x.1).0 is
-chosen nearly earlier list v None (Some s) e f is = let x = found_has (is_nearly_base nearly) list s f in nearly_virtual nearly list v s x.0 x.1 is
+chosen nearly earlier list v None (Some s) e f is = let x = find_passes (is_nearly_base nearly) list s f in nearly_virtual nearly list v s x.0 x.1 is
 chosen nearly earlier list v None None e f is = let g : NoPrimary ≡ Virtual v = is in cc
 
 virtual_by_root : (h : Classes) (c : ClassId) (s : Subobject) (v : ClassId) → IsSubobject h c s → s.root ≡ Shared v → HasVirtualBase h c v

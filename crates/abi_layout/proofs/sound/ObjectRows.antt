@@ -14,7 +14,7 @@ use Rattle.cxx_subobject.specs.Subobjects.{shared_base}
 use Rattle.abi_primary.specs.declared.Primary.{Primary}
 use Rattle.abi_primary.specs.declared.Primary.TheVariants.{None as NoPrimary, Direct, Virtual}
 use Rattle.abi_primary.specs.Kinds.{IsDynamic}
-use Rattle.abi_primary.proofs.KindLemmas.{empty_parts, dynamic_not_empty}
+use Rattle.abi_primary.proofs.KindLemmas.{empty_parts, dynamic_not_empty, base_dynamic}
 use Rattle.abi_layout.specs.declared.component.Component.{Component}
 use Rattle.abi_layout.specs.declared.component.Stage.{Stage}
 use Rattle.abi_sound.specs.declared.class_layout.ClassLayout.{ClassLayout}
@@ -32,9 +32,9 @@ use Rattle.cxx_subobject.proofs.PathLemmas.{virtual_below}
 use Rattle.abi_layout.proofs.lists.Bounds.{align_divides}
 use Rattle.abi_layout.proofs.lists.Pairs.{Pairs, pairs_weaker}
 use Rattle.abi_layout.proofs.sound.ObjectTree.{Complete, Pointer, Placement, Measures, IsInPlace, AreClear, IsArranged, dynamic_kind, is_no_primary, owns_pointer, one_at, own_pointer, placed_base, placed_members, members_at, contents_of_object, contents_of, rank_of, measures_of, node_of_type}
-use Rattle.abi_layout.proofs.sound.ObjectKinds.{virtual_dynamic, dynamic_by_test, dynamic_has_data}
+use Rattle.abi_layout.proofs.sound.ObjectKinds.{dynamic_by_test, dynamic_has_data}
 use Rattle.abi_layout.proofs.sound.ObjectPrimaries.{HasRow, row_of, primary_possible}
-use Rattle.abi_layout.proofs.sound.ObjectItems.{put_at, AreApart, pairs_placed, Item, place_item, component_item, member_items, base_items, all_items, ArePut, end_stage, all_put, placement_of, members_are, bases_are}
+use Rattle.abi_layout.proofs.sound.ObjectItems.{put_at, AreApart, pairs_placed, Item, place_item, component_item, member_items, base_items, all_items, ArePut, mid_stage, end_stage, all_put, placement_of, members_are, bases_are}
 use Rattle.abi_layout.proofs.sound.ObjectFine.{IsItem, is_own, is_virtual_base, is_member, all_view, IsFine, fine, type_fine, object_below, item_align, row_fine}
 use Rattle.abi_layout.proofs.sound.ObjectPlaced.{Stands, in_place, clear_of, base_stands, member_stands, own_in_place, own_clear, arranged_by, laid_out}
 
@@ -47,7 +47,7 @@ item_has_data h rows primaries c class x keeps at view other = split (is_empty h
         let parts = empty_parts h c class keeps at is in
         let e = parts.bases edge.base (subst (λ (o : Option Class). Contains (bases_in o) edge.base) at edge.listed) in
         not_both (ap (is_empty h) (sym edge.class) ∙ e.empty_is) some
-    by_view _ (is_virtual_base v has) some is = dynamic_not_empty h keeps c (virtual_dynamic h c v has) is
+    by_view _ (is_virtual_base v has) some is = dynamic_not_empty h keeps c (base_dynamic h c v has) is
     by_view _ (is_member n member place has) some is = let parts = empty_parts h c class keeps at is in subst (λ (xs : List (Member ClassId)). Has xs member) parts.no_member has
 
 -- a class's own virtual pointer
@@ -130,7 +130,7 @@ complete_arranged h rows nearly primaries c keeps laid lt =
     first = start_stage c k.laid.has_pointer
 
     last : Stage
-    last = end_stage h rows primaries c k.class k.laid.has_pointer k.row
+    last = end_stage h rows primaries c (mid_stage h rows primaries c k.class k.laid.has_pointer k.row)
 
     items : List Item
     items = all_items h primaries c k.class k.row

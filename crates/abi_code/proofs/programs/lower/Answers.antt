@@ -1,5 +1,5 @@
+use Rattle.cxx_overrider.proofs.MeaningDecisions.{limits_hold}
 use Rattle.abi_ops.specs.Setups.{setup}
-use Rattle.abi_code.proofs.ClassLimits.{limits_hold}
 use Rattle.abi_code.proofs.FewBlocks.{few_blocks}
 use Rattle.abi_code.proofs.programs.lower.Goals as goal
 

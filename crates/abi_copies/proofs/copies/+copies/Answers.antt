@@ -1,10 +1,11 @@
 use Rattle.std.proofs.Common.{ℕ, ◌+◌, ◌*◌, ap, sym, subst, arith}
 use Rattle.std.proofs.lemmas.Result.{on_ok_weaker}
-use Rattle.cxx_subobject.proofs.PathLemmas.{class_low}
+use Rattle.cxx_subobject.proofs.PathLemmas.{class_low, class_found}
+use Rattle.cxx_subobject.proofs.TreeLemmas.{valid_at}
 use Rattle.abi_sound.specs.Places.{places_of}
 use Rattle.abi_ops.specs.Setups.{setup}
 use Rattle.abi_copies.specs.invariants.Fits.{FitsMember, FitsOwn}
-use Rattle.abi_copies.proofs.Near.{valid_at, member_there, class_found, base_low, object_low, own_fits, member_low}
+use Rattle.abi_copies.proofs.Near.{member_there, base_low, object_low, own_fits, member_low}
 use Rattle.abi_copies.proofs.CopySteps.{objects_next, objects_member, members_next, bases_next}
 use Rattle.abi_copies.proofs.copies.+copies.Goals as goal
 

@@ -1,8 +1,8 @@
 use Rattle.std.proofs.Common.{◌∙◌}
+use Rattle.cxx_subobject.proofs.TreeLemmas.{valid_at}
 use Rattle.abi_ops.specs.Setups.{setup}
 use Rattle.abi_ops.specs.Arguments.{block_in}
 use Rattle.abi_copies.specs.CopyOps.{subobject_copies}
-use Rattle.abi_copies.proofs.Near.{valid_at}
 use Rattle.abi_copies.proofs.Pushed.{items_flat}
 use Rattle.abi_copies.proofs.CopySteps.{all_copied}
 use Rattle.abi_copies.proofs.copies.push_copy.Goals as goal

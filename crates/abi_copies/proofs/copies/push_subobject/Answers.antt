@@ -1,8 +1,8 @@
 use Rattle.std.proofs.Common.{arith}
-use Rattle.cxx_subobject.proofs.PathLemmas.{class_low}
+use Rattle.cxx_subobject.proofs.PathLemmas.{class_low, class_found}
 use Rattle.abi_ops.specs.Setups.{setup}
 use Rattle.abi_ops.specs.Arguments.{block_in}
-use Rattle.abi_copies.proofs.Near.{class_found, start_fits}
+use Rattle.abi_copies.proofs.Near.{start_fits}
 use Rattle.abi_copies.proofs.CopySteps.{subobject_copied}
 use Rattle.abi_copies.proofs.copies.push_subobject.Goals as goal
 

@@ -1,11 +1,10 @@
 use Rattle.std.proofs.Common.{◌≡◌, ◌<◌, length, take, subst, sym, ap, ◌∙◌, arith}
 use Rattle.std.proofs.lemmas.List.{take_all, length-take-le}
-use Rattle.foundation.proofs.Places.{any_default}
+use Rattle.foundation.proofs.Places.{any_default, get_read, take_next}
 use Rattle.abi_image.specs.declared.TheConstants.{BASE}
 use Rattle.abi_image.specs.invariants.Drafts.{address_in}
 use Rattle.abi_image.specs.invariants.Points.{AreFirstPoints, ArePointsOf}
 use Rattle.abi_image.proofs.FirstPoints.{firsts_none}
-use Rattle.abi_image.proofs.Lists.{get_next, take_next}
 use Rattle.abi_image.proofs.directory.first_points.Goals as goal
 
 pub loop-i-init : goal.loop-i-init
@@ -18,8 +17,8 @@ loop-i-preserved c =
     let known : c.loop-i.i < length c.args.places.now.points.items = omega (arith, c.requires.points.size, c.loop-i-test.true) in
     let here : address_in c.args.places.now.at.items c.loop-i.i ≡ c.index.result.now = any_default c.args.places.now.at.items c.loop-i.i BASE c.index.result.now less ∙ sym c.index.ensures in
     let at = ap (address_in c.args.places.now.at.items) place ∙ here in
-    let there = get_next c.args.places.now.points.items c.loop-i.i c.index-in-loop-i.result.now known c.index-in-loop-i.ensures in
-    let points = c.requires.points.each c.loop-i.i c.index-groups-i.result c.index-in-loop-i.result.now (get_next c.args.groups.now c.loop-i.i c.index-groups-i.result c.loop-i-test.true c.index-groups-i.is) there in
+    let there = get_read c.args.places.now.points.items c.loop-i.i c.index-in-loop-i.result.now known c.index-in-loop-i.ensures in
+    let points = c.requires.points.each c.loop-i.i c.index-groups-i.result c.index-in-loop-i.result.now (get_read c.args.groups.now c.loop-i.i c.index-groups-i.result c.loop-i-test.true c.index-groups-i.is) there in
     subst (λ l. AreFirstPoints l (address_in c.args.places.now.at.items) c.args.classes c.note_first.new.firsts.items) (sym (take_next c.args.groups.now c.loop-i.i c.index-groups-i.result c.loop-i-test.true c.index-groups-i.is))
     (c.note_first.ensures (take c.loop-i.i c.args.groups.now) (address_in c.args.places.now.at.items) c.args.classes at (subst (λ l. ArePointsOf c.index.result.now c.index-groups-i.result.tables l) (sym c.as_slice.ensures) (subst (λ n. ArePointsOf n c.index-groups-i.result.tables c.index-in-loop-i.result.now) here points)) c.loop-i.invariant)
 

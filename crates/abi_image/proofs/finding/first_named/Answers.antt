@@ -1,5 +1,5 @@
 use Rattle.std.proofs.Common.{◌<◌, arith}
-use Rattle.abi_image.proofs.Lists.{get_below}
+use Rattle.std.proofs.lemmas.Option.{slice_get_within}
 use Rattle.abi_image.proofs.Naming.{none_more, table_number}
 use Rattle.abi_image.proofs.finding.first_named.Goals as goal
 
@@ -12,6 +12,6 @@ loop-number-preserved c = none_more c.args.groups.now c.args.name.now c.loop-num
 pub unreachable-requires : goal.unreachable-requires
 unreachable-requires c =
     let has = c.requires.1 in
-    let below = get_below c.args.groups.now has.number has.group has.there in
+    let below = slice_get_within c.args.groups.now has.number has.group has.there in
     let less : has.number < c.loop-number.number = omega arith in
     c.loop-number.invariant has.number less (table_number c.args.groups.now c.args.name.now c.requires.0 has)

@@ -1,6 +1,7 @@
 use Rattle.std.proofs.Common.{◌≡◌, ◌∷◌, List, ap, subst, sym, ◌∙◌, refl, arith, length, take}
 use Rattle.std.specs.List.{flat_map, slice_get}
 use Rattle.std.proofs.lemmas.Option.{slice_get_read}
+use Rattle.std.proofs.lemmas.List.{take_all}
 use Rattle.cxx_hierarchy.specs.Classes.{bases_in, bases_of}
 use Rattle.abi_emptybase.specs.declared.Part.{Part}
 use Rattle.abi_layout.specs.Placements.{part_at, nvsize_in}
@@ -9,7 +10,7 @@ use Rattle.abi_layout.specs.invariants.Known.{parts_in}
 use Rattle.abi_layout.specs.Holding.{held_base}
 use Rattle.abi_layout.specs.Brought.{member_parts, base_brings, virtual_brings, brought_by}
 use Rattle.abi_layout.proofs.rules.Parts.{within_fits}
-use Rattle.abi_layout.proofs.rules.BroughtLemmas.{brought_is, begun, finished, base_brought, take_whole}
+use Rattle.abi_layout.proofs.rules.BroughtLemmas.{brought_is, begun, finished, base_brought}
 use Rattle.abi_layout.proofs.brought.+bring.Goals as goal
 
 pub bring-push_moved-requires : goal.bring-push_moved-requires
@@ -56,4 +57,4 @@ bring-returns t c =
     let bases : items ≡ bases_of x.h.now c.args.d = c.as_slice-base-items.ensures ∙ sym (ap bases_in c.class.ensures) in
     finished c.args.at c.args.parts.now c.loop-base.parts c.bring_virtual.new.parts (part_at c.args.d 0 ∷ member_parts x.h.now x.rows.now (parts_in x.known.now) c.args.d) (flat_map (base_brings x.h.now x.rows.now by c.args.s.now c.args.d) (take c.loop-base.base-index items)) (flat_map (base_brings x.h.now x.rows.now by c.args.s.now c.args.d) (bases_of x.h.now c.args.d))
     (virtual_brings by (held_base x.h.now x.primaries.now x.c c.args.s.now c.args.d)) (by c.args.s.now c.args.d)
-    c.loop-base.invariant c.in_ok-bring_virtual.ensures (ap (flat_map (base_brings x.h.now x.rows.now by c.args.s.now c.args.d)) (take_whole items c.loop-base.base-index c.loop-base-test.false ∙ bases)) (brought_is x.h.now x.rows.now x.primaries.now (parts_in x.known.now) x.c c.keeps.ensures c.requires.scene.before c.args.s.now c.args.d)
+    c.loop-base.invariant c.in_ok-bring_virtual.ensures (ap (flat_map (base_brings x.h.now x.rows.now by c.args.s.now c.args.d)) (take_all c.loop-base.base-index items c.loop-base-test.false ∙ bases)) (brought_is x.h.now x.rows.now x.primaries.now (parts_in x.known.now) x.c c.keeps.ensures c.requires.scene.before c.args.s.now c.args.d)

@@ -1,6 +1,7 @@
 use Rattle.std.proofs.Common.{◌≡◌, ◌∷◌, ◌++◌, [], List, ap, subst, sym, ◌∙◌, refl, arith, length, take}
 use Rattle.std.specs.List.{flat_map, slice_get}
 use Rattle.std.proofs.lemmas.Option.{slice_get_read}
+use Rattle.std.proofs.lemmas.List.{take_all}
 use Rattle.cxx_hierarchy.specs.Classes.{bases_in, bases_of}
 use Rattle.cxx_subobject.specs.Subobjects.{subobject}
 use Rattle.abi_emptybase.specs.declared.Part.{Part}
@@ -12,7 +13,7 @@ use Rattle.abi_layout.specs.Brought.{member_parts, base_brings, virtual_brings, 
 use Rattle.abi_primary.proofs.Nth.{no_base, nth}
 use Rattle.abi_layout.proofs.rules.HoldingLemmas.{any_default}
 use Rattle.abi_layout.proofs.rules.Parts.{within_fits}
-use Rattle.abi_layout.proofs.rules.BroughtLemmas.{brought_is, begun, base_more, finished_plain, base_brought, take_whole}
+use Rattle.abi_layout.proofs.rules.BroughtLemmas.{brought_is, begun, base_more, finished_plain, base_brought}
 use Rattle.abi_layout.proofs.algorithm.SceneLemmas.{none_held}
 use Rattle.abi_layout.proofs.brought_plainly.+bring_plain.Goals as goal
 
@@ -68,4 +69,4 @@ bring_plain-returns t c =
     let bases : items ≡ bases_of x.h.now c.args.d = c.as_slice-base-items.ensures ∙ sym (ap bases_in c.class.ensures) in
     λ s. finished_plain c.args.at c.args.parts.now c.loop-base.parts (part_at c.args.d 0 ∷ member_parts x.h.now x.rows.now (parts_in x.known.now) c.args.d) (flat_map (base_brings x.h.now x.rows.now by s c.args.d) (take c.loop-base.base-index items)) (flat_map (base_brings x.h.now x.rows.now by s c.args.d) (bases_of x.h.now c.args.d))
     (virtual_brings by (held_base x.h.now x.primaries.now x.c s c.args.d)) (by s c.args.d)
-    (c.loop-base.invariant s) (ap (virtual_brings by) (none_held x.h.now x.primaries.now x.c x.list.now c.requires.scene.tells c.requires.plain s c.args.d)) (ap (flat_map (base_brings x.h.now x.rows.now by s c.args.d)) (take_whole items c.loop-base.base-index c.loop-base-test.false ∙ bases)) (brought_is x.h.now x.rows.now x.primaries.now (parts_in x.known.now) x.c c.keeps.ensures c.requires.scene.before s c.args.d)
+    (c.loop-base.invariant s) (ap (virtual_brings by) (none_held x.h.now x.primaries.now x.c x.list.now c.requires.scene.tells c.requires.plain s c.args.d)) (ap (flat_map (base_brings x.h.now x.rows.now by s c.args.d)) (take_all c.loop-base.base-index items c.loop-base-test.false ∙ bases)) (brought_is x.h.now x.rows.now x.primaries.now (parts_in x.known.now) x.c c.keeps.ensures c.requires.scene.before s c.args.d)

@@ -1,6 +1,6 @@
 use Rattle.std.proofs.Common.{Some, sym, ap, ◌∙◌}
+use Rattle.cxx_subobject.proofs.InsideLemmas.{copied}
 use Rattle.abi_layout.proofs.algorithm.SettledLemmas.{held_here}
-use Rattle.abi_layout.proofs.rules.RowPlacesTable.{copied}
 use Rattle.abi_layout.proofs.laid_row.holder_at.Goals as goal
 
 pub returns-in_ok-subobject_below-in-Some : goal.returns-in_ok-subobject_below-in-Some

@@ -2,8 +2,8 @@ use Rattle.std.proofs.Common.{◌≡◌, ◌∙◌, ℕ, ◌+◌, ◌<◌, ◌^�
 use Rattle.std.specs.Prelude.{Contains}
 use Rattle.cxx_subobject.specs.declared.Subobject.{Subobject}
 use Rattle.cxx_subobject.specs.Subobjects.{IsSubobject, class_of}
+use Rattle.cxx_subobject.proofs.PathLemmas.{class_inside}
 use Rattle.abi_sound.specs.Places.{places_of}
-use Rattle.abi_out.proofs.Leading.{class_inside}
 use Rattle.abi_out.proofs.Objects.{member_below}
 use Rattle.abi_out.proofs.pointers.member_objects.Goals as goal
 

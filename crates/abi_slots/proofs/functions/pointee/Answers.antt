@@ -1,4 +1,4 @@
-use Rattle.abi_slots.proofs.Loops.{return_known}
+use Rattle.cxx_hierarchy.proofs.Returns.{return_known}
 use Rattle.abi_slots.proofs.functions.pointee.Goals as goal
 
 pub returns-in-Pointer-clause-known : goal.returns-in-Pointer-clause-known

@@ -6,7 +6,8 @@ use Rattle.cxx_search.specs.Searches.{destructor_of}
 use Rattle.abi_sound.specs.Places.{places_of}
 use Rattle.abi_slots.specs.Listing.{entries, entry_number, listing, same_key}
 use Rattle.abi_slots.specs.Slots.{first_key}
-use Rattle.abi_statements.proofs.EndEntries.{own_end, end_entry, place_low}
+use Rattle.abi_slots.proofs.EntryPlaces.{place_within}
+use Rattle.abi_statements.proofs.EndEntries.{own_end, end_entry}
 use Rattle.abi_statements.proofs.deletes.deleting_entry.Goals as goal
 
 pub overflow_add-result : goal.overflow_add-result
@@ -17,7 +18,7 @@ overflow_add-result g c =
     let is : f ≡ destructor_of h c.args.c = c.destructor_of.ensures in
     let listed : Contains (own h f.class) f = subst (λ (e : FunctionId). Contains (own h e.class) e) (sym is) (own_end h c.requires.site.keeps c.args.c c.requires.is_virtual) in
     let entry : c.entry.result ≡ entry_number h l (first_key h f) = c.entry.ensures h l c.requires.site.are_slots listed in
-    let low : entry_number h l (first_key h f) ≤ length (entries h l f.class) = place_low (same_key (listing h l (first_key h f))) (entries h l f.class) in
+    let low : entry_number h l (first_key h f) ≤ length (entries h l f.class) = place_within (same_key (listing h l (first_key h f))) (entries h l f.class) in
     let size : length c.entries-entries.result.now ≡ length (entries h l c.args.c) = ap (λ (xs : _). length xs) (c.entries-entries.ensures.entries h l c.requires.site.are_slots c.requires.known) in
     let class : length (entries h l f.class) ≡ length (entries h l c.args.c) = ap (λ (e : FunctionId). length (entries h l e.class)) is in
     let few = c.entries-entries.ensures.few in

@@ -1,12 +1,12 @@
 use Rattle.std.proofs.Common.{◌≡◌, ◌+◌, ◌<◌, ◌++◌, ◌∷◌, List, map, length, reverse, ap, sym, ◌∙◌, subst, arith, w64, to_z, of_z}
 use Rattle.std.specs.Prelude.{slice_get}
 use Rattle.std.proofs.lemmas.Int.{to_z-of_z}
+use Rattle.foundation.proofs.Places.{get_read}
 use Rattle.abi_sound.specs.Places.{places_of}
 use Rattle.abi_slots.specs.declared.words.EntryWord.{EntryWord}
 use Rattle.abi_slots.specs.declared.words.TableWord.{TableWord}
 use Rattle.abi_slots.specs.declared.words.TableWord.TheVariants.{Top, Info, Entry}
 use Rattle.abi_vtable.specs.declared.view.Part.{Part}
-use Rattle.abi_vtable.proofs.Lists.{there_at}
 use Rattle.cxx_subobject.specs.Preorder.{preorder}
 use Rattle.abi_vtable.specs.invariants.Parts.{view_in}
 use Rattle.abi_vtable.proofs.Over.{part_place}
@@ -22,7 +22,7 @@ offset_words-requires-clause-part g c =
     let sound = g.met.L.SoundLayout.sound c.args.layout.now h c.requires.layout in
     let part = c.index-as_slice-number.result in
     let lt : c.args.number < length c.as_slice.result.now = subst (λ (xs : List Part). c.args.number < length xs) (sym c.as_slice.ensures) c.requires.number in
-    let there = ap (λ xs. slice_get xs c.args.number) (sym c.as_slice.ensures) ∙ there_at c.as_slice.result.now c.args.number part lt c.index-as_slice-number.is in
+    let there = ap (λ xs. slice_get xs c.args.number) (sym c.as_slice.ensures) ∙ get_read c.as_slice.result.now c.args.number part lt c.index-as_slice-number.is in
     let known = part_known h rows c.keeps.ensures sound v c.requires.view c.args.number part there in
     c.requires.view.parts.each c.args.number part there
 
@@ -37,7 +37,7 @@ place_of_part-place-requires-clause-seen g c =
     let v = c.args.x.now in
     let part = c.index-as_slice-number.result in
     let lt : c.args.number < length c.as_slice.result.now = subst (λ (xs : List Part). c.args.number < length xs) (sym c.as_slice.ensures) c.requires.number in
-    let there = ap (λ xs. slice_get xs c.args.number) (sym c.as_slice.ensures) ∙ there_at c.as_slice.result.now c.args.number part lt c.index-as_slice-number.is in
+    let there = ap (λ xs. slice_get xs c.args.number) (sym c.as_slice.ensures) ∙ get_read c.as_slice.result.now c.args.number part lt c.index-as_slice-number.is in
     let of = c.requires.view.parts.each c.args.number part there in
     of.seen_valid
 
@@ -49,7 +49,7 @@ offset_words-requires-clause-start g c =
     let v = c.args.x.now in
     let part = c.index-as_slice-number.result in
     let lt : c.args.number < length c.as_slice.result.now = subst (λ (xs : List Part). c.args.number < length xs) (sym c.as_slice.ensures) c.requires.number in
-    let there = ap (λ xs. slice_get xs c.args.number) (sym c.as_slice.ensures) ∙ there_at c.as_slice.result.now c.args.number part lt c.index-as_slice-number.is in
+    let there = ap (λ xs. slice_get xs c.args.number) (sym c.as_slice.ensures) ∙ get_read c.as_slice.result.now c.args.number part lt c.index-as_slice-number.is in
     let of = c.requires.view.parts.each c.args.number part there in
     part_place h l (view_in v) (preorder h v.class) part c.place_of_part-place.result of c.place_of_part-place.ensures
 
@@ -62,7 +62,7 @@ offset_words-requires-clause-named g c =
     let sound = g.met.L.SoundLayout.sound c.args.layout.now h c.requires.layout in
     let part = c.index-as_slice-number.result in
     let lt : c.args.number < length c.as_slice.result.now = subst (λ (xs : List Part). c.args.number < length xs) (sym c.as_slice.ensures) c.requires.number in
-    let there = ap (λ xs. slice_get xs c.args.number) (sym c.as_slice.ensures) ∙ there_at c.as_slice.result.now c.args.number part lt c.index-as_slice-number.is in
+    let there = ap (λ xs. slice_get xs c.args.number) (sym c.as_slice.ensures) ∙ get_read c.as_slice.result.now c.args.number part lt c.index-as_slice-number.is in
     let known = part_known h rows c.keeps.ensures sound v c.requires.view c.args.number part there in
     let shared = shared_part h rows c.keeps.ensures sound v c.requires.view c.args.number part there c.is_shared_base.result c.is_shared_base.ensures in
     let listed = listed_offsets h rows c.keeps.ensures sound v c.requires.view c.args.number part there c.is_shared_base.result c.offsets-offsets.result.now c.is_shared_base.ensures (c.offsets-offsets.ensures.offsets h l c.requires.slots known shared) in
@@ -77,7 +77,7 @@ entry_words-requires-clause-keys g c =
     let sound = g.met.L.SoundLayout.sound c.args.layout.now h c.requires.layout in
     let part = c.index-as_slice-number.result in
     let lt : c.args.number < length c.as_slice.result.now = subst (λ (xs : List Part). c.args.number < length xs) (sym c.as_slice.ensures) c.requires.number in
-    let there = ap (λ xs. slice_get xs c.args.number) (sym c.as_slice.ensures) ∙ there_at c.as_slice.result.now c.args.number part lt c.index-as_slice-number.is in
+    let there = ap (λ xs. slice_get xs c.args.number) (sym c.as_slice.ensures) ∙ get_read c.as_slice.result.now c.args.number part lt c.index-as_slice-number.is in
     let known = part_known h rows c.keeps.ensures sound v c.requires.view c.args.number part there in
     part_keys h rows c.keeps.ensures sound v c.requires.view c.args.number part there c.entries-entries.result.now (c.entries-entries.ensures.entries h l c.requires.slots known)
 
@@ -90,7 +90,7 @@ entry_words-requires-clause-along g c =
     let sound = g.met.L.SoundLayout.sound c.args.layout.now h c.requires.layout in
     let part = c.index-as_slice-number.result in
     let lt : c.args.number < length c.as_slice.result.now = subst (λ (xs : List Part). c.args.number < length xs) (sym c.as_slice.ensures) c.requires.number in
-    let there = ap (λ xs. slice_get xs c.args.number) (sym c.as_slice.ensures) ∙ there_at c.as_slice.result.now c.args.number part lt c.index-as_slice-number.is in
+    let there = ap (λ xs. slice_get xs c.args.number) (sym c.as_slice.ensures) ∙ get_read c.as_slice.result.now c.args.number part lt c.index-as_slice-number.is in
     let known = part_known h rows c.keeps.ensures sound v c.requires.view c.args.number part there in
     part_along h rows c.keeps.ensures sound v c.requires.view c.args.number part there c.entries-entries.result.now (c.entries-entries.ensures.entries h l c.requires.slots known)
 
@@ -103,7 +103,7 @@ returns-clause-table g c = λ t at.
     let sound = g.met.L.SoundLayout.sound c.args.layout.now h c.requires.layout in
     let part = c.index-as_slice-number.result in
     let lt : c.args.number < length c.as_slice.result.now = subst (λ (xs : List Part). c.args.number < length xs) (sym c.as_slice.ensures) c.requires.number in
-    let there = ap (λ xs. slice_get xs c.args.number) (sym c.as_slice.ensures) ∙ there_at c.as_slice.result.now c.args.number part lt c.index-as_slice-number.is in
+    let there = ap (λ xs. slice_get xs c.args.number) (sym c.as_slice.ensures) ∙ get_read c.as_slice.result.now c.args.number part lt c.index-as_slice-number.is in
     let known = part_known h rows c.keeps.ensures sound v c.requires.view c.args.number part there in
     let shared = shared_part h rows c.keeps.ensures sound v c.requires.view c.args.number part there c.is_shared_base.result c.is_shared_base.ensures in
     let listed = listed_offsets h rows c.keeps.ensures sound v c.requires.view c.args.number part there c.is_shared_base.result c.offsets-offsets.result.now c.is_shared_base.ensures (c.offsets-offsets.ensures.offsets h l c.requires.slots known shared) in

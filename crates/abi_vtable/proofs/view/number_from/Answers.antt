@@ -2,15 +2,15 @@ use Rattle.std.proofs.Common.{◌≡◌, ◌≤◌, Some, ap, sym, ◌∙◌, su
 use Rattle.std.specs.List.{slice_get}
 use Rattle.std.proofs.lemmas.Option.{slice_get_within}
 use Rattle.foundation.proofs.Truth.{not_both}
+use Rattle.foundation.proofs.Places.{get_read}
 use Rattle.cxx_subobject.proofs.TreeLemmas.{subobject_same, same_itself}
 use Rattle.cxx_subobject.specs.declared.Subobject.{Subobject}
 use Rattle.cxx_subobject.specs.Subobjects.{same_subobject}
 use Rattle.abi_slots.proofs.Chains.{same_some}
-use Rattle.abi_vtable.proofs.Lists.{there_at}
 use Rattle.abi_vtable.proofs.view.number_from.Goals as goal
 
 pub returns-then-is_same : goal.returns-then-is_same
-returns-then-is_same c = there_at c.args.list.now c.loop-n.n c.index-list-n.result c.loop-n-test.true c.index-list-n.is ∙ ap (λ a. Some a) (subobject_same c.index-list-n.result c.args.target.now (sym c.is_same.ensures ∙ c.if-is_same.true))
+returns-then-is_same c = get_read c.args.list.now c.loop-n.n c.index-list-n.result c.loop-n-test.true c.index-list-n.is ∙ ap (λ a. Some a) (subobject_same c.index-list-n.result c.args.target.now (sym c.is_same.ensures ∙ c.if-is_same.true))
 
 pub loop-n-preserved : goal.loop-n-preserved
 loop-n-preserved c =
@@ -18,7 +18,7 @@ loop-n-preserved c =
     let target = c.args.target.now in
     below_more (λ k. c.args.from ≤ k → slice_get c.args.list.now k ≡ Some target → ⊥) c.loop-n.n c.loop-n.invariant
     (λ ge e.
-    let same : item ≡ target = same_some item target (sym (there_at c.args.list.now c.loop-n.n item c.loop-n-test.true c.index-list-n.is) ∙ e) in
+    let same : item ≡ target = same_some item target (sym (get_read c.args.list.now c.loop-n.n item c.loop-n-test.true c.index-list-n.is) ∙ e) in
     not_both (subst (λ (a : Subobject). same_subobject item a ≡ true) same (same_itself item)) (sym c.is_same.ensures ∙ c.if-is_same.false))
 
 pub returns : goal.returns

@@ -1,9 +1,9 @@
 use Rattle.std.proofs.Common.{ap, sym, ◌∙◌}
 use Rattle.std.specs.Prelude.{slice_get, slice_index_or}
 use Rattle.foundation.proofs.Truth.{not_both}
+use Rattle.foundation.proofs.Places.{get_read}
 use Rattle.cxx_hierarchy.specs.declared.records.ClassId.{ClassId}
 use Rattle.abi_vtable.specs.invariants.Parts.{view_in}
-use Rattle.abi_vtable.proofs.Lists.{there_at}
 use Rattle.abi_vtable.proofs.Over.{none_over, one_not_over, some_over}
 use Rattle.abi_vtable.proofs.words.part_over.Goals as goal
 use Rattle.abi_vtable.proofs.words.part_over.Goals.{else-part-d-via-then-part-d+else-contains, else-part-d-via-else-part-d}
@@ -11,7 +11,7 @@ use Rattle.abi_vtable.proofs.words.part_over.Goals.{else-part-d-via-then-part-d+
 pub returns-then-contains-clause-part : goal.returns-then-contains-clause-part
 returns-then-contains-clause-part c = λ l view.
     let items = c.as_slice-parts.result.now in
-    view.parts.each c.loop-n.n c.index-parts-n.result (ap (λ xs. slice_get xs c.loop-n.n) (sym c.as_slice-parts.ensures) ∙ there_at items c.loop-n.n c.index-parts-n.result c.loop-n-test.true c.index-parts-n.is)
+    view.parts.each c.loop-n.n c.index-parts-n.result (ap (λ xs. slice_get xs c.loop-n.n) (sym c.as_slice-parts.ensures) ∙ get_read items c.loop-n.n c.index-parts-n.result c.loop-n-test.true c.index-parts-n.is)
 
 pub loop-n-preserved : goal.loop-n-preserved
 loop-n-preserved c = one_not_over c.args.h.now c.as_slice-parts.result.now c.args.s.now c.args.d c.loop-n.n c.index-parts-n.result c.loop-n-test.true c.index-parts-n.is

@@ -4,9 +4,9 @@ use Rattle.cxx_subobject.specs.declared.Subobject.{Subobject}
 use Rattle.cxx_subobject.specs.Subobjects.{IsSubobject, whole_of, class_of}
 use Rattle.cxx_subobject.proofs.TestLemmas.{class_below}
 use Rattle.foundation.proofs.Places.{any_default}
+use Rattle.cxx_subobject.proofs.PathLemmas.{class_inside}
 use Rattle.abi_sound.specs.Places.{places_of}
 use Rattle.abi_vtable.specs.invariants.Parts.{view_in}
-use Rattle.abi_vtable.proofs.Parts.{class_within}
 use Rattle.abi_vtt.specs.Vtts.{below, is_built_base, sub_items}
 use Rattle.abi_vtt.specs.invariants.Served.{AreServing}
 use Rattle.abi_vtt.specs.invariants.Growing.{Grows}
@@ -29,7 +29,7 @@ push_word-requires g t c =
     whole_noted h l v c.deref.result.now c.in_ok-x.ensures.parts (subst (λ ts. AreServing h l (view_in v) ts) (sym c.deref.ensures.value) c.in_ok-tables.ensures)
 
 pub class-requires : goal.class-requires
-class-requires g t c = class_within c.args.h.now c.keeps.ensures c.args.name.now.complete c.args.d c.args.name.now.view c.requires.known c.requires.view c.requires.class
+class-requires g t c = class_inside c.args.h.now c.keeps.ensures c.args.name.now.complete c.args.d c.args.name.now.view c.requires.known c.requires.view c.requires.class
 
 pub loop-base-init : goal.loop-base-init
 loop-base-init g t c = λ n lt.
@@ -46,7 +46,7 @@ push_sub_vtt-requires g t c κs within =
     let i = c.loop-base.base-index in
     let is : bases ≡ bases_of h d = c.as_slice-base-items.ensures ∙ sym (ap bases_in c.class.ensures) in
     let base = nth bases i in
-    let here : d.0 < length h = class_within h c.keeps.ensures c.args.name.now.complete d view c.requires.known c.requires.view c.requires.class in
+    let here : d.0 < length h = class_inside h c.keeps.ensures c.args.name.now.complete d view c.requires.known c.requires.view c.requires.class in
     let less : base.class.0 < d.0 = nth_before h c.keeps.ensures d bases i is c.loop-base-test.true in
     let known : base.class.0 < length h = omega arith in
     let test : is_built_base h base ≡ true = built_is h c.args.marks.now base c.is_built.result c.requires.marks known c.is_built.ensures ∙ c.if-is_built.true in
@@ -67,7 +67,7 @@ loop-base-preserved g t c = λ n lt.
     let i = c.loop-base.base-index in
     let is : bases ≡ bases_of h d = c.as_slice-base-items.ensures ∙ sym (ap bases_in c.class.ensures) in
     let base = nth bases i in
-    let here : d.0 < length h = class_within h c.keeps.ensures complete d view c.requires.known c.requires.view c.requires.class in
+    let here : d.0 < length h = class_inside h c.keeps.ensures complete d view c.requires.known c.requires.view c.requires.class in
     let less : base.class.0 < d.0 = nth_before h c.keeps.ensures d bases i is c.loop-base-test.true in
     let known : base.class.0 < length h = omega arith in
     let small : base.class.0 < n = omega arith in

@@ -1,4 +1,4 @@
-use Rattle.path_effects.proofs.Returns.{return_known}
+use Rattle.cxx_hierarchy.proofs.Returns.{return_known}
 use Rattle.path_effects.proofs.results.pointee.Goals as goal
 
 pub returns-in-Pointer-clause-known : goal.returns-in-Pointer-clause-known

@@ -1,5 +1,5 @@
 use Rattle.std.proofs.Common.{◌∷◌, subst}
-use Rattle.path_tables.proofs.Within.{made_ok}
+use Rattle.std.proofs.lemmas.Result.{IfOk-weaker}
 use Rattle.path_model.specs.Values.{value}
 use Rattle.path_model.specs.States.{InBody, at_statement, with_frames, sight, wanted}
 use Rattle.cxx_program.specs.Typed.{deletes}
@@ -22,7 +22,7 @@ returns-in_ok-go_on-in-None c = λ e d s f below outs taken deleting.
 
 -- src/calls.rt:128:1
 pub returns-in-Some : goal.returns-in-Some
-returns-in-Some c = made_ok _ _ c.end_object.result c.end_object.ensures (λ taken told e d s f below outs stands deleting.
+returns-in-Some c = IfOk-weaker c.end_object.result _ _ (λ taken told e d s f below outs stands deleting.
     let h = c.args.run.now.world.h.now in
     let program = c.args.run.now.program.now in
     let sizes = size_in c.args.run.now.sizes.now in
@@ -30,4 +30,4 @@ returns-in-Some c = made_ok _ _ c.end_object.result c.end_object.ensures (λ tak
     let scene = c.scene_of-scene.ensures h sizes program s f below stands in
     object_deleted h sizes program c.end_object.new.machine outs outs (with_frames s (InBody f ∷ below)) (with_frames s (InBody (at_statement f c.args.next) ∷ below)) v c.in-Some.whole taken
     (subst (λ x. Ends h s.objects.classes x v) c.in-Some.is (c.deleted.ensures h e (sight s f) (wanted f) d scene deleting.seen (deletes c.args.pointer.now d deleting.typed) (deleting.clear (wanted f))))
-    (λ k b made whole. told sizes s f below outs k b stands made whole))
+    (λ k b made whole. told sizes s f below outs k b stands made whole)) c.end_object.ensures

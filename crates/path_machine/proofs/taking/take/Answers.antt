@@ -4,7 +4,7 @@ use Rattle.path_model.specs.Rules.{refused, is_clear}
 use Rattle.path_model.specs.Uses.{right_uses}
 use Rattle.path_model.specs.Effects.{taken, called, new_made}
 use Rattle.path_model.specs.Runs.{move_by, limit_of, right_demand, asks_call, asks_object}
-use Rattle.path_effects.proofs.Forms.{has_type}
+use Rattle.path_model.proofs.TypedRights.{converted_type}
 use Rattle.path_machine.specs.invariants.Steps.{size_in, MoveAgrees}
 use Rattle.path_machine.proofs.Effecting.{called_typed, made_known, plain_by, plain_agrees}
 use Rattle.path_machine.proofs.taking.take.Goals as goal
@@ -17,7 +17,7 @@ returns-in_ok-done-in-Call-clause-agrees c = λ e s f below t given.
     let see = sight s f in
     let x = c.args.x.now in
     let call = c.in-Call.call in
-    let typed = has_type h e x given.type given.typed in
+    let typed = converted_type h e x given.type given.typed in
     let g = called_typed h e x.right typed.0 typed.1 call c.in-Call.is in
     let clear = subst (λ r. refused h s.objects (right_uses h (is_clear h s.objects) see r x.conversion) ≡ None) c.in-Call.is given.clear in
     let on = with_frames s (InBody (at_statement f c.args.next) ∷ below) in
@@ -34,7 +34,7 @@ returns-in_ok-done-in-New-clause-agrees c = λ e s f below t given.
     let see = sight s f in
     let x = c.args.x.now in
     let class = c.in-New.class in
-    let typed = has_type h e x given.type given.typed in
+    let typed = converted_type h e x given.type given.typed in
     let on = with_frames s (InBody (at_statement f c.args.next) ∷ below) in
     let at = with_frames s (InBody f ∷ below) in
     subst (λ r. MoveAgrees h sizes program (move_by (taken h program see on c.args.variable r x.conversion) (limit_of sizes at (right_demand r))) c.new_object.new.machine c.args.outs.now c.args.outs.now c.in_ok-done-in-New.done) (sym c.in-New.is)

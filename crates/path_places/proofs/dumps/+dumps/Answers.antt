@@ -6,9 +6,10 @@ use Rattle.foundation.proofs.Places.{contains_at}
 use Rattle.cxx_hierarchy.specs.declared.records.ClassId.{ClassId}
 use Rattle.cxx_hierarchy.specs.declared.records.Member.{Member}
 use Rattle.cxx_hierarchy.specs.Classes.{members_of}
+use Rattle.cxx_subobject.proofs.PathLemmas.{class_low, class_found}
+use Rattle.cxx_subobject.proofs.TreeLemmas.{valid_at}
 use Rattle.path_numbers.proofs.Rows.{members_are}
 use Rattle.path_places.specs.invariants.Dumps.{seen}
-use Rattle.path_places.proofs.Listing.{valid_at, class_at, class_known}
 use Rattle.path_places.proofs.Dumping.{values_dumped, objects_dumped, elements_next, members_next, bases_step}
 use Rattle.path_places.proofs.dumps.+dumps.Goals as goal
 
@@ -56,7 +57,7 @@ dump_whole-dump_own-requires t c =
     let h = c.args.site.now.world.now.h.now in
     let is = c.as_slice-base-items.ensures ∙ c.in_ok-bases.ensures.preorder in
     let valid = valid_at h c.args.c c.as_slice-base-items.result.now c.loop-base.base-index c.base-item.result is c.loop-base-test.true c.base-item.is in
-    let low = class_known h c.requires.world.hierarchy c.args.c c.class_or_first-d.result c.base-item.result valid (class_at h c.args.c c.class_or_first-d.result c.base-item.result valid c.class_or_first-d.ensures) in
+    let low = class_low h c.requires.world.hierarchy c.args.c c.class_or_first-d.result c.base-item.result valid (class_found h c.args.c c.class_or_first-d.result c.base-item.result valid c.class_or_first-d.ensures) in
     let d = c.decreases in
     let known = c.requires.known in
     (omega arith, (c.requires.world, omega arith))

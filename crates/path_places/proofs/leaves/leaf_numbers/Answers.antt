@@ -1,5 +1,7 @@
 use Rattle.std.proofs.Common.{◌∙◌, arith}
-use Rattle.path_places.proofs.Listing.{valid_at, class_at, class_known, part_next, part_all, part_past}
+use Rattle.cxx_subobject.proofs.PathLemmas.{class_low, class_found}
+use Rattle.cxx_subobject.proofs.TreeLemmas.{valid_at}
+use Rattle.path_places.proofs.Listing.{part_next, part_all, part_past}
 use Rattle.path_places.proofs.leaves.leaf_numbers.Goals as goal
 
 pub push_own-requires-clause-known : goal.push_own-requires-clause-known
@@ -7,7 +9,7 @@ push_own-requires-clause-known c =
     let h = c.args.world.now.h.now in
     let is = c.as_slice-base-items.ensures ∙ c.in_ok-bases.ensures.preorder in
     let valid = valid_at h c.args.c c.as_slice-base-items.result.now c.loop-base.base-index c.base-item.result is c.loop-base-test.true c.base-item.is in
-    let low = class_known h c.requires.hierarchy c.args.c c.class_or_first-d.result c.base-item.result valid (class_at h c.args.c c.class_or_first-d.result c.base-item.result valid c.class_or_first-d.ensures) in
+    let low = class_low h c.requires.hierarchy c.args.c c.class_or_first-d.result c.base-item.result valid (class_found h c.args.c c.class_or_first-d.result c.base-item.result valid c.class_or_first-d.ensures) in
     let few = c.if-c-len.false in
     let size = c.len.ensures in
     omega arith

@@ -1,4 +1,5 @@
 use Rattle.std.proofs.Common.{◌≡◌, ◌∙◌, ap, sym, false}
+use Rattle.std.proofs.lemmas.Result.{IfOk-weaker}
 use Rattle.cxx_hierarchy.specs.declared.records.ClassId.{ClassId}
 use Rattle.path_heap.specs.Stands.{HeapStands, Means}
 use Rattle.path_model.specs.Values.{Value, Objects, to_base}
@@ -6,7 +7,6 @@ use Rattle.path_model.specs.Uses.{is_shared, views, takes}
 use Rattle.path_model.specs.Rules.{refused, names, is_unready}
 use Rattle.path_refusals.specs.invariants.Pieces.{IsValueOf, IsFound, CanTake, found_asked}
 use Rattle.path_refusals.proofs.Refused.{stops, goes_on}
-use Rattle.path_refusals.proofs.Reading.{ok_is}
 use Rattle.path_refusals.proofs.Calling.{view_then, taken_late, can_reach, can_take}
 use Rattle.path_refusals.proofs.calls.found.Goals as goal
 
@@ -17,10 +17,8 @@ returns-in-Some-clause-is c = λ s x through a e found.
     (sym c.in-Some.is ∙ (c.in_ok-rule.ensures.is s x a.heap_stands a.means e ∙ ap (λ b. refused c.args.world.now.h.now s (views b x)) c.is_shared.ensures))
 
 pub returns-in-None-clause-is : goal.returns-in-None-clause-is
-returns-in-None-clause-is c = ok_is (λ rule. (s : Objects) (x : Value) → HeapStands c.args.world.now.h.now c.args.heap.now s → Means c.args.world.now.h.now s.classes c.to_base-receiver.result x → CanTake c.args.world.now.h.now s c.args.call.now.function c.args.call.now.is_dispatched x → rule ≡ refused c.args.world.now.h.now s (takes c.args.call.now.is_dispatched x c.args.call.now.function))
-    (λ rule. (s : Objects) (x : Value) (through : ClassId) → IsValueOf c.args.world.now.h.now c.args.heap.now s c.args.v x through → names (is_unready s) x ≡ false → IsFound c.args.world.now.h.now through c.args.call.now → rule ≡ refused c.args.world.now.h.now s (found_asked c.args.call.now x)) c.taken.result c.taken.ensures.is
-    (λ rule told s x through a e found.
+returns-in-None-clause-is c = IfOk-weaker c.taken.result (λ rule. (s : Objects) (x : Value) → HeapStands c.args.world.now.h.now c.args.heap.now s → Means c.args.world.now.h.now s.classes c.to_base-receiver.result x → CanTake c.args.world.now.h.now s c.args.call.now.function c.args.call.now.is_dispatched x → rule ≡ refused c.args.world.now.h.now s (takes c.args.call.now.is_dispatched x c.args.call.now.function)) (λ rule. (s : Objects) (x : Value) (through : ClassId) → IsValueOf c.args.world.now.h.now c.args.heap.now s c.args.v x through → names (is_unready s) x ≡ false → IsFound c.args.world.now.h.now through c.args.call.now → rule ≡ refused c.args.world.now.h.now s (found_asked c.args.call.now x)) (λ rule told s x through a e found.
     let b = is_shared c.args.call.now.base in
     goes_on c.args.world.now.h.now s (views b x) (takes c.args.call.now.is_dispatched (to_base c.args.call.now.base x) c.args.call.now.function) rule
     (sym c.in-None.is ∙ (c.in_ok-rule.ensures.is s x a.heap_stands a.means e ∙ ap (λ b. refused c.args.world.now.h.now s (views b x)) c.is_shared.ensures))
-    (told s (to_base c.args.call.now.base x) a.heap_stands (c.to_base-receiver.ensures s x a.heap_stands a.means (can_reach c.args.world.now.h.now c.args.heap.now s c.args.v x through c.args.call.now a e found)) (can_take c.args.world.now.h.now c.args.heap.now s c.args.v x through c.args.call.now a e found)))
+    (told s (to_base c.args.call.now.base x) a.heap_stands (c.to_base-receiver.ensures s x a.heap_stands a.means (can_reach c.args.world.now.h.now c.args.heap.now s c.args.v x through c.args.call.now a e found)) (can_take c.args.world.now.h.now c.args.heap.now s c.args.v x through c.args.call.now a e found))) c.taken.ensures.is

@@ -1,4 +1,5 @@
 use Rattle.std.proofs.Common.{◌≡◌, ◌∙◌, None, [], ◌∷◌, ap, refl, sym}
+use Rattle.std.proofs.lemmas.Result.{IfOk-weaker}
 use Rattle.cxx_subobject.specs.Locations.{ObjectPart}
 use Rattle.path_heap.specs.Points.{Points}
 use Rattle.path_heap.specs.Stands.{HeapStands, HasBegun, Means}
@@ -7,7 +8,7 @@ use Rattle.path_model.specs.Values.{Value, Unset, Number, Null, Pointer, Objects
 use Rattle.path_model.specs.Uses.{Takes, takes}
 use Rattle.path_model.specs.Rules.{refused}
 use Rattle.path_refusals.specs.invariants.Pieces.{CanTake}
-use Rattle.path_refusals.proofs.Reading.{nothing, ok_is, unset_case, null_case, number_case, pointer_case}
+use Rattle.path_refusals.proofs.Reading.{nothing, unset_case, null_case, number_case, pointer_case}
 use Rattle.path_refusals.proofs.Calling.{off_take}
 use Rattle.path_refusals.proofs.calls.taken.Goals as goal
 
@@ -24,7 +25,5 @@ pub returns-in-Null-clause-is : goal.returns-in-Null-clause-is
 returns-in-Null-clause-is c = λ s x stands m can. null_case c.args.world.now.h.now s.classes (λ x. None ≡ refused c.args.world.now.h.now s (takes c.args.is_dispatched x c.args.f)) (off_take c.args.world.now.h.now s Null c.args.f c.args.is_dispatched refl) c.args.v c.in-Null.is x m
 
 pub returns-in-Pointer-clause-is : goal.returns-in-Pointer-clause-is
-returns-in-Pointer-clause-is c = ok_is (λ rule. (s : Objects) (p : ObjectPart) → HeapStands c.args.world.now.h.now c.args.heap.now s → Points c.args.world.now.h.now s.classes c.in-Pointer.n p → HasBegun s p → IsCallable c.args.world.now.h.now p c.args.f → rule ≡ refused c.args.world.now.h.now s (Takes (Pointer p) c.args.f ∷ []))
-    (λ rule. (s : Objects) (x : Value) → HeapStands c.args.world.now.h.now c.args.heap.now s → Means c.args.world.now.h.now s.classes c.args.v x → CanTake c.args.world.now.h.now s c.args.f c.args.is_dispatched x → rule ≡ refused c.args.world.now.h.now s (takes c.args.is_dispatched x c.args.f)) c.part_taken.result c.part_taken.ensures.is
-    (λ rule told s x stands m can. pointer_case c.args.world.now.h.now s.classes (λ x. CanTake c.args.world.now.h.now s c.args.f c.args.is_dispatched x → rule ≡ refused c.args.world.now.h.now s (takes c.args.is_dispatched x c.args.f)) c.in-Pointer.n
-    (λ p q can. told s p stands q can.0 (can.1 c.if-not-is_dispatched.false) ∙ ap (λ b. refused c.args.world.now.h.now s (takes b (Pointer p) c.args.f)) (sym c.if-not-is_dispatched.false)) c.args.v c.in-Pointer.is x m can)
+returns-in-Pointer-clause-is c = IfOk-weaker c.part_taken.result (λ rule. (s : Objects) (p : ObjectPart) → HeapStands c.args.world.now.h.now c.args.heap.now s → Points c.args.world.now.h.now s.classes c.in-Pointer.n p → HasBegun s p → IsCallable c.args.world.now.h.now p c.args.f → rule ≡ refused c.args.world.now.h.now s (Takes (Pointer p) c.args.f ∷ [])) (λ rule. (s : Objects) (x : Value) → HeapStands c.args.world.now.h.now c.args.heap.now s → Means c.args.world.now.h.now s.classes c.args.v x → CanTake c.args.world.now.h.now s c.args.f c.args.is_dispatched x → rule ≡ refused c.args.world.now.h.now s (takes c.args.is_dispatched x c.args.f)) (λ rule told s x stands m can. pointer_case c.args.world.now.h.now s.classes (λ x. CanTake c.args.world.now.h.now s c.args.f c.args.is_dispatched x → rule ≡ refused c.args.world.now.h.now s (takes c.args.is_dispatched x c.args.f)) c.in-Pointer.n
+    (λ p q can. told s p stands q can.0 (can.1 c.if-not-is_dispatched.false) ∙ ap (λ b. refused c.args.world.now.h.now s (takes b (Pointer p) c.args.f)) (sym c.if-not-is_dispatched.false)) c.args.v c.in-Pointer.is x m can) c.part_taken.ensures.is

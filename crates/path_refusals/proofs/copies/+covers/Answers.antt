@@ -7,10 +7,11 @@ use Rattle.path_model.specs.Rules.{refused}
 use Rattle.path_model.specs.Uses.{member_uses}
 use Rattle.path_model.specs.Order.{asked_covers}
 use Rattle.cxx_hierarchy.specs.declared.records.Member.{Member}
+use Rattle.path_numbers.proofs.Rows.{members_are}
 use Rattle.path_refusals.specs.invariants.Pieces.{Covers}
 use Rattle.path_refusals.specs.invariants.Left.{element_asked, member_asked}
 use Rattle.path_refusals.proofs.Reading.{begun_of}
-use Rattle.path_refusals.proofs.Covering.{element_unready, element_ready, left_start, left_more, left_stops, left_end, elements_late, members_late, value_member, object_member, element_of, member_below, members_same, past_covers, own_covers, complete_covered}
+use Rattle.path_refusals.proofs.Covering.{element_unready, element_ready, left_start, left_more, left_stops, left_end, elements_late, members_late, value_member, object_member, element_of, member_below, past_covers, own_covers, complete_covered}
 use Rattle.path_refusals.proofs.copies.+covers.Goals as goal
 
 -- elements
@@ -75,7 +76,7 @@ is_covered-loop-m-init t c = λ s p k a l. left_start c.args.world.now.h.now s (
 
 pub is_covered-loop-m-preserved : goal.is_covered-loop-m-preserved
 is_covered-loop-m-preserved t c = λ s p k a l.
-    let same = members_same c.args.world.now.h.now c.args.c c.class.result.now c.as_slice-members.result.now c.class.ensures c.as_slice-members.ensures in
+    let same = members_are c.args.world.now.h.now c.args.c c.class.result.now c.as_slice-members.result.now c.class.ensures c.as_slice-members.ensures in
     let listed = subst (λ (xs : List (Member ClassId)). slice_get xs c.loop-m.m ≡ Some c.member_at.result.now) same c.member_at.ensures in
     left_more c.args.world.now.h.now s (member_asked c.args.world.now.h.now k p c.args.c) (length c.as_slice-members.result.now) c.loop-m.m c.loop-m-test.true
     (ap (λ (o : Option (Member ClassId)). refused c.args.world.now.h.now s (member_uses (asked_covers c.args.world.now.h.now k) p c.loop-m.m o)) listed
@@ -83,7 +84,7 @@ is_covered-loop-m-preserved t c = λ s p k a l.
 
 pub is_covered-returns-then-not-is_member_covered : goal.is_covered-returns-then-not-is_member_covered
 is_covered-returns-then-not-is_member_covered t c = λ s p k a l.
-    let same = members_same c.args.world.now.h.now c.args.c c.class.result.now c.as_slice-members.result.now c.class.ensures c.as_slice-members.ensures in
+    let same = members_are c.args.world.now.h.now c.args.c c.class.result.now c.as_slice-members.result.now c.class.ensures c.as_slice-members.ensures in
     let listed = subst (λ (xs : List (Member ClassId)). slice_get xs c.loop-m.m ≡ Some c.member_at.result.now) same c.member_at.ensures in
     own_covers c.args.world.now.h.now s k c.args.c p (length c.as_slice-members.result.now) false l (ap length same) (λ j le. left_stops c.args.world.now.h.now s (member_asked c.args.world.now.h.now j p c.args.c) (length c.as_slice-members.result.now) c.loop-m.m c.loop-m-test.true
     (ap (λ (o : Option (Member ClassId)). refused c.args.world.now.h.now s (member_uses (asked_covers c.args.world.now.h.now j) p c.loop-m.m o)) listed
@@ -91,5 +92,5 @@ is_covered-returns-then-not-is_member_covered t c = λ s p k a l.
 
 pub is_covered-returns : goal.is_covered-returns
 is_covered-returns t c = λ s p k a l.
-    let same = members_same c.args.world.now.h.now c.args.c c.class.result.now c.as_slice-members.result.now c.class.ensures c.as_slice-members.ensures in
+    let same = members_are c.args.world.now.h.now c.args.c c.class.result.now c.as_slice-members.result.now c.class.ensures c.as_slice-members.ensures in
     own_covers c.args.world.now.h.now s k c.args.c p (length c.as_slice-members.result.now) true l (ap length same) (λ j le. left_end c.args.world.now.h.now s (member_asked c.args.world.now.h.now j p c.args.c) (length c.as_slice-members.result.now) c.loop-m.m c.loop-m-test.false (c.loop-m.invariant s p j a le))

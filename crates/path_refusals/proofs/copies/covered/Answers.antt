@@ -1,11 +1,12 @@
 use Rattle.std.proofs.Common.{◌≡◌, ◌+◌, ◌++◌, arith, None, Some, false, subst, refl}
+use Rattle.std.proofs.lemmas.Result.{IfOk-weaker}
 use Rattle.path_rules.specs.declared.Undefined.TheVariants.{NotReady}
 use Rattle.path_model.specs.Values.{Unset, Number, Null, Pointer}
 use Rattle.path_model.specs.Uses.{views}
 use Rattle.path_model.specs.Rules.{refused, names, is_unready}
 use Rattle.path_model.specs.Order.{asked_covers, asked_covered}
 use Rattle.path_refusals.specs.invariants.Pieces.{IsValueOf, OpenRefuses, ReadyRefuses, Covers}
-use Rattle.path_refusals.proofs.Reading.{ok_is, unset_case, null_case, number_case, pointer_case}
+use Rattle.path_refusals.proofs.Reading.{unset_case, null_case, number_case, pointer_case}
 use Rattle.path_refusals.proofs.Paths.{ready_part}
 use Rattle.path_refusals.proofs.Covering.{off_covered, covered_stops, covered_on}
 use Rattle.path_refusals.proofs.copies.covered.Goals as goal
@@ -25,8 +26,7 @@ returns-then-not-is_covered-clause-is c = λ s x a e. pointer_case c.args.world.
     (subst (λ b. Covers c.args.world.now.h.now s b (asked_covers c.args.world.now.h.now (c.args.c.0 + 1) c.args.c p)) c.if-not-is_covered.true (c.is_covered.ensures s p (c.args.c.0 + 1) (ready_part c.args.world.now.h.now c.args.heap.now s c.args.v c.in-Pointer.n p c.args.c a q e) (omega arith)))) c.args.v c.in-Pointer.is x a.means a e
 
 pub returns-else-not-is_covered-clause-is : goal.returns-else-not-is_covered-clause-is
-returns-else-not-is_covered-clause-is c = ok_is (ReadyRefuses c.args.world.now.h.now c.args.heap.now c.in-Pointer.n (λ p. views c.args.needed (Pointer p))) (OpenRefuses c.args.world.now.h.now c.args.heap.now c.args.v c.args.c (λ x. views c.args.needed x ++ asked_covered c.args.world.now.h.now c.args.c x)) c.view.result c.view.ensures.is
-    (λ rule told s x a e. pointer_case c.args.world.now.h.now s.classes (λ x. IsValueOf c.args.world.now.h.now c.args.heap.now s c.args.v x c.args.c → names (is_unready s) x ≡ false → rule ≡ refused c.args.world.now.h.now s (views c.args.needed x ++ asked_covered c.args.world.now.h.now c.args.c x)) c.in-Pointer.n
+returns-else-not-is_covered-clause-is c = IfOk-weaker c.view.result (ReadyRefuses c.args.world.now.h.now c.args.heap.now c.in-Pointer.n (λ p. views c.args.needed (Pointer p))) (OpenRefuses c.args.world.now.h.now c.args.heap.now c.args.v c.args.c (λ x. views c.args.needed x ++ asked_covered c.args.world.now.h.now c.args.c x)) (λ rule told s x a e. pointer_case c.args.world.now.h.now s.classes (λ x. IsValueOf c.args.world.now.h.now c.args.heap.now s c.args.v x c.args.c → names (is_unready s) x ≡ false → rule ≡ refused c.args.world.now.h.now s (views c.args.needed x ++ asked_covered c.args.world.now.h.now c.args.c x)) c.in-Pointer.n
     (λ p q a e. covered_on c.args.world.now.h.now s c.args.needed p c.args.c rule
     (subst (λ b. Covers c.args.world.now.h.now s b (asked_covers c.args.world.now.h.now (c.args.c.0 + 1) c.args.c p)) c.if-not-is_covered.false (c.is_covered.ensures s p (c.args.c.0 + 1) (ready_part c.args.world.now.h.now c.args.heap.now s c.args.v c.in-Pointer.n p c.args.c a q e) (omega arith)))
-    (told s p a.heap_stands q e)) c.args.v c.in-Pointer.is x a.means a e)
+    (told s p a.heap_stands q e)) c.args.v c.in-Pointer.is x a.means a e) c.view.ensures.is

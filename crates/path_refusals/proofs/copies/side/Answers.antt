@@ -1,9 +1,10 @@
 use Rattle.std.proofs.Common.{◌++◌}
+use Rattle.std.proofs.lemmas.Result.{IfOk-weaker}
 use Rattle.path_model.specs.Uses.{arrow, views}
 use Rattle.path_model.specs.Order.{asked_covered}
 use Rattle.path_refusals.specs.invariants.Pieces.{OpenRefuses, TypedRefuses}
 use Rattle.path_refusals.proofs.Refused.{stops, goes_on}
-use Rattle.path_refusals.proofs.Reading.{arrow_clear, ok_is}
+use Rattle.path_refusals.proofs.Reading.{arrow_clear}
 use Rattle.path_refusals.proofs.Covering.{arrow_covered}
 use Rattle.path_refusals.proofs.copies.side.Goals as goal
 
@@ -11,5 +12,4 @@ pub returns-in-Some-clause-is : goal.returns-in-Some-clause-is
 returns-in-Some-clause-is c = λ s x a. stops c.args.world.now.h.now s (arrow x) (views c.args.needed x ++ asked_covered c.args.world.now.h.now c.args.c x) c.in-Some.rule (arrow_covered c.args.world.now.h.now s c.args.needed x c.args.c) (c.in-Some.ensures c.args.world.now.h.now s x a.heap_stands a.means)
 
 pub returns-in-None-clause-is : goal.returns-in-None-clause-is
-returns-in-None-clause-is c = ok_is (OpenRefuses c.args.world.now.h.now c.args.heap.now c.args.v c.args.c (λ x. views c.args.needed x ++ asked_covered c.args.world.now.h.now c.args.c x)) (TypedRefuses c.args.world.now.h.now c.args.heap.now c.args.v c.args.c (λ x. arrow x ++ (views c.args.needed x ++ asked_covered c.args.world.now.h.now c.args.c x))) c.covered.result c.covered.ensures.is
-    (λ rule told s x a. let e = c.in-None.ensures c.args.world.now.h.now s x a.heap_stands a.means in goes_on c.args.world.now.h.now s (arrow x) (views c.args.needed x ++ asked_covered c.args.world.now.h.now c.args.c x) rule e (told s x a (arrow_clear c.args.world.now.h.now s x e)))
+returns-in-None-clause-is c = IfOk-weaker c.covered.result (OpenRefuses c.args.world.now.h.now c.args.heap.now c.args.v c.args.c (λ x. views c.args.needed x ++ asked_covered c.args.world.now.h.now c.args.c x)) (TypedRefuses c.args.world.now.h.now c.args.heap.now c.args.v c.args.c (λ x. arrow x ++ (views c.args.needed x ++ asked_covered c.args.world.now.h.now c.args.c x))) (λ rule told s x a. let e = c.in-None.ensures c.args.world.now.h.now s x a.heap_stands a.means in goes_on c.args.world.now.h.now s (arrow x) (views c.args.needed x ++ asked_covered c.args.world.now.h.now c.args.c x) rule e (told s x a (arrow_clear c.args.world.now.h.now s x e))) c.covered.ensures.is

@@ -1,10 +1,9 @@
 use Rattle.std.proofs.Common.{◌∷◌}
+use Rattle.std.proofs.lemmas.Result.{IfOk-weaker}
 use Rattle.path_model.specs.Values.{value}
 use Rattle.path_model.specs.Uses.{Reads, convert, argument_uses}
 use Rattle.path_refusals.specs.invariants.Pieces.{Refuses, SightRefuses}
-use Rattle.path_refusals.proofs.Reading.{ok_is}
 use Rattle.path_refusals.proofs.operands.argument.Goals as goal
 
 pub returns-clause-is : goal.returns-clause-is
-returns-clause-is c = ok_is (Refuses c.args.world.now.h.now c.args.heap.now c.value-v.result (λ x. Reads x ∷ convert x c.args.a.now.conversion)) (SightRefuses c.args.world.now.h.now c.args.heap.now c.args.scene.now.globals.now c.args.scene.now.this c.args.scene.now.locals.now (λ s. argument_uses s c.args.a.now)) c.read_converted.result c.read_converted.ensures.is
-    (λ rule told s stands. told s.objects (value s c.args.a.now.operand) stands.heap_stands (c.value-v.ensures c.args.world.now.h.now c.args.heap.now s stands))
+returns-clause-is c = IfOk-weaker c.read_converted.result (Refuses c.args.world.now.h.now c.args.heap.now c.value-v.result (λ x. Reads x ∷ convert x c.args.a.now.conversion)) (SightRefuses c.args.world.now.h.now c.args.heap.now c.args.scene.now.globals.now c.args.scene.now.this c.args.scene.now.locals.now (λ s. argument_uses s c.args.a.now)) (λ rule told s stands. told s.objects (value s c.args.a.now.operand) stands.heap_stands (c.value-v.ensures c.args.world.now.h.now c.args.heap.now s stands)) c.read_converted.ensures.is

@@ -1,4 +1,5 @@
 use Rattle.std.proofs.Common.{◌≡◌, ◌∙◌, false, Some, None, List, refl, ap, sym, subst}
+use Rattle.std.proofs.lemmas.Result.{IfOk-weaker}
 use Rattle.cxx_program.specs.declared.statement.PassedMember.{PassedMember}
 use Rattle.path_model.specs.Typed.{IsPath}
 use Rattle.path_model.specs.Order.{asked_members}
@@ -6,7 +7,7 @@ use Rattle.path_model.specs.Uses.{views, is_shared}
 use Rattle.path_model.specs.Values.{Unset, Number, Null, Pointer}
 use Rattle.path_model.specs.Rules.{refused, names, is_unready}
 use Rattle.path_refusals.specs.invariants.Pieces.{IsValueOf, OpenRefuses, ReadyRefuses, path_asked}
-use Rattle.path_refusals.proofs.Reading.{ok_is, unset_case, null_case, number_case, pointer_case}
+use Rattle.path_refusals.proofs.Reading.{unset_case, null_case, number_case, pointer_case}
 use Rattle.path_refusals.proofs.Paths.{off_path, members_first, members_then, ready_part}
 use Rattle.path_refusals.proofs.places.path.Goals as goal
 
@@ -26,9 +27,8 @@ returns-in-Some-clause-is c = λ way s x a e. pointer_case c.args.world.now.h.no
     ∙ ap (λ xs. refused c.args.world.now.h.now s (asked_members p xs)) c.as_slice.ensures)) c.args.v c.in-Pointer.is x a.means a e
 
 pub returns-in-None-clause-is : goal.returns-in-None-clause-is
-returns-in-None-clause-is c = λ way. ok_is (ReadyRefuses c.args.world.now.h.now c.args.heap.now c.in-Pointer.n (λ p. views c.is_shared.result (Pointer p))) (OpenRefuses c.args.world.now.h.now c.args.heap.now c.args.v c.args.place.now.class (path_asked c.args.place.now)) c.view.result c.view.ensures.is
-    (λ rule told s x a e. pointer_case c.args.world.now.h.now s.classes (λ x. IsValueOf c.args.world.now.h.now c.args.heap.now s c.args.v x c.args.place.now.class → names (is_unready s) x ≡ false → rule ≡ refused c.args.world.now.h.now s (path_asked c.args.place.now x)) c.in-Pointer.n
+returns-in-None-clause-is c = λ way. IfOk-weaker c.view.result (ReadyRefuses c.args.world.now.h.now c.args.heap.now c.in-Pointer.n (λ p. views c.is_shared.result (Pointer p))) (OpenRefuses c.args.world.now.h.now c.args.heap.now c.args.v c.args.place.now.class (path_asked c.args.place.now)) (λ rule told s x a e. pointer_case c.args.world.now.h.now s.classes (λ x. IsValueOf c.args.world.now.h.now c.args.heap.now s c.args.v x c.args.place.now.class → names (is_unready s) x ≡ false → rule ≡ refused c.args.world.now.h.now s (path_asked c.args.place.now x)) c.in-Pointer.n
     (λ p q a e. members_then c.args.world.now.h.now s p c.args.place.now rule
     (c.in-None.ensures s p c.args.place.now.class c.args.place.now.base (ready_part c.args.world.now.h.now c.args.heap.now s c.args.v c.in-Pointer.n p c.args.place.now.class a q e) (subst (λ (xs : List PassedMember). IsPath c.args.world.now.h.now c.args.place.now.class xs c.args.place.now.base) (sym c.as_slice.ensures) way)
     ∙ ap (λ xs. refused c.args.world.now.h.now s (asked_members p xs)) c.as_slice.ensures)
-    (told s p a.heap_stands q e ∙ ap (λ b. refused c.args.world.now.h.now s (views b (Pointer p))) (c.is_shared.ensures ∙ ap is_shared c.first_base.ensures))) c.args.v c.in-Pointer.is x a.means a e)
+    (told s p a.heap_stands q e ∙ ap (λ b. refused c.args.world.now.h.now s (views b (Pointer p))) (c.is_shared.ensures ∙ ap is_shared c.first_base.ensures))) c.args.v c.in-Pointer.is x a.means a e) c.view.ensures.is

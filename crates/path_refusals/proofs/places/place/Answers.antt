@@ -1,8 +1,9 @@
 use Rattle.std.proofs.Common.{◌∙◌}
+use Rattle.std.proofs.lemmas.Result.{IfOk-weaker}
 use Rattle.path_model.specs.Uses.{arrow}
 use Rattle.path_refusals.specs.invariants.Pieces.{OpenRefuses, TypedRefuses, way_uses, path_asked}
 use Rattle.path_refusals.proofs.Refused.{stops, goes_on}
-use Rattle.path_refusals.proofs.Reading.{arrow_clear, ok_is}
+use Rattle.path_refusals.proofs.Reading.{arrow_clear}
 use Rattle.path_refusals.proofs.Paths.{arrow_path, way_is}
 use Rattle.path_refusals.proofs.places.place.Goals as goal
 
@@ -12,7 +13,6 @@ returns-in-Some-clause-is c = λ path s x a.
     ∙ way_is c.args.world.now.h.now c.requires.world.hierarchy c.args.heap.now s c.args.v x c.args.place.now a path
 
 pub returns-in-None-clause-is : goal.returns-in-None-clause-is
-returns-in-None-clause-is c = λ path. ok_is (OpenRefuses c.args.world.now.h.now c.args.heap.now c.args.v c.args.place.now.class (path_asked c.args.place.now)) (TypedRefuses c.args.world.now.h.now c.args.heap.now c.args.v c.args.place.now.class (way_uses c.args.place.now)) c.path.result (c.path.ensures.is path)
-    (λ rule told s x a. let e = c.in-None.ensures c.args.world.now.h.now s x a.heap_stands a.means in
+returns-in-None-clause-is c = λ path. IfOk-weaker c.path.result (OpenRefuses c.args.world.now.h.now c.args.heap.now c.args.v c.args.place.now.class (path_asked c.args.place.now)) (TypedRefuses c.args.world.now.h.now c.args.heap.now c.args.v c.args.place.now.class (way_uses c.args.place.now)) (λ rule told s x a. let e = c.in-None.ensures c.args.world.now.h.now s x a.heap_stands a.means in
     goes_on c.args.world.now.h.now s (arrow x) (path_asked c.args.place.now x) rule e (told s x a (arrow_clear c.args.world.now.h.now s x e))
-    ∙ way_is c.args.world.now.h.now c.requires.world.hierarchy c.args.heap.now s c.args.v x c.args.place.now a path)
+    ∙ way_is c.args.world.now.h.now c.requires.world.hierarchy c.args.heap.now s c.args.v x c.args.place.now a path) (c.path.ensures.is path)

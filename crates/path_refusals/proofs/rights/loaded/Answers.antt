@@ -1,4 +1,5 @@
 use Rattle.std.proofs.Common.{◌≡◌, ◌∙◌, ◌∷◌, sym}
+use Rattle.std.proofs.lemmas.Result.{IfOk-weaker}
 use Rattle.cxx_hierarchy.specs.declared.records.ClassId.{ClassId}
 use Rattle.cxx_hierarchy.specs.declared.records.ValueType.{ValueType}
 use Rattle.cxx_hierarchy.specs.declared.records.FieldType.TheVariants.{Value as ValueField}
@@ -9,7 +10,6 @@ use Rattle.path_model.specs.Places.{leaf_value}
 use Rattle.path_model.specs.Uses.{Reads, convert, right_uses}
 use Rattle.path_model.specs.Rules.{refused, is_clear}
 use Rattle.path_refusals.specs.invariants.Pieces.{Stands, Refuses, way_uses}
-use Rattle.path_refusals.proofs.Reading.{ok_is}
 use Rattle.path_refusals.proofs.Givens.{operand_value, read_stops, read_goes_on}
 use Rattle.path_refusals.proofs.rights.loaded.Goals as goal
 
@@ -20,10 +20,8 @@ returns-in-Some-clause-is c = λ e s t a of.
     read_stops c.args.world.now.h.now s.objects (way_uses c.args.from.now x) (leaf_value s c.args.from.now x) c.args.c.now c.in-Some.rule (sym c.in-Some.is ∙ c.in_ok-rule.ensures.is of.path s.objects x v)
 
 pub returns-in-None-clause-is : goal.returns-in-None-clause-is
-returns-in-None-clause-is c = ok_is (Refuses c.args.world.now.h.now c.args.heap.now c.leaf_of-leaf.result (λ x. Reads x ∷ convert x c.args.c.now))
-    (λ rule. (e : Scope) (s : Sight) (t : ValueType ClassId) → Stands c.args.world.now.h.now c.args.heap.now c.args.scene.now.globals.now c.args.scene.now.this c.args.scene.now.locals.now e s → IsPlace c.args.world.now.h.now e c.args.from.now (ValueField t) → rule ≡ refused c.args.world.now.h.now s.objects (right_uses c.args.world.now.h.now (is_clear c.args.world.now.h.now s.objects) s (Read c.args.from.now) c.args.c.now)) c.read_converted.result c.read_converted.ensures.is
-    (λ rule told e s t a of.
+returns-in-None-clause-is c = IfOk-weaker c.read_converted.result (Refuses c.args.world.now.h.now c.args.heap.now c.leaf_of-leaf.result (λ x. Reads x ∷ convert x c.args.c.now)) (λ rule. (e : Scope) (s : Sight) (t : ValueType ClassId) → Stands c.args.world.now.h.now c.args.heap.now c.args.scene.now.globals.now c.args.scene.now.this c.args.scene.now.locals.now e s → IsPlace c.args.world.now.h.now e c.args.from.now (ValueField t) → rule ≡ refused c.args.world.now.h.now s.objects (right_uses c.args.world.now.h.now (is_clear c.args.world.now.h.now s.objects) s (Read c.args.from.now) c.args.c.now)) (λ rule told e s t a of.
     let x = value s c.args.from.now.pointer in
     let v = operand_value c.args.world.now.h.now c.args.heap.now c.args.scene.now.globals.now c.args.scene.now.this c.args.scene.now.locals.now e s a c.args.from.now.pointer c.args.from.now.class of.pointer c.value-v.result (c.value-v.ensures c.args.world.now.h.now c.args.heap.now s a.scene) in
     let clear = sym c.in-None.is ∙ c.in_ok-rule.ensures.is of.path s.objects x v in
-    read_goes_on c.args.world.now.h.now s.objects (way_uses c.args.from.now x) (leaf_value s c.args.from.now x) c.args.c.now rule clear (told s.objects (leaf_value s c.args.from.now x) v.heap_stands (c.leaf_of-leaf.ensures e s x t v of clear)))
+    read_goes_on c.args.world.now.h.now s.objects (way_uses c.args.from.now x) (leaf_value s c.args.from.now x) c.args.c.now rule clear (told s.objects (leaf_value s c.args.from.now x) v.heap_stands (c.leaf_of-leaf.ensures e s x t v of clear))) c.read_converted.ensures.is

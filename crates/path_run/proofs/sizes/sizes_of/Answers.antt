@@ -1,6 +1,6 @@
 use Rattle.std.proofs.Common.{◌≡◌, ◌≤◌, ◌∙◌, ℕ, List, ◌++◌, ◌∷◌, [], map, length, arith, ap}
+use Rattle.std.proofs.lemmas.List.{take_all}
 use Rattle.abi_out.proofs.Steps.{map_one_more}
-use Rattle.abi_told.proofs.Texts.{taken_all}
 use Rattle.path_run.proofs.SizeLists.{row_size, sizes_are}
 use Rattle.path_run.proofs.sizes.sizes_of.Goals as goal
 
@@ -22,4 +22,4 @@ returns g c =
     let sound = g.met.L.SoundLayout.sound c.args.layout.now c.args.h.now c.requires.layout in
     let all : length rows ≡ length c.args.h.now = sound.full.one_each in
     let le : length rows ≤ c.loop-number.number = omega (arith, all, c.loop-number-test.false, c.len-number-end.ensures) in
-    sizes_are c.args.h.now rows c.loop-number.sizes.items (c.loop-number.invariant ∙ ap (map row_size) (taken_all rows c.loop-number.number le))
+    sizes_are c.args.h.now rows c.loop-number.sizes.items (c.loop-number.invariant ∙ ap (map row_size) (take_all c.loop-number.number rows le))

@@ -1,8 +1,9 @@
 use Rattle.std.proofs.Common.{◌≡◌, ◌≤◌, ◌∙◌, sym, ap, length, drop, [], ◌∷◌, ◌++◌, arith}
+use Rattle.std.proofs.lemmas.Result.{IfOk-weaker}
 use Rattle.cxx_subobject.proofs.TestLemmas.{longer_shorter}
 use Rattle.cxx_subobject.specs.declared.Root.TheVariants.{Whole}
 use Rattle.cxx_subobject.specs.Subobjects.{IsSubobject, subobject, join}
-use Rattle.path_tables.proofs.Within.{part_longer, part_shared, made_ok, path_made}
+use Rattle.path_tables.proofs.Within.{part_longer, part_shared, path_made}
 use Rattle.path_tables.proofs.finals.part_within.Goals as goal
 
 pub slice_bounds-below-count : goal.slice_bounds-below-count
@@ -26,5 +27,4 @@ returns-in_ok-extend_from_slice c =
     part_longer c.args.h.now c.args.c c.args.d c.args.x.now c.args.y.now (subobject Whole c.from_vec.result) c.requires.x c.requires.y c.requires.class (sym c.is_longer.ensures ∙ c.if-is_longer.true) (ap (subobject Whole) path)
 
 pub returns-else-is_longer : goal.returns-else-is_longer
-returns-else-is_longer c = made_ok (λ i. i ≡ subobject c.args.y.now.root (c.args.y.now.path ++ [])) (λ i. IsSubobject c.args.h.now c.args.d i × (join c.args.x.now i ≡ c.args.y.now)) c.subobject_below.result c.subobject_below.ensures
-    (λ i e. part_shared c.args.h.now c.args.c c.args.d c.args.x.now c.args.y.now i c.requires.y c.requires.class c.requires.inside (sym c.is_longer.ensures ∙ c.if-is_longer.false) e)
+returns-else-is_longer c = IfOk-weaker c.subobject_below.result (λ i. i ≡ subobject c.args.y.now.root (c.args.y.now.path ++ [])) (λ i. IsSubobject c.args.h.now c.args.d i × (join c.args.x.now i ≡ c.args.y.now)) (λ i e. part_shared c.args.h.now c.args.c c.args.d c.args.x.now c.args.y.now i c.requires.y c.requires.class c.requires.inside (sym c.is_longer.ensures ∙ c.if-is_longer.false) e) c.subobject_below.ensures

@@ -4,8 +4,9 @@ use Rattle.path_model.specs.Values.{inner_part}
 use Rattle.path_model.specs.Places.{end_part, last_passed}
 use Rattle.path_heap.specs.Points.{Points}
 use Rattle.cxx_program.specs.declared.statement.PassedMember.{PassedMember}
+use Rattle.path_model.proofs.TypedPlaces.{end_more}
 use Rattle.path_values.specs.Open.{IsOpen}
-use Rattle.path_values.proofs.Following.{inner_class, ends, end_more}
+use Rattle.path_values.proofs.Following.{inner_class, ends}
 use Rattle.path_values.proofs.places.address_number.Goals as goal
 
 pub returns : goal.returns
