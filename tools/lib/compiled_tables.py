@@ -2,7 +2,7 @@
 import os
 import re
 
-from . import clang, compilers, cpp_text, source, table_text
+from . import clang, compiled_types, compilers, cpp_text, source, table_text
 from .problem import Problem
 
 UNUSED = "a word of a virtual primary base that another subobject holds"
@@ -25,8 +25,8 @@ def unit(classes):
     return text
 
 
-def by_compiler(compiler, classes):
-    """The words of the whole table group of each class, by a compiler."""
+def assembly(compiler, classes):
+    """The assembly text that a compiler makes of the classes."""
     def work(folder):
         path = os.path.join(folder, "text.s")
         _, said, good = clang.call([compiler, *compilers.FLAGS, "-S", "-O0", "-x", "c++", "-o", path, "-"], unit(classes))
@@ -35,7 +35,7 @@ def by_compiler(compiler, classes):
         with open(path, encoding="utf-8") as file:
             return file.read()
 
-    return of_assembly(clang.in_folder(work))
+    return clang.in_folder(work)
 
 
 def of_assembly(text):
@@ -120,10 +120,16 @@ def _ours(word):
 
 
 def differences(compiler, classes, text, lost):
-    """The words that differ, a class at a time: class, words, and the known reason or an empty text.
+    """The words that differ, and the type information, a class at a time: class, words, and the known reason or an empty text.
 
     `lost` has the classes in whose objects a virtual primary base is held by another subobject."""
-    theirs, found = by_compiler(compiler, classes), []
+    made = assembly(compiler, classes)
+    return table_differences(compiler, of_assembly(made), text, lost) + compiled_types.differences(compiler, classes, text, made)
+
+
+def table_differences(compiler, theirs, text, lost):
+    """The words of tables that differ."""
+    found = []
     for name, words in ours(text).items():
         other = theirs.get(name)
         if other is None:

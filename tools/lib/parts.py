@@ -27,6 +27,7 @@ class Objects:
     """The parts of the classes of a source, by its layouts."""
 
     def __init__(self, text, layout_words):
+        self.text = text
         self.classes = source.classes(text)
         self.layouts = layout_text.read(layout_words)
         self.dynamic = source.dynamic_classes(self.classes)

@@ -15,7 +15,7 @@ PATTERNS = """<defs>
 <pattern id="held" width="6" height="6" patternUnits="userSpaceOnUse" patternTransform="rotate(-45)"><rect width="6" height="6" fill="#eadcf4"/><rect width="1.6" height="6" fill="#c9abe0"/></pattern>
 <pattern id="padding" width="5" height="5" patternUnits="userSpaceOnUse" patternTransform="rotate(45)"><rect width="5" height="5" fill="#f4f4f4"/><rect width="1" height="5" fill="#999999"/></pattern>
 <pattern id="tail" width="5" height="5" patternUnits="userSpaceOnUse"><rect width="5" height="5" fill="#f4f4f4"/><circle cx="2.5" cy="2.5" r="1" fill="#777777"/></pattern>
-<marker id="arrow" markerWidth="7" markerHeight="7" refX="6" refY="3.5" orient="auto"><path d="M0,0 L7,3.5 L0,7 z" fill="#7a4fa3"/></marker>
+<marker id="arrow" markerUnits="userSpaceOnUse" markerWidth="7" markerHeight="7" refX="6" refY="3.5" orient="auto"><path d="M0,0 L7,3.5 L0,7 z" fill="#7a4fa3"/></marker>
 </defs>
 """
 
@@ -160,7 +160,7 @@ class Picture:
                 if part.sort == "held base" and above is not None:
                     x, y, _ = self.boxes[id(part)]
                     _, upper, _ = self.boxes[id(above)]
-                    lines.append(f'<path d="M{x + 5:.1f},{upper + ROW - 3} L{x + 5:.1f},{y + 2}" stroke="#7a4fa3" stroke-width="2" marker-end="url(#arrow)"/>')
+                    lines.append(f'<path d="M{x + 5:.1f},{upper + ROW - 11} L{x + 5:.1f},{y + 2}" stroke="#7a4fa3" stroke-width="2" marker-end="url(#arrow)"/>')
         return lines
 
     def legend_lines(self, top):

@@ -16,6 +16,19 @@ def path():
     return built if os.access(built, os.X_OK) else os.path.join(TOP, "tagymelur")
 
 
+def binary():
+    """The program, which must be a binary where it is timed, or where a library stands before it: no script runs it."""
+    found = path()
+    try:
+        with open(found, "rb") as file:
+            front = file.read(4)
+    except OSError as error:
+        raise Problem(f"{found} cannot be read: {error.strerror}; build it by ./tagymelur, or name it by TAGYMELUR=PATH", 2) from None
+    if front != b"\x7fELF":
+        raise Problem(f"{found} is no binary; build the program by ./tagymelur, or name one by TAGYMELUR=PATH", 2)
+    return found
+
+
 def answer(words, source, seconds=None):
     """The text and the status that the program gives for words and a source; `subprocess.TimeoutExpired` after so many seconds."""
     try:

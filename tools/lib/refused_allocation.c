@@ -2,10 +2,13 @@
 
    Calls of malloc, calloc, realloc and their kin are counted from 1 on, from where this library starts. The variable
    REFUSED_ALLOCATION has the number of the one that is refused: it returns NULL, and a block that was to grow stays as it
-   was. The file that REFUSED_REPORT names gets one byte then. All other calls go to the C library. */
+   was. The file that REFUSED_REPORT names gets one byte then. Where the number is 0 none is refused, and at the end of the
+   program that file gets how many there were. All other calls go to the C library. */
 #include <errno.h>
 #include <fcntl.h>
+#include <stdio.h>
 #include <stdlib.h>
+#include <string.h>
 #include <unistd.h>
 
 void *__libc_malloc(size_t size);
@@ -13,32 +16,43 @@ void *__libc_calloc(size_t count, size_t size);
 void *__libc_realloc(void *block, size_t size);
 void *__libc_memalign(size_t alignment, size_t size);
 
-static long refused; /* 0 until the library starts: nothing is counted before */
+static int is_counting; /* 0 until the library starts: nothing is counted before */
+static long refused;
 static long counted;
 
 __attribute__((constructor)) static void start(void) {
     const char *number = getenv("REFUSED_ALLOCATION");
+    is_counting = number != NULL;
     refused = number ? atol(number) : 0;
 }
 
-/* Tells that the allocation was refused, without an allocation of its own. */
-static void report(void) {
+/* Writes to the file of the report, without an allocation of its own. */
+static void report(const char *text) {
     const char *path = getenv("REFUSED_REPORT");
     if (path == NULL)
         return;
     int file = open(path, O_WRONLY | O_CREAT | O_APPEND | O_CLOEXEC, 0600);
-    if (file < 0 || write(file, "!", 1) != 1)
+    if (file < 0 || write(file, text, strlen(text)) != (ssize_t)strlen(text))
         abort();
     close(file);
 }
 
 /* Counts one allocation, and says whether it is the one. */
 static int is_refused(void) {
-    if (refused == 0 || __atomic_add_fetch(&counted, 1, __ATOMIC_SEQ_CST) != refused)
+    if (!is_counting || __atomic_add_fetch(&counted, 1, __ATOMIC_SEQ_CST) != refused)
         return 0;
-    report();
+    report("!");
     errno = ENOMEM;
     return 1;
+}
+
+__attribute__((destructor)) static void end(void) {
+    char text[24];
+    if (!is_counting || refused != 0)
+        return;
+    is_counting = 0;
+    snprintf(text, sizeof text, "%ld", counted);
+    report(text);
 }
 
 void *malloc(size_t size) {

@@ -37,7 +37,7 @@ def drawn(text, plain):
 
 
 def _plain(tables):
-    lines = []
+    lines = [] if tables else ["no tables"]
     for table in tables:
         lines.append(f"{table.group}: table of {table.owner} at {table.place}")
         for number, word in table.words:
@@ -50,6 +50,8 @@ def _plain(tables):
 
 def _svg(tables):
     lines, top, widest = [], 20, 300
+    if not tables:
+        lines, top = ['<text x="20" y="20" font-size="13">no tables</text>'], 40
     for table in tables:
         rows = table.words + ([] if any(number >= 0 for number, _ in table.words) else [(0, "no entry")])
         width = 60 + max(len(word) for _, word in rows) * 7 + 20
@@ -60,7 +62,7 @@ def _svg(tables):
             shade = "#cfe3f5" if number < 0 else "#fff3c4"
             lines.append(f'<g class="word"><rect x="110" y="{y}" width="{width}" height="20" fill="{shade}" stroke="#222222"/><text x="116" y="{y + 14}" font-size="11">{number}</text><text x="160" y="{y + 14}" font-size="11">{escape(word)}</text></g>')
             if number == 0:
-                lines.append(f'<text x="20" y="{y + 5}" font-size="10">address point</text><path d="M96,{y + 1} L109,{y + 1}" stroke="#000000" stroke-width="2"/>')
+                lines.append(f'<text x="20" y="{y + 5}" font-size="10">address point</text><path d="M101,{y + 1} L109,{y + 1}" stroke="#000000" stroke-width="2"/>')
         top += 8 + len(rows) * 20 + 30
     head = f'<svg xmlns="http://www.w3.org/2000/svg" width="{widest}" height="{top}" viewBox="0 0 {widest} {top}" font-family="DejaVu Sans Mono, Menlo, Consolas, monospace">\n<rect width="{widest}" height="{top}" fill="#ffffff"/>\n'
     return head + "\n".join(lines) + "\n</svg>\n"

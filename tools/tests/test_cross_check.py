@@ -6,7 +6,7 @@ import tempfile
 import unittest
 
 import support
-from lib import compiled_tables, layout_text, program, source
+from lib import compiled_tables, compiled_types, layout_text, program, source
 
 EXAMPLES = os.path.join(program.TOP, "examples")
 DIAMOND = os.path.join(EXAMPLES, "diamond.cpp")
@@ -41,6 +41,19 @@ table A@16
 -2 top -16
 -1 typeinfo B
 0 func B::clone this -16 return 16
+"""
+
+# N lies once in an X, below the shared S; clang++ sets the flag of a repeated base all the same.
+TYPED = "struct N { long n; }; struct S : N {}; struct A : virtual S {}; struct B : virtual S {}; struct X : A, B { virtual void f() {} };"
+TYPES = """typeinfo N class
+typeinfo S si N
+typeinfo A vmi flags 0 bases 1
+base S -6141
+typeinfo B vmi flags 0 bases 1
+base S -6141
+typeinfo X vmi flags 2 bases 2
+base A 2
+base B 2050
 """
 
 
@@ -128,6 +141,14 @@ class Tables(unittest.TestCase):
                 self.assertEqual(len(found), 1, old)
                 self.assertEqual(found[0][2], "")
                 self.assertIn(said, found[0][1][0])
+
+    def test_type_information(self):
+        for compiler in ("clang++", "g++"):
+            found = compiled_tables.differences(compiler, source.classes(TYPED), TYPES, set())
+            self.assertEqual([(name, reason) for name, _, reason in found], [("X", compiled_types.REPEATED)] if compiler == "clang++" else [], found)
+            for old, new in [("X vmi flags 2", "X vmi flags 0"), ("base B 2050", "base B 2"), ("S si N", "S class"), ("N class", "N si S"), ("base S -6141", "base S -6143")]:
+                found = compiled_tables.differences(compiler, source.classes(TYPED), TYPES.replace(old, new), set())
+                self.assertIn("", [reason for _, _, reason in found], old)
 
     def test_symbols(self):
         for symbol, words in (("_ZThn16_N1B1gEv", "func B::g this -16"), ("_ZTv0_n24_N1D1fEv", "func D::f this 0 vcall -24"), ("_ZTcv0_n32_v8_n40_N1D5cloneEv", "func D::clone this 0 vcall -32 return vbase -40 8"),

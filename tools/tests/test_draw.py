@@ -97,8 +97,18 @@ class Draw(unittest.TestCase):
             self.drawn(HELD, "--folder", folder)
             self.assertEqual(sorted(os.listdir(folder)), ["A.svg", "B.svg", "C.svg", "D.svg"])
 
+    def test_the_tables_of_a_class(self):
+        document = tree.fromstring(self.drawn(HELD, "--tables", "B"))
+        words = [line for line in program.text_of(["tables", "B"], HELD).split("vtt ")[0].splitlines() if not line.startswith(("group ", "table "))]
+        self.assertEqual([one.findall(SVG + "text")[1].text for one in groups(document) if one.get("class") == "word" and "no entry" not in tree.tostring(one, "unicode")], [line.split(" ", 1)[1] for line in words])
+        self.assertIn("D: table of A at ", self.drawn(HELD, "--tables", "--text"))
+        self.assertEqual(self.drawn("struct A { int x; };", "--tables", "--text"), "no tables\n")
+        with tempfile.TemporaryDirectory() as folder:
+            self.drawn(HELD, "--tables", "--folder", folder)
+            self.assertEqual(sorted(os.listdir(folder)), ["A.svg", "B.svg", "C.svg", "D.svg"])
+
     def test_bad_input(self):
-        for words, text, said in ((["Nobody"], HELD, "no class Nobody is in the source"), ([], "struct A { A a; };", "refused E5"), ([], "", "no class"), (["D", "/nowhere"], "", "cannot be read")):
+        for words, text, said in ((["Nobody"], HELD, "no class Nobody is in the source"), (["--tables", "Nobody"], HELD, "no class Nobody is in the source"), ([], "struct A { A a; };", "refused E5"), ([], "", "no class"), (["D", "/nowhere"], "", "cannot be read")):
             done = support.run("draw", *words, text=text)
             self.assertEqual(done.returncode, 1)
             self.assertIn(said, done.stderr)

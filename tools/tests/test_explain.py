@@ -1,10 +1,16 @@
 """docs/ERRORS.md and tools/explain: each example is run."""
 import os
+import re
 import subprocess
 import unittest
 
 import support
 from lib import error_pages, program
+
+
+def read(*path):
+    with open(os.path.join(program.TOP, "crates", *path), encoding="utf-8") as file:
+        return file.read()
 
 
 class Explain(unittest.TestCase):
@@ -16,13 +22,27 @@ class Explain(unittest.TestCase):
                 text = example.text
                 if example.language == "sh":
                     text = subprocess.run(["sh", "-c", text], cwd=program.TOP, stdout=subprocess.PIPE, check=True).stdout.decode()
-                answer, status = program.answer(example.words, text)
-                wanted = [f"refused {code} {entry.name} at ", f"undefined {code} {entry.name} line ", f"limit {code}\n"]["EUL".index(code[0])]
-                last = answer.splitlines(keepends=True)[-1] if answer else ""
-                if example.meets:
-                    self.assertTrue(last.startswith(wanted), f"{code}: {last!r}")
-                else:
-                    self.assertEqual(status, 0, f"{code}: {last!r}")
+                # what one machine answers, the other one does too
+                for words in [["run"], ["paths"]] if example.words == ["paths"] else [example.words]:
+                    self.judge(code, entry, example, words, text)
+
+    def judge(self, code, entry, example, words, text):
+        answer, status = program.answer(words, text)
+        wanted = [f"refused {code} {entry.name} at ", f"undefined {code} {entry.name} line ", f"limit {code}\n"]["EUL".index(code[0])]
+        last = answer.splitlines(keepends=True)[-1] if answer else ""
+        if example.meets:
+            self.assertTrue(last.startswith(wanted), f"{code}: {last!r}")
+        else:
+            self.assertEqual(status, 0, f"{code}: {last!r}")
+
+    def test_each_rule_and_limit_of_the_program_has_an_entry(self):
+        stops, steps = read("cxx_hierarchy", "src", "stop.rt"), read("path_rules", "specs", "Rules.antt")
+        wanted = {f"E{number}": name for name, number in re.findall(r"Rule::(\w+) => (\d+),", stops)}
+        limits = set(re.findall(r"^    (L\d+),$", stops, re.M))
+        wanted |= {f"U{number}": name for name, number in re.findall(r"^undefined_no (\w+) = (\d+)", steps, re.M)}
+        found = error_pages.entries()
+        self.assertEqual({code: entry.name for code, entry in found.items() if code[0] != "L"}, wanted)
+        self.assertEqual({code for code in found if code[0] == "L"}, limits)
 
     @support.needs_program
     def test_the_line_has_a_caret_at_the_place(self):

@@ -7,6 +7,7 @@ import tempfile
 import unittest
 
 import support
+from lib import run_shapes, shapes
 
 # Four allocations, one of each kind; no stream of the C library is used, since it would make more of them.
 CAREFUL = r"""
@@ -50,6 +51,20 @@ int main(void) {
 }
 """
 
+# Fifty blocks, all of which it needs.
+MANY = r"""
+#include <stdlib.h>
+
+int main(void) {
+    int all = 0;
+    for (int i = 0; i < 50; i++) {
+        void *volatile block = malloc(9);
+        all += block != NULL;
+    }
+    return all == 50 ? 0 : FAILED;
+}
+"""
+
 
 @support.needs("gcc")
 class NoMemory(unittest.TestCase):
@@ -76,20 +91,31 @@ class NoMemory(unittest.TestCase):
     def test_each_allocation_is_refused(self):
         done = self.tried(self.compiled(CAREFUL.replace("FAILED", "exit(8)")), "run")
         self.assertEqual((done.returncode, done.stderr), (0, ""))
-        self.assertEqual(done.stdout, "4 allocations refused: 4 times want of memory, 0 times the right text, 0 times neither\n")
+        self.assertEqual(done.stdout, "4 of 4 allocations refused: 4 times want of memory, 0 times the right text, 0 times neither\n")
 
     def test_some_of_them(self):
         program = self.compiled(CAREFUL.replace("FAILED", "exit(8)"))
-        self.assertIn("3 allocations refused: 3 times", self.tried(program, "--first", "2", "run").stdout)
-        self.assertIn("2 allocations refused: 2 times", self.tried(program, "--first", "2", "--every", "2", "--", "paths", "--steps", "9").stdout)
+        self.assertIn("3 of 4 allocations refused: 3 times", self.tried(program, "--first", "2", "run").stdout)
+        self.assertIn("2 of 4 allocations refused: 2 times", self.tried(program, "--first", "2", "--every", "2", "--", "paths", "--steps", "9").stdout)
+
+    def test_about_so_many(self):
+        program = self.compiled(MANY.replace("FAILED", "8"))
+        for words, told in [(["--about", "12"], "11"), (["--about", "12", "--jobs", "4"], "11"), (["--about", "1"], "2"), (["--about", "50"], "50"), (["--about", "400"], "50"), (["--all"], "50"), (["--all", "--jobs", "3"], "50")]:
+            done = self.tried(program, *words, "run")
+            self.assertEqual((done.returncode, done.stderr), (0, ""), words)
+            self.assertEqual(done.stdout, f"{told} of 50 allocations refused: {told} times want of memory, 0 times the right text, 0 times neither\n", words)
+
+    def test_about_so_many_has_the_first_ones_the_last_ones_and_others_between(self):
+        told = self.tried(self.compiled(MANY.replace("FAILED", "6")), "--about", "8", "--jobs", "2", "run").stdout
+        self.assertEqual([int(line.split()[1][:-1]) for line in told.splitlines()[:-1]], [1, 2, 14, 27, 40, 49, 50])
 
     def test_a_program_that_can_do_without(self):
         done = self.tried(self.compiled(SPARING), "run")
         self.assertEqual((done.returncode, done.stderr), (0, ""))
-        self.assertEqual(done.stdout, "2 allocations refused: 1 times want of memory, 1 times the right text, 0 times neither\n")
+        self.assertEqual(done.stdout, "2 of 2 allocations refused: 1 times want of memory, 1 times the right text, 0 times neither\n")
 
     def test_each_wrong_answer(self):
-        last = "4 allocations refused: 0 times want of memory, 0 times the right text, 4 times neither"
+        last = "4 of 4 allocations refused: 0 times want of memory, 0 times the right text, 4 times neither"
         for what, told in [
             ('say("5\\n"); exit(0)', "status 0 and another text"),
             ('say("part"); exit(8)', "status 8, but 4 bytes were written"),
@@ -103,8 +129,7 @@ class NoMemory(unittest.TestCase):
         self.assertEqual(self.failing("for (;;) pause()", "--seconds", "1", "--first", "4")[0], "allocation 4: no answer after 1 seconds")
 
     def test_it_stops_after_ten(self):
-        text = r"#include <stdlib.h>" "\nint main(void) { int all = 0; for (int i = 0; i < 50; i++) { void *volatile block = malloc(9); all += block != NULL; } return all == 50 ? 0 : 1; }\n"
-        done = self.tried(self.compiled(text), "run")
+        done = self.tried(self.compiled(MANY.replace("FAILED", "1")), "run")
         self.assertEqual(done.returncode, 1)
         self.assertEqual(len(done.stdout.splitlines()), 12)
         self.assertIn("10 wrong answers; no more allocations are refused\n", done.stdout)
@@ -128,3 +153,11 @@ class NoMemory(unittest.TestCase):
         with open(os.path.join(support.TOOLS, "..", "examples", "diamond.cpp"), encoding="utf-8") as file:
             done = support.run("no-memory", "layout", "D", text=file.read())
         self.assertEqual((done.returncode, done.stderr), (0, ""), done.stdout)
+
+    @support.needs_program
+    def test_large_sources(self):
+        """The tables of 500 classes, and a run with copies and dumps of objects with 60 subobjects."""
+        for words, source in [(["tables"], shapes.pairs(2)), (["run", "--steps", "4000000"], run_shapes.dumps(10).source)]:
+            done = support.run("no-memory", "--about", "60", "--jobs", "2", "--", *words, text=source)
+            self.assertEqual((done.returncode, done.stderr), (0, ""), done.stdout)
+            self.assertRegex(done.stdout, r"^[1-9]\d* of [1-9]\d{2,} allocations refused: [1-9]\d* times want of memory, \d+ times the right text, 0 times neither\n$")

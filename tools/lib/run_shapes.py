@@ -1,0 +1,132 @@
+"""Programs with long runs, of which the number of steps is known; each function is given the part of its size, as 2 for a half."""
+from dataclasses import dataclass
+
+COLUMNS, HEIGHT = 27, 37
+
+
+@dataclass
+class Run:
+    """A source, the steps that its run takes to the end of `main`, and how often it does what it is timed for."""
+
+    source: str
+    steps: int
+    turns: int
+
+
+@dataclass
+class Piece:
+    """Statements, and the steps that they take."""
+
+    text: str = ""
+    steps: int = 0
+
+
+def turns(declarations, before, body, number):
+    """A loop of so many turns over the statements of `body`."""
+    main = f"long n = 0; bool t = true; {before.text}while (t) {{ {body.text}n = n + 1; t = n < {number}; }} print(n);"
+    return Run(f"{declarations}int main() {{ {main} }}\n", number * (body.steps + 3) + before.steps + 5, number)
+
+
+def made(subobjects):
+    """The steps of a `new`, and those of a `delete`, where no constructor and no destructor has a body."""
+    return 1 + 3 * subobjects
+
+
+def loop(part):
+    """A loop of arithmetic."""
+    return turns("", Piece(), Piece(), 1_333_000 // part)
+
+
+def calls(part):
+    """A virtual call that returns a number."""
+    return turns("struct A { virtual long f(long n) { return n; } };\n", Piece("A* p = new A; ", made(1)), Piece("long m = p->f(n); ", 2), 660_000 // part)
+
+
+def thunks(part):
+    """A virtual call through a thunk, which moves `this` by a number."""
+    classes = "struct A { long a; virtual long g() { return 1; } };\nstruct B { virtual long f(long n) { return 2; } };\nstruct C : A, B { virtual long f(long n) { return n; } };\n"
+    return turns(classes, Piece("B* p = new C; ", made(3)), Piece("long m = p->f(n); ", 2), 660_000 // part)
+
+
+def shared_thunks(part):
+    """A virtual call through a thunk that finds the way from a virtual base by a word of the table."""
+    classes = "struct V { long v; virtual long f(long n) { return 2; } };\nstruct A : virtual V { long a; virtual long f(long n) { return n; } };\n"
+    return turns(classes, Piece("V* p = new A; ", made(2)), Piece("long m = p->f(n); ", 2), 660_000 // part)
+
+
+def columns():
+    """A class D with 1,000 subobjects: 27 bases, each the last class of a chain of 37."""
+    chains = ["".join([f"struct C{c}_0 {{ virtual void f{c}() {{}} }};\n", *(f"struct C{c}_{n} : C{c}_{n - 1} {{}};\n" for n in range(1, HEIGHT))]) for c in range(COLUMNS)]
+    return "".join(chains) + f"struct D : {', '.join(f'C{c}_{HEIGHT - 1}' for c in range(COLUMNS))} {{}};\n"
+
+
+def casts_to(name, part):
+    before = Piece("D* d = new D; C0_0* p = d; ", made(COLUMNS * HEIGHT + 1) + 1)
+    return turns(columns(), before, Piece(f"{name}* q = dynamic_cast<{name}*>(p); ", 1), 10_000 // part)
+
+
+def casts(part):
+    """A dynamic_cast from an innermost base to the class of an object with 1,000 subobjects."""
+    return casts_to("D", part)
+
+
+def cross_casts(part):
+    """A dynamic_cast from an innermost base of the first column to that of the last, in the same object."""
+    return casts_to(f"C{COLUMNS - 1}_0", part)
+
+
+def small_news(part):
+    """Objects of a class without bases, each made and deleted."""
+    return turns("struct P { int x; };\n", Piece(), Piece("P* p = new P; delete p; ", 2 * made(1)), 360_000 // part)
+
+
+def news(part):
+    """Objects of a class with 60 subobjects in a chain, each made and deleted; its destructor is virtual and has a body."""
+    chain = "".join(f"struct K{n} : K{n - 1} {{ int x{n}; }};\n" for n in range(1, 60))
+    return turns(f"struct K0 {{ int x; virtual ~K0() {{}} }};\n{chain}", Piece(), Piece("K59* p = new K59; delete p; ", 2 * made(60) + 1), 10_000 // part)
+
+
+def pairs(count):
+    """Classes K0, K1 and so on, each with a virtual base of its own and over the one before: 2 * count subobjects in the last."""
+    base = lambda n: f"K{n - 1}, " if n else ""
+    return "".join(f"struct V{n} {{ long v{n}; virtual long f{n}() {{ return {n}; }} }};\nstruct K{n} : {base(n)}virtual V{n} {{ int k{n}; }};\n" for n in range(count))
+
+
+def shared_news(part):
+    """Objects, each made and deleted, of a class with 60 subobjects, 30 of them virtual bases; the part divides the class, and not the number of objects."""
+    count = 30 // part
+    return turns(pairs(count), Piece(), Piece(f"K{count - 1}* p = new K{count - 1}; delete p; ", 2 * made(2 * count)), 10_000)
+
+
+def copies(part):
+    """Copies of an object of a class with 60 subobjects, 30 of them virtual bases."""
+    return turns(pairs(30), Piece("K29* p = new K29; K29* q = new K29; ", 2 * made(60)), Piece("*p = *q; ", 1), 100_000 // part)
+
+
+def dumps(part):
+    """Dumps of such an object, each behind a copy."""
+    return turns(pairs(30), Piece("K29* p = new K29; K29* q = new K29; q->k0 = 7; ", 2 * made(60) + 1), Piece("*p = *q; dump(p); ", 2), 3_000 // part)
+
+
+def many_objects(part):
+    """60,000 small objects that are all kept, then a loop."""
+    kept, last = 60_000 // part, 1_230_000 // part
+    loops = f"while (t) {{ A* p = new A; n = n + 1; t = n < {kept}; }} t = true; while (t) {{ n = n + 1; t = n < {last}; }}"
+    source = f"struct A {{ int x; A() : x(1) {{}} }};\nint main() {{ long n = 0; bool t = true; {loops} print(n); }}\n"
+    return Run(source, 8 * kept + 3 * (last - kept) + 7, kept)
+
+
+def text(part):
+    """Lines of 20 bytes each, up to 16,777,200 bytes."""
+    lines, first = 838_860 // part, 10 ** 18
+    source = f"int main() {{ long n = {first}; bool t = true; while (t) {{ print(n); n = n + 1; t = n < {first + lines}; }} }}\n"
+    return Run(source, 4 * lines + 4, lines)
+
+
+def dump(part):
+    """A dump of an object with 65,536 parts, which stays unset."""
+    classes = f"struct A {{ char a[4096]; }};\nstruct B {{ A b[{15 // part}]; char c[{4080 // part}]; }};\n"
+    return Run(f"{classes}int main() {{ B* p = new B; dump(p); }}\n", made(1 + 15 // part) + 2, 1)
+
+
+RUNS = [loop, calls, thunks, shared_thunks, casts, cross_casts, small_news, news, shared_news, copies, many_objects, text, dump, dumps]

@@ -1,0 +1,88 @@
+"""tools/cross-run, with a stand-in for the program: what agrees, what differs, what is passed over, and bad input."""
+import os
+import re
+import shutil
+import stat
+import tempfile
+import unittest
+
+import support
+from lib import program, random_programs
+
+# Prints the comment in the first line of a source, a word a line; a source that begins otherwise is undefined.
+STAND_IN = """#!/bin/sh
+read -r how words
+[ "$how" = // ] || { echo "undefined U5 Unset line 1"; exit 3; }
+for word in $words; do echo "$word"; done
+"""
+PROGRAM = """struct A { int a; A() : a(3) { print(typeid(*this)); } virtual long f() { return 7; } };
+struct B : A { virtual long f() { long r = this->a; return r; } };
+int main() { A* p = new B; long r = p->f(); print(r); print(p); bool b = p == 0; print(b); }
+"""
+
+
+@support.needs("sh", "g++", "clang++")
+class CrossRun(unittest.TestCase):
+    def setUp(self):
+        self.top = tempfile.mkdtemp()
+        self.addCleanup(shutil.rmtree, self.top)
+        stand_in = self.write("stand-in", STAND_IN)
+        os.chmod(stand_in, stat.S_IRWXU)
+        self.environment = dict(os.environ, TAGYMELUR=stand_in)
+
+    def write(self, name, text):
+        path = os.path.join(self.top, name)
+        with open(path, "w", encoding="utf-8") as file:
+            file.write(text)
+        return path
+
+    def compare(self, *words):
+        return support.run("cross-run", *words, environment=self.environment)
+
+    def test_a_program_that_agrees(self):
+        done = self.compare(self.write("same.cpp", "// A 3 #1+0 0\n" + PROGRAM))
+        self.assertEqual((done.stdout, done.stderr, done.returncode), ("1 programs agree, 0 differ, 0 that a compiler does not take, 0 passed over\n", "", 0))
+
+    def test_a_program_that_differs_in_one_line(self):
+        done = self.compare(self.write("same.cpp", "// A 3 #1+0 0\n" + PROGRAM), self.write("other.cpp", "// A 7 #1+0 0\n" + PROGRAM))
+        self.assertEqual(done.returncode, 1)
+        self.assertIn("differ  s2: g++ prints ['A', '3', '#', '0'] where run prints ['A', '7', '#', '0']\n", done.stdout)
+        self.assertIn("differ  s2: clang++ prints", done.stdout)
+        self.assertTrue(done.stdout.endswith("1 programs agree, 1 differ, 0 that a compiler does not take, 0 passed over\n"))
+
+    def test_what_is_passed_over(self):
+        dumping = self.write("dump.cpp", "// 1\nint main() { dump(p); }\n")
+        undefined = self.write("undefined.cpp", PROGRAM)
+        broken = self.write("broken.cpp", "// 1\nint main() { nothing(); }\n")
+        done = self.compare(dumping, undefined, broken)
+        self.assertEqual((done.stdout, done.returncode), ("0 programs agree, 0 differ, 1 that a compiler does not take, 2 passed over\n", 0))
+
+    def test_bad_words(self):
+        done = self.compare()
+        self.assertEqual((done.returncode, done.stdout), (2, ""))
+        self.assertIn("name a source", done.stderr)
+        done = self.compare(os.path.join(self.top, "missing.cpp"))
+        self.assertEqual((done.returncode, done.stdout.count("\n")), (1, 0))
+        self.assertNotIn("Traceback", done.stderr)
+
+
+class RandomPrograms(unittest.TestCase):
+    def test_lines_that_are_taken_out(self):
+        lines = ["struct K0 {", "virtual long f0() {", "print(1);", "return 5;", "}", "};", "int main() {", "print(2);", "}"]
+        self.assertEqual(random_programs.without(lines, 2), lines[:2] + lines[3:])
+        self.assertEqual(random_programs.without(lines, 1), lines[:1] + lines[5:])
+        self.assertEqual(random_programs.without(["struct K1 : K0 {", "};"], 0), ["struct K1 {", "};"])
+        self.assertEqual(random_programs.without(lines, 6), [])
+
+    @support.needs_program
+    @support.needs("g++", "clang++")
+    def test_random_programs_agree(self):
+        done = support.run("cross-run", "--random", "20", "--seed", "3")
+        self.assertEqual((done.returncode, done.stderr), (0, ""), done.stdout)
+        same, differing, refused, passed = map(int, re.findall(r"\d+", done.stdout.splitlines()[-1]))
+        self.assertEqual((same + refused, differing, passed), (20, 0, 0))
+        self.assertGreaterEqual(same, 18)  # g++ refuses some conversions to a private base, also where access is not to be asked
+
+
+if __name__ == "__main__":
+    unittest.main()

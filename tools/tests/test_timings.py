@@ -1,0 +1,109 @@
+"""tools/timings, with a stand-in for the program: the tables, what is wrong with an answer, and what is missing."""
+import os
+import shutil
+import subprocess
+import tempfile
+import unittest
+
+import support
+from lib import timed
+
+# It reads its source, prints its command and says how it ends: `run` well, `gen` by a limit, `layout` by the one that some texts meet.
+STAND_IN = r"""
+#include <stdio.h>
+#include <string.h>
+#include <unistd.h>
+
+int main(int count, char **words) {
+    char part[4096];
+    while (read(0, part, sizeof part) > 0) {}
+    if (strcmp(words[1], "gen") == 0) { puts("limit L8"); return 5; }
+    if (strcmp(words[1], "layout") == 0) { puts("limit L9"); return 5; }
+    if (strcmp(words[1], "tables") == 0) { printf("%d\n", (int)getpid()); return 0; }
+    if (strcmp(words[1], "paths") == 0) { pause(); }
+    for (int n = 0; strcmp(words[1], "check") == 0 && n < 1000; n++) puts("line");
+    puts(words[1]);
+    return 0;
+}
+"""
+
+
+@support.needs("gcc")
+class Timings(unittest.TestCase):
+    @classmethod
+    def setUpClass(cls):
+        cls.top = tempfile.mkdtemp()
+        cls.addClassCleanup(shutil.rmtree, cls.top)
+        cls.program = os.path.join(cls.top, "program")
+        subprocess.run(["gcc", "-O1", "-w", "-x", "c", "-o", cls.program, "-"], input=STAND_IN, encoding="utf-8", check=True)
+
+    def timings(self, *words, **more):
+        return support.run("timings", "--runs", "2", *words, environment=dict(os.environ, TAGYMELUR=self.program, **more))
+
+    def cells(self, done, name):
+        """The cells of the line of a row."""
+        return next([cell.strip() for cell in line.strip("|").split("|")] for line in done.stdout.splitlines() if f"`{name}`" in line)
+
+    def test_a_row_of_a_run(self):
+        done = self.timings("--only", "run-calls")
+        self.assertEqual((done.returncode, done.stderr), (0, ""))
+        cells = self.cells(done, "run-calls")
+        self.assertEqual((len(cells), cells[5]), (9, "3,300,009"))
+        self.assertEqual([float(cell) >= 0 for cell in cells[2:5]], [True, True, True])
+        self.assertIn("2 runs", done.stdout)
+
+    def test_a_row_with_a_text(self):
+        done = self.timings("--only", "check-chain")
+        self.assertEqual((done.returncode, done.stderr), (0, ""))
+        self.assertEqual(self.cells(done, "chain")[1:3], ["35,534", "5,006"])
+
+    def test_a_limit_that_may_come(self):
+        done = self.timings("--only", "layout-chain")
+        self.assertEqual((done.returncode, done.stderr), (0, ""))
+        self.assertEqual(self.cells(done, "chain")[2], "`limit L9`")
+
+    def test_answers_that_must_not_come(self):
+        for row, told in [("layout-pairs", "layout-pairs at 1/4 ended with status 5: limit L9"), ("gen", "gen at 1/1 ended with status 5: limit L8"), ("paths-loop", "paths-loop at 1/1 took more than 1 seconds")]:
+            done = self.timings("--seconds", "1", "--only", row)
+            self.assertEqual(done.returncode, 1, row)
+            self.assertIn(f"wrong: {told}\n", done.stderr)
+        done = self.timings("--only", "tables-parts")
+        self.assertEqual(done.returncode, 1)
+        self.assertIn("does not answer alike twice", done.stderr)
+
+    def test_what_is_wanted_of_the_loop(self):
+        done = self.timings("--only", "run-loop")
+        self.assertRegex(done.stdout, r"steps of the loop a second; at least 4,000,000 are wanted: holds\n")
+
+    def test_the_memory_of_a_process(self):
+        found = timed.once(["head", "-c", "3000000", "/dev/zero"], b"", 60)
+        self.assertEqual((found.status, found.size, len(found.end)), (0, 3_000_000, timed.KEPT))
+        self.assertGreater(found.kilobytes, 0)
+        self.assertEqual(timed.once(["cat"], b"some text\nlast", 60).last_line(), "last")
+        with self.assertRaises(timed.TooSlow):
+            timed.once(["sleep", "60"], b"", 0.1)
+
+    def test_what_is_missing(self):
+        script = os.path.join(self.top, "script")
+        with open(script, "w", encoding="utf-8") as file:
+            file.write("#!/bin/sh\n")
+        for words, environment, told in [
+            ([], {"TAGYMELUR": "/nowhere/tagymelur"}, "cannot be read"), (["--only", "gen"], {"TAGYMELUR": script}, "is no binary"), (["--only", "compilers"], {"PATH": "/nowhere"}, "apt-get install clang"),
+            (["--only", "nothing"], {}, "no row and no group nothing"), (["--runs", "0"], {}, "no number above 0"), (["--runs"], {}, "expected one argument"),
+        ]:
+            done = self.timings(*words, **environment) if "TAGYMELUR" not in environment else support.run("timings", *words, environment=dict(os.environ, **environment))
+            self.assertEqual(done.returncode, 2, words)
+            self.assertIn(told, done.stderr)
+            self.assertNotIn("Traceback", done.stderr)
+
+    def test_the_names(self):
+        done = self.timings("--list")
+        self.assertEqual(done.returncode, 0)
+        names = [line.split()[-1] for line in done.stdout.splitlines()]
+        self.assertEqual(len(names), len(set(names)))
+        self.assertTrue({"run-loop", "paths-loop", "run-shared-thunks", "run-casts", "run-shared-news", "gen", "run-text", "run-dump", "tables-construction-chain", "whole-program", "compilers"} <= set(names))
+
+    @support.needs_program
+    def test_the_program_itself(self):
+        done = support.run("timings", "--runs", "1", "--only", "gen", "--only", "run-dump")
+        self.assertEqual((done.returncode, done.stderr), (0, ""), done.stdout)
