@@ -18,20 +18,20 @@ use Rattle.path_plan.specs.Places.{ObjectPart, base_part, shared_part, element}
 use Rattle.path_plan.specs.Phases.{Begin, Ready, Init, Body, Done}
 use Rattle.path_plan.specs.Plans.{Bodies, Form, InFull, AsBase, upto, virtual_order}
 use Rattle.path_plan.specs.Pieces.{Piece, Own, Sub, shared_pieces, base_pieces, init_pieces, body_pieces, typed_pieces, member_pieces, built_pieces}
-use Rattle.path_events.specs.Frames.{built_body, built_members, built_bases, built_left}
+use Rattle.path_events.specs.Frames.{built_body, built_members, built_bases, left_of}
 use Rattle.path_events.specs.declared.frame.Stage.TheVariants.{Shared as SharedStage, Bases as BasesStage}
 use Rattle.path_events.proofs.Lists.{drop_at, upto_length, upto_at}
 
 -- a virtual base
 pub shared_one : (h : Classes) (bodies : Bodies) (c : ClassId) (p : ObjectPart) (j : ℕ) (v : ClassId) → slice_get (virtual_order h c) j ≡ Some v
-    → built_left h bodies InFull c p (SharedStage j) ≡ Sub AsBase v (shared_part p v) ∷ built_left h bodies InFull c p (SharedStage (j + 1))
+    → left_of h bodies true InFull c p (SharedStage j) ≡ Sub AsBase v (shared_part p v) ∷ left_of h bodies true InFull c p (SharedStage (j + 1))
 shared_one h bodies c p j v at = ap (λ t. map (λ v. Sub AsBase v (shared_part p v)) t ++ built_bases h bodies c p 0) (drop_at (virtual_order h c) j v at)
 
 none_left : {X : Type 0} (xs : List X) (i : ℕ) → slice_get xs i ≡ None → drop i xs ≡ []
 none_left xs i e = drop_all i xs (⊎_elim (λ some. absurd (let f = some.2 in cc)) (λ past. past.0) (slice_get_cases xs i).1)
 
 pub shared_none : (h : Classes) (bodies : Bodies) (c : ClassId) (p : ObjectPart) (j : ℕ) → slice_get (virtual_order h c) j ≡ None
-    → built_left h bodies InFull c p (SharedStage j) ≡ built_left h bodies InFull c p (BasesStage 0)
+    → left_of h bodies true InFull c p (SharedStage j) ≡ left_of h bodies true InFull c p (BasesStage 0)
 shared_none h bodies c p j e = ap (λ t. map (λ v. Sub AsBase v (shared_part p v)) t ++ built_bases h bodies c p 0) (none_left (virtual_order h c) j e)
 
 -- a direct base
@@ -123,5 +123,5 @@ pub body_off : (bodies : Bodies) (c : ClassId) (p : ObjectPart) → bodies.const
 body_off bodies c p off = ap (λ b. body_pieces b p ++ Own (Done p) ∷ []) off
 
 -- the whole of it
-pub built_first : (h : Classes) (bodies : Bodies) (form : Form) (c : ClassId) (p : ObjectPart) → built_pieces h bodies form c p ≡ Own (Begin p) ∷ built_left h bodies form c p (SharedStage 0)
+pub built_first : (h : Classes) (bodies : Bodies) (form : Form) (c : ClassId) (p : ObjectPart) → built_pieces h bodies form c p ≡ Own (Begin p) ∷ left_of h bodies true form c p (SharedStage 0)
 built_first h bodies form c p = ap (λ t. Own (Begin p) ∷ (shared_pieces form p (virtual_order h c) ++ (flat_map (base_pieces p) (bases_of h c) ++ Own (Ready p) ∷ t))) (behind_member h bodies c p 0)

@@ -16,7 +16,7 @@ use Rattle.path_plan.specs.Places.{ObjectPart, base_part, shared_part, element}
 use Rattle.path_plan.specs.Phases.{Ending, Body, Bases, End}
 use Rattle.path_plan.specs.Plans.{Bodies, Form, InFull, AsBase, upto, backwards, virtual_order}
 use Rattle.path_plan.specs.Pieces.{Piece, Own, Sub, shared_pieces, base_pieces, body_pieces, typed_pieces, member_pieces, ended_pieces}
-use Rattle.path_events.specs.Frames.{ended_shared, ended_bases, ended_members, ended_left}
+use Rattle.path_events.specs.Frames.{ended_shared, ended_bases, ended_members, left_of}
 use Rattle.path_events.specs.declared.frame.Stage.TheVariants.{Body as BodyStage}
 use Rattle.path_events.specs.invariants.Steps.{elements_in, elements_at}
 use Rattle.path_events.proofs.Lists.{take_back, upto_length, upto_at, upto_back}
@@ -115,14 +115,14 @@ pub members_done : (h : Classes) (form : Form) (c : ClassId) (p : ObjectPart) �
 members_done h form c p = none_at_zero h form c p 0
 
 -- the body
-pub body_on : (h : Classes) (bodies : Bodies) (form : Form) (c : ClassId) (p : ObjectPart) → bodies.destructor c ≡ true → ended_left h bodies form c p BodyStage ≡ Own (Body p) ∷ ended_members h form c p (length (members_of h c)) 0
+pub body_on : (h : Classes) (bodies : Bodies) (form : Form) (c : ClassId) (p : ObjectPart) → bodies.destructor c ≡ true → left_of h bodies false form c p BodyStage ≡ Own (Body p) ∷ ended_members h form c p (length (members_of h c)) 0
 body_on h bodies form c p on = ap (λ b. body_pieces b p ++ ended_members h form c p (length (members_of h c)) 0) on
 
-pub body_off : (h : Classes) (bodies : Bodies) (form : Form) (c : ClassId) (p : ObjectPart) → bodies.destructor c ≡ false → ended_left h bodies form c p BodyStage ≡ ended_members h form c p (length (members_of h c)) 0
+pub body_off : (h : Classes) (bodies : Bodies) (form : Form) (c : ClassId) (p : ObjectPart) → bodies.destructor c ≡ false → left_of h bodies false form c p BodyStage ≡ ended_members h form c p (length (members_of h c)) 0
 body_off h bodies form c p off = ap (λ b. body_pieces b p ++ ended_members h form c p (length (members_of h c)) 0) off
 
 -- the whole of it
-pub ended_first : (h : Classes) (bodies : Bodies) (form : Form) (c : ClassId) (p : ObjectPart) → ended_pieces h bodies form c p ≡ Own (Ending p) ∷ ended_left h bodies form c p BodyStage
+pub ended_first : (h : Classes) (bodies : Bodies) (form : Form) (c : ClassId) (p : ObjectPart) → ended_pieces h bodies form c p ≡ Own (Ending p) ∷ left_of h bodies false form c p BodyStage
 ended_first h bodies form c p =
     ap (λ t. Own (Ending p) ∷ (body_pieces (bodies.destructor c) p ++ t))
     (ap (λ t. flat_map (each_member h c p) (backwards (upto (length (members_of h c)))) ++ Own (Bases p) ∷ t)

@@ -46,13 +46,6 @@ built_members h bodies c p m i =
 abbrev pub built_bases : Classes → Bodies → ClassId → ObjectPart → ℕ → List Piece
 built_bases h bodies c p i = flat_map (base_pieces p) (drop i (bases_of h c)) ++ Own (Ready p) ∷ built_members h bodies c p 0 0
 
-abbrev pub built_left : Classes → Bodies → Form → ClassId → ObjectPart → Stage → List Piece
-built_left h bodies form c p (SharedStage j) = shared_pieces form p (drop j (virtual_order h c)) ++ built_bases h bodies c p 0
-built_left h bodies form c p (BasesStage i) = built_bases h bodies c p i
-built_left h bodies form c p (MembersStage m i) = built_members h bodies c p m i
-built_left h bodies form c p BodyStage = built_body bodies c p
-built_left h bodies form c p LastStage = Own (Done p) ∷ []
-
 -- a destruction with so much left: j virtual bases, i bases, m members behind i elements of member number m
 abbrev pub ended_shared : Classes → Form → ClassId → ObjectPart → ℕ → List Piece
 ended_shared h form c p j = shared_pieces form p (backwards (take j (virtual_order h c))) ++ Own (End p) ∷ []
@@ -65,14 +58,15 @@ ended_members h form c p m i =
     member_pieces false (λ is. backwards (take i is)) p m (slice_get (members_of h c) m)
     ++ (flat_map (λ k. member_pieces false backwards p k (slice_get (members_of h c) k)) (backwards (upto m)) ++ Own (Bases p) ∷ ended_bases h form c p (length (bases_of h c)))
 
-abbrev pub ended_left : Classes → Bodies → Form → ClassId → ObjectPart → Stage → List Piece
-ended_left h bodies form c p (SharedStage j) = ended_shared h form c p j
-ended_left h bodies form c p (BasesStage i) = ended_bases h form c p i
-ended_left h bodies form c p (MembersStage m i) = ended_members h form c p m i
-ended_left h bodies form c p BodyStage = body_pieces (bodies.destructor c) p ++ ended_members h form c p (length (members_of h c)) 0
-ended_left h bodies form c p LastStage = Own (End p) ∷ []
-
--- what is left of a part at a stage
+-- what is left of a part at a stage, of its construction or of its destruction
 abbrev pub left_of : Classes → Bodies → (is_building : Bool) → Form → ClassId → ObjectPart → Stage → List Piece
-left_of h bodies true form c p stage = built_left h bodies form c p stage
-left_of h bodies false form c p stage = ended_left h bodies form c p stage
+left_of h bodies true form c p (SharedStage j) = shared_pieces form p (drop j (virtual_order h c)) ++ built_bases h bodies c p 0
+left_of h bodies true form c p (BasesStage i) = built_bases h bodies c p i
+left_of h bodies true form c p (MembersStage m i) = built_members h bodies c p m i
+left_of h bodies true form c p BodyStage = built_body bodies c p
+left_of h bodies true form c p LastStage = Own (Done p) ∷ []
+left_of h bodies false form c p (SharedStage j) = ended_shared h form c p j
+left_of h bodies false form c p (BasesStage i) = ended_bases h form c p i
+left_of h bodies false form c p (MembersStage m i) = ended_members h form c p m i
+left_of h bodies false form c p BodyStage = body_pieces (bodies.destructor c) p ++ ended_members h form c p (length (members_of h c)) 0
+left_of h bodies false form c p LastStage = Own (End p) ∷ []

@@ -15,7 +15,7 @@ use Rattle.foundation.proofs.Members.{Has, has_at, index_of, once_by_place}
 use Rattle.foundation.proofs.Truth.{split, not_both}
 use Rattle.cxx_subobject.proofs.InsideLemmas.{inside_valid}
 use Rattle.cxx_search.specs.Casts.{IsOnly, IsTarget, IsTargetOver, CastsDown, CastsAcross, leads_down, leads_across, leads_nowhere}
-use Rattle.path_tables.specs.invariants.Targets.{IsWanted, IsOtherAt, IsOnlyAt, IsDownTo, IsAcrossTo, IsCastTo}
+use Rattle.path_tables.specs.invariants.Targets.{IsWanted, IsOtherAt, IsPlaceOf, IsCastTo}
 
 -- what a test tells
 pub told_true : {P : Type 0} (b : Bool) → (IsTrue b ↔ P) → b ≡ true → P
@@ -57,7 +57,7 @@ module _ (h : Classes) (keeps : IsHierarchy h) (c : ClassId) (target : ClassId) 
   one_place i j t a b = once_by_place (preorder h c) (preorder_once h c) i j t (ap (λ (l : List Subobject). slice_get l i) (sym all) ∙ a) (ap (λ (l : List Subobject). slice_get l j) (sym all) ∙ b)
 
   -- the first is the only one where there is no other
-  pub only_first : (over : Bool) (i : ℕ) → IsOtherAt (IsWanted h target x y over) parts None (Some i) → IsOtherAt (IsWanted h target x y over) parts (Some i) None → IsOnlyAt (IsWanted h target x y over) parts (Some i)
+  pub only_first : (over : Bool) (i : ℕ) → IsOtherAt (IsWanted h target x y over) parts None (Some i) → IsOtherAt (IsWanted h target x y over) parts (Some i) None → IsPlaceOf (IsOnly (IsWanted h target x y over)) parts (Some i)
   only_first over i (s, at, other_) none = (
     s,
     at,
@@ -71,13 +71,13 @@ module _ (h : Classes) (keeps : IsHierarchy h) (c : ClassId) (target : ClassId) 
     },
   )
 
-  pub only_second : (over : Bool) (i j : ℕ) → IsOtherAt (IsWanted h target x y over) parts None (Some i) → IsOtherAt (IsWanted h target x y over) parts (Some i) (Some j) → IsOnlyAt (IsWanted h target x y over) parts None
+  pub only_second : (over : Bool) (i j : ℕ) → IsOtherAt (IsWanted h target x y over) parts None (Some i) → IsOtherAt (IsWanted h target x y over) parts (Some i) (Some j) → IsPlaceOf (IsOnly (IsWanted h target x y over)) parts None
   only_second over i j (s, at, one_) (t, there_at, two_) = λ o only.
       let same : s ≡ t = only.only s one_.1 ∙ sym (only.only t two_.1) in
       let places : i ≡ j = one_place i j t (at ∙ ap (λ (z : Subobject). Some z) same) there_at in
       not_both (eq-eqb i j places) two_.0
 
-  pub only_none : (over : Bool) → IsOtherAt (IsWanted h target x y over) parts None None → IsOnlyAt (IsWanted h target x y over) parts None
+  pub only_none : (over : Bool) → IsOtherAt (IsWanted h target x y over) parts None None → IsPlaceOf (IsOnly (IsWanted h target x y over)) parts None
   only_none over none = λ t only. let p = placed over t only.is in none p.0 t p.1 (refl, only.is)
 
 -- the one that stands there is the one
@@ -93,9 +93,9 @@ down_not h target x y t only none s k = none (subst (λ (z : Subobject). IsPubli
 pub across_not : (h : Classes) (target : ClassId) (x y t : Subobject) → IsOnly (IsTarget h target x) t → (IsPublicWalk h x t → ⊥) → (s : Subobject) → CastsAcross h target x y s → ⊥
 across_not h target x y t only none s k = none (subst (λ (z : Subobject). IsPublicWalk h x z) (only.only s k.target_is.is) k.reached)
 
-pub cast_down_to : (h : Classes) (target : ClassId) (x y : Subobject) (parts : List Subobject) (i : ℕ) → IsDownTo h target x y parts (Some i) → IsCastTo h target x y parts (Some i)
+pub cast_down_to : (h : Classes) (target : ClassId) (x y : Subobject) (parts : List Subobject) (i : ℕ) → IsPlaceOf (CastsDown h target x y) parts (Some i) → IsCastTo h target x y parts (Some i)
 cast_down_to h target x y parts i (t, at, k) = (t, at, leads_down t k)
 
-pub cast_across_to : (h : Classes) (target : ClassId) (x y : Subobject) (parts : List Subobject) (place : Option ℕ) → IsDownTo h target x y parts None → IsAcrossTo h target x y parts place → IsCastTo h target x y parts place
+pub cast_across_to : (h : Classes) (target : ClassId) (x y : Subobject) (parts : List Subobject) (place : Option ℕ) → IsPlaceOf (CastsDown h target x y) parts None → IsPlaceOf (CastsAcross h target x y) parts place → IsCastTo h target x y parts place
 cast_across_to h target x y parts None none k = leads_nowhere none k
 cast_across_to h target x y parts (Some i) none (t, at, k) = (t, at, leads_across t none k)

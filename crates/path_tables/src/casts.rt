@@ -3,8 +3,8 @@
 ghost use Rattle.std.specs.Prelude.{◌≡◌, ◌↔◌, IsTrue, false, Some, None};
 ghost use Rattle.cxx_subobject.specs.Subobjects.{IsSubobject};
 ghost use Rattle.cxx_subobject.specs.Preorder.{preorder};
-ghost use Rattle.cxx_search.specs.Casts.{IsTarget};
-ghost use Rattle.path_tables.specs.invariants.Targets.{IsWanted, is_at, IsOther, IsOtherAt, IsOnlyAt, IsDownTo, IsAcrossTo, IsCastTo};
+ghost use Rattle.cxx_search.specs.Casts.{IsOnly, IsTarget, CastsDown, CastsAcross};
+ghost use Rattle.path_tables.specs.invariants.Targets.{IsWanted, is_at, IsOther, IsOtherAt, IsPlaceOf, IsCastTo};
 
 use crate::parts::is_of_class;
 use cxx_hierarchy::{ClassId, Hierarchy};
@@ -107,7 +107,7 @@ fn if_only(
     requires y { IsSubobject h.now c y.now }
     requires parts { parts.now ≡ preorder h.now c }
     requires first { IsOtherAt (IsWanted h.now target x.now y.now over) parts.now None (Some first) }
-    ensures { IsOnlyAt (IsWanted h.now target x.now y.now over) parts.now result }
+    ensures { IsPlaceOf (IsOnly (IsWanted h.now target x.now y.now over)) parts.now result }
 {
     h.keeps();
     match other_wanted(h, c, parts, target, x, y, over, Some(first)) {
@@ -129,7 +129,7 @@ fn only_target(
     requires x { IsSubobject h.now c x.now }
     requires y { IsSubobject h.now c y.now }
     requires parts { parts.now ≡ preorder h.now c }
-    ensures { IsOnlyAt (IsWanted h.now target x.now y.now over) parts.now result }
+    ensures { IsPlaceOf (IsOnly (IsWanted h.now target x.now y.now over)) parts.now result }
 {
     h.keeps();
     match other_wanted(h, c, parts, target, x, y, over, None) {
@@ -150,7 +150,7 @@ fn down_place(
     requires x { IsSubobject h.now c x.now }
     requires y { IsSubobject h.now c y.now }
     requires parts { parts.now ≡ preorder h.now c }
-    ensures { IsDownTo h.now target x.now y.now parts.now result }
+    ensures { IsPlaceOf (CastsDown h.now target x.now y.now) parts.now result }
 {
     h.keeps();
     let i = only_target(h, c, parts, target, x, y, true)?;
@@ -173,7 +173,7 @@ fn across_place(
     requires x { IsSubobject h.now c x.now }
     requires y { IsSubobject h.now c y.now }
     requires parts { parts.now ≡ preorder h.now c }
-    ensures { IsAcrossTo h.now target x.now y.now parts.now result }
+    ensures { IsPlaceOf (CastsAcross h.now target x.now y.now) parts.now result }
 {
     h.keeps();
     if !is_public_base(h, c, x, y) {

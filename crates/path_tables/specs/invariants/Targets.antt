@@ -3,7 +3,7 @@ use Rattle.std.specs.Prelude.{◌≡◌, ℕ, Bool, true, false, nat_eq, Option,
 use Rattle.cxx_hierarchy.specs.declared.records.ClassId.{ClassId}
 use Rattle.cxx_hierarchy.specs.Classes.{Classes}
 use Rattle.cxx_subobject.specs.declared.Subobject.{Subobject}
-use Rattle.cxx_search.specs.Casts.{IsOnly, IsTarget, IsTargetOver, CastsDown, CastsAcross, IsCast}
+use Rattle.cxx_search.specs.Casts.{IsTarget, IsTargetOver, IsCast}
 
 -- a target of the cast, and where this is asked one in which y lies
 abbrev pub IsWanted : Classes → ClassId → Subobject → Subobject → Bool → Subobject → Type 0
@@ -24,22 +24,12 @@ abbrev pub IsOtherAt : (Subobject → Type 0) → List Subobject → Option ℕ 
 IsOtherAt P parts skip None = (j : ℕ) (t : Subobject) → slice_get parts j ≡ Some t → IsOther P skip j t → ⊥
 IsOtherAt P parts skip (Some i) = (t : Subobject) × (slice_get parts i ≡ Some t) × IsOther P skip i t
 
--- the one that is wanted stands there; None: there is no such one
-abbrev pub IsOnlyAt : (Subobject → Type 0) → List Subobject → Option ℕ → Type 0
-IsOnlyAt P parts None = (t : Subobject) → IsOnly P t → ⊥
-IsOnlyAt P parts (Some i) = (t : Subobject) × (slice_get parts i ≡ Some t) × IsOnly P t
+-- what P holds of stands there; None: P holds of nothing
+abbrev pub IsPlaceOf : (Subobject → Type 0) → List Subobject → Option ℕ → Type 0
+IsPlaceOf P parts None = (t : Subobject) → P t → ⊥
+IsPlaceOf P parts (Some i) = (t : Subobject) × (slice_get parts i ≡ Some t) × P t
 
 -- the cast leads to what stands there; None: it leads nowhere
 abbrev pub IsCastTo : Classes → ClassId → Subobject → Subobject → List Subobject → Option ℕ → Type 0
 IsCastTo h target x y parts None = IsCast h target x y None
 IsCastTo h target x y parts (Some i) = (t : Subobject) × (slice_get parts i ≡ Some t) × IsCast h target x y (Some t)
-
--- the cast leads down to what stands there; None: it does not lead down
-abbrev pub IsDownTo : Classes → ClassId → Subobject → Subobject → List Subobject → Option ℕ → Type 0
-IsDownTo h target x y parts None = (t : Subobject) → CastsDown h target x y t → ⊥
-IsDownTo h target x y parts (Some i) = (t : Subobject) × (slice_get parts i ≡ Some t) × CastsDown h target x y t
-
--- the same across
-abbrev pub IsAcrossTo : Classes → ClassId → Subobject → Subobject → List Subobject → Option ℕ → Type 0
-IsAcrossTo h target x y parts None = (t : Subobject) → CastsAcross h target x y t → ⊥
-IsAcrossTo h target x y parts (Some i) = (t : Subobject) × (slice_get parts i ≡ Some t) × CastsAcross h target x y t
