@@ -10,26 +10,31 @@ import support
 from lib import program
 
 STAND_IN = """#!/bin/sh
-echo "$*" >> "$RT_CALLS"
-if [ "$1" = all ]; then
-    printf '== foundation\\nlogic=proved\\n== elsewhere\\nlogic=proved\\n== b\\nlogic=proved\\n== summary\\n'
-    exit "${RT_STATUS:-0}"
-fi
+echo "$*: $(ls crates | tr '\\n' ' ')$(cat crates.txt | wc -l) $(find . -name '*.edit' -o -name out)" >> "$RT_CALLS"
+printf '== foundation\\nlogic=proved\\nrt: foundation proved\\nrt: b is kept: an earlier run proved it\\nrt: c: trying its must-fail edits (1)\\n'
 [ "${RT_STATUS:-0}" = 0 ] || exit 1
-mkdir -p out && printf '#!/bin/sh\\necho ran "$@"\\ncat\\n' > out/tagymelur && chmod +x out/tagymelur
+mkdir -p crates/tagymelur/out && printf '#!/bin/sh\\necho ran "$@"\\ncat\\n' > crates/tagymelur/out/tagymelur && chmod +x crates/tagymelur/out/tagymelur
+"""
+CRATES = """# the four crates of the program, and one beside it
+foundation:
+b: foundation
+c: b
+elsewhere: c
+tagymelur: c
 """
 
 
-@support.needs("bash", "awk")
+@support.needs("bash", "awk", "tar")
 class Build(unittest.TestCase):
     def setUp(self):
         self.top = tempfile.mkdtemp()
         self.addCleanup(shutil.rmtree, self.top)
-        for folder in ("bin", "examples", "crates/tagymelur"):
+        for folder in ("bin", *["crates/" + name for name in ("b/must-fail", "c/out", "elsewhere", "foundation", "tagymelur")]):
             os.makedirs(os.path.join(self.top, folder))
-        for name in ("tagymelur", "examples/first.cpp"):
-            shutil.copy(os.path.join(program.TOP, name), os.path.join(self.top, name))
-        self.write("crates.txt", "# seven crates of the program, and one beside it\nfoundation:\nb: foundation\nc: b\nd: c\ne: d\nf: e\nelsewhere: f\ntagymelur: f\n")
+        shutil.copy(os.path.join(program.TOP, "tagymelur"), self.top)
+        self.write("crates.txt", CRATES)
+        self.write("HANDLES", "Handles allowed: none.\n")
+        self.write("crates/b/must-fail/wrong.edit", "")
         self.write("bin/rt", STAND_IN)
         os.chmod(os.path.join(self.top, "bin/rt"), stat.S_IRWXU)
         self.calls = os.path.join(self.top, "calls")
@@ -45,16 +50,14 @@ class Build(unittest.TestCase):
     def test_it_tells_how_far_it_is_and_builds_once(self):
         done = self.run_script("check")
         self.assertEqual((done.returncode, done.stdout), (0, "ran check\ntext\n"), done.stderr)
-        self.assertIn("1 of 7 crates after 0 min 0 s: foundation\n", done.stderr)
-        self.assertIn("2 of 7 crates after 0 min 0 s: b\n", done.stderr)
-        self.assertNotIn("elsewhere", done.stderr)
-        self.assertIn("the last crates and the program, after 0 min", done.stderr)
+        self.assertIn("1 of 4 crates after 0 min 0 s: foundation proved\n", done.stderr)
+        self.assertIn("2 of 4 crates after 0 min 0 s: b is kept\n", done.stderr)
+        self.assertNotIn("3 of 4", done.stderr)
         again = self.run_script("layout", "D")
         self.assertEqual((again.returncode, again.stdout, again.stderr), (0, "ran layout D\ntext\n", ""))
         with open(self.calls, encoding="utf-8") as file:
             calls = file.read().splitlines()
-        self.assertEqual(len(calls), 2)
-        self.assertRegex(calls[0], r"^all check --jobs [1-9]\d*$")
+        self.assertEqual([line.split() for line in calls], [["ci:", "b", "c", "foundation", "tagymelur", "4"]])
 
     def test_a_failed_proof(self):
         done = self.run_script("check", status="1")
