@@ -5,9 +5,9 @@
 //! (`specs/Fields.antt`); the virtual pointers of an object (`specs/Pointers.antt`); and what a dump shows of an object, by
 //! place (`specs/Dumps.antt`). A place is that of the location by the layout's rows, whatever sound layout it is.
 //!
-//! The layer above may rely on: `append_out` puts that text at the end of a text, and leaves it as it was in want of memory;
-//! `is_traced` says of what is told whether it is told in a trace alone, so that a run without trace has the text of the rest.
-//! `append_out` asks that locations name parts that are there, and by the law `outs_are_told` those of a run do.
+//! The layer above may rely on: `append_out` puts that text at the end of a text, and leaves it as it was in want of memory.
+//! It asks that locations name parts that are there, and by the law `outs_are_told` those of a run do. What is told in a trace
+//! alone has a definition here (`is_traced`), by which a run without a trace has the text of the rest (`shown`).
 #![tactic(auto)]
 
 pub mod dump;
@@ -19,4 +19,4 @@ pub mod out_text;
 pub mod pointers;
 
 pub use crate::laws::outs_are_told;
-pub use crate::out_text::{append_out, is_traced};
+pub use crate::out_text::append_out;

@@ -6,7 +6,7 @@ ghost use Rattle.abi_sound.specs.Places.{places_of};
 ghost use Rattle.abi_print.specs.LayoutTexts.{name_of};
 ghost use Rattle.abi_print.specs.TableTexts.{function_text};
 ghost use Rattle.abi_out.specs.Fields.{NamesPart, part_text};
-ghost use Rattle.abi_out.specs.OutTexts.{IsTold, NamesPartOrNull, is_traced, line_text, out_text, pointer_text};
+ghost use Rattle.abi_out.specs.OutTexts.{IsTold, NamesPartOrNull, line_text, out_text, pointer_text};
 
 use crate::dump::append_dump;
 use crate::locations::append_part;
@@ -133,11 +133,4 @@ pub fn append_out<L: SoundLayout>(
     line.push(b'\n')?;
     text.extend_from_slice(&line)?;
     Ok(())
-}
-
-/// Whether it is told in a trace alone: a call of a member function, the end of a construction, the begin of a destruction.
-pub fn is_traced(out: &Out) -> bool
-    ensures { result ≡ is_traced out.now }
-{
-    matches!(out, Out::Call(..) | Out::Built(..) | Out::Ending(..))
 }

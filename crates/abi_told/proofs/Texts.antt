@@ -9,14 +9,6 @@ use Rattle.path_model.specs.declared.outs.Out.{Out}
 use Rattle.abi_sound.specs.Places.{Places}
 use Rattle.abi_out.specs.OutTexts.{is_traced, out_text, printed, shown, text_of}
 
--- the line of one out behind a text, or none
-
-pub line_traced : (h : Classes) (l : Places) (x : Out) (old : List ℕ) → is_traced x ≡ true → old ≡ old ++ text_of h l (printed (x ∷ []))
-line_traced h l x old e = sym (ap (λ q. old ++ text_of h l (if not q then x ∷ [] else [])) e ∙ append-nil old)
-
-pub line_printed : (h : Classes) (l : Places) (x : Out) (old new : List ℕ) → is_traced x ≡ false → new ≡ old ++ out_text h l x → new ≡ old ++ text_of h l (printed (x ∷ []))
-line_printed h l x old new e puts = puts ∙ ap (λ (t : List ℕ). old ++ t) (sym (ap (λ q. text_of h l (if not q then x ∷ [] else [])) e ∙ append-nil (out_text h l x)))
-
 -- nothing told, nothing shown
 pub text_none : (h : Classes) (l : Places) (trace : Bool) → text_of h l (shown trace []) ≡ []
 text_none h l true = refl

@@ -162,6 +162,7 @@ fn run_by_paths(alloc: Global, steps: u32, accepted: &Accepted) -> Result<Reply,
         &accepted.layout,
         &accepted.program,
         steps,
+        false,
     )?;
     let reply = ended(alloc, text, end, steps, None)?;
     Ok(reply)

@@ -13,7 +13,6 @@ use Rattle.cxx_program.specs.declared.statement.TypedKind.{TypedKind}
 use Rattle.cxx_program.specs.declared.statement.TypedKind.TheVariants.{Declare, Assign, Write, Copy, Call, Delete, If, While, Return, Print, PrintType, PrintView, Dump}
 use Rattle.cxx_program.specs.declared.statement.TypedStatement.{TypedStatement}
 use Rattle.cxx_program.specs.Typed.{Scope, IsTyped, declares, begins, assigns, writes, copies, calls, deletes, branches, repeats, returns_nothing, returns_value, prints, prints_type, prints_view, dumps, scope_of}
-use Rattle.path_model.specs.declared.outs.Out.{Out}
 use Rattle.path_model.specs.Values.{Unset}
 use Rattle.path_model.specs.States.{Running, Planned, Frame, InBody, InPlan, State, body_of, sight, wanted, with_frames}
 use Rattle.path_model.specs.Steps.{before_kind, body_step, closed, constructor_closed, event_step, in_body, statement_step}
@@ -33,6 +32,7 @@ use Rattle.path_machine.specs.invariants.Steps.{IsTaken, StepAgrees, MoveAgrees}
 use Rattle.path_machine.specs.invariants.Setups.{IsPlanTaken, IsPlanNext, IsBelowNext, IsBodyNext}
 use Rattle.path_machine.specs.invariants.Plans.{plan_in}
 use Rattle.path_machine.proofs.Effecting.{unlimited}
+use Rattle.path_machine.specs.declared.telling.Telling.{Telling}
 
 -- before the right side of a declaration is read
 
@@ -164,7 +164,7 @@ given_before h program s f below body n statement next here at =
 
 -- the steps
 
-pub statement_agrees : (h : Classes) (sizes : ClassId → ℕ) (program : TypedProgram) (new : Machine) (s : State) (f : Running) (below : List Frame) (body : TypedBody) (statement : TypedStatement) (before after : List Out) (code : NextCode) → s.frames ≡ InBody f ∷ below →
+pub statement_agrees : (h : Classes) (sizes : ClassId → ℕ) (program : TypedProgram) (new : Machine) (s : State) (f : Running) (below : List Frame) (body : TypedBody) (statement : TypedStatement) (before after : Telling) (code : NextCode) → s.frames ≡ InBody f ∷ below →
     body_of program f.owner ≡ Some body → slice_get body.statements f.next ≡ Some statement →
     MoveAgrees h sizes program (move_by (statement_step h program s (before_kind f statement.kind) below (before_kind f statement.kind).next statement) (limit_of sizes (with_frames s (InBody (before_kind f statement.kind) ∷ below)) (demand_of (sight s (before_kind f statement.kind)) statement.kind))) new before after code →
     MoveAgrees h sizes program (move_by (body_step h program s f below (body_of program f.owner)) (body_limit sizes s f (body_of program f.owner))) new before after code
@@ -174,7 +174,7 @@ statement_agrees h sizes program new s f below body statement before after code 
     (subst (λ l. MoveAgrees h sizes program (move_by (statement_step h program s (before_kind f statement.kind) below f.next statement) l) new before after code) (limit_before sizes s f below statement.kind frames)
     (subst (λ n. MoveAgrees h sizes program (move_by (statement_step h program s (before_kind f statement.kind) below n statement) (limit_of sizes (with_frames s (InBody (before_kind f statement.kind) ∷ below)) (demand_of (sight s (before_kind f statement.kind)) statement.kind))) new before after code) (next_before f statement.kind) a)))
 
-pub close_agrees : (h : Classes) (sizes : ClassId → ℕ) (program : TypedProgram) (new : Machine) (s : State) (f : Running) (below : List Frame) (body : TypedBody) (before after : List Out) (code : NextCode) →
+pub close_agrees : (h : Classes) (sizes : ClassId → ℕ) (program : TypedProgram) (new : Machine) (s : State) (f : Running) (below : List Frame) (body : TypedBody) (before after : Telling) (code : NextCode) →
     body_of program f.owner ≡ Some body → slice_get body.statements f.next ≡ None → StepAgrees h sizes program (closed h program s f.owner body.close_line below) new before after code →
     MoveAgrees h sizes program (move_by (body_step h program s f below (body_of program f.owner)) (body_limit sizes s f (body_of program f.owner))) new before after code
 close_agrees h sizes program new s f below body before after code here at a =
@@ -184,7 +184,7 @@ close_agrees h sizes program new s f below body before after code here at a =
 
 -- the end of a constructor's body
 
-pub constructor_agrees : (h : Classes) (sizes : ClassId → ℕ) (program : TypedProgram) (machine new : Machine) (s : State) (below : List Frame) (popped : Option FrameCode) (plan : PlanFrame) (before after : List Out) (code : NextCode) → Pops h sizes program machine (with_frames s below) popped below → plan_in popped ≡ Some plan → IsBelowNext h s below →
+pub constructor_agrees : (h : Classes) (sizes : ClassId → ℕ) (program : TypedProgram) (machine new : Machine) (s : State) (below : List Frame) (popped : Option FrameCode) (plan : PlanFrame) (before after : Telling) (code : NextCode) → Pops h sizes program machine (with_frames s below) popped below → plan_in popped ≡ Some plan → IsBelowNext h s below →
     ((g : Planned) (rest : List Frame) → IsPlanTaken h sizes program machine plan s g rest → IsPlanNext h s g plan.whole.class → StepAgrees h sizes program (event_step program s g rest g.events) new before after code) → StepAgrees h sizes program (constructor_closed program s below) new before after code
 constructor_agrees h sizes program machine new s [] popped plan before after code a is next step = tt
 constructor_agrees h sizes program machine new s (InBody g ∷ rest) popped plan before after code a is next step = tt
@@ -196,7 +196,7 @@ constructor_agrees h sizes program machine new s (InPlan g ∷ rest) (Some (Plan
     step g rest (subst (λ (x : PlanFrame). IsPlanTaken h sizes program machine x s g rest) same taken) (subst (λ (x : PlanFrame). IsPlanNext h s g x.whole.class) same (next g rest f.whole.class refl stands.made))
 
 -- no plan stands below a body that is not one of a constructor
-pub no_plan : (h : Classes) (sizes : ClassId → ℕ) (program : TypedProgram) (machine new : Machine) (s : State) (below : List Frame) (popped : Option FrameCode) (before after : List Out) (code : NextCode) → Pops h sizes program machine (with_frames s below) popped below → plan_in popped ≡ None → StepAgrees h sizes program (constructor_closed program s below) new before after code
+pub no_plan : (h : Classes) (sizes : ClassId → ℕ) (program : TypedProgram) (machine new : Machine) (s : State) (below : List Frame) (popped : Option FrameCode) (before after : Telling) (code : NextCode) → Pops h sizes program machine (with_frames s below) popped below → plan_in popped ≡ None → StepAgrees h sizes program (constructor_closed program s below) new before after code
 no_plan h sizes program machine new s [] popped before after code a is = tt
 no_plan h sizes program machine new s (InBody g ∷ rest) popped before after code a is = tt
 no_plan h sizes program machine new s (InPlan g ∷ rest) None before after code a is = absurd a

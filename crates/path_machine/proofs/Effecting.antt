@@ -1,7 +1,6 @@
 -- What a statement does to the machine: what it sees, another heap, and what the model's step then is.
 use Rattle.std.proofs.Common.{◌≡◌, ◌<◌, ℕ, true, false, length, Option, Some, None, List, [], refl, ap, subst, sym, ◌∙◌}
 use Rattle.std.specs.List.{AllZip}
-use Rattle.std.proofs.lemmas.List.{append-nil}
 use Rattle.cxx_hierarchy.specs.declared.records.ClassId.{ClassId}
 use Rattle.cxx_hierarchy.specs.declared.records.ValueType.{ValueType}
 use Rattle.cxx_hierarchy.specs.declared.records.ReturnType.TheVariants.{Value as ValueReturn}
@@ -21,7 +20,6 @@ use Rattle.cxx_program.specs.declared.statement.TypedPlace.{TypedPlace}
 use Rattle.cxx_program.specs.declared.statement.TypedKind.{TypedKind}
 use Rattle.cxx_program.specs.declared.statement.TypedKind.TheVariants.{Return}
 use Rattle.cxx_program.specs.Typed.{Scope, IsTyped, declares, begins, assigns, writes, copies, calls, deletes, branches, repeats, returns_nothing, returns_value, prints, prints_type, prints_view, dumps, IsArgument, IsCall, HasRight, an_operand, a_calculation, a_comparison, a_negation, a_read, an_address, a_result, an_object, a_cast, a_type_test}
-use Rattle.path_model.specs.declared.outs.Out.{Out}
 use Rattle.path_model.specs.Values.{Value, Unset, Number, Null, Pointer, Objects, Sight, converted}
 use Rattle.path_model.specs.Places.{leaf_at}
 use Rattle.path_model.specs.States.{Target, Running, Frame, State, sight, assigned, with_frames, with_objects, target_conversion}
@@ -40,6 +38,8 @@ use Rattle.path_machine.specs.declared.next.Next.{Next as NextCode}
 use Rattle.path_machine.specs.declared.next.Next.TheVariants.{Goes as GoesCode, Ends as EndsCode}
 use Rattle.path_machine.specs.invariants.Setups.{is_plain}
 use Rattle.path_machine.specs.invariants.Steps.{IsTaken, StepAgrees, MoveAgrees, CanGive}
+use Rattle.path_machine.specs.declared.telling.Telling.{Telling}
+use Rattle.path_machine.proofs.Tellings.{nothing_more}
 
 -- what the statement of a frame sees, over lists that are the machine's and the frame's
 pub scene_by : (h : Classes) (sizes : ClassId → ℕ) (program : TypedProgram) (machine : Machine) (frame : BodyFrame) (s : State) (f : Running) (below : List Frame) → IsTaken h sizes program machine frame s f below → (globals locals : List ValueCode) → globals ≡ machine.globals.items → locals ≡ frame.locals.items →
@@ -74,15 +74,15 @@ taken_heaped h sizes program machine heap frame s f below x t stands same = reco
 }
 
 -- a leaf that is written
-pub write_agrees : (h : Classes) (sizes : ClassId → ℕ) (program : TypedProgram) (new : Machine) (on : State) (place : TypedPlace) (w v : Value) (outs : List Out) →
+pub write_agrees : (h : Classes) (sizes : ClassId → ℕ) (program : TypedProgram) (new : Machine) (on : State) (place : TypedPlace) (w v : Value) (outs : Telling) →
     ((p : ObjectPart) → v ≡ Pointer p → MachineStands h sizes program new (with_objects on (leaf_set on.objects (leaf_at p place) w))) → StepAgrees h sizes program (written on place w v) new outs outs GoesCode
 write_agrees h sizes program new on place w Unset outs a = tt
 write_agrees h sizes program new on place w (Number z) outs a = tt
 write_agrees h sizes program new on place w Null outs a = tt
-write_agrees h sizes program new on place w (Pointer p) outs a = (refl, a p refl, sym (append-nil outs))
+write_agrees h sizes program new on place w (Pointer p) outs a = (refl, a p refl, nothing_more outs)
 
 -- a part that is copied
-pub copy_agrees : (h : Classes) (sizes : ClassId → ℕ) (program : TypedProgram) (new : Machine) (on : State) (c : ClassId) (v w : Value) (outs : List Out) →
+pub copy_agrees : (h : Classes) (sizes : ClassId → ℕ) (program : TypedProgram) (new : Machine) (on : State) (c : ClassId) (v w : Value) (outs : Telling) →
     ((p q : ObjectPart) → v ≡ Pointer p → w ≡ Pointer q → MachineStands h sizes program new (with_objects on (copied h c p q on.objects))) → StepAgrees h sizes program (copied_at h on c v w) new outs outs GoesCode
 copy_agrees h sizes program new on c Unset w outs a = tt
 copy_agrees h sizes program new on c (Number z) w outs a = tt
@@ -90,7 +90,7 @@ copy_agrees h sizes program new on c Null w outs a = tt
 copy_agrees h sizes program new on c (Pointer p) Unset outs a = tt
 copy_agrees h sizes program new on c (Pointer p) (Number z) outs a = tt
 copy_agrees h sizes program new on c (Pointer p) Null outs a = tt
-copy_agrees h sizes program new on c (Pointer p) (Pointer q) outs a = (refl, a p q refl refl, sym (append-nil outs))
+copy_agrees h sizes program new on c (Pointer p) (Pointer q) outs a = (refl, a p q refl refl, nothing_more outs)
 
 -- who waits for a result
 pub can_give : (h : Classes) (s : State) (v : Value) (target : Option Target) → CanConvert h s.objects v (target_conversion target) → CanGive h s v target
@@ -121,21 +121,21 @@ gives h e _ (prints_view x c y z) a is = absurd (cc)
 gives h e _ (dumps x c y) a is = absurd (cc)
 
 -- a `return` that leaves a body
-pub main_leaves : (h : Classes) (sizes : ClassId → ℕ) (program : TypedProgram) (new : Machine) (s : State) (f : Running) (below : List Frame) (v : Option Value) (outs : List Out) → f.owner ≡ Main → StepAgrees h sizes program (returned s f below v) new outs outs EndsCode
+pub main_leaves : (h : Classes) (sizes : ClassId → ℕ) (program : TypedProgram) (new : Machine) (s : State) (f : Running) (below : List Frame) (v : Option Value) (outs : Telling) → f.owner ≡ Main → StepAgrees h sizes program (returned s f below v) new outs outs EndsCode
 main_leaves h sizes program new s f below v outs is = subst (λ o. StepAgrees h sizes program (left_by o (result_given (with_frames s below) f.found f.target v)) new outs outs EndsCode) (sym is) (refl, refl)
 
-pub function_leaves : (h : Classes) (sizes : ClassId → ℕ) (program : TypedProgram) (new : Machine) (s : State) (f : Running) (below : List Frame) (v : Option Value) (outs : List Out) (g : FunctionId) (next : NextCode) → f.owner ≡ Function g → next ≡ GoesCode → MachineStands h sizes program new (result_given (with_frames s below) f.found f.target v) →
+pub function_leaves : (h : Classes) (sizes : ClassId → ℕ) (program : TypedProgram) (new : Machine) (s : State) (f : Running) (below : List Frame) (v : Option Value) (outs : Telling) (g : FunctionId) (next : NextCode) → f.owner ≡ Function g → next ≡ GoesCode → MachineStands h sizes program new (result_given (with_frames s below) f.found f.target v) →
     StepAgrees h sizes program (returned s f below v) new outs outs next
-function_leaves h sizes program new s f below v outs g next is goes stands = subst (λ o. StepAgrees h sizes program (left_by o (result_given (with_frames s below) f.found f.target v)) new outs outs next) (sym is) (goes, stands, sym (append-nil outs))
+function_leaves h sizes program new s f below v outs g next is goes stands = subst (λ o. StepAgrees h sizes program (left_by o (result_given (with_frames s below) f.found f.target v)) new outs outs next) (sym is) (goes, stands, nothing_more outs)
 
-pub constructor_leaves : (h : Classes) (sizes : ClassId → ℕ) (program : TypedProgram) (new : Machine) (s : State) (f : Running) (below : List Frame) (v : Option Value) (outs : List Out) (c : ClassId) (next : NextCode) → f.owner ≡ Constructor c → StepAgrees h sizes program (returned s f below v) new outs outs next
+pub constructor_leaves : (h : Classes) (sizes : ClassId → ℕ) (program : TypedProgram) (new : Machine) (s : State) (f : Running) (below : List Frame) (v : Option Value) (outs : Telling) (c : ClassId) (next : NextCode) → f.owner ≡ Constructor c → StepAgrees h sizes program (returned s f below v) new outs outs next
 constructor_leaves h sizes program new s f below v outs c next is = subst (λ o. StepAgrees h sizes program (left_by o (result_given (with_frames s below) f.found f.target v)) new outs outs next) (sym is) tt
 
-pub destructor_leaves : (h : Classes) (sizes : ClassId → ℕ) (program : TypedProgram) (new : Machine) (s : State) (f : Running) (below : List Frame) (v : Option Value) (outs : List Out) (c : ClassId) (next : NextCode) → f.owner ≡ Destructor c → StepAgrees h sizes program (returned s f below v) new outs outs next
+pub destructor_leaves : (h : Classes) (sizes : ClassId → ℕ) (program : TypedProgram) (new : Machine) (s : State) (f : Running) (below : List Frame) (v : Option Value) (outs : Telling) (c : ClassId) (next : NextCode) → f.owner ≡ Destructor c → StepAgrees h sizes program (returned s f below v) new outs outs next
 destructor_leaves h sizes program new s f below v outs c next is = subst (λ o. StepAgrees h sizes program (left_by o (result_given (with_frames s below) f.found f.target v)) new outs outs next) (sym is) tt
 
 -- a step that no limit ends
-pub unlimited : (h : Classes) (sizes : ClassId → ℕ) (program : TypedProgram) (next : Next) (new : Machine) (before after : List Out) (code : NextCode) → StepAgrees h sizes program next new before after code → MoveAgrees h sizes program (move_by next None) new before after code
+pub unlimited : (h : Classes) (sizes : ClassId → ℕ) (program : TypedProgram) (next : Next) (new : Machine) (before after : Telling) (code : NextCode) → StepAgrees h sizes program next new before after code → MoveAgrees h sizes program (move_by next None) new before after code
 unlimited h sizes program (Goes s outs) new before after code a = a
 unlimited h sizes program (Refuses rule line) new before after code a = a
 unlimited h sizes program Ends new before after code a = a
@@ -181,7 +181,7 @@ plain_by (New d) a b = absurd (b d refl)
 plain_by (Cast cast x) a b = refl
 plain_by (TypeEqual x d) a b = refl
 
-pub plain_agrees : (h : Classes) (sizes : ClassId → ℕ) (program : TypedProgram) (new : Machine) (see : Sight) (on at : State) (variable : Variable) (r : TypedRight) (c : Conversion) (before after : List Out) (code : NextCode) → is_plain r ≡ true →
+pub plain_agrees : (h : Classes) (sizes : ClassId → ℕ) (program : TypedProgram) (new : Machine) (see : Sight) (on at : State) (variable : Variable) (r : TypedRight) (c : Conversion) (before after : Telling) (code : NextCode) → is_plain r ≡ true →
     StepAgrees h sizes program (Goes (assigned on variable (converted (right_value h see r) c)) []) new before after code → MoveAgrees h sizes program (move_by (taken h program see on variable r c) (limit_of sizes at (right_demand r))) new before after code
 plain_agrees h sizes program new see on at variable (Operand x) c before after code plain a = a
 plain_agrees h sizes program new see on at variable (Arithmetic op t x y) c before after code plain a = a

@@ -1,8 +1,7 @@
 -- What an event does to a machine, and what it tells.
-use Rattle.std.proofs.Common.{◌≡◌, ◌⊎◌, ⊎_elim, ◌<◌, ℕ, true, false, Option, Some, None, List, [], ◌∷◌, ◌++◌, refl, ap, subst, sym, ◌∙◌, arith}
+use Rattle.std.proofs.Common.{◌≡◌, ◌⊎◌, ⊎_elim, ◌<◌, ℕ, true, false, Option, Some, None, List, [], ◌∷◌, refl, ap, subst, sym, ◌∙◌, arith}
 use Rattle.std.specs.Prelude.{slice_get, nat_eq}
 use Rattle.std.specs.List.{AllZip}
-use Rattle.std.proofs.lemmas.List.{append-nil}
 use Rattle.std.proofs.lemmas.Bool.{eqb-true}
 use Rattle.foundation.proofs.Chosen.{find_passes}
 use Rattle.cxx_hierarchy.specs.declared.records.ClassId.{ClassId}
@@ -45,6 +44,9 @@ use Rattle.path_frames.specs.declared.machine.Machine.{Machine}
 use Rattle.path_frames.specs.Frames.{FramesStand}
 use Rattle.path_frames.specs.Machines.{MachineStands, stack}
 use Rattle.path_machine.specs.invariants.Events.{Happens, Tells}
+use Rattle.path_machine.specs.declared.telling.Telling.{Telling}
+use Rattle.path_machine.specs.Tellings.{TellsMore}
+use Rattle.path_machine.proofs.Tellings.{nothing_more}
 
 -- the machine with another heap
 abbrev pub with_heap : Machine → Heap → Machine
@@ -144,40 +146,37 @@ sets_member h program typed machine heap part m k value means points stores size
 
 -- what events tell
 
-pub tells_built : (h : Classes) (program : TypedProgram) (machine : Machine) (part : Part) (before after : List Out) (out : Out)
-    → ((s : Objects) (p : ObjectPart) → HeapStands h machine.heap s → IsPart h s.classes part p → out ≡ BuiltOut (class_of_part p) (location_of s p)) → after ≡ before ++ out ∷ [] → Tells h program machine (DoneCode part) before after
-tells_built h program machine part before after out is e sizes s _ a (done_event _ p named) = e ∙ ap (λ (x : Out). before ++ x ∷ []) (is s.objects p a.heap_stands named)
+pub tells_built : (h : Classes) (program : TypedProgram) (machine : Machine) (part : Part) (before after : Telling) (out : Out)
+    → ((s : Objects) (p : ObjectPart) → HeapStands h machine.heap s → IsPart h s.classes part p → out ≡ BuiltOut (class_of_part p) (location_of s p)) → TellsMore before after (out ∷ []) → Tells h program machine (DoneCode part) before after
+tells_built h program machine part before after out is e sizes s _ a (done_event _ p named) = subst (λ (x : Out). TellsMore before after (x ∷ [])) (is s.objects p a.heap_stands named) e
 
-pub tells_ending : (h : Classes) (program : TypedProgram) (machine : Machine) (part : Part) (before after : List Out) (out : Out)
-    → ((s : Objects) (p : ObjectPart) → HeapStands h machine.heap s → IsPart h s.classes part p → out ≡ EndingOut (class_of_part p) (location_of s p)) → after ≡ before ++ out ∷ [] → Tells h program machine (EndingCode part) before after
-tells_ending h program machine part before after out is e sizes s _ a (ending_event _ p named) = e ∙ ap (λ (x : Out). before ++ x ∷ []) (is s.objects p a.heap_stands named)
+pub tells_ending : (h : Classes) (program : TypedProgram) (machine : Machine) (part : Part) (before after : Telling) (out : Out)
+    → ((s : Objects) (p : ObjectPart) → HeapStands h machine.heap s → IsPart h s.classes part p → out ≡ EndingOut (class_of_part p) (location_of s p)) → TellsMore before after (out ∷ []) → Tells h program machine (EndingCode part) before after
+tells_ending h program machine part before after out is e sizes s _ a (ending_event _ p named) = subst (λ (x : Out). TellsMore before after (x ∷ [])) (is s.objects p a.heap_stands named) e
 
-nothing : (before : List Out) → before ≡ before ++ []
-nothing before = sym (append-nil before)
+begin_silent : (h : Classes) (program : TypedProgram) (machine : Machine) (part : Part) (before : Telling) → Tells h program machine (BeginCode part) before before
+begin_silent h program machine part before sizes s _ a (begins_event _ p named) = nothing_more before
 
-begin_silent : (h : Classes) (program : TypedProgram) (machine : Machine) (part : Part) (before : List Out) → Tells h program machine (BeginCode part) before before
-begin_silent h program machine part before sizes s _ a (begins_event _ p named) = nothing before
+ready_silent : (h : Classes) (program : TypedProgram) (machine : Machine) (part : Part) (before : Telling) → Tells h program machine (ReadyCode part) before before
+ready_silent h program machine part before sizes s _ a (ready_event _ p named) = nothing_more before
 
-ready_silent : (h : Classes) (program : TypedProgram) (machine : Machine) (part : Part) (before : List Out) → Tells h program machine (ReadyCode part) before before
-ready_silent h program machine part before sizes s _ a (ready_event _ p named) = nothing before
+init_silent : (h : Classes) (program : TypedProgram) (machine : Machine) (part : Part) (m : ℕ) (before : Telling) → Tells h program machine (InitCode part m) before before
+init_silent h program machine part m before sizes s _ a (init_event _ _ p named some) = nothing_more before
 
-init_silent : (h : Classes) (program : TypedProgram) (machine : Machine) (part : Part) (m : ℕ) (before : List Out) → Tells h program machine (InitCode part m) before before
-init_silent h program machine part m before sizes s _ a (init_event _ _ p named some) = nothing before
+body_silent : (h : Classes) (program : TypedProgram) (machine : Machine) (part : Part) (before : Telling) → Tells h program machine (BodyCode part) before before
+body_silent h program machine part before sizes s _ a (body_event _ p named) = nothing_more before
 
-body_silent : (h : Classes) (program : TypedProgram) (machine : Machine) (part : Part) (before : List Out) → Tells h program machine (BodyCode part) before before
-body_silent h program machine part before sizes s _ a (body_event _ p named) = nothing before
+bases_silent : (h : Classes) (program : TypedProgram) (machine : Machine) (part : Part) (before : Telling) → Tells h program machine (BasesCode part) before before
+bases_silent h program machine part before sizes s _ a (bases_event _ p named) = nothing_more before
 
-bases_silent : (h : Classes) (program : TypedProgram) (machine : Machine) (part : Part) (before : List Out) → Tells h program machine (BasesCode part) before before
-bases_silent h program machine part before sizes s _ a (bases_event _ p named) = nothing before
-
-end_silent : (h : Classes) (program : TypedProgram) (machine : Machine) (part : Part) (before : List Out) → Tells h program machine (EndCode part) before before
-end_silent h program machine part before sizes s _ a (end_event _ p named) = nothing before
+end_silent : (h : Classes) (program : TypedProgram) (machine : Machine) (part : Part) (before : Telling) → Tells h program machine (EndCode part) before before
+end_silent h program machine part before sizes s _ a (end_event _ p named) = nothing_more before
 
 -- the other events tell nothing
 abbrev pub IsSilent : PlanEvent → Type 0
 IsSilent code = ((part : Part) × code ≡ BeginCode part) ⊎ (((part : Part) × code ≡ ReadyCode part) ⊎ (((part : Part) × (m : ℕ) × code ≡ InitCode part m) ⊎ (((part : Part) × code ≡ BodyCode part) ⊎ (((part : Part) × code ≡ BasesCode part) ⊎ ((part : Part) × code ≡ EndCode part)))))
 
-pub silent : (h : Classes) (program : TypedProgram) (machine : Machine) (before : List Out) (code : PlanEvent) → IsSilent code → Tells h program machine code before before
+pub silent : (h : Classes) (program : TypedProgram) (machine : Machine) (before : Telling) (code : PlanEvent) → IsSilent code → Tells h program machine code before before
 silent h program machine before code is =
     ⊎_elim (λ x. subst (λ (e : PlanEvent). Tells h program machine e before before) (sym x.1) (begin_silent h program machine x.0 before))
     (λ is. ⊎_elim (λ x. subst (λ (e : PlanEvent). Tells h program machine e before before) (sym x.1) (ready_silent h program machine x.0 before))

@@ -13,7 +13,6 @@ use Rattle.cxx_program.specs.declared.program.Owner.TheVariants.{Main, Function,
 use Rattle.cxx_program.specs.declared.program.TypedBody.{TypedBody}
 use Rattle.cxx_program.specs.declared.program.TypedProgram.{TypedProgram}
 use Rattle.cxx_program.specs.Typed.{Types, Converts, to_same, IsTypedProgram, returns_of}
-use Rattle.path_model.specs.declared.outs.Out.{Out}
 use Rattle.path_model.specs.States.{Target, Running, Planned, Frame, InBody, InPlan, State, body_of, target_conversion}
 use Rattle.path_model.specs.Steps.{body_step, event_step, frame_step}
 use Rattle.path_model.specs.Runs.{body_limit, frame_limit, move_by}
@@ -30,6 +29,7 @@ use Rattle.path_machine.specs.declared.next.Next.{Next as NextCode}
 use Rattle.path_machine.specs.invariants.Steps.{IsTaken, StepAgrees, MoveAgrees}
 use Rattle.path_machine.specs.invariants.Setups.{IsPlanTaken, IsPlanNext, IsBelowNext, IsBodyNext, IsStateNext}
 use Rattle.path_machine.proofs.Effecting.{unlimited}
+use Rattle.path_machine.specs.declared.telling.Telling.{Telling}
 
 -- results
 
@@ -97,7 +97,7 @@ body_next h program program_typed s f below next is plain =
 
 -- the step of the frame that was taken
 
-pub body_moves : (h : Classes) (sizes : ClassId → ℕ) (program : TypedProgram) → IsTypedProgram h program → (machine new : Machine) (s : State) (frames : List Frame) (popped : Option FrameCode) (frame : BodyFrame) (before after : List Out) (code : NextCode) → s.frames ≡ frames → popped ≡ Some (Body frame) → Pops h sizes program machine s popped frames → IsStateNext h program s →
+pub body_moves : (h : Classes) (sizes : ClassId → ℕ) (program : TypedProgram) → IsTypedProgram h program → (machine new : Machine) (s : State) (frames : List Frame) (popped : Option FrameCode) (frame : BodyFrame) (before after : Telling) (code : NextCode) → s.frames ≡ frames → popped ≡ Some (Body frame) → Pops h sizes program machine s popped frames → IsStateNext h program s →
     ((f : Running) (below : List Frame) → IsTaken h sizes program machine frame s f below → s.frames ≡ InBody f ∷ below → IsBodyNext h program s f below → MoveAgrees h sizes program (move_by (body_step h program s f below (body_of program f.owner)) (body_limit sizes s f (body_of program f.owner))) new before after code) →
     MoveAgrees h sizes program (move_by (frame_step h program s frames) (frame_limit sizes program s frames)) new before after code
 body_moves h sizes program typed machine new s [] popped frame before after code is top a next does = tt
@@ -109,7 +109,7 @@ body_moves h sizes program typed machine new s (InBody f ∷ below) (Some (Body 
     let taken : IsTaken h sizes program machine frame2 s f below = record { machine_stands = rest; body_stands = stands; counts = counts } in
     does f below (subst (λ (x : BodyFrame). IsTaken h sizes program machine x s f below) same taken) is (body_next h program typed s f below next is stands.plain_main)
 
-pub plan_moves : (h : Classes) (sizes : ClassId → ℕ) (program : TypedProgram) (machine new : Machine) (s : State) (frames : List Frame) (popped : Option FrameCode) (plan : PlanFrame) (before after : List Out) (code : NextCode) → s.frames ≡ frames → popped ≡ Some (Plan plan) → Pops h sizes program machine s popped frames → IsStateNext h program s →
+pub plan_moves : (h : Classes) (sizes : ClassId → ℕ) (program : TypedProgram) (machine new : Machine) (s : State) (frames : List Frame) (popped : Option FrameCode) (plan : PlanFrame) (before after : Telling) (code : NextCode) → s.frames ≡ frames → popped ≡ Some (Plan plan) → Pops h sizes program machine s popped frames → IsStateNext h program s →
     ((f : Planned) (below : List Frame) → IsPlanTaken h sizes program machine plan s f below → IsPlanNext h s f plan.whole.class → StepAgrees h sizes program (event_step program s f below f.events) new before after code) →
     MoveAgrees h sizes program (move_by (frame_step h program s frames) (frame_limit sizes program s frames)) new before after code
 plan_moves h sizes program machine new s [] popped plan before after code is top a next does = tt
@@ -123,7 +123,7 @@ plan_moves h sizes program machine new s (InPlan f ∷ below) (Some (Plan plan2)
     (does f below (subst (λ (x : PlanFrame). IsPlanTaken h sizes program machine x s f below) same taken) (subst (λ (x : PlanFrame). IsPlanNext h s f x.whole.class) same (plan_next h program s f below plan2.whole.class next is stands.made)))
 
 -- no frame is left
-pub none_moves : (h : Classes) (sizes : ClassId → ℕ) (program : TypedProgram) (machine new : Machine) (s : State) (frames : List Frame) (popped : Option FrameCode) (before after : List Out) (code : NextCode) → popped ≡ None → Pops h sizes program machine s popped frames →
+pub none_moves : (h : Classes) (sizes : ClassId → ℕ) (program : TypedProgram) (machine new : Machine) (s : State) (frames : List Frame) (popped : Option FrameCode) (before after : Telling) (code : NextCode) → popped ≡ None → Pops h sizes program machine s popped frames →
     MoveAgrees h sizes program (move_by (frame_step h program s frames) (frame_limit sizes program s frames)) new before after code
 none_moves h sizes program machine new s [] popped before after code is a = tt
 none_moves h sizes program machine new s (f ∷ below) None before after code is a = absurd a

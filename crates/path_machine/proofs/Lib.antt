@@ -1,3 +1,4 @@
+pub mod Tellings
 pub mod Effecting
 pub mod Happening
 pub mod Moves

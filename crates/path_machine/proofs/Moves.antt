@@ -1,8 +1,7 @@
 -- What a move is where a limit ends it, and where none does.
-use Rattle.std.proofs.Common.{◌≡◌, ◌≤◌, ◌<◌, ◌+◌, ℕ, Bool, true, false, Option, Some, None, List, [], ◌∷◌, ◌++◌, refl, ap, subst, sym, ◌∙◌, arith}
+use Rattle.std.proofs.Common.{◌≡◌, ◌≤◌, ◌<◌, ◌+◌, ℕ, Bool, true, false, Option, Some, None, List, [], ◌∷◌, refl, ap, subst, sym, ◌∙◌, arith}
 use Rattle.std.specs.Prelude.{nat_lt, if◌then◌else◌, slice_get}
 use Rattle.std.proofs.lemmas.Bool.{le-leb, lt-leb}
-use Rattle.std.proofs.lemmas.List.{append-nil}
 use Rattle.std.proofs.lemmas.List.Sums.{sum_by-append}
 use Rattle.cxx_hierarchy.specs.declared.records.ClassId.{ClassId}
 use Rattle.cxx_hierarchy.specs.declared.stop.LimitNo.{LimitNo}
@@ -28,9 +27,12 @@ use Rattle.path_frames.specs.Frames.{BodyStands}
 use Rattle.path_frames.specs.Machines.{MachineStands}
 use Rattle.path_machine.specs.declared.next.Next.{Next as NextCode}
 use Rattle.path_machine.specs.declared.next.Next.TheVariants.{Goes as GoesCode, Limited}
-use Rattle.path_machine.specs.declared.openings.Opened.{Opened}
+use Rattle.path_frames.specs.declared.frames.BodyFrame.{BodyFrame}
 use Rattle.path_machine.specs.invariants.Steps.{MoveAgrees}
 use Rattle.path_machine.specs.invariants.Openings.{Opens, goes_wrong, opens_body}
+use Rattle.path_machine.specs.declared.telling.Telling.{Telling}
+use Rattle.path_machine.specs.Tellings.{TellsMore}
+use Rattle.path_machine.proofs.Tellings.{nothing_more}
 
 -- the limits
 
@@ -57,32 +59,32 @@ heap_free sizes s c size full of_class is off =
 
 -- moves
 
-pub limited : (h : Classes) (sizes : ClassId → ℕ) (program : TypedProgram) (machine : Machine) (before outs : List Out) (s : State) (limit : Option LimitNo) (l : LimitNo) → limit ≡ Some l
+pub limited : (h : Classes) (sizes : ClassId → ℕ) (program : TypedProgram) (machine : Machine) (before : Telling) (outs : List Out) (s : State) (limit : Option LimitNo) (l : LimitNo) → limit ≡ Some l
     → MoveAgrees h sizes program (move_by (Goes s outs) limit) machine before before (Limited l)
 limited h sizes program machine before outs s limit l is = subst (λ x. MoveAgrees h sizes program (move_by (Goes s outs) x) machine before before (Limited l)) (sym is) (refl, refl)
 
-pub moved : (h : Classes) (sizes : ClassId → ℕ) (program : TypedProgram) (machine : Machine) (before after outs : List Out) (s : State) (limit : Option LimitNo) → limit ≡ None → MachineStands h sizes program machine s → after ≡ before ++ outs
+pub moved : (h : Classes) (sizes : ClassId → ℕ) (program : TypedProgram) (machine : Machine) (before after : Telling) (outs : List Out) (s : State) (limit : Option LimitNo) → limit ≡ None → MachineStands h sizes program machine s → TellsMore before after outs
     → MoveAgrees h sizes program (move_by (Goes s outs) limit) machine before after GoesCode
 moved h sizes program machine before after outs s limit is stands told = subst (λ x. MoveAgrees h sizes program (move_by (Goes s outs) x) machine before after GoesCode) (sym is) (refl, stands, told)
 
-pub moved_silent : (h : Classes) (sizes : ClassId → ℕ) (program : TypedProgram) (machine : Machine) (outs : List Out) (s : State) (limit : Option LimitNo) → limit ≡ None → MachineStands h sizes program machine s
+pub moved_silent : (h : Classes) (sizes : ClassId → ℕ) (program : TypedProgram) (machine : Machine) (outs : Telling) (s : State) (limit : Option LimitNo) → limit ≡ None → MachineStands h sizes program machine s
     → MoveAgrees h sizes program (move_by (Goes s []) limit) machine outs outs GoesCode
-moved_silent h sizes program machine outs s limit is stands = moved h sizes program machine outs outs [] s limit is stands (sym (append-nil outs))
+moved_silent h sizes program machine outs s limit is stands = moved h sizes program machine outs outs [] s limit is stands (nothing_more outs)
 
 -- calls
 
-body_limited : (h : Classes) (sizes : ClassId → ℕ) (program : TypedProgram) (machine : Machine) (before : List Out) (on : State) (values : List Value) (call : TypedCall) (target : Option Target) (run : ObjectPart × FunctionId) (body : Option TypedBody)
+body_limited : (h : Classes) (sizes : ClassId → ℕ) (program : TypedProgram) (machine : Machine) (before : Telling) (on : State) (values : List Value) (call : TypedCall) (target : Option Target) (run : ObjectPart × FunctionId) (body : Option TypedBody)
     (limit : Option LimitNo) (l : LimitNo) → limit ≡ Some l → MoveAgrees h sizes program (move_by (body_entered h on values call target run body) limit) machine before before (Limited l)
 body_limited h sizes program machine before on values call target run None limit l is = tt
 body_limited h sizes program machine before on values call target run (Some body) limit l is = limited h sizes program machine before _ _ limit l is
 
-function_limited : (h : Classes) (sizes : ClassId → ℕ) (program : TypedProgram) (machine : Machine) (before : List Out) (on : State) (values : List Value) (call : TypedCall) (target : Option Target) (run : Option (ObjectPart × FunctionId))
+function_limited : (h : Classes) (sizes : ClassId → ℕ) (program : TypedProgram) (machine : Machine) (before : Telling) (on : State) (values : List Value) (call : TypedCall) (target : Option Target) (run : Option (ObjectPart × FunctionId))
     (limit : Option LimitNo) (l : LimitNo) → limit ≡ Some l → MoveAgrees h sizes program (move_by (function_entered h program on values call target run) limit) machine before before (Limited l)
 function_limited h sizes program machine before on values call target None limit l is = tt
 function_limited h sizes program machine before on values call target (Some run) limit l is = body_limited h sizes program machine before on values call target run (body_of program (Function run.1)) limit l is
 
 -- a call that is not wrong would open a body
-pub call_limited : (h : Classes) (sizes : ClassId → ℕ) (program : TypedProgram) (machine : Machine) (before : List Out) (on : State) (values : List Value) (call : TypedCall) (target : Option Target) (v : Value)
+pub call_limited : (h : Classes) (sizes : ClassId → ℕ) (program : TypedProgram) (machine : Machine) (before : Telling) (on : State) (values : List Value) (call : TypedCall) (target : Option Target) (v : Value)
     (limit : Option LimitNo) (l : LimitNo) → limit ≡ Some l → MoveAgrees h sizes program (move_by (called_at h program on values call target v) limit) machine before before (Limited l)
 call_limited h sizes program machine before on values call target Unset limit l is = tt
 call_limited h sizes program machine before on values call target (Number z) limit l is = tt
@@ -90,24 +92,24 @@ call_limited h sizes program machine before on values call target Null limit l i
 call_limited h sizes program machine before on values call target (Pointer p) limit l is = function_limited h sizes program machine before on values call target (runs h on.objects call p) limit l is
 
 -- where the code opens nothing the model is wrong
-pub nothing_opened : (h : Classes) (sizes : ClassId → ℕ) (program : TypedProgram) (machine : Machine) (before after : List Out) (s : State) (frames : List Frame) (next : Next) (limit : Option LimitNo) (taken : NextCode) → Opens h s frames None next
+pub nothing_opened : (h : Classes) (sizes : ClassId → ℕ) (program : TypedProgram) (machine : Machine) (before after : Telling) (s : State) (frames : List Frame) (next : Next) (limit : Option LimitNo) (taken : NextCode) → Opens h s frames before after None next
     → MoveAgrees h sizes program (move_by next limit) machine before after taken
 nothing_opened h sizes program machine before after s frames _ limit taken (goes_wrong _) = tt
 
-pub body_opened : (h : Classes) (sizes : ClassId → ℕ) (program : TypedProgram) (machine : Machine) (before after : List Out) (s : State) (frames : List Frame) (code : Opened) (next : Next) (limit : Option LimitNo) → Opens h s frames (Some code) next → limit ≡ None
-    → ((g : Running) → BodyStands h s.objects.classes code.frame g → opened_for g.owner ≡ 1 → MachineStands h sizes program machine (with_frames s (InBody g ∷ frames)))
-    → after ≡ before ++ code.told ∷ [] → MoveAgrees h sizes program (move_by next limit) machine before after GoesCode
-body_opened h sizes program machine before after s frames _ _ limit (goes_wrong _) free pushed told = tt
-body_opened h sizes program machine before after s frames _ _ limit (opens_body code g stands one) free pushed told = moved h sizes program machine before after (code.told ∷ []) (with_frames s (InBody g ∷ frames)) limit free (pushed g stands one) told
+pub body_opened : (h : Classes) (sizes : ClassId → ℕ) (program : TypedProgram) (machine : Machine) (before after : Telling) (s : State) (frames : List Frame) (code : BodyFrame) (next : Next) (limit : Option LimitNo) → Opens h s frames before after (Some code) next → limit ≡ None
+    → ((g : Running) → BodyStands h s.objects.classes code g → opened_for g.owner ≡ 1 → MachineStands h sizes program machine (with_frames s (InBody g ∷ frames)))
+    → MoveAgrees h sizes program (move_by next limit) machine before after GoesCode
+body_opened h sizes program machine before after s frames _ _ limit (goes_wrong _) free pushed = tt
+body_opened h sizes program machine before after s frames _ _ limit (opens_body code g out stands one told) free pushed = moved h sizes program machine before after (out ∷ []) (with_frames s (InBody g ∷ frames)) limit free (pushed g stands one) told
 
 -- `delete`
 
-pub null_deleted : (h : Classes) (sizes : ClassId → ℕ) (program : TypedProgram) (machine : Machine) (outs : List Out) (at on : State) (v : Value) → v ≡ Null → MachineStands h sizes program machine on
+pub null_deleted : (h : Classes) (sizes : ClassId → ℕ) (program : TypedProgram) (machine : Machine) (outs : Telling) (at on : State) (v : Value) → v ≡ Null → MachineStands h sizes program machine on
     → MoveAgrees h sizes program (move_by (deleted h program on v) (limit_of sizes at (delete_demand v))) machine outs outs GoesCode
 null_deleted h sizes program machine outs at on v is stands =
-    subst (λ x. MoveAgrees h sizes program (move_by (deleted h program on x) (limit_of sizes at (delete_demand x))) machine outs outs GoesCode) (sym is) (refl, stands, sym (append-nil outs))
+    subst (λ x. MoveAgrees h sizes program (move_by (deleted h program on x) (limit_of sizes at (delete_demand x))) machine outs outs GoesCode) (sym is) (refl, stands, nothing_more outs)
 
-pub object_deleted : (h : Classes) (sizes : ClassId → ℕ) (program : TypedProgram) (machine : Machine) (before after : List Out) (at on : State) (v : Value) (code : Part) (taken : NextCode) → EndsObject h on.objects.classes code v
+pub object_deleted : (h : Classes) (sizes : ClassId → ℕ) (program : TypedProgram) (machine : Machine) (before after : Telling) (at on : State) (v : Value) (code : Part) (taken : NextCode) → EndsObject h on.objects.classes code v
     → ((k : ℕ) (c : ClassId) → slice_get on.objects.classes k ≡ Some c → IsPart h on.objects.classes code (whole_part k c) → MoveAgrees h sizes program (move_by (object_ended h program on k (Some c)) (call_limit at)) machine before after taken)
     → MoveAgrees h sizes program (move_by (deleted h program on v) (limit_of sizes at (delete_demand v))) machine before after taken
 object_deleted h sizes program machine before after at on v code taken a moves =

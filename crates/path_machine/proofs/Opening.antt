@@ -19,8 +19,8 @@ use Rattle.path_model.specs.Values.{Value, Unset, Number, Null, Pointer, Sight, 
 use Rattle.path_model.specs.Outs.{location_of}
 use Rattle.path_model.specs.Uses.{arrow, views, is_shared_way, is_shared, goes_to, argument_uses, takes, receiver, call_uses}
 use Rattle.path_model.specs.Rules.{refused}
-use Rattle.path_model.specs.States.{Target, Frame, InBody, State, body_of, with_frames, entered}
-use Rattle.path_model.specs.Effects.{Goes, result_conversion, runs, body_entered, function_entered, called_at}
+use Rattle.path_model.specs.States.{Target, Frame, State, body_of, with_frames, entered}
+use Rattle.path_model.specs.Effects.{result_conversion, runs, body_entered, function_entered, called_at}
 use Rattle.path_model.specs.Runs.{opened_for}
 use Rattle.path_model.proofs.TypedBodies.{body_typed}
 use Rattle.path_heap.specs.declared.state.Value.{Value as ValueCode}
@@ -34,7 +34,9 @@ use Rattle.path_views.specs.declared.views.Found.{Found}
 use Rattle.path_views.specs.Views.{IsRun}
 use Rattle.path_effects.proofs.Clear.{clear_front, clear_back}
 use Rattle.path_frames.specs.Frames.{BodyStands}
-use Rattle.path_machine.specs.declared.openings.Opened.{Opened}
+use Rattle.path_frames.specs.declared.frames.BodyFrame.{BodyFrame}
+use Rattle.path_machine.specs.declared.telling.Telling.{Telling}
+use Rattle.path_machine.specs.Tellings.{TellsMore}
 use Rattle.path_machine.specs.invariants.Setups.{IsCalling}
 use Rattle.path_machine.specs.invariants.Openings.{Opens, goes_wrong, opens_body}
 
@@ -84,24 +86,23 @@ counted : (h : Classes) (program : TypedProgram) → IsTypedProgram h program �
 counted h program typed g body is = ap opened_for (body_typed h program typed (Function g) body is).0
 
 -- the function that runs has no body
-pub bodiless : (h : Classes) (program : TypedProgram) (s : State) (frames : List Frame) (values : List Value) (call : TypedCall) (target : Option Target) (code : Option Opened) (run : ObjectPart × FunctionId)
-    → body_of program (Function run.1) ≡ None → Opens h s frames code (body_entered h (with_frames s frames) values call target run (body_of program (Function run.1)))
-bodiless h program s frames values call target code run is =
-    subst (λ b. Opens h s frames code (body_entered h (with_frames s frames) values call target run b)) (sym is) (goes_wrong code)
+pub bodiless : (h : Classes) (program : TypedProgram) (s : State) (frames : List Frame) (before after : Telling) (values : List Value) (call : TypedCall) (target : Option Target) (code : Option BodyFrame) (run : ObjectPart × FunctionId)
+    → body_of program (Function run.1) ≡ None → Opens h s frames before after code (body_entered h (with_frames s frames) values call target run (body_of program (Function run.1)))
+bodiless h program s frames before after values call target code run is =
+    subst (λ b. Opens h s frames before after code (body_entered h (with_frames s frames) values call target run b)) (sym is) (goes_wrong code)
 
 -- the frame of a body for the one that the model enters
-pub record EntersBody (h : Classes) (s : State) (values : List Value) (call : TypedCall) (target : Option Target) (run : ObjectPart × FunctionId) (body : TypedBody) (code : Opened) : Type 0 where
-  pub stands : BodyStands h s.objects.classes code.frame (entered body (Pointer run.0) values (result_conversion h (return_of h run.1) (return_of h call.function)) target)
-  pub told : code.told ≡ CallOut run.1 (location_of s.objects run.0)
+pub record EntersBody (h : Classes) (s : State) (before after : Telling) (values : List Value) (call : TypedCall) (target : Option Target) (run : ObjectPart × FunctionId) (body : TypedBody) (code : BodyFrame) : Type 0 where
+  pub stands : BodyStands h s.objects.classes code (entered body (Pointer run.0) values (result_conversion h (return_of h run.1) (return_of h call.function)) target)
+  pub told : TellsMore before after (CallOut run.1 (location_of s.objects run.0) ∷ [])
 
-pub enters : (h : Classes) (program : TypedProgram) → IsTypedProgram h program → (s : State) (frames : List Frame) (values : List Value) (call : TypedCall) (target : Option Target) (code : Opened) (run : ObjectPart × FunctionId) (body : TypedBody)
-    → body_of program (Function run.1) ≡ Some body → EntersBody h s values call target run body code
-    → Opens h s frames (Some code) (body_entered h (with_frames s frames) values call target run (body_of program (Function run.1)))
-enters h program typed s frames values call target code run body is a =
+pub enters : (h : Classes) (program : TypedProgram) → IsTypedProgram h program → (s : State) (frames : List Frame) (before after : Telling) (values : List Value) (call : TypedCall) (target : Option Target) (code : BodyFrame) (run : ObjectPart × FunctionId) (body : TypedBody)
+    → body_of program (Function run.1) ≡ Some body → EntersBody h s before after values call target run body code
+    → Opens h s frames before after (Some code) (body_entered h (with_frames s frames) values call target run (body_of program (Function run.1)))
+enters h program typed s frames before after values call target code run body is a =
     let g = entered body (Pointer run.0) values (result_conversion h (return_of h run.1) (return_of h call.function)) target in
-    subst (λ b. Opens h s frames (Some code) (body_entered h (with_frames s frames) values call target run b)) (sym is)
-    (subst (λ out. Opens h s frames (Some code) (Goes (with_frames s (InBody g ∷ frames)) (out ∷ []))) a.told
-    (opens_body code g a.stands (counted h program typed run.1 body is)))
+    subst (λ b. Opens h s frames before after (Some code) (body_entered h (with_frames s frames) values call target run b)) (sym is)
+    (opens_body code g (CallOut run.1 (location_of s.objects run.0)) a.stands (counted h program typed run.1 body is) a.told)
 
 none_is_one : (n : ℕ) → n ≡ 0 → n ≡ 1 → ⊥
 none_is_one n a b = omega arith
@@ -112,22 +113,22 @@ not_main h program typed g body is main = none_is_one (opened_for body.owner) (a
 
 -- what runs, and on which part
 
-pub nothing_runs : (h : Classes) (program : TypedProgram) (s : State) (frames : List Frame) (values : List Value) (call : TypedCall) (target : Option Target) (run : Option (ObjectPart × FunctionId)) → IsRun h s.objects.classes None run
-    → Opens h s frames None (function_entered h program (with_frames s frames) values call target run)
-nothing_runs h program s frames values call target None a = goes_wrong None
-nothing_runs h program s frames values call target (Some run) a = absurd a
+pub nothing_runs : (h : Classes) (program : TypedProgram) (s : State) (frames : List Frame) (before after : Telling) (values : List Value) (call : TypedCall) (target : Option Target) (run : Option (ObjectPart × FunctionId)) → IsRun h s.objects.classes None run
+    → Opens h s frames before after None (function_entered h program (with_frames s frames) values call target run)
+nothing_runs h program s frames before after values call target None a = goes_wrong None
+nothing_runs h program s frames before after values call target (Some run) a = absurd a
 
-pub something_runs : (h : Classes) (program : TypedProgram) (s : State) (frames : List Frame) (values : List Value) (call : TypedCall) (target : Option Target) (code : Option Opened) (found : Found) (run : Option (ObjectPart × FunctionId)) → IsRun h s.objects.classes (Some found) run
-    → ((r : ObjectPart × FunctionId) → Points h s.objects.classes found.this r.0 → found.function ≡ r.1 → Opens h s frames code (body_entered h (with_frames s frames) values call target r (body_of program (Function r.1))))
-    → Opens h s frames code (function_entered h program (with_frames s frames) values call target run)
-something_runs h program s frames values call target code found None a next = absurd a
-something_runs h program s frames values call target code found (Some run) a next = next run a.0 a.1
+pub something_runs : (h : Classes) (program : TypedProgram) (s : State) (frames : List Frame) (before after : Telling) (values : List Value) (call : TypedCall) (target : Option Target) (code : Option BodyFrame) (found : Found) (run : Option (ObjectPart × FunctionId)) → IsRun h s.objects.classes (Some found) run
+    → ((r : ObjectPart × FunctionId) → Points h s.objects.classes found.this r.0 → found.function ≡ r.1 → Opens h s frames before after code (body_entered h (with_frames s frames) values call target r (body_of program (Function r.1))))
+    → Opens h s frames before after code (function_entered h program (with_frames s frames) values call target run)
+something_runs h program s frames before after values call target code found None a next = absurd a
+something_runs h program s frames before after values call target code found (Some run) a next = next run a.0 a.1
 
 -- a call through something that is no pointer is wrong
-pub through : (h : Classes) (program : TypedProgram) (s : State) (frames : List Frame) (values : List Value) (call : TypedCall) (target : Option Target) (code : Option Opened) (v : Value)
-    → ((p : ObjectPart) → v ≡ Pointer p → Opens h s frames code (function_entered h program (with_frames s frames) values call target (runs h s.objects call p)))
-    → Opens h s frames code (called_at h program (with_frames s frames) values call target v)
-through h program s frames values call target code Unset next = goes_wrong code
-through h program s frames values call target code (Number z) next = goes_wrong code
-through h program s frames values call target code Null next = goes_wrong code
-through h program s frames values call target code (Pointer p) next = next p refl
+pub through : (h : Classes) (program : TypedProgram) (s : State) (frames : List Frame) (before after : Telling) (values : List Value) (call : TypedCall) (target : Option Target) (code : Option BodyFrame) (v : Value)
+    → ((p : ObjectPart) → v ≡ Pointer p → Opens h s frames before after code (function_entered h program (with_frames s frames) values call target (runs h s.objects call p)))
+    → Opens h s frames before after code (called_at h program (with_frames s frames) values call target v)
+through h program s frames before after values call target code Unset next = goes_wrong code
+through h program s frames before after values call target code (Number z) next = goes_wrong code
+through h program s frames before after values call target code Null next = goes_wrong code
+through h program s frames before after values call target code (Pointer p) next = next p refl

@@ -1,5 +1,5 @@
 -- How a plan goes on behind an event.
-use Rattle.std.proofs.Common.{◌≡◌, ℕ, ◌+◌, ◌-◌, Bool, true, false, Option, Some, None, List, [], ◌∷◌, ◌++◌, length, refl, ap, subst, sym, ◌∙◌, arith}
+use Rattle.std.proofs.Common.{◌≡◌, ℕ, ◌+◌, ◌-◌, Bool, true, false, Option, Some, None, List, [], ◌∷◌, length, refl, ap, subst, sym, ◌∙◌, arith}
 use Rattle.std.specs.Prelude.{replicate, if◌then◌else◌}
 use Rattle.std.specs.List.{AllZip, fold}
 use Rattle.cxx_hierarchy.specs.declared.records.ClassId.{ClassId}
@@ -48,6 +48,8 @@ use Rattle.path_machine.specs.invariants.Setups.{IsPlanTaken, IsPlanNext}
 use Rattle.path_machine.specs.invariants.Events.{body_part, with_events, Happens, Tells, CanEnd, Resumes, Enters}
 use Rattle.path_machine.proofs.Happening.{part_class, half_begun}
 use Rattle.path_machine.proofs.Opening.{unset_mean}
+use Rattle.path_machine.specs.declared.telling.Telling.{Telling}
+use Rattle.path_machine.specs.Tellings.{TellsMore}
 
 -- frames
 
@@ -161,8 +163,8 @@ resumes_body h program old new frame code part next is means enters sizes s f (x
     subst (λ (y : Event). IsPlanTaken h sizes program old frame s (with_events f (y ∷ events)) below → StepAgrees h sizes program (resumed program s f below outs (y ∷ events)) new before after next) (sym b.is)
     (λ taken. enters sizes s f b.p events below outs before after taken b.named e) t
 
-plan_waits : (h : Classes) (sizes : ClassId → ℕ) (program : TypedProgram) (s : State) (f : Planned) (below : List Frame) (outs : List Out) (code : PlanEvent) (x : Event) (events : List Event) (new : Machine) (before after : List Out)
-    → body_part code ≡ None → IsEvent h program s.objects.classes code x → MachineStands h sizes program new (with_frames s (plan_left f (x ∷ events) ∷ below)) → after ≡ before ++ outs → StepAgrees h sizes program (resumed program s f below outs (x ∷ events)) new before after GoesCode
+plan_waits : (h : Classes) (sizes : ClassId → ℕ) (program : TypedProgram) (s : State) (f : Planned) (below : List Frame) (outs : List Out) (code : PlanEvent) (x : Event) (events : List Event) (new : Machine) (before after : Telling)
+    → body_part code ≡ None → IsEvent h program s.objects.classes code x → MachineStands h sizes program new (with_frames s (plan_left f (x ∷ events) ∷ below)) → TellsMore before after outs → StepAgrees h sizes program (resumed program s f below outs (x ∷ events)) new before after GoesCode
 plan_waits h sizes program s f below outs _ _ events new before after is (begins_event code p a) stands e = (refl, stands, e)
 plan_waits h sizes program s f below outs _ _ events new before after is (ready_event code p a) stands e = (refl, stands, e)
 plan_waits h sizes program s f below outs _ _ events new before after is (init_event code m p a some) stands e = (refl, stands, e)
@@ -229,7 +231,7 @@ can_end h program s f e events c last next none =
 
 -- the step
 
-event_is : (h : Classes) (sizes : ClassId → ℕ) (program : TypedProgram) (s : State) (f : Planned) (below : List Frame) (e : Event) (events : List Event) (new : Machine) (before after : List Out) (next : NextCode)
+event_is : (h : Classes) (sizes : ClassId → ℕ) (program : TypedProgram) (s : State) (f : Planned) (below : List Frame) (e : Event) (events : List Event) (new : Machine) (before after : Telling) (next : NextCode)
     → StepAgrees h sizes program (resumed program (with_objects s (objects_after program s.objects e)) f below (event_outs s.objects e) events) new before after next → StepAgrees h sizes program (event_step program s f below (e ∷ events)) new before after next
 event_is h sizes program s f below (Begin p) events new before after next a = a
 event_is h sizes program s f below (Ready p) events new before after next a = a
@@ -241,11 +243,11 @@ event_is h sizes program s f below (Bases p) events new before after next a = a
 event_is h sizes program s f below (End p) events new before after next a = a
 
 -- the step of the frame's plan with these events
-abbrev Steps : Classes → TypedProgram → (old new : Machine) → PlanFrame → (before after : List Out) → NextCode → List Event → Type 0
+abbrev Steps : Classes → TypedProgram → (old new : Machine) → PlanFrame → (before after : Telling) → NextCode → List Event → Type 0
 Steps h program old new frame before after next events = (sizes : ClassId → ℕ) (s : State) (f : Planned) (below : List Frame) →
     IsPlanTaken h sizes program old frame s (with_events f events) below → IsPlanNext h s (with_events f events) frame.whole.class → StepAgrees h sizes program (event_step program s f below events) new before after next
 
-steps_by : (h : Classes) (program : TypedProgram) (old mid new : Machine) (frame : PlanFrame) (plan : PlanCode) (code : PlanEvent) (before after : List Out) (next : NextCode) → Upcoming h program frame.plan (Some code) → Tells h program old code before after → Happens h program old mid code
+steps_by : (h : Classes) (program : TypedProgram) (old mid new : Machine) (frame : PlanFrame) (plan : PlanCode) (code : PlanEvent) (before after : Telling) (next : NextCode) → Upcoming h program frame.plan (Some code) → Tells h program old code before after → Happens h program old mid code
     → Advances h program frame.plan plan → Resumes h program mid new (moved frame plan) next → (events : List Event) → Steps h program old new frame before after next events
 steps_by h program old mid new frame plan code before after next means tells happens advances resumes [] sizes s f below t n = tt
 steps_by h program old mid new frame plan code before after next means tells happens advances resumes (e ∷ events) sizes s f below t n =
@@ -257,15 +259,15 @@ steps_by h program old mid new frame plan code before after next means tells hap
     event_is h sizes program s f below e events new before after next
     (resumes sizes x f events below (event_outs s.objects e) before after taken (can_end h program s f e events frame.whole.class t.plan_stands.ends_whole n) told)
 
-pub steps : (h : Classes) (program : TypedProgram) (old mid new : Machine) (frame : PlanFrame) (plan : PlanCode) (code : PlanEvent) (before after : List Out) (next : NextCode) → Upcoming h program frame.plan (Some code) → Tells h program old code before after → Happens h program old mid code
+pub steps : (h : Classes) (program : TypedProgram) (old mid new : Machine) (frame : PlanFrame) (plan : PlanCode) (code : PlanEvent) (before after : Telling) (next : NextCode) → Upcoming h program frame.plan (Some code) → Tells h program old code before after → Happens h program old mid code
     → Advances h program frame.plan plan → Resumes h program mid new (moved frame plan) next → (sizes : ClassId → ℕ) (s : State) (f : Planned) (below : List Frame) → IsPlanTaken h sizes program old frame s f below → IsPlanNext h s f frame.whole.class → StepAgrees h sizes program (event_step program s f below f.events) new before after next
 steps h program old mid new frame plan code before after next means tells happens advances resumes sizes s f below t n = steps_by h program old mid new frame plan code before after next means tells happens advances resumes f.events sizes s f below t n
 
 -- a plan without events takes no step
-no_event : (h : Classes) (sizes : ClassId → ℕ) (program : TypedProgram) (s : State) (f : Planned) (below : List Frame) (events : List Event) (machine : Machine) (outs : List Out) (next : NextCode) → MeansNext h program s.objects.classes None events → StepAgrees h sizes program (event_step program s f below events) machine outs outs next
+no_event : (h : Classes) (sizes : ClassId → ℕ) (program : TypedProgram) (s : State) (f : Planned) (below : List Frame) (events : List Event) (machine : Machine) (outs : Telling) (next : NextCode) → MeansNext h program s.objects.classes None events → StepAgrees h sizes program (event_step program s f below events) machine outs outs next
 no_event h sizes program s f below [] machine outs next none = tt
 no_event h sizes program s f below (e ∷ events) machine outs next none = absurd none
 
-pub steps_none : (h : Classes) (program : TypedProgram) (machine : Machine) (frame : PlanFrame) (outs : List Out) (next : NextCode) → Upcoming h program frame.plan None
+pub steps_none : (h : Classes) (program : TypedProgram) (machine : Machine) (frame : PlanFrame) (outs : Telling) (next : NextCode) → Upcoming h program frame.plan None
     → (sizes : ClassId → ℕ) (s : State) (f : Planned) (below : List Frame) → IsPlanTaken h sizes program machine frame s f below → IsPlanNext h s f frame.whole.class → StepAgrees h sizes program (event_step program s f below f.events) machine outs outs next
 steps_none h program machine frame outs next means sizes s f below t n = no_event h sizes program s f below f.events machine outs next (means s.objects.classes f.events t.plan_stands.plan_stands)

@@ -11,7 +11,6 @@ use Rattle.cxx_program.specs.declared.statement.TypedCall.{TypedCall}
 use Rattle.cxx_program.specs.declared.statement.TypedKind.{TypedKind}
 use Rattle.cxx_program.specs.declared.statement.TypedKind.TheVariants.{Declare, Assign, Call, Delete}
 use Rattle.cxx_program.specs.Typed.{Scope, IsConverted, IsTyped, declares, begins, assigns, writes, copies, calls, deletes, branches, repeats, returns_nothing, returns_value, prints, prints_type, prints_view, dumps}
-use Rattle.path_model.specs.declared.outs.Out.{Out}
 use Rattle.path_model.specs.States.{Running, Frame, InBody, State, sight, at_statement, with_frames}
 use Rattle.path_model.specs.Effects.{kind_effect}
 use Rattle.path_model.specs.Runs.{asks_nothing, demand_of, limit_of, move_by}
@@ -22,6 +21,7 @@ use Rattle.path_machine.specs.declared.next.Next.{Next as NextCode}
 use Rattle.path_machine.specs.invariants.Steps.{IsClear, StepAgrees, MoveAgrees}
 use Rattle.path_machine.specs.invariants.Setups.{IsTaking, IsDeclaring, IsCalling, IsDeleting}
 use Rattle.path_machine.proofs.Effecting.{unlimited}
+use Rattle.path_machine.specs.declared.telling.Telling.{Telling}
 
 -- what is typed of a right side
 
@@ -83,16 +83,16 @@ abbrev pub gone_on : State → Running → List Frame → ℕ → State
 gone_on s f below next = with_frames s (InBody (at_statement f next) ∷ below)
 
 -- what the code has to do for a statement of this kind
-abbrev pub Does : Classes → (ClassId → ℕ) → TypedProgram → State → Running → List Frame → (n next : ℕ) → Machine → (before after : List Out) → NextCode → TypedKind → Type 0
+abbrev pub Does : Classes → (ClassId → ℕ) → TypedProgram → State → Running → List Frame → (n next : ℕ) → Machine → (before after : Telling) → NextCode → TypedKind → Type 0
 Does h sizes program s f below n next new before after code kind =
     MoveAgrees h sizes program (move_by (kind_effect h program (sight s f) (gone_on s f below next) f below n next kind) (limit_of sizes (with_frames s (InBody f ∷ below)) (demand_of (sight s f) kind))) new before after code
 
-pub does_by : (h : Classes) (sizes : ClassId → ℕ) (program : TypedProgram) (e : Scope) (s : State) (f : Running) (below : List Frame) (n next : ℕ) (new : Machine) (before after : List Out) (code : NextCode) (kind k : TypedKind) → kind ≡ k → IsClear h e s f kind →
+pub does_by : (h : Classes) (sizes : ClassId → ℕ) (program : TypedProgram) (e : Scope) (s : State) (f : Running) (below : List Frame) (n next : ℕ) (new : Machine) (before after : Telling) (code : NextCode) (kind k : TypedKind) → kind ≡ k → IsClear h e s f kind →
     (IsClear h e s f k → Does h sizes program s f below n next new before after code k) → Does h sizes program s f below n next new before after code kind
 does_by h sizes program e s f below n next new before after code kind k is clear does = subst (λ x. Does h sizes program s f below n next new before after code x) (sym is) (does (subst (IsClear h e s f) is clear))
 
 -- a kind that asks for nothing
-pub does_plain : (h : Classes) (sizes : ClassId → ℕ) (program : TypedProgram) (e : Scope) (s : State) (f : Running) (below : List Frame) (n next : ℕ) (new : Machine) (before after : List Out) (code : NextCode) (kind k : TypedKind) → kind ≡ k → IsClear h e s f kind → demand_of (sight s f) k ≡ asks_nothing →
+pub does_plain : (h : Classes) (sizes : ClassId → ℕ) (program : TypedProgram) (e : Scope) (s : State) (f : Running) (below : List Frame) (n next : ℕ) (new : Machine) (before after : Telling) (code : NextCode) (kind k : TypedKind) → kind ≡ k → IsClear h e s f kind → demand_of (sight s f) k ≡ asks_nothing →
     (IsClear h e s f k → StepAgrees h sizes program (kind_effect h program (sight s f) (gone_on s f below next) f below n next k) new before after code) → Does h sizes program s f below n next new before after code kind
 does_plain h sizes program e s f below n next new before after code kind k is clear none does =
     does_by h sizes program e s f below n next new before after code kind k is clear (λ a.

@@ -1,11 +1,10 @@
 -- A turn of the machine, by what the step of the frame on top came to.
-use Rattle.std.proofs.Common.{◌≡◌, ◌<◌, ◌≤◌, ℕ, ◌+◌, Some, None, List, [], ◌∷◌, ◌++◌, refl, ap, subst, sym, ◌∙◌, arith}
+use Rattle.std.proofs.Common.{◌≡◌, ◌<◌, ◌≤◌, ℕ, ◌+◌, Some, None, List, [], ◌∷◌, refl, ap, subst, sym, ◌∙◌, arith}
 use Rattle.cxx_hierarchy.specs.declared.records.ClassId.{ClassId}
 use Rattle.cxx_hierarchy.specs.Classes.{Classes}
 use Rattle.cxx_hierarchy.specs.declared.stop.LimitNo.{LimitNo}
 use Rattle.path_rules.specs.declared.Undefined.{Undefined}
 use Rattle.cxx_program.specs.declared.program.TypedProgram.{TypedProgram}
-use Rattle.path_model.specs.declared.outs.Out.{Out}
 use Rattle.path_model.specs.declared.outs.Turn.{Turn}
 use Rattle.path_model.specs.declared.outs.Turn.TheVariants.{Went, Ended, Refused, OutOfSteps as IsOutOfSteps, Limit}
 use Rattle.path_plan.specs.Phases.{Event}
@@ -27,17 +26,19 @@ use Rattle.path_machine.specs.invariants.Ends.{IsFinished}
 use Rattle.path_machine.specs.invariants.Setups.{IsStateNext}
 use Rattle.path_machine.specs.invariants.Steps.{MoveAgrees}
 use Rattle.path_machine.proofs.Running.{GoesOn, ran, runs_longer, state_is, spent, ended_by}
+use Rattle.path_machine.specs.declared.telling.Telling.{Telling}
+use Rattle.path_machine.specs.Tellings.{TellsMore}
 
 -- the machine after a step that was taken
 abbrev pub onward : PathState → Machine → Answers → PathState
 onward before machine answers = record { machine = machine; answers = answers; taken = before.taken + 1; budget = before.budget; end = before.end }
 
 -- what a step that was taken gives
-pub record Steps (h : Classes) (sizes : ClassId → ℕ) (program : TypedProgram) (before : PathState) (machine : Machine) (answers : Answers) (told telling : List Out) : Type 0 where
+pub record Steps (h : Classes) (sizes : ClassId → ℕ) (program : TypedProgram) (before : PathState) (machine : Machine) (answers : Answers) (told telling : Telling) : Type 0 where
   pub at : IsAtStep h sizes program (onward before machine answers)
-  pub tells : telling ≡ told ++ outs_in (move h sizes program (state_at h sizes program before.taken))
+  pub tells : TellsMore told telling (outs_in (move h sizes program (state_at h sizes program before.taken)))
 
-steps_by : (h : Classes) (sizes : ClassId → ℕ) (program : TypedProgram) (before : PathState) (machine : Machine) (answers : Answers) (told telling : List Out) (m : Move) → move h sizes program (state_at h sizes program before.taken) ≡ m → (m ≡ IsWrong → ⊥) →
+steps_by : (h : Classes) (sizes : ClassId → ℕ) (program : TypedProgram) (before : PathState) (machine : Machine) (answers : Answers) (told telling : Telling) (m : Move) → move h sizes program (state_at h sizes program before.taken) ≡ m → (m ≡ IsWrong → ⊥) →
     IsAtStep h sizes program before → before.taken < before.budget → AreAnswers h answers → MoveAgrees h sizes program m machine told telling GoesCode → Steps h sizes program before machine answers told telling
 steps_by h sizes program before machine answers told telling (IsRefused rule line) is right a lt right_answers g = absurd (let f : GoesCode ≡ RefusesCode rule line = g.0 in cc)
 steps_by h sizes program before machine answers told telling (IsLimited limit) is right a lt right_answers g = absurd (let f : GoesCode ≡ Limited limit = g.0 in cc)
@@ -50,17 +51,17 @@ steps_by h sizes program before machine answers told telling (Moves s outs) is r
     within = omega arith;
     answers_right = right_answers;
   };
-  tells = tells ∙ ap (λ m. told ++ outs_in m) (sym is);
+  tells = subst (λ m. TellsMore told telling (outs_in m)) (sym is) tells;
 }
 
 -- a step that was taken
-pub steps : (h : Classes) (sizes : ClassId → ℕ) (program : TypedProgram) (before : PathState) (machine : Machine) (answers : Answers) (told telling : List Out) (next : NextCode) → next ≡ GoesCode → (move h sizes program (state_at h sizes program before.taken) ≡ IsWrong → ⊥) →
+pub steps : (h : Classes) (sizes : ClassId → ℕ) (program : TypedProgram) (before : PathState) (machine : Machine) (answers : Answers) (told telling : Telling) (next : NextCode) → next ≡ GoesCode → (move h sizes program (state_at h sizes program before.taken) ≡ IsWrong → ⊥) →
     IsAtStep h sizes program before → before.taken < before.budget → AreAnswers h answers → MoveAgrees h sizes program (move h sizes program (state_at h sizes program before.taken)) machine told telling next → Steps h sizes program before machine answers told telling
 steps h sizes program before machine answers told telling next same right a lt right_answers g =
     steps_by h sizes program before machine answers told telling (move h sizes program (state_at h sizes program before.taken)) refl right a lt right_answers (subst (MoveAgrees h sizes program (move h sizes program (state_at h sizes program before.taken)) machine told telling) same g)
 
 -- no step goes wrong
-pub wrong_never : (h : Classes) (sizes : ClassId → ℕ) (program : TypedProgram) (machine : Machine) (told telling : List Out) (m : Move) (next : NextCode) → next ≡ WrongCode → (m ≡ IsWrong → ⊥) → MoveAgrees h sizes program m machine told telling next → ⊥
+pub wrong_never : (h : Classes) (sizes : ClassId → ℕ) (program : TypedProgram) (machine : Machine) (told telling : Telling) (m : Move) (next : NextCode) → next ≡ WrongCode → (m ≡ IsWrong → ⊥) → MoveAgrees h sizes program m machine told telling next → ⊥
 wrong_never h sizes program machine told telling (IsRefused rule line) next same right g = let f : WrongCode ≡ RefusesCode rule line = sym same ∙ g.0 in cc
 wrong_never h sizes program machine told telling (IsLimited limit) next same right g = let f : WrongCode ≡ Limited limit = sym same ∙ g.0 in cc
 wrong_never h sizes program machine told telling IsOver next same right g = let f : WrongCode ≡ EndsCode = sym same ∙ g.0 in cc
@@ -68,7 +69,7 @@ wrong_never h sizes program machine told telling IsWrong next same right g = rig
 wrong_never h sizes program machine told telling (Moves s outs) next same right g = let f : WrongCode ≡ GoesCode = sym same ∙ g.0 in cc
 
 -- the run behind the machine's steps, ended by this answer after `more` steps more
-pub record Ends (h : Classes) (sizes : ClassId → ℕ) (program : TypedProgram) (before : PathState) (turn : Turn) (more : ℕ) (told telling : List Out) : Type 0 where
+pub record Ends (h : Classes) (sizes : ClassId → ℕ) (program : TypedProgram) (before : PathState) (turn : Turn) (more : ℕ) (told telling : Telling) : Type 0 where
   pub run : run_of h sizes program before.budget ≡ ran (outs_at h sizes program before.taken) (ending_of turn) (before.taken + more)
   pub same : telling ≡ told
 
@@ -76,11 +77,11 @@ none_more : (k : ℕ) → k ≡ k + 0
 none_more k = omega arith
 
 -- the budget is spent
-pub no_steps : (h : Classes) (sizes : ClassId → ℕ) (program : TypedProgram) (before : PathState) (told : List Out) → GoesOn h sizes program → IsAtStep h sizes program before → before.budget ≤ before.taken → Ends h sizes program before IsOutOfSteps 0 told told
+pub no_steps : (h : Classes) (sizes : ClassId → ℕ) (program : TypedProgram) (before : PathState) (told : Telling) → GoesOn h sizes program → IsAtStep h sizes program before → before.budget ≤ before.taken → Ends h sizes program before IsOutOfSteps 0 told told
 no_steps h sizes program before told goes a le = record { run = spent h sizes program before.taken before.budget goes a.running a.within le ∙ ap (ran (outs_at h sizes program before.taken) (ending_of IsOutOfSteps)) (none_more before.taken); same = refl }
 
 -- the run is over
-pub overs : (h : Classes) (sizes : ClassId → ℕ) (program : TypedProgram) (before : PathState) (machine : Machine) (told telling : List Out) (m : Move) (next : NextCode) → move h sizes program (state_at h sizes program before.taken) ≡ m → next ≡ EndsCode → (m ≡ IsWrong → ⊥) →
+pub overs : (h : Classes) (sizes : ClassId → ℕ) (program : TypedProgram) (before : PathState) (machine : Machine) (told telling : Telling) (m : Move) (next : NextCode) → move h sizes program (state_at h sizes program before.taken) ≡ m → next ≡ EndsCode → (m ≡ IsWrong → ⊥) →
     GoesOn h sizes program → IsAtStep h sizes program before → before.taken < before.budget → MoveAgrees h sizes program m machine told telling next → Ends h sizes program before Ended 1 told telling
 overs h sizes program before machine told telling (IsRefused rule line) next is same right goes a lt g = absurd (let f : EndsCode ≡ RefusesCode rule line = sym same ∙ g.0 in cc)
 overs h sizes program before machine told telling (IsLimited limit) next is same right goes a lt g = absurd (let f : EndsCode ≡ Limited limit = sym same ∙ g.0 in cc)
@@ -89,7 +90,7 @@ overs h sizes program before machine told telling (Moves s outs) next is same ri
 overs h sizes program before machine told telling IsOver next is same right goes a lt g = record { run = ended_by h sizes program before.taken before.budget IsOver (ending_of Ended) 1 goes a.running lt is (λ rest. refl); same = g.1 }
 
 -- a rule refuses the step
-pub refuses : (h : Classes) (sizes : ClassId → ℕ) (program : TypedProgram) (before : PathState) (machine : Machine) (told telling : List Out) (m : Move) (next : NextCode) (rule : Undefined) (line : ℕ) → move h sizes program (state_at h sizes program before.taken) ≡ m → next ≡ RefusesCode rule line → (m ≡ IsWrong → ⊥) →
+pub refuses : (h : Classes) (sizes : ClassId → ℕ) (program : TypedProgram) (before : PathState) (machine : Machine) (told telling : Telling) (m : Move) (next : NextCode) (rule : Undefined) (line : ℕ) → move h sizes program (state_at h sizes program before.taken) ≡ m → next ≡ RefusesCode rule line → (m ≡ IsWrong → ⊥) →
     GoesOn h sizes program → IsAtStep h sizes program before → before.taken < before.budget → MoveAgrees h sizes program m machine told telling next → Ends h sizes program before (Refused rule line) 0 told telling
 refuses h sizes program before machine told telling (IsLimited limit) next rule line is same right goes a lt g = absurd (let f : RefusesCode rule line ≡ Limited limit = sym same ∙ g.0 in cc)
 refuses h sizes program before machine told telling IsOver next rule line is same right goes a lt g = absurd (let f : RefusesCode rule line ≡ EndsCode = sym same ∙ g.0 in cc)
@@ -102,7 +103,7 @@ refuses h sizes program before machine told telling (IsRefused rule2 line2) next
     record { run = ended_by h sizes program before.taken before.budget (IsRefused rule2 line2) (ending_of (Refused rule line)) 0 goes a.running lt is (λ rest. ap (λ x. ran [] (ending_of (Refused x line2)) 0) (sym e1) ∙ ap (λ x. ran [] (ending_of (Refused rule x)) 0) (sym e2)); same = g.1 }
 
 -- the step would pass a limit
-pub limits : (h : Classes) (sizes : ClassId → ℕ) (program : TypedProgram) (before : PathState) (machine : Machine) (told telling : List Out) (m : Move) (next : NextCode) (limit : LimitNo) → move h sizes program (state_at h sizes program before.taken) ≡ m → next ≡ Limited limit → (m ≡ IsWrong → ⊥) →
+pub limits : (h : Classes) (sizes : ClassId → ℕ) (program : TypedProgram) (before : PathState) (machine : Machine) (told telling : Telling) (m : Move) (next : NextCode) (limit : LimitNo) → move h sizes program (state_at h sizes program before.taken) ≡ m → next ≡ Limited limit → (m ≡ IsWrong → ⊥) →
     GoesOn h sizes program → IsAtStep h sizes program before → before.taken < before.budget → MoveAgrees h sizes program m machine told telling next → Ends h sizes program before (Limit limit) 0 told telling
 limits h sizes program before machine told telling (IsRefused rule line) next limit is same right goes a lt g = absurd (let f : Limited limit ≡ RefusesCode rule line = sym same ∙ g.0 in cc)
 limits h sizes program before machine told telling IsOver next limit is same right goes a lt g = absurd (let f : Limited limit ≡ EndsCode = sym same ∙ g.0 in cc)
@@ -119,7 +120,7 @@ limits h sizes program before machine told telling (IsLimited limit2) next limit
 abbrev pub IsEnd : Turn → Type 0
 IsEnd turn = turn ≡ Went → ⊥
 
-ends_agree : (h : Classes) (sizes : ClassId → ℕ) (program : TypedProgram) (before after : PathState) (told telling : List Out) (turn : Turn) → IsEnd turn → (run_of h sizes program before.budget).outs ≡ outs_at h sizes program before.taken → after.budget ≡ before.budget → after.end ≡ Some turn → telling ≡ told →
+ends_agree : (h : Classes) (sizes : ClassId → ℕ) (program : TypedProgram) (before after : PathState) (told telling : Telling) (turn : Turn) → IsEnd turn → (run_of h sizes program before.budget).outs ≡ outs_at h sizes program before.taken → after.budget ≡ before.budget → after.end ≡ Some turn → telling ≡ told →
     TurnAgrees h sizes program before after told telling None turn
 ends_agree h sizes program before after told telling Went end outs budget is same = absurd (end refl)
 ends_agree h sizes program before after told telling Ended end outs budget is same = (outs, budget, is, same)
@@ -128,7 +129,7 @@ ends_agree h sizes program before after told telling IsOutOfSteps end outs budge
 ends_agree h sizes program before after told telling (Limit limit) end outs budget is same = (outs, budget, is, same)
 
 -- the run has ended with the answer, which is kept
-pub ends : (h : Classes) (sizes : ClassId → ℕ) (program : TypedProgram) (before middle after : PathState) (turn result : Turn) (more : ℕ) (told telling : List Out) → IsEnd turn → Ends h sizes program before turn more told telling →
+pub ends : (h : Classes) (sizes : ClassId → ℕ) (program : TypedProgram) (before middle after : PathState) (turn result : Turn) (more : ℕ) (told telling : Telling) → IsEnd turn → Ends h sizes program before turn more told telling →
     middle.budget ≡ before.budget → middle.taken ≡ before.taken + more → IsFinished middle after turn result → IsInRun h sizes program after (ended_with after) × TurnAgrees h sizes program before after told telling None result
 ends h sizes program before middle after turn result more told telling end a budget taken done =
     let runs : run_of h sizes program middle.budget ≡ ran (outs_at h sizes program before.taken) (ending_of turn) (before.taken + more) = ap (run_of h sizes program) budget ∙ a.run in (

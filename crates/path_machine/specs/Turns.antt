@@ -1,15 +1,16 @@
 -- When the machine is at a step of a run, and what a turn has to be.
-use Rattle.std.specs.Prelude.{◌≡◌, ◌≤◌, ℕ, ◌+◌, Option, Some, None, List, ◌++◌}
+use Rattle.std.specs.Prelude.{◌≡◌, ◌≤◌, ℕ, ◌+◌, Option, Some, None}
 use Rattle.cxx_hierarchy.specs.declared.records.ClassId.{ClassId}
 use Rattle.cxx_hierarchy.specs.Classes.{Classes}
 use Rattle.cxx_program.specs.declared.program.TypedProgram.{TypedProgram}
-use Rattle.path_model.specs.declared.outs.Out.{Out}
 use Rattle.path_model.specs.declared.outs.Turn.{Turn}
 use Rattle.path_model.specs.declared.outs.Turn.TheVariants.{Went, Ended, Refused, OutOfSteps as IsOutOfSteps, Limit}
 use Rattle.path_model.specs.Runs.{Ending, Done, UndefinedAt, OutOfSteps, LimitMet, WentWrong, IsRunning, move, outs_in, outs_at, run_of, state_at}
 use Rattle.path_tables.specs.Asked.{AreAnswers}
 use Rattle.path_frames.specs.Machines.{MachineStands}
 use Rattle.path_machine.specs.declared.state.PathState.{PathState}
+use Rattle.path_machine.specs.declared.telling.Telling.{Telling}
+use Rattle.path_machine.specs.Tellings.{TellsMore}
 
 -- the steps that were taken, the budget, and the answer that ended the run
 abbrev pub taken_by : PathState → ℕ
@@ -46,9 +47,9 @@ abbrev pub IsInRun : Classes → (ClassId → ℕ) → TypedProgram → PathStat
 IsInRun h sizes program state None = IsAtStep h sizes program state
 IsInRun h sizes program state (Some turn) = HasEnded h sizes program state turn
 
--- one turn from before to after: a step that was taken tells what the run's step tells; any other answer ends the run with all
+-- one turn from before to after: a step that was taken tells what the run's step tells, as far as it is to be told; any other answer ends the run with all
 -- that was told so far, and comes again
-abbrev pub TurnAgrees : Classes → (ClassId → ℕ) → TypedProgram → (before after : PathState) → (told telling : List Out) → Option Turn → Turn → Type 0
+abbrev pub TurnAgrees : Classes → (ClassId → ℕ) → TypedProgram → (before after : PathState) → (told telling : Telling) → Option Turn → Turn → Type 0
 TurnAgrees h sizes program before after told telling (Some end) turn = (turn ≡ end) × (after ≡ before) × (telling ≡ told)
-TurnAgrees h sizes program before after told telling None Went = (after.taken ≡ before.taken + 1) × (after.budget ≡ before.budget) × (after.end ≡ None) × (telling ≡ told ++ outs_in (move h sizes program (state_at h sizes program before.taken)))
+TurnAgrees h sizes program before after told telling None Went = (after.taken ≡ before.taken + 1) × (after.budget ≡ before.budget) × (after.end ≡ None) × TellsMore told telling (outs_in (move h sizes program (state_at h sizes program before.taken)))
 TurnAgrees h sizes program before after told telling None turn = ((run_of h sizes program before.budget).outs ≡ outs_at h sizes program before.taken) × (after.budget ≡ before.budget) × (after.end ≡ Some turn) × (telling ≡ told)

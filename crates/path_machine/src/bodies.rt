@@ -6,7 +6,7 @@ ghost use Rattle.cxx_hierarchy.specs.Classes.{Classes};
 ghost use Rattle.cxx_overrider.specs.Functions.{return_of};
 ghost use Rattle.cxx_program.specs.declared.program.TypedProgram.{TypedProgram};
 ghost use Rattle.cxx_program.specs.Typed.{Scope};
-ghost use Rattle.path_model.specs.declared.outs.Out.{Out};
+ghost use Rattle.path_machine.specs.declared.telling.Telling.{Telling};
 ghost use Rattle.path_model.specs.Values.{value};
 ghost use Rattle.path_model.specs.Rules.{returns_value, refusal};
 ghost use Rattle.path_model.specs.States.{Running, Frame as FrameOf, InBody, State, at_statement, sight, wanted, body_of, target_conversion, with_frames};
@@ -33,6 +33,7 @@ use crate::statements::{
     copy_object, leave, operand, print_dump, print_type, print_value, print_view, write_place,
 };
 use crate::taking::take;
+use crate::telling::Telling;
 use cxx_hierarchy::{Hierarchy, ReturnType};
 use cxx_overrider::FunctionId;
 use cxx_overrider::signatures::declaration;
@@ -42,7 +43,7 @@ use cxx_program::{
 use foundation::NoMemory;
 use path_frames::{BodyFrame, Frame, Machine, PlanFrame, Target, set};
 use path_heap::Value;
-use path_model::{OutList, refusal_is_least};
+use path_model::refusal_is_least;
 use path_refusals::refusal;
 use path_rules::Undefined;
 use path_tables::Answers;
@@ -64,7 +65,7 @@ fn choose(
     other: usize,
     behind: usize,
 ) -> Result<Next, NoMemory>
-    ensures { IfOk result (λ done. (h : Classes) (sizes : ClassId → ℕ) (program : TypedProgram) (s : State) (f : Running) (below : List FrameOf) (outs : List Out) → IsTaken h sizes program machine.old frame s f below → StepAgrees h sizes program (branched (with_frames s (InBody (at_statement f next) ∷ below)) (value (sight s f) x.now) (block_at after other next) (block_at other behind next)) machine.new outs outs done) }
+    ensures { IfOk result (λ done. (h : Classes) (sizes : ClassId → ℕ) (program : TypedProgram) (s : State) (f : Running) (below : List FrameOf) (outs : Telling) → IsTaken h sizes program machine.old frame s f below → StepAgrees h sizes program (branched (with_frames s (InBody (at_statement f next) ∷ below)) (value (sight s f) x.now) (block_at after other next) (block_at other behind next)) machine.new outs outs done) }
 {
     let v = operand(machine, &frame, x);
     let yes = block_at(after, other, next);
@@ -83,7 +84,7 @@ fn repeat(
     behind: usize,
     n: usize,
 ) -> Result<Next, NoMemory>
-    ensures { IfOk result (λ done. (h : Classes) (sizes : ClassId → ℕ) (program : TypedProgram) (s : State) (f : Running) (below : List FrameOf) (outs : List Out) → IsTaken h sizes program machine.old frame s f below → StepAgrees h sizes program (branched (with_frames s (InBody (at_statement f next) ∷ below)) (value (sight s f) x.now) (block_at after behind n) next) machine.new outs outs done) }
+    ensures { IfOk result (λ done. (h : Classes) (sizes : ClassId → ℕ) (program : TypedProgram) (s : State) (f : Running) (below : List FrameOf) (outs : Telling) → IsTaken h sizes program machine.old frame s f below → StepAgrees h sizes program (branched (with_frames s (InBody (at_statement f next) ∷ below)) (value (sight s f) x.now) (block_at after behind n) next) machine.new outs outs done) }
 {
     let v = operand(machine, &frame, x);
     let yes = block_at(after, behind, n);
@@ -96,7 +97,7 @@ fn declare(
     run: &Run,
     machine: &mut Machine,
     answers: &mut Answers,
-    outs: &mut OutList,
+    outs: &mut Telling,
     frame: BodyFrame,
     next: usize,
     n: usize,
@@ -138,7 +139,7 @@ fn effect(
     run: &Run,
     machine: &mut Machine,
     answers: &mut Answers,
-    outs: &mut OutList,
+    outs: &mut Telling,
     frame: BodyFrame,
     after: usize,
     statement: &TypedStatement,
@@ -272,7 +273,7 @@ fn statement_step(
     run: &Run,
     machine: &mut Machine,
     answers: &mut Answers,
-    outs: &mut OutList,
+    outs: &mut Telling,
     frame: BodyFrame,
     after: usize,
     statement: &TypedStatement,
@@ -315,7 +316,7 @@ fn has_result(h: &Hierarchy, g: FunctionId) -> bool
 
 /// The closing step of a function's body (ISO C++03 6.6.3 p2).
 fn close_function(h: &Hierarchy, g: FunctionId, line: u32) -> Next
-    ensures { (sizes : ClassId → ℕ) (program : TypedProgram) (machine : MachineOf) (s : State) (below : List FrameOf) (outs : List Out) → MachineStands h.now sizes program machine (with_frames s below) → StepAgrees h.now sizes program (function_closed h.now s g line below) machine outs outs result }
+    ensures { (sizes : ClassId → ℕ) (program : TypedProgram) (machine : MachineOf) (s : State) (below : List FrameOf) (outs : Telling) → MachineStands h.now sizes program machine (with_frames s below) → StepAgrees h.now sizes program (function_closed h.now s g line below) machine outs outs result }
 {
     refusal_is_least();
     if has_result(h, g) {
@@ -339,7 +340,7 @@ fn plan_in(frame: Option<Frame>) -> Option<PlanFrame>
 }
 
 /// The closing step of a constructor's body is the event behind it.
-fn close_constructor(run: &Run, machine: &mut Machine, outs: &mut OutList) -> Result<Next, NoMemory>
+fn close_constructor(run: &Run, machine: &mut Machine, outs: &mut Telling) -> Result<Next, NoMemory>
     requires setup { IsSetup run.now.world.h.now run.now.world.numbers.now run.now.world.overriders.now run.now.program.now run.now.index.now }
     ensures { IfOk result (λ done. (sizes : ClassId → ℕ) (s : State) (below : List FrameOf) →
         let h = run.now.world.h.now in
@@ -360,7 +361,7 @@ fn close_constructor(run: &Run, machine: &mut Machine, outs: &mut OutList) -> Re
 fn close(
     run: &Run,
     machine: &mut Machine,
-    outs: &mut OutList,
+    outs: &mut Telling,
     owner: Owner,
     line: u32,
 ) -> Result<Next, NoMemory>
@@ -396,7 +397,7 @@ pub(crate) fn body_step(
     run: &Run,
     machine: &mut Machine,
     answers: &mut Answers,
-    outs: &mut OutList,
+    outs: &mut Telling,
     frame: BodyFrame,
 ) -> Result<Next, NoMemory>
     requires setup { IsSetup run.now.world.h.now run.now.world.numbers.now run.now.world.overriders.now run.now.program.now run.now.index.now }

@@ -1,7 +1,7 @@
 //! Calls, `new` and `delete`: what opens a frame.
 
 ghost use Rattle.std.specs.Prelude.{◌≡◌, ◌<◌, ◌∷◌, ℕ, Some, List, IfOk, length, slice_get};
-ghost use Rattle.path_model.specs.declared.outs.Out.{Out};
+ghost use Rattle.path_machine.specs.declared.telling.Telling.{Telling};
 ghost use Rattle.cxx_hierarchy.specs.declared.records.ClassId.{ClassId};
 ghost use Rattle.cxx_program.specs.Typed.{Scope};
 ghost use Rattle.path_model.specs.Values.{value};
@@ -22,6 +22,7 @@ use crate::next::Next;
 use crate::openings::open_call;
 use crate::run::Run;
 use crate::scenes::scene_of;
+use crate::telling::Telling;
 use cxx_hierarchy::{ClassId, LimitNo};
 use cxx_program::{TypedCall, TypedOperand};
 use foundation::NoMemory;
@@ -29,7 +30,6 @@ use path_effects::deleted;
 use path_events::Plan;
 use path_frames::{BodyFrame, Frame, Machine, PlanFrame, Target};
 use path_heap::{Part, whole_at};
-use path_model::OutList;
 use path_tables::Answers;
 
 /// How many calls, `new` and `delete` may be open.
@@ -52,7 +52,7 @@ pub(crate) fn call_body(
     run: &Run,
     machine: &mut Machine,
     answers: &mut Answers,
-    outs: &mut OutList,
+    outs: &mut Telling,
     frame: BodyFrame,
     next: usize,
     call: &TypedCall,
@@ -74,12 +74,20 @@ pub(crate) fn call_body(
     }
     let depth = frame.depth + 1;
     let scene = scene_of(machine, &frame);
-    match open_call(run, &machine.heap, answers, &scene, call, target, depth)? {
+    match open_call(
+        run,
+        &machine.heap,
+        answers,
+        outs,
+        &scene,
+        call,
+        target,
+        depth,
+    )? {
         None => Ok(Next::Wrong),
         Some(opened) => {
-            outs.push(opened.told)?;
             go_on(machine, frame, next)?;
-            machine.push(Frame::Body(opened.frame))?;
+            machine.push(Frame::Body(opened))?;
             Ok(Next::Goes)
         }
     }
@@ -97,7 +105,7 @@ pub(crate) fn new_object(
     target: Option<Target>,
 ) -> Result<Next, NoMemory>
     requires setup { IsSetup run.now.world.h.now run.now.world.numbers.now run.now.world.overriders.now run.now.program.now run.now.index.now }
-    ensures { IfOk result (λ taken. (s : State) (f : Running) (below : List FrameOf) (outs : List Out) →
+    ensures { IfOk result (λ taken. (s : State) (f : Running) (below : List FrameOf) (outs : Telling) →
         let h = run.now.world.h.now in
         let program = run.now.program.now in
         let sizes = size_in run.now.sizes.now in
@@ -133,7 +141,7 @@ pub(crate) fn delete_object(
     pointer: &TypedOperand,
 ) -> Result<Next, NoMemory>
     requires setup { IsSetup run.now.world.h.now run.now.world.numbers.now run.now.world.overriders.now run.now.program.now run.now.index.now }
-    ensures { IfOk result (λ taken. (e : Scope) (c : ClassId) (s : State) (f : Running) (below : List FrameOf) (outs : List Out) →
+    ensures { IfOk result (λ taken. (e : Scope) (c : ClassId) (s : State) (f : Running) (below : List FrameOf) (outs : Telling) →
         let h = run.now.world.h.now in
         let program = run.now.program.now in
         let sizes = size_in run.now.sizes.now in
@@ -162,7 +170,7 @@ fn end_object(
     whole: Part,
 ) -> Result<Next, NoMemory>
     requires setup { IsSetup run.now.world.h.now run.now.world.numbers.now run.now.world.overriders.now run.now.program.now run.now.index.now }
-    ensures { IfOk result (λ taken. (sizes : ClassId → ℕ) (s : State) (f : Running) (below : List FrameOf) (outs : List Out) (k : ℕ) (c : ClassId) →
+    ensures { IfOk result (λ taken. (sizes : ClassId → ℕ) (s : State) (f : Running) (below : List FrameOf) (outs : Telling) (k : ℕ) (c : ClassId) →
         let h = run.now.world.h.now in
         let program = run.now.program.now in
         let on = with_frames s (InBody (at_statement f next) ∷ below) in

@@ -4,7 +4,7 @@ ghost use Rattle.std.specs.Prelude.{◌≡◌, ◌∷◌, [], ◌++◌, ℕ, Lis
 ghost use Rattle.cxx_hierarchy.specs.declared.records.ClassId.{ClassId};
 ghost use Rattle.cxx_hierarchy.specs.Classes.{Classes};
 ghost use Rattle.cxx_program.specs.declared.program.TypedProgram.{TypedProgram};
-ghost use Rattle.path_model.specs.declared.outs.Out.{Out};
+ghost use Rattle.path_machine.specs.declared.telling.Telling.{Telling};
 ghost use Rattle.path_model.specs.Values.{Value as ValueOf};
 ghost use Rattle.path_model.specs.States.{Running, Frame as FrameOf, InBody, State, at_statement, with_frames};
 ghost use Rattle.path_model.specs.Effects.{branched, telling};
@@ -13,10 +13,11 @@ ghost use Rattle.path_frames.specs.Machines.{MachineStands};
 ghost use Rattle.path_machine.specs.invariants.Steps.{IsTaken, StepAgrees};
 
 use crate::next::Next;
+use crate::telling::Telling;
 use foundation::NoMemory;
 use path_frames::{BodyFrame, Frame, Machine};
 use path_heap::Value;
-use path_model::{Out, OutList};
+use path_model::Out;
 use path_values::is_zero;
 
 /// Puts the frame back, with control at a statement.
@@ -37,7 +38,7 @@ pub(crate) fn branch(
     yes: usize,
     no: usize,
 ) -> Result<Next, NoMemory>
-    ensures { IfOk result (λ next. (h : Classes) (sizes : ClassId → ℕ) (program : TypedProgram) (s : State) (f : Running) (below : List FrameOf) (n : ℕ) (v : ValueOf) (outs : List Out) → IsTaken h sizes program machine.old frame s f below → Means h s.objects.classes condition v → StepAgrees h sizes program (branched (with_frames s (InBody (at_statement f n) ∷ below)) v yes no) machine.new outs outs next) }
+    ensures { IfOk result (λ next. (h : Classes) (sizes : ClassId → ℕ) (program : TypedProgram) (s : State) (f : Running) (below : List FrameOf) (n : ℕ) (v : ValueOf) (outs : Telling) → IsTaken h sizes program machine.old frame s f below → Means h s.objects.classes condition v → StepAgrees h sizes program (branched (with_frames s (InBody (at_statement f n) ∷ below)) v yes no) machine.new outs outs next) }
 {
     let at = if is_zero(condition) { no } else { yes };
     go_on(machine, frame, at)?;
@@ -47,7 +48,7 @@ pub(crate) fn branch(
 /// A statement that prints.
 pub(crate) fn tell(
     machine: &mut Machine,
-    outs: &mut OutList,
+    outs: &mut Telling,
     frame: BodyFrame,
     next: usize,
     out: Option<Out>,
@@ -56,7 +57,7 @@ pub(crate) fn tell(
 {
     match out {
         Some(out) => {
-            outs.push(out)?;
+            outs.tell(out)?;
             go_on(machine, frame, next)?;
             Ok(Next::Goes)
         }

@@ -15,13 +15,13 @@ ghost use Rattle.path_machine.specs.invariants.Events.{body_part, Happens, Tells
 use crate::giving::give;
 use crate::next::Next;
 use crate::run::Run;
+use crate::telling::Telling;
 use cxx_program::{Conversion, Owner, TypedBody};
 use foundation::NoMemory;
 use path_effects::{built_told, ending_told};
 use path_events::PlanEvent;
 use path_frames::{BodyFrame, Frame, Machine, PlanFrame};
 use path_heap::{Part, Value};
-use path_model::OutList;
 use path_values::{constant, convert};
 
 /// The value that the initializer of a member gives (ISO C++03 12.6.2).
@@ -76,18 +76,21 @@ fn happen(run: &Run, machine: &mut Machine, event: PlanEvent)
 fn tell_event(
     run: &Run,
     machine: &Machine,
-    outs: &mut OutList,
+    outs: &mut Telling,
     event: PlanEvent,
 ) -> Result<(), NoMemory>
     requires setup { IsSetup run.now.world.h.now run.now.world.numbers.now run.now.world.overriders.now run.now.program.now run.now.index.now }
     ensures { IfOk result (λ _. Tells run.now.world.h.now run.now.program.now machine.now event outs.old outs.new) }
 {
+    if !outs.trace {
+        return Ok(());
+    }
     match event {
         PlanEvent::Done(part) => {
-            outs.push(built_told(run.alloc, &run.world, &machine.heap, part)?)?
+            outs.tell(built_told(run.alloc, &run.world, &machine.heap, part)?)?
         }
         PlanEvent::Ending(part) => {
-            outs.push(ending_told(run.alloc, &run.world, &machine.heap, part)?)?
+            outs.tell(ending_told(run.alloc, &run.world, &machine.heap, part)?)?
         }
         PlanEvent::Begin(_)
         | PlanEvent::Ready(_)
@@ -209,7 +212,7 @@ fn resume(run: &Run, machine: &mut Machine, frame: PlanFrame) -> Result<Next, No
 pub(crate) fn event_step(
     run: &Run,
     machine: &mut Machine,
-    outs: &mut OutList,
+    outs: &mut Telling,
     frame: PlanFrame,
 ) -> Result<Next, NoMemory>
     requires setup { IsSetup run.now.world.h.now run.now.world.numbers.now run.now.world.overriders.now run.now.program.now run.now.index.now }

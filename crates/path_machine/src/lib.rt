@@ -22,6 +22,8 @@ mod starting;
 pub mod state;
 mod statements;
 mod taking;
+pub mod telling;
 
 pub use crate::run::Run;
 pub use crate::state::PathState;
+pub use crate::telling::Telling;

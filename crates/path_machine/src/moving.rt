@@ -12,9 +12,9 @@ use crate::bodies::body_step;
 use crate::events::event_step;
 use crate::next::Next;
 use crate::run::Run;
+use crate::telling::Telling;
 use foundation::NoMemory;
 use path_frames::{Frame, Machine};
-use path_model::OutList;
 use path_tables::Answers;
 
 /// The step of the frame on top.
@@ -24,7 +24,7 @@ pub(crate) fn move_on(
     run: &Run,
     machine: &mut Machine,
     answers: &mut Answers,
-    outs: &mut OutList,
+    outs: &mut Telling,
 ) -> Result<Next, NoMemory>
     requires setup { IsSetup run.now.world.h.now run.now.world.numbers.now run.now.world.overriders.now run.now.program.now run.now.index.now }
     requires answers { AreAnswers run.now.world.h.now answers.old }

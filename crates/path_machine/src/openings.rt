@@ -1,36 +1,35 @@
 //! The frame that a call opens.
 
-ghost use Rattle.std.specs.Prelude.{◌≡◌, ◌++◌, ◌-◌, List, IfOk, IfSome, length, map, replicate};
+ghost use Rattle.std.specs.Prelude.{◌≡◌, ◌∷◌, [], ◌++◌, ◌-◌, List, IfOk, IfSome, length, map, replicate};
 ghost use Rattle.std.specs.List.{AllZip};
 ghost use Rattle.cxx_program.specs.Typed.{Scope};
-ghost use Rattle.path_model.specs.Values.{Sight, Unset, argument_value};
+ghost use Rattle.cxx_subobject.specs.Locations.{ObjectPart};
+ghost use Rattle.path_model.specs.declared.outs.Out.TheVariants.{Call};
+ghost use Rattle.path_model.specs.Outs.{location_of};
+ghost use Rattle.path_model.specs.Values.{Objects, Sight, Unset, argument_value};
 ghost use Rattle.path_model.specs.States.{Running, Frame as FrameOf, State, sight, with_frames};
 ghost use Rattle.path_model.specs.Effects.{called};
 ghost use Rattle.path_heap.specs.declared.state.Value.TheVariants.{Unset as UnsetCode};
-ghost use Rattle.path_heap.specs.Stands.{Means};
+ghost use Rattle.path_heap.specs.Points.{Points};
+ghost use Rattle.path_heap.specs.Stands.{HeapStands, Means};
 ghost use Rattle.path_tables.specs.Asked.{AreAnswers};
 ghost use Rattle.path_values.specs.Worlds.{IsWorld};
 ghost use Rattle.path_values.specs.Scenes.{SceneStands};
 ghost use Rattle.path_frames.specs.Frames.{target_of};
 ghost use Rattle.path_machine.specs.invariants.Setups.{IsSetup, IsCalling};
+ghost use Rattle.path_machine.specs.Tellings.{TellsMore};
 ghost use Rattle.path_machine.specs.invariants.Openings.{Opens};
 
 use crate::run::Run;
+use crate::telling::Telling;
 use cxx_program::{Owner, TypedCall};
 use foundation::NoMemory;
 use path_effects::{argument_values, call_told, found_conversion};
 use path_frames::{BodyFrame, Target};
 use path_heap::{Heap, Value};
-use path_model::Out;
 use path_tables::Answers;
 use path_values::Scene;
-
-/// The frame that a call opens, and what the call tells.
-#[derive(Drop)]
-pub(crate) struct Opened {
-    pub(crate) frame: BodyFrame,
-    pub(crate) told: Out,
-}
+use path_views::Found;
 
 /// So many locals: the given values, and unset ones behind them.
 #[tactic(auto, using(path_heap::proofs::Sets::one_longer))]
@@ -66,25 +65,39 @@ fn called_locals(
     Ok(locals)
 }
 
+/// Tells a call, where there is a trace.
+///
+/// Errors: want of memory.
+fn tell_call(run: &Run, heap: &Heap, outs: &mut Telling, found: Found) -> Result<(), NoMemory>
+    requires world { IsWorld run.now.world.h.now run.now.world.numbers.now run.now.world.overriders.now }
+    ensures { IfOk result (λ _. (s : Objects) (p : ObjectPart) → HeapStands run.now.world.h.now heap.now s → Points run.now.world.h.now s.classes found.this p → TellsMore outs.old outs.new (Call found.function (location_of s p) ∷ [])) }
+{
+    if !outs.trace {
+        return Ok(());
+    }
+    outs.tell(call_told(run.alloc, &run.world, heap, found)?)
+}
+
 /// The frame that a call opens: the body of the function that runs, with the arguments (ISO C++03 5.2.2). None is a call that
-/// no run meets.
+/// no run meets. The call is told.
 ///
 /// Errors: want of memory.
 pub(crate) fn open_call(
     run: &Run,
     heap: &Heap,
     answers: &mut Answers,
+    outs: &mut Telling,
     scene: &Scene,
     call: &TypedCall,
     target: Option<Target>,
     depth: u32,
-) -> Result<Option<Opened>, NoMemory>
+) -> Result<Option<BodyFrame>, NoMemory>
     requires setup { IsSetup run.now.world.h.now run.now.world.numbers.now run.now.world.overriders.now run.now.program.now run.now.index.now }
     requires answers { AreAnswers run.now.world.h.now answers.old }
     ensures answers { AreAnswers run.now.world.h.now answers.new }
-    ensures depth { IfOk result (λ opened. IfSome opened (λ o. o.frame.depth ≡ depth)) }
+    ensures depth { IfOk result (λ opened. IfSome opened (λ frame. frame.depth ≡ depth)) }
     ensures opens { IfOk result (λ opened. (e : Scope) (s : State) (f : Running) (frames : List FrameOf) → SceneStands run.now.world.h.now heap.now scene.now.globals.now scene.now.this scene.now.locals.now (sight s f) → IsCalling run.now.world.h.now e (sight s f) call.now
-        → Opens run.now.world.h.now s frames opened (called run.now.world.h.now run.now.program.now (sight s f) (with_frames s frames) call.now (target_of target))) }
+        → Opens run.now.world.h.now s frames outs.old outs.new opened (called run.now.world.h.now run.now.program.now (sight s f) (with_frames s frames) call.now (target_of target))) }
 {
     let Some(found) = path_effects::call(run.alloc, &run.world, heap, answers, scene, call)? else {
         return Ok(None);
@@ -100,17 +113,14 @@ pub(crate) fn open_call(
         call.function,
     )?;
     let locals = called_locals(run, heap, scene, call, body.locals.len())?;
-    let told = call_told(run.alloc, &run.world, heap, found)?;
-    Ok(Some(Opened {
-        frame: BodyFrame {
-            owner: body.owner,
-            this: Value::Pointer(found.this),
-            locals,
-            next: 0,
-            found: conversion,
-            target,
-            depth,
-        },
-        told,
+    tell_call(run, heap, outs, found)?;
+    Ok(Some(BodyFrame {
+        owner: body.owner,
+        this: Value::Pointer(found.this),
+        locals,
+        next: 0,
+        found: conversion,
+        target,
+        depth,
     }))
 }

@@ -11,9 +11,10 @@ use crate::moving::move_on;
 use crate::next::Next;
 use crate::run::Run;
 use crate::starting::started;
+use crate::telling::Telling;
 use foundation::NoMemory;
 use path_frames::Machine;
-use path_model::{OutList, Turn, plans_fit, runs_are_typed, runs_go_on, statements_are_settled};
+use path_model::{Turn, plans_fit, runs_are_typed, runs_go_on, statements_are_settled};
 use path_tables::Answers;
 
 /// A machine that runs a program: the state that it is in, what was answered of views so far, how many steps it took, how many it
@@ -57,9 +58,9 @@ impl PathState {
 
     /// The next step of the run.
     ///
-    /// It puts what the step tells behind what was told before. An answer other than Went ends the run, and comes again at
+    /// It puts what the step tells behind what was told before, with what a trace alone shows where there is a trace. An answer other than Went ends the run, and comes again at
     /// each later call. Errors: want of memory. The machine is then of no use.
-    pub fn step(&mut self, run: &Run, outs: &mut OutList) -> Result<Turn, NoMemory>
+    pub fn step(&mut self, run: &Run, outs: &mut Telling) -> Result<Turn, NoMemory>
         requires setup { IsSetup run.now.world.h.now run.now.world.numbers.now run.now.world.overriders.now run.now.program.now run.now.index.now }
         requires main { is_body run.now.program.now.main ≡ true }
         requires stands { IsInRun run.now.world.h.now (size_in run.now.sizes.now) run.now.program.now self.old (ended_with self.old) }

@@ -8,7 +8,7 @@ ghost use Rattle.cxx_hierarchy.specs.Classes.{Classes};
 ghost use Rattle.cxx_program.specs.declared.program.TypedProgram.{TypedProgram};
 ghost use Rattle.cxx_program.specs.declared.statement.TypedKind.TheVariants.{Write, Copy, Return, PrintType, PrintView};
 ghost use Rattle.cxx_program.specs.Typed.{Scope, IsArgument};
-ghost use Rattle.path_model.specs.declared.outs.Out.{Out};
+ghost use Rattle.path_machine.specs.declared.telling.Telling.{Telling};
 ghost use Rattle.path_model.specs.Values.{value, argument_value};
 ghost use Rattle.path_model.specs.States.{Running, Frame as FrameOf, InBody, State, at_statement, sight, with_frames};
 ghost use Rattle.path_model.specs.Effects.{written, copied_at, returned, returned_value, result_given, telling, value_out, type_out, view_out, dump_out};
@@ -23,13 +23,13 @@ use crate::giving::give;
 use crate::next::Next;
 use crate::run::Run;
 use crate::scenes::scene_of;
+use crate::telling::Telling;
 use cxx_hierarchy::ClassId;
 use cxx_program::{Argument, Owner, TypedOperand, TypedPlace};
 use foundation::NoMemory;
 use path_effects::{argument_value, copy, dump_told, type_told, value_told, view_told, write};
 use path_frames::{BodyFrame, Machine};
 use path_heap::Value;
-use path_model::OutList;
 use path_values::{Scene, convert, value};
 
 /// A leaf takes a value (ISO C++03 5.17).
@@ -44,7 +44,7 @@ pub(crate) fn write_place(
     x: &Argument,
 ) -> Result<Next, NoMemory>
     requires setup { IsSetup run.now.world.h.now run.now.world.numbers.now run.now.world.overriders.now run.now.program.now run.now.index.now }
-    ensures { IfOk result (λ done. (e : Scope) (s : State) (f : Running) (below : List FrameOf) (outs : List Out) →
+    ensures { IfOk result (λ done. (e : Scope) (s : State) (f : Running) (below : List FrameOf) (outs : Telling) →
         let h = run.now.world.h.now in
         let program = run.now.program.now in
         let sizes = size_in run.now.sizes.now in
@@ -74,7 +74,7 @@ pub(crate) fn copy_object(
     class: ClassId,
 ) -> Result<Next, NoMemory>
     requires setup { IsSetup run.now.world.h.now run.now.world.numbers.now run.now.world.overriders.now run.now.program.now run.now.index.now }
-    ensures { IfOk result (λ done. (e : Scope) (s : State) (f : Running) (below : List FrameOf) (outs : List Out) →
+    ensures { IfOk result (λ done. (e : Scope) (s : State) (f : Running) (below : List FrameOf) (outs : Telling) →
         let h = run.now.world.h.now in
         let program = run.now.program.now in
         let sizes = size_in run.now.sizes.now in
@@ -123,7 +123,7 @@ pub(crate) fn leave(
     x: &Option<Argument>,
 ) -> Next
     requires setup { IsSetup run.now.world.h.now run.now.world.numbers.now run.now.world.overriders.now run.now.program.now run.now.index.now }
-    ensures { (e : Scope) (s : State) (f : Running) (below : List FrameOf) (n : ℕ) (outs : List Out) →
+    ensures { (e : Scope) (s : State) (f : Running) (below : List FrameOf) (n : ℕ) (outs : Telling) →
         let h = run.now.world.h.now in
         let program = run.now.program.now in
         let sizes = size_in run.now.sizes.now in
@@ -168,7 +168,7 @@ pub(crate) fn operand(machine: &Machine, frame: &BodyFrame, x: &TypedOperand) ->
 pub(crate) fn print_value(
     run: &Run,
     machine: &mut Machine,
-    outs: &mut OutList,
+    outs: &mut Telling,
     frame: BodyFrame,
     next: usize,
     x: &TypedOperand,
@@ -192,7 +192,7 @@ pub(crate) fn print_value(
 pub(crate) fn print_type(
     run: &Run,
     machine: &mut Machine,
-    outs: &mut OutList,
+    outs: &mut Telling,
     frame: BodyFrame,
     next: usize,
     x: &TypedOperand,
@@ -216,7 +216,7 @@ pub(crate) fn print_type(
 pub(crate) fn print_view(
     run: &Run,
     machine: &mut Machine,
-    outs: &mut OutList,
+    outs: &mut Telling,
     frame: BodyFrame,
     next: usize,
     x: &TypedOperand,
@@ -240,7 +240,7 @@ pub(crate) fn print_view(
 pub(crate) fn print_dump(
     run: &Run,
     machine: &mut Machine,
-    outs: &mut OutList,
+    outs: &mut Telling,
     frame: BodyFrame,
     next: usize,
     x: &TypedOperand,

@@ -2,7 +2,7 @@
 
 ghost use Rattle.std.specs.Prelude.{◌≡◌, ◌∷◌, [], true, List, IfOk};
 ghost use Rattle.cxx_program.specs.Typed.{Scope};
-ghost use Rattle.path_model.specs.declared.outs.Out.{Out};
+ghost use Rattle.path_machine.specs.declared.telling.Telling.{Telling};
 ghost use Rattle.path_model.specs.Values.{converted};
 ghost use Rattle.path_model.specs.States.{Running, Frame as FrameOf, InBody, State, assigned, at_statement, sight, with_frames};
 ghost use Rattle.path_model.specs.Effects.{Goes, right_value, taken, taker};
@@ -17,12 +17,12 @@ use crate::effects::go_on;
 use crate::next::Next;
 use crate::run::Run;
 use crate::scenes::scene_of;
+use crate::telling::Telling;
 use cxx_program::{Conversion, Converted, TypedRight, Variable};
 use cxx_subobject::subobject_below;
 use foundation::NoMemory;
 use path_effects::right_value;
 use path_frames::{BodyFrame, Machine, Target};
-use path_model::OutList;
 use path_tables::Answers;
 use std::alloc::Global;
 
@@ -63,7 +63,7 @@ fn take_value(
     requires setup { IsSetup run.now.world.h.now run.now.world.numbers.now run.now.world.overriders.now run.now.program.now run.now.index.now }
     requires answers { AreAnswers run.now.world.h.now answers.old }
     ensures answers { AreAnswers run.now.world.h.now answers.new }
-    ensures agrees { IfOk result (λ taken. (e : Scope) (s : State) (f : Running) (below : List FrameOf) (outs : List Out) →
+    ensures agrees { IfOk result (λ taken. (e : Scope) (s : State) (f : Running) (below : List FrameOf) (outs : Telling) →
         let h = run.now.world.h.now in
         let program = run.now.program.now in
         let sizes = size_in run.now.sizes.now in
@@ -84,7 +84,7 @@ pub(crate) fn take(
     run: &Run,
     machine: &mut Machine,
     answers: &mut Answers,
-    outs: &mut OutList,
+    outs: &mut Telling,
     frame: BodyFrame,
     next: usize,
     variable: Variable,

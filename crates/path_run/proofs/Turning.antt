@@ -1,37 +1,48 @@
 -- A turn of a run: a step more with its lines, the end of the run, or a step whose lines pass the limit.
-use Rattle.std.proofs.Common.{◌≡◌, ◌∙◌, ℕ, suc, ◌+◌, ◌-◌, ◌≤◌, ◌<◌, ⊎_elim, arith, true, false, Option, Some, None, List, [], ◌++◌, length, ap, subst, sym, length-append}
-use Rattle.std.proofs.lemmas.Bool.{cases_lt, lt-ltb}
+use Rattle.std.proofs.Common.{◌≡◌, ◌∙◌, Bool, refl, ℕ, ◌+◌, ◌-◌, ◌≤◌, ◌<◌, arith, true, false, Option, Some, None, List, [], ◌++◌, length, ap, subst, sym}
+use Rattle.std.specs.Prelude.{filter, not}
+use Rattle.foundation.proofs.Chosen.{filter_all, filter_same}
 use Rattle.cxx_hierarchy.specs.declared.records.ClassId.{ClassId}
 use Rattle.cxx_hierarchy.specs.declared.stop.LimitNo.TheVariants.{L9}
 use Rattle.cxx_hierarchy.specs.Classes.{Classes}
 use Rattle.cxx_program.specs.declared.program.TypedProgram.{TypedProgram}
 use Rattle.path_model.specs.declared.outs.Out.{Out}
+use Rattle.path_model.specs.declared.outs.Out.TheVariants.{Number, Pointer, TypeName, Dump, Call, Built, Ending}
 use Rattle.path_model.specs.declared.outs.Turn.{Turn}
 use Rattle.path_model.specs.declared.outs.Turn.TheVariants.{Went, Ended as EndedTurn, Refused, OutOfSteps as NoSteps, Limit as LimitTurn}
 use Rattle.path_model.specs.Runs.{IsRunning, move, outs_at, outs_in, run_of, state_at}
 use Rattle.path_machine.specs.declared.state.PathState.{PathState}
+use Rattle.path_machine.specs.declared.telling.Telling.{Telling}
+use Rattle.path_machine.specs.Tellings.{is_told}
 use Rattle.path_machine.specs.Turns.{IsAtStep, IsInRun, HasEnded, TurnAgrees, taken_by, budget_of, ended_with}
 use Rattle.abi_sound.specs.Places.{Places}
-use Rattle.abi_out.specs.OutTexts.{printed, text_of}
+use Rattle.abi_out.specs.OutTexts.{is_traced, shown, text_of}
 use Rattle.abi_told.specs.declared.ending.End.{End}
 use Rattle.abi_told.specs.declared.ending.End.TheVariants.{Done, Undefined, OutOfSteps, Limit}
 use Rattle.abi_told.specs.Told.{IsRun, ending_of, text_at, text_limit, told}
 use Rattle.path_run.specs.invariants.Going.{IsGoing, IsTurned, end_by}
+use Rattle.abi_told.proofs.Texts.{text_none}
 use Rattle.abi_told.proofs.Lines.{IsTextOf, ends_with, lines_pass, lines_stand}
 
 -- what a step that was taken gives
-pub record HasGoneOn (h : Classes) (l : Places) (program : TypedProgram) (before after : PathState) (telling : List Out) : Type 0 where
+pub record HasGoneOn (h : Classes) (l : Places) (program : TypedProgram) (trace : Bool) (before after : PathState) (telling : List Out) : Type 0 where
   pub taken : taken_by after ≡ taken_by before + 1
   pub budget : budget_of after ≡ budget_of before
   pub going : ended_with after ≡ None
-  pub tells : telling ≡ outs_in (move h l.size program (state_at h l.size program (taken_by before)))
+  pub tells : telling ≡ filter (is_told trace) (outs_in (move h l.size program (state_at h l.size program (taken_by before))))
 
-pub went : (h : Classes) (l : Places) (program : TypedProgram) (before after : PathState) (telling : List Out) (turn : Turn) → TurnAgrees h l.size program before after [] telling None turn → end_by turn ≡ None → HasGoneOn h l program before after telling
-went h l program before after telling Went (taken, budget, going, tells) e = record { taken = taken; budget = budget; going = going; tells = tells }
-went h l program before after telling EndedTurn a e = absurd (let f : Some Done ≡ None = e in cc)
-went h l program before after telling (Refused rule line) a e = absurd (let f : Some (Undefined rule line) ≡ None = e in cc)
-went h l program before after telling NoSteps a e = absurd (let f : Some OutOfSteps ≡ None = e in cc)
-went h l program before after telling (LimitTurn limit) a e = absurd (let f : Some (Limit limit) ≡ None = e in cc)
+pub went : (h : Classes) (l : Places) (program : TypedProgram) (trace : Bool) (before after : PathState) (old telling : Telling) (turn : Turn) → old.trace ≡ trace → old.outs ≡ [] → TurnAgrees h l.size program before after old telling None turn → end_by turn ≡ None → HasGoneOn h l program trace before after telling.outs
+went h l program trace before after old telling Went silent none (taken, budget, going, tells) e =
+    let all = outs_in (move h l.size program (state_at h l.size program (taken_by before))) in record {
+      taken = taken;
+      budget = budget;
+      going = going;
+      tells = tells.behind ∙ (ap (λ (xs : List Out). xs ++ filter (is_told old.trace) all) none ∙ ap (λ (b : Bool). filter (is_told b) all) silent);
+    }
+went h l program trace before after old telling EndedTurn silent none a e = absurd (let f : Some Done ≡ None = e in cc)
+went h l program trace before after old telling (Refused rule line) silent none a e = absurd (let f : Some (Undefined rule line) ≡ None = e in cc)
+went h l program trace before after old telling NoSteps silent none a e = absurd (let f : Some OutOfSteps ≡ None = e in cc)
+went h l program trace before after old telling (LimitTurn limit) silent none a e = absurd (let f : Some (Limit limit) ≡ None = e in cc)
 
 -- what an answer that ends the run gives
 pub record Over (h : Classes) (l : Places) (program : TypedProgram) (before : PathState) (end_is : End) : Type 0 where
@@ -47,40 +58,72 @@ over_by h l program before after end_is last turn outs budget ended in_run by sa
       ending = ap (λ (n : ℕ). (run_of h l.size program n).ending) (sym budget) ∙ (by x ∙ ap ending_of same);
     }
 
-pub over : (h : Classes) (l : Places) (program : TypedProgram) (before after : PathState) (telling : List Out) (turn : Turn) (end_is : End) → TurnAgrees h l.size program before after [] telling None turn → end_by turn ≡ Some end_is → IsInRun h l.size program after (ended_with after) → Over h l program before end_is
-over h l program before after telling Went end_is a e in_run = absurd (let f : None ≡ Some end_is = e in cc)
-over h l program before after telling EndedTurn end_is (outs, budget, ended, same) e in_run = over_by h l program before after end_is Done EndedTurn outs budget ended in_run (λ x. x.ending) (let f : Some Done ≡ Some end_is = e in cc)
-over h l program before after telling (Refused rule line) end_is (outs, budget, ended, same) e in_run = over_by h l program before after end_is (Undefined rule line) (Refused rule line) outs budget ended in_run (λ x. x.ending) (let f : Some (Undefined rule line) ≡ Some end_is = e in cc)
-over h l program before after telling NoSteps end_is (outs, budget, ended, same) e in_run = over_by h l program before after end_is OutOfSteps NoSteps outs budget ended in_run (λ x. x.ending) (let f : Some OutOfSteps ≡ Some end_is = e in cc)
-over h l program before after telling (LimitTurn limit) end_is (outs, budget, ended, same) e in_run = over_by h l program before after end_is (Limit limit) (LimitTurn limit) outs budget ended in_run (λ x. x.ending) (let f : Some (Limit limit) ≡ Some end_is = e in cc)
+pub over : (h : Classes) (l : Places) (program : TypedProgram) (before after : PathState) (old telling : Telling) (turn : Turn) (end_is : End) → TurnAgrees h l.size program before after old telling None turn → end_by turn ≡ Some end_is → IsInRun h l.size program after (ended_with after) → Over h l program before end_is
+over h l program before after old telling Went end_is a e in_run = absurd (let f : None ≡ Some end_is = e in cc)
+over h l program before after old telling EndedTurn end_is (outs, budget, ended, same) e in_run = over_by h l program before after end_is Done EndedTurn outs budget ended in_run (λ x. x.ending) (let f : Some Done ≡ Some end_is = e in cc)
+over h l program before after old telling (Refused rule line) end_is (outs, budget, ended, same) e in_run = over_by h l program before after end_is (Undefined rule line) (Refused rule line) outs budget ended in_run (λ x. x.ending) (let f : Some (Undefined rule line) ≡ Some end_is = e in cc)
+over h l program before after old telling NoSteps end_is (outs, budget, ended, same) e in_run = over_by h l program before after end_is OutOfSteps NoSteps outs budget ended in_run (λ x. x.ending) (let f : Some OutOfSteps ≡ Some end_is = e in cc)
+over h l program before after old telling (LimitTurn limit) end_is (outs, budget, ended, same) e in_run = over_by h l program before after end_is (Limit limit) (LimitTurn limit) outs budget ended in_run (λ x. x.ending) (let f : Some (Limit limit) ≡ Some end_is = e in cc)
 
 -- the text of the steps taken
-text_so_far : (h : Classes) (l : Places) (program : TypedProgram) (before : PathState) (text : List ℕ) → IsGoing h l program before text → IsTextOf h l program false (taken_by before) text
-text_so_far h l program before text goes = record { text_is = goes.text_is; small = goes.small; room = goes.room }
+text_so_far : (h : Classes) (l : Places) (program : TypedProgram) (trace : Bool) (before : PathState) (text : List ℕ) → IsGoing h l program trace before text → IsTextOf h l program trace (taken_by before) text
+text_so_far h l program trace before text goes = record { text_is = goes.text_is; small = goes.small; room = goes.room }
 
 -- the run has ended with the text so far
-pub ends_run : (h : Classes) (l : Places) (program : TypedProgram) (before : PathState) (text : List ℕ) (end_is : End) → IsGoing h l program before text → Over h l program before end_is → IsRun h l program false (budget_of before) text end_is
-ends_run h l program before text end_is goes last = ends_with h l program false (taken_by before) text (budget_of before) end_is (text_so_far h l program before text goes) last.outs last.ending
+pub ends_run : (h : Classes) (l : Places) (program : TypedProgram) (trace : Bool) (before : PathState) (text : List ℕ) (end_is : End) → IsGoing h l program trace before text → Over h l program before end_is → IsRun h l program trace (budget_of before) text end_is
+ends_run h l program trace before text end_is goes last = ends_with h l program trace (taken_by before) text (budget_of before) end_is (text_so_far h l program trace before text goes) last.outs last.ending
+
+-- what the next step tells, with what a trace alone shows
+abbrev pub all_told : Classes → Places → TypedProgram → PathState → List Out
+all_told h l program before = outs_in (move h l.size program (state_at h l.size program (taken_by before)))
+
+-- what is told without a trace is what is printed
+is_printed : (out : Out) → is_told false out ≡ not (is_traced out)
+is_printed (Number z) = refl
+is_printed (Pointer at) = refl
+is_printed (TypeName c) = refl
+is_printed (Dump number c leaves) = refl
+is_printed (Call f at) = refl
+is_printed (Built c at) = refl
+is_printed (Ending c at) = refl
+
+-- with a trace all is told
+all_is_told : (out : Out) → is_told true out ≡ true
+all_is_told (Number z) = refl
+all_is_told (Pointer at) = refl
+all_is_told (TypeName c) = refl
+all_is_told (Dump number c leaves) = refl
+all_is_told (Call f at) = refl
+all_is_told (Built c at) = refl
+all_is_told (Ending c at) = refl
+
+told_shown : (trace : Bool) (xs : List Out) → filter (is_told trace) xs ≡ shown trace xs
+told_shown true xs = filter_all (is_told true) xs (λ x has. all_is_told x)
+told_shown false xs = filter_same (is_told false) (λ out. not (is_traced out)) xs (λ x has. is_printed x)
+
+-- the lines of what was told are those that the step shows
+all_lines : (h : Classes) (l : Places) (program : TypedProgram) (trace : Bool) (before after : PathState) (lines : List ℕ) (telling : List Out) → HasGoneOn h l program trace before after telling → lines ≡ text_of h l telling → lines ≡ text_of h l (shown trace (all_told h l program before))
+all_lines h l program trace before after lines telling step adds = adds ∙ ap (text_of h l) (step.tells ∙ told_shown trace (all_told h l program before))
 
 -- the lines pass the limit
-pub passes_limit : (h : Classes) (l : Places) (program : TypedProgram) (before after : PathState) (text lines : List ℕ) (telling : List Out) → IsGoing h l program before text → HasGoneOn h l program before after telling → IsInRun h l.size program after (ended_with after)
-    → lines ≡ text_of h l (printed telling) → text_limit < length text + length lines → IsRun h l program false (budget_of before) text (Limit L9)
-passes_limit h l program before after text lines telling goes step in_run adds long =
+pub passes_limit : (h : Classes) (l : Places) (program : TypedProgram) (trace : Bool) (before after : PathState) (text lines : List ℕ) (telling : List Out) → IsGoing h l program trace before text → HasGoneOn h l program trace before after telling → IsInRun h l.size program after (ended_with after)
+    → lines ≡ text_of h l telling → text_limit < length text + length lines → IsRun h l program trace (budget_of before) text (Limit L9)
+passes_limit h l program trace before after text lines telling goes step in_run adds long =
     let n = taken_by before in
     let new : IsAtStep h l.size program after = subst (IsInRun h l.size program after) step.going in_run in
     let within : n + 1 ≤ budget_of before = let a = new.within in let b = step.taken in let c = step.budget in omega (arith, a, b, c) in
-    lines_pass h l program false n text (budget_of before) lines (text_so_far h l program before text goes) (subst (λ (k : ℕ). IsRunning h l.size program k) step.taken new.running) within (record { telling = telling; tells = step.tells; are = adds }) long
+    lines_pass h l program trace n text (budget_of before) lines (text_so_far h l program trace before text goes) (subst (λ (k : ℕ). IsRunning h l.size program k) step.taken new.running) within (record { telling = all_told h l program before; tells = refl; are = all_lines h l program trace before after lines telling step adds }) long
 
 -- the lines stand behind the text
-pub goes_on : (h : Classes) (l : Places) (program : TypedProgram) (before after : PathState) (text lines new : List ℕ) (telling : List Out) → IsGoing h l program before text → HasGoneOn h l program before after telling → IsInRun h l.size program after (ended_with after)
-    → lines ≡ text_of h l (printed telling) → length text + length lines ≤ text_limit → new ≡ text ++ lines → IsTurned h l program before after new
-goes_on h l program before after text lines new telling goes step in_run adds few puts =
-    let more = lines_stand h l program false (taken_by before) text lines new (text_so_far h l program before text goes) (record { telling = telling; tells = step.tells; are = adds }) few puts in
+pub goes_on : (h : Classes) (l : Places) (program : TypedProgram) (trace : Bool) (before after : PathState) (text lines new : List ℕ) (telling : List Out) → IsGoing h l program trace before text → HasGoneOn h l program trace before after telling → IsInRun h l.size program after (ended_with after)
+    → lines ≡ text_of h l telling → length text + length lines ≤ text_limit → new ≡ text ++ lines → IsTurned h l program trace before after new
+goes_on h l program trace before after text lines new telling goes step in_run adds few puts =
+    let more = lines_stand h l program trace (taken_by before) text lines new (text_so_far h l program trace before text goes) (record { telling = all_told h l program before; tells = refl; are = all_lines h l program trace before after lines telling step adds }) few puts in
     record {
       goes = record {
         at_step = subst (IsInRun h l.size program after) step.going in_run;
         going = step.going;
-        text_is = more.text_is ∙ ap (text_at h l program false) (sym step.taken);
+        text_is = more.text_is ∙ ap (text_at h l program trace) (sym step.taken);
         small = more.small;
         room = λ k lt. more.room k (subst (λ (m : ℕ). k < m) step.taken lt);
       };
@@ -92,26 +135,25 @@ goes_on h l program before after text lines new telling goes step in_run adds fe
 pub stands_at : (h : Classes) (sizes : ClassId → ℕ) (l : Places) (program : TypedProgram) (state : PathState) → sizes ≡ l.size → ended_with state ≡ None → IsAtStep h l.size program state → IsInRun h sizes program state (ended_with state)
 stands_at h sizes l program state is going at_step = subst (IsInRun h sizes program state) (sym going) (subst (λ (z : ClassId → ℕ). IsAtStep h z program state) (sym is) at_step)
 
-pub agrees_at : (h : Classes) (sizes : ClassId → ℕ) (l : Places) (program : TypedProgram) (before after : PathState) (old telling : List Out) (o : Option Turn) (turn : Turn) → sizes ≡ l.size → old ≡ [] → o ≡ None → TurnAgrees h sizes program before after old telling o turn
-    → TurnAgrees h l.size program before after [] telling None turn
-agrees_at h sizes l program before after old telling o turn is none going a =
-    subst (λ (z : ClassId → ℕ). TurnAgrees h z program before after [] telling None turn) is
-    (subst (λ (xs : List Out). TurnAgrees h sizes program before after xs telling None turn) none
-    (subst (λ (p : Option Turn). TurnAgrees h sizes program before after old telling p turn) going a))
+pub agrees_at : (h : Classes) (sizes : ClassId → ℕ) (l : Places) (program : TypedProgram) (before after : PathState) (old telling : Telling) (o : Option Turn) (turn : Turn) → sizes ≡ l.size → o ≡ None → TurnAgrees h sizes program before after old telling o turn
+    → TurnAgrees h l.size program before after old telling None turn
+agrees_at h sizes l program before after old telling o turn is going a =
+    subst (λ (z : ClassId → ℕ). TurnAgrees h z program before after old telling None turn) is
+    (subst (λ (p : Option Turn). TurnAgrees h sizes program before after old telling p turn) going a)
 
 pub in_run_at : (h : Classes) (sizes : ClassId → ℕ) (l : Places) (program : TypedProgram) (state : PathState) (o : Option Turn) → sizes ≡ l.size → IsInRun h sizes program state o → IsInRun h l.size program state o
 in_run_at h sizes l program state o is a = subst (λ (z : ClassId → ℕ). IsInRun h z program state o) is a
 
 -- the lines of what a step tells
-pub lines_are : (h : Classes) (l : Places) (old lines : List ℕ) (outs telling : List Out) → old ≡ [] → outs ≡ telling → lines ≡ old ++ text_of h l (printed outs) → lines ≡ text_of h l (printed telling)
-lines_are h l old lines outs telling none same adds = adds ∙ (ap (λ (t : List ℕ). t ++ text_of h l (printed outs)) none ∙ ap (λ (xs : List Out). text_of h l (printed xs)) same)
+pub lines_are : (h : Classes) (l : Places) (old lines : List ℕ) (outs telling : List Out) → old ≡ [] → outs ≡ telling → lines ≡ old ++ text_of h l outs → lines ≡ text_of h l telling
+lines_are h l old lines outs telling none same adds = adds ∙ (ap (λ (t : List ℕ). t ++ text_of h l outs) none ∙ ap (λ (xs : List Out). text_of h l xs) same)
 
 -- before the first step
-pub starts : (h : Classes) (sizes : ClassId → ℕ) (l : Places) (program : TypedProgram) (state : PathState) (text : List ℕ) → sizes ≡ l.size → IsInRun h sizes program state None → taken_by state ≡ 0 → ended_with state ≡ None → text ≡ [] → IsGoing h l program state text
-starts h sizes l program state text is in_run none going fresh = record {
+pub starts : (h : Classes) (sizes : ClassId → ℕ) (l : Places) (program : TypedProgram) (trace : Bool) (state : PathState) (text : List ℕ) → sizes ≡ l.size → IsInRun h sizes program state None → taken_by state ≡ 0 → ended_with state ≡ None → text ≡ [] → IsGoing h l program trace state text
+starts h sizes l program trace state text is in_run none going fresh = record {
   at_step = in_run_at h sizes l program state None is in_run;
   going = going;
-  text_is = fresh ∙ sym (ap (text_at h l program false) none);
+  text_is = fresh ∙ sym (ap (text_at h l program trace) none ∙ text_none h l trace);
   small = subst (λ (t : List ℕ). length t ≤ text_limit) (sym fresh) (omega arith);
   room = λ k lt. absurd (omega (arith, lt, none));
 }
@@ -120,8 +162,8 @@ starts h sizes l program state text is in_run none going fresh = record {
 pub less_left : (b t c u : ℕ) → u ≡ t + 1 → c ≡ b → u ≤ c → c - u < b - t
 less_left b t c u more same le = omega (arith, more, same, le)
 
-pub run_is : (h : Classes) (l : Places) (program : TypedProgram) (left steps : ℕ) (text given : List ℕ) (end_is : End) → left ≡ steps → given ≡ text → IsRun h l program false left text end_is → IsRun h l program false steps given end_is
-run_is h l program left steps text given end_is same is a = record {
-  text_is = is ∙ (a.text_is ∙ ap (λ (n : ℕ). (told h l program false n).text) same);
-  ending = a.ending ∙ ap (λ (n : ℕ). (told h l program false n).ending) same;
+pub run_is : (h : Classes) (l : Places) (program : TypedProgram) (trace : Bool) (left steps : ℕ) (text given : List ℕ) (end_is : End) → left ≡ steps → given ≡ text → IsRun h l program trace left text end_is → IsRun h l program trace steps given end_is
+run_is h l program trace left steps text given end_is same is a = record {
+  text_is = is ∙ (a.text_is ∙ ap (λ (n : ℕ). (told h l program trace n).text) same);
+  ending = a.ending ∙ ap (λ (n : ℕ). (told h l program trace n).ending) same;
 }

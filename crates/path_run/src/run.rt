@@ -1,6 +1,6 @@
 //! A whole run.
 
-ghost use Rattle.std.specs.Prelude.{◌≡◌, ◌≤◌, true, false, IfOk};
+ghost use Rattle.std.specs.Prelude.{◌≡◌, ◌≤◌, true, IfOk};
 ghost use Rattle.cxx_overrider.specs.Overriders.{AreOverriders};
 ghost use Rattle.cxx_program.specs.Typed.{IsTypedProgram};
 ghost use Rattle.path_model.specs.States.{is_body};
@@ -23,7 +23,7 @@ use path_numbers::Numbers;
 use path_values::World;
 use std::alloc::Global;
 
-/// The lines that a run printed, and how it ended.
+/// The lines of a run, and how it ended.
 #[derive(Drop)]
 pub struct PathRun {
     pub text: Sequence<u8>,
@@ -31,17 +31,22 @@ pub struct PathRun {
 }
 
 /// Turns the machine of a run until an answer ends it.
-fn run_all<L: SoundLayout>(layout: &L, run: &Run, steps: u32) -> Result<PathRun, NoMemory>
+fn run_all<L: SoundLayout>(
+    layout: &L,
+    run: &Run,
+    steps: u32,
+    trace: bool,
+) -> Result<PathRun, NoMemory>
     requires layout { L.lays_out layout.now run.now.world.h.now }
     requires setup { IsSetup run.now.world.h.now run.now.world.numbers.now run.now.world.overriders.now run.now.program.now run.now.index.now }
     requires main { is_body run.now.program.now.main ≡ true }
     requires sizes { size_in run.now.sizes.now ≡ (places_of run.now.world.h.now (L.rows layout.now)).size }
-    ensures { IfOk result (λ ran. IsRun run.now.world.h.now (places_of run.now.world.h.now (L.rows layout.now)) run.now.program.now false steps ran.text ran.end) }
+    ensures { IfOk result (λ ran. IsRun run.now.world.h.now (places_of run.now.world.h.now (L.rows layout.now)) run.now.program.now trace steps ran.text ran.end) }
 {
     let mut state = PathState::new(run, steps)?;
     let mut text = Vec::new(run.alloc);
     loop {
-        let ended = turn(layout, run, &mut state, &mut text)?;
+        let ended = turn(layout, run, &mut state, &mut text, trace)?;
         match ended {
             Some(end) => return Ok(PathRun {
                 text: Sequence::from_vec(text),
@@ -52,7 +57,8 @@ fn run_all<L: SoundLayout>(layout: &L, run: &Run, steps: u32) -> Result<PathRun,
     }
 }
 
-/// Runs a typed program that has a `main`, for at most so many steps, without a trace; places and sizes are those of the layout.
+/// Runs a typed program that has a `main`, for at most so many steps, with a trace or without; places and sizes are those of the
+/// layout.
 ///
 /// Errors: want of memory.
 pub fn run_paths<L: SoundLayout>(
@@ -62,14 +68,15 @@ pub fn run_paths<L: SoundLayout>(
     layout: &L,
     program: &TypedProgram,
     steps: u32,
+    trace: bool,
 ) -> Result<PathRun, NoMemory>
     requires layout { L.lays_out layout.now h.now }
     requires overriders { AreOverriders h.now overriders.now }
     requires typed { IsTypedProgram h.now program.now }
     requires main { is_body program.now.main ≡ true }
     requires budget { steps ≤ 4000000 }
-    ensures text { IfOk result (λ run. run.text ≡ (told h.now (places_of h.now (L.rows layout.now)) program.now false steps).text) }
-    ensures end { IfOk result (λ run. ending_of run.end ≡ (told h.now (places_of h.now (L.rows layout.now)) program.now false steps).ending) }
+    ensures text { IfOk result (λ run. run.text ≡ (told h.now (places_of h.now (L.rows layout.now)) program.now trace steps).text) }
+    ensures end { IfOk result (λ run. ending_of run.end ≡ (told h.now (places_of h.now (L.rows layout.now)) program.now trace steps).ending) }
 {
     h.keeps();
     let numbers = Numbers::new(alloc, h)?;
@@ -86,6 +93,6 @@ pub fn run_paths<L: SoundLayout>(
         index: &index,
         sizes: sizes.as_slice(),
     };
-    let ran = run_all(layout, &run, steps)?;
+    let ran = run_all(layout, &run, steps, trace)?;
     Ok(ran)
 }

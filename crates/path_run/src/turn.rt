@@ -7,12 +7,12 @@ ghost use Rattle.path_machine.specs.invariants.Steps.{size_in};
 ghost use Rattle.abi_sound.specs.Places.{places_of};
 ghost use Rattle.path_run.specs.invariants.Going.{IsGoing, Turned, end_by};
 
-use crate::lines::append_printed;
+use crate::lines::append_told;
 use abi_sound::SoundLayout;
 use abi_told::End;
 use cxx_hierarchy::LimitNo;
-use foundation::{NoMemory, Sequence};
-use path_machine::{PathState, Run};
+use foundation::NoMemory;
+use path_machine::{PathState, Run, Telling};
 use path_model::Turn;
 
 /// The bytes that the text of a run may have.
@@ -40,22 +40,29 @@ pub(crate) fn turn<L: SoundLayout>(
     run: &Run,
     state: &mut PathState,
     text: &mut Vec<u8>,
+    trace: bool,
 ) -> Result<Option<End>, NoMemory>
     requires layout { L.lays_out layout.now run.now.world.h.now }
     requires setup { IsSetup run.now.world.h.now run.now.world.numbers.now run.now.world.overriders.now run.now.program.now run.now.index.now }
     requires main { is_body run.now.program.now.main ≡ true }
     requires sizes { size_in run.now.sizes.now ≡ (places_of run.now.world.h.now (L.rows layout.now)).size }
-    requires going { IsGoing run.now.world.h.now (places_of run.now.world.h.now (L.rows layout.now)) run.now.program.now state.old text.old.items }
-    ensures { IfOk result (λ end. Turned run.now.world.h.now (places_of run.now.world.h.now (L.rows layout.now)) run.now.program.now state.old state.new text.new.items end) }
+    requires going { IsGoing run.now.world.h.now (places_of run.now.world.h.now (L.rows layout.now)) run.now.program.now trace state.old text.old.items }
+    ensures { IfOk result (λ end. Turned run.now.world.h.now (places_of run.now.world.h.now (L.rows layout.now)) run.now.program.now trace state.old state.new text.new.items end) }
 {
-    let mut outs = Sequence::new(run.alloc);
-    let answer = state.step(run, &mut outs)?;
+    let mut telling = Telling::new(run.alloc, trace);
+    let answer = state.step(run, &mut telling)?;
     match end_of(answer) {
         Some(end) => return Ok(Some(end)),
         None => {}
     }
     let mut lines = Vec::new(run.alloc);
-    append_printed(run.alloc, run.world.h, layout, &mut lines, outs.as_slice())?;
+    append_told(
+        run.alloc,
+        run.world.h,
+        layout,
+        &mut lines,
+        telling.outs.as_slice(),
+    )?;
     if text.len() + lines.len() > TEXT_LIMIT {
         return Ok(Some(End::Limit(LimitNo::L9)));
     }

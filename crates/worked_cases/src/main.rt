@@ -8,6 +8,7 @@
 //! - `adapted R W WORDS`: by these words, through the adapters of standard input and output, of which so many calls succeed.
 //! - `run` or `paths`, without a trace: by both words, since both machines give one answer; after `run` the byte machine is
 //!   handed out.
+//! - `run --trace`, where it comes to the end of `main`: by these words, and on the machine of paths with its trace.
 //! - `layout`, with the name of a class: by these words, and by the calls below the program.
 //! - any other: by these words.
 //!
@@ -20,6 +21,7 @@ mod counted_run;
 mod counting_memory;
 mod other_calls;
 mod own_layout;
+mod traced_run;
 
 use adapters::is_adapted;
 use case::{Case, next_case};
@@ -29,6 +31,7 @@ use other_calls::is_answered;
 use own_layout::is_layout;
 use std::alloc::{AllocError, Global};
 use std::io::Read;
+use traced_run::is_traced_run;
 
 /// The bytes that a sink takes at most.
 const ROOM: usize = 1 << 16;
@@ -74,7 +77,7 @@ fn is_run(alloc: Global, case: &Case) -> anyhow::Result<bool> {
     Ok(by_paths == Some(false) && by_bytes.is_some() && (by_bytes == Some(true) || !ran))
 }
 
-// Whether the words ask for a trace, which the machine of paths does not show.
+// Whether the words ask for a trace, which no command shows of the machine of paths.
 fn is_traced(words: &[String]) -> bool {
     words.iter().any(|word| word.as_str() == "--trace")
 }
@@ -88,6 +91,14 @@ fn is_counted(alloc: Global, case: &Case, stores: &str, words: &[String]) -> any
     let answered = machine_after(alloc, case, words)?.is_some();
     let trace = is_traced(words);
     Ok(answered && is_counted_run(alloc, case.source, trace, case.text, stores))
+}
+
+// Whether the program answers these words as the case says, and the machine of paths has the same trace where the run comes to
+// the end of `main` without a budget of its own.
+fn is_run_with_trace(alloc: Global, case: &Case, words: &[String]) -> anyhow::Result<bool> {
+    let answered = machine_after(alloc, case, words)?.is_some();
+    let is_whole = case.status == 0 && words.len() == 2;
+    Ok(answered && (!is_whole || is_traced_run(alloc, case.source, case.text)))
 }
 
 // Whether all is as the case says.
@@ -105,7 +116,7 @@ fn is_right(alloc: Global, case: &Case) -> anyhow::Result<bool> {
         [word, calls @ ..] if word.as_str() == "calls" => {
             Ok(is_answered(alloc, calls, case.source, case.text))
         }
-        words if is_traced(words) => Ok(machine_after(alloc, case, words)?.is_some()),
+        words if is_traced(words) => is_run_with_trace(alloc, case, words),
         [word, ..] if word.as_str() == "run" || word.as_str() == "paths" => is_run(alloc, case),
         [word, name] if word.as_str() == "layout" && case.status == 0 => {
             let answered = machine_after(alloc, case, &case.words)?.is_some();

@@ -1,5 +1,5 @@
 -- What the parts of an event's step do.
-use Rattle.std.specs.Prelude.{◌≡◌, ℕ, Option, Some, None, List, [], ◌∷◌, ◌++◌}
+use Rattle.std.specs.Prelude.{◌≡◌, ℕ, Option, Some, None, List, [], ◌∷◌}
 use Rattle.cxx_hierarchy.specs.declared.records.ClassId.{ClassId}
 use Rattle.cxx_hierarchy.specs.Classes.{Classes}
 use Rattle.cxx_program.specs.declared.program.TypedProgram.{TypedProgram}
@@ -8,6 +8,8 @@ use Rattle.path_plan.specs.Places.{ObjectPart}
 use Rattle.path_plan.specs.Views.{Fits}
 use Rattle.path_plan.specs.Whole.{whole_part}
 use Rattle.path_model.specs.declared.outs.Out.{Out}
+use Rattle.path_machine.specs.declared.telling.Telling.{Telling}
+use Rattle.path_machine.specs.Tellings.{TellsMore}
 use Rattle.path_model.specs.Values.{Pointer}
 use Rattle.path_model.specs.States.{Planned, Frame, State, with_objects}
 use Rattle.path_model.specs.Steps.{objects_after, event_outs, resumed}
@@ -40,9 +42,9 @@ Happens h program old new code = (sizes : ClassId → ℕ) (s : State) (e : Even
     MachineStands h sizes program old s → IsEvent h program s.objects.classes code e → Fits h s.objects.phases e → MachineStands h sizes program new (with_objects s (objects_after program s.objects e))
 
 -- what the event with this name tells stands behind the rest
-abbrev pub Tells : Classes → TypedProgram → Machine → PlanEvent → (before after : List Out) → Type 0
+abbrev pub Tells : Classes → TypedProgram → Machine → PlanEvent → (before after : Telling) → Type 0
 Tells h program machine code before after = (sizes : ClassId → ℕ) (s : State) (e : Event) →
-    MachineStands h sizes program machine s → IsEvent h program s.objects.classes code e → after ≡ before ++ event_outs s.objects e
+    MachineStands h sizes program machine s → IsEvent h program s.objects.classes code e → TellsMore before after (event_outs s.objects e)
 
 -- the plan with these events left
 abbrev pub with_events : Planned → List Event → Planned
@@ -54,10 +56,10 @@ CanEnd h s f events c = events ≡ [] → CanGive h s (Pointer (whole_part f.obj
 
 -- the plan goes on with the events that are left
 abbrev pub Resumes : Classes → TypedProgram → (old new : Machine) → PlanFrame → NextCode → Type 0
-Resumes h program old new frame next = (sizes : ClassId → ℕ) (s : State) (f : Planned) (events : List Event) (below : List Frame) (outs before after : List Out) →
-    IsPlanTaken h sizes program old frame s (with_events f events) below → CanEnd h s f events frame.whole.class → after ≡ before ++ outs → StepAgrees h sizes program (resumed program s f below outs events) new before after next
+Resumes h program old new frame next = (sizes : ClassId → ℕ) (s : State) (f : Planned) (events : List Event) (below : List Frame) (outs : List Out) (before after : Telling) →
+    IsPlanTaken h sizes program old frame s (with_events f events) below → CanEnd h s f events frame.whole.class → TellsMore before after outs → StepAgrees h sizes program (resumed program s f below outs events) new before after next
 
 -- the plan goes on with the body of a part
 abbrev pub Enters : Classes → TypedProgram → (old new : Machine) → PlanFrame → Part → NextCode → Type 0
-Enters h program old new frame part next = (sizes : ClassId → ℕ) (s : State) (f : Planned) (p : ObjectPart) (events : List Event) (below : List Frame) (outs before after : List Out) →
-    IsPlanTaken h sizes program old frame s (with_events f (Body p ∷ events)) below → IsPart h s.objects.classes part p → after ≡ before ++ outs → StepAgrees h sizes program (resumed program s f below outs (Body p ∷ events)) new before after next
+Enters h program old new frame part next = (sizes : ClassId → ℕ) (s : State) (f : Planned) (p : ObjectPart) (events : List Event) (below : List Frame) (outs : List Out) (before after : Telling) →
+    IsPlanTaken h sizes program old frame s (with_events f (Body p ∷ events)) below → IsPart h s.objects.classes part p → TellsMore before after outs → StepAgrees h sizes program (resumed program s f below outs (Body p ∷ events)) new before after next

@@ -1,11 +1,12 @@
 -- What a function of the machine does of a step of the model.
-use Rattle.std.specs.Prelude.{◌≡◌, ℕ, Option, Some, None, List, ◌∷◌, ◌++◌, get_or}
+use Rattle.std.specs.Prelude.{◌≡◌, ℕ, Option, Some, None, List, ◌∷◌, get_or}
 use Rattle.cxx_hierarchy.specs.declared.records.ClassId.{ClassId}
 use Rattle.cxx_hierarchy.specs.Classes.{Classes}
 use Rattle.cxx_program.specs.declared.statement.TypedKind.{TypedKind}
 use Rattle.cxx_program.specs.declared.program.TypedProgram.{TypedProgram}
 use Rattle.cxx_program.specs.Typed.{Scope}
-use Rattle.path_model.specs.declared.outs.Out.{Out}
+use Rattle.path_machine.specs.declared.telling.Telling.{Telling}
+use Rattle.path_machine.specs.Tellings.{TellsMore}
 use Rattle.path_model.specs.Values.{Value}
 use Rattle.path_model.specs.States.{Target, Running, Frame, InBody, State, sight, wanted, with_frames}
 use Rattle.path_model.specs.Rules.{refusal}
@@ -25,15 +26,15 @@ abbrev pub size_in : List ℕ → ClassId → ℕ
 size_in sizes c = get_or sizes c.0 0
 
 -- the step of the model was done: the machine stands for the state that it leads to, and what it tells stands behind the rest
-abbrev pub StepAgrees : Classes → (ClassId → ℕ) → TypedProgram → Next → Machine → (before after : List Out) → NextCode → Type 0
-StepAgrees h sizes program (Goes s outs) machine before after next = (next ≡ GoesCode) × MachineStands h sizes program machine s × (after ≡ before ++ outs)
+abbrev pub StepAgrees : Classes → (ClassId → ℕ) → TypedProgram → Next → Machine → (before after : Telling) → NextCode → Type 0
+StepAgrees h sizes program (Goes s outs) machine before after next = (next ≡ GoesCode) × MachineStands h sizes program machine s × (TellsMore before after outs)
 StepAgrees h sizes program (Refuses rule line) machine before after next = (next ≡ RefusesCode rule line) × (after ≡ before)
 StepAgrees h sizes program Ends machine before after next = (next ≡ EndsCode) × (after ≡ before)
 StepAgrees h sizes program Wrong machine before after next = Unit {0}
 
 -- the same of a move, which a limit may end
-abbrev pub MoveAgrees : Classes → (ClassId → ℕ) → TypedProgram → Move → Machine → (before after : List Out) → NextCode → Type 0
-MoveAgrees h sizes program (Moves s outs) machine before after next = (next ≡ GoesCode) × MachineStands h sizes program machine s × (after ≡ before ++ outs)
+abbrev pub MoveAgrees : Classes → (ClassId → ℕ) → TypedProgram → Move → Machine → (before after : Telling) → NextCode → Type 0
+MoveAgrees h sizes program (Moves s outs) machine before after next = (next ≡ GoesCode) × MachineStands h sizes program machine s × (TellsMore before after outs)
 MoveAgrees h sizes program (IsRefused rule line) machine before after next = (next ≡ RefusesCode rule line) × (after ≡ before)
 MoveAgrees h sizes program (IsLimited limit) machine before after next = (next ≡ Limited limit) × (after ≡ before)
 MoveAgrees h sizes program IsOver machine before after next = (next ≡ EndsCode) × (after ≡ before)

@@ -1,5 +1,5 @@
 -- A run that goes on with the text so far, and a run that has ended.
-use Rattle.std.specs.Prelude.{◌≡◌, ◌≤◌, ◌<◌, ℕ, ◌+◌, false, Option, Some, None, List, length}
+use Rattle.std.specs.Prelude.{◌≡◌, ◌≤◌, ◌<◌, ℕ, ◌+◌, Bool, false, Option, Some, None, List, length}
 use Rattle.cxx_hierarchy.specs.Classes.{Classes}
 use Rattle.cxx_program.specs.declared.program.TypedProgram.{TypedProgram}
 use Rattle.path_model.specs.declared.outs.Turn.{Turn}
@@ -20,20 +20,20 @@ end_by NoSteps = Some OutOfSteps
 end_by (LimitTurn limit) = Some (Limit limit)
 
 -- the machine is at a step, and the text is that of the steps before, none of which passed the limit
-pub record IsGoing (h : Classes) (l : Places) (program : TypedProgram) (state : PathState) (text : List ℕ) : Type 0 where
+pub record IsGoing (h : Classes) (l : Places) (program : TypedProgram) (trace : Bool) (state : PathState) (text : List ℕ) : Type 0 where
   pub at_step : IsAtStep h l.size program state
   pub going : ended_with state ≡ None
-  pub text_is : text ≡ text_at h l program false (taken_by state)
+  pub text_is : text ≡ text_at h l program trace (taken_by state)
   pub small : length text ≤ text_limit
-  pub room : (k : ℕ) → k < taken_by state → passes h l program false k ≡ false
+  pub room : (k : ℕ) → k < taken_by state → passes h l program trace k ≡ false
 
 -- one step more, with its lines
-pub record IsTurned (h : Classes) (l : Places) (program : TypedProgram) (before after : PathState) (text : List ℕ) : Type 0 where
-  pub goes : IsGoing h l program after text
+pub record IsTurned (h : Classes) (l : Places) (program : TypedProgram) (trace : Bool) (before after : PathState) (text : List ℕ) : Type 0 where
+  pub goes : IsGoing h l program trace after text
   pub taken : taken_by after ≡ taken_by before + 1
   pub budget : budget_of after ≡ budget_of before
 
 -- what one turn came to
-abbrev pub Turned : Classes → Places → TypedProgram → (before after : PathState) → List ℕ → Option End → Type 0
-Turned h l program before after text None = IsTurned h l program before after text
-Turned h l program before after text (Some end_is) = IsRun h l program false (budget_of before) text end_is
+abbrev pub Turned : Classes → Places → TypedProgram → (trace : Bool) → (before after : PathState) → List ℕ → Option End → Type 0
+Turned h l program trace before after text None = IsTurned h l program trace before after text
+Turned h l program trace before after text (Some end_is) = IsRun h l program trace (budget_of before) text end_is

@@ -35,12 +35,12 @@ returns-in-None-clause-agrees c = λ e s f below taken calling.
     let frames = InBody (at_statement f c.args.next) ∷ below in
     let next = called h program see (with_frames s frames) call (target_of c.args.target) in
     let scene = c.scene_of-scene.ensures h sizes program s f below taken in
-    nothing_opened h sizes program c.args.machine.now c.args.outs.now c.args.outs.now s frames next (call_limit (with_frames s (InBody f ∷ below))) _
-    (subst (λ x. Opens h s frames x next) c.in-None.is (c.in_ok-open_call.ensures.opens e s f frames scene calling))
+    nothing_opened h sizes program c.args.machine.now c.args.outs.now c.open_call.new.outs s frames next (call_limit (with_frames s (InBody f ∷ below))) _
+    (subst (λ x. Opens h s frames c.args.outs.now c.open_call.new.outs x next) c.in-None.is (c.in_ok-open_call.ensures.opens e s f frames scene calling))
 
 -- src/calls.rt:51:1
-pub returns-in_ok-push-in-Some-2-clause-agrees : goal.returns-in_ok-push-in-Some-2-clause-agrees
-returns-in_ok-push-in-Some-2-clause-agrees c = λ e s f below taken calling.
+pub returns-in_ok-push-in-Some-clause-agrees : goal.returns-in_ok-push-in-Some-clause-agrees
+returns-in_ok-push-in-Some-clause-agrees c = λ e s f below taken calling.
     let h = c.args.run.now.world.h.now in
     let program = c.args.run.now.program.now in
     let sizes = size_in c.args.run.now.sizes.now in
@@ -52,9 +52,8 @@ returns-in_ok-push-in-Some-2-clause-agrees c = λ e s f below taken calling.
     let next = called h program see (with_frames s frames) call (target_of c.args.target) in
     let code = c.in-Some.opened in
     let scene = c.scene_of-scene.ensures h sizes program s f below taken in
-    let counts = subst (λ x. IfSome x (λ o. o.frame.depth ≡ depth + 1)) c.in-Some.is c.in_ok-open_call.ensures.depth in
-    body_opened h sizes program c.push-in-Some.new.self c.args.outs.now c.push.new.self s frames code next (call_limit at)
-    (subst (λ x. Opens h s frames x next) c.in-Some.is (c.in_ok-open_call.ensures.opens e s f frames scene calling))
+    let counts = subst (λ x. IfSome x (λ frame. frame.depth ≡ depth + 1)) c.in-Some.is c.in_ok-open_call.ensures.depth in
+    body_opened h sizes program c.push.new.self c.args.outs.now c.open_call.new.outs s frames code next (call_limit at)
+    (subst (λ x. Opens h s frames c.args.outs.now c.open_call.new.outs x next) c.in-Some.is (c.in_ok-open_call.ensures.opens e s f frames scene calling))
     (open_free at depth taken.counts c.if-frame-ge-MOST_OPEN.false)
-    (λ g stands one. c.in_ok-push-in-Some-2.ensures h sizes program (with_frames s frames) (InBody g) (c.in_ok-go_on-in-Some.ensures h sizes program s f below taken) stands (counts ∙ counts_more (InBody g) frames depth taken.counts one))
-    c.in_ok-push-in-Some.ensures.ok
+    (λ g stands one. c.in_ok-push-in-Some.ensures h sizes program (with_frames s frames) (InBody g) (c.in_ok-go_on-in-Some.ensures h sizes program s f below taken) stands (counts ∙ counts_more (InBody g) frames depth taken.counts one))

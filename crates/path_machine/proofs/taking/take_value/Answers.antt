@@ -1,10 +1,10 @@
-use Rattle.std.proofs.Common.{refl, sym}
-use Rattle.std.proofs.lemmas.List.{append-nil}
+use Rattle.std.proofs.Common.{refl}
 use Rattle.path_model.specs.Values.{converted}
 use Rattle.path_model.specs.States.{sight}
 use Rattle.path_model.specs.Effects.{right_value}
 use Rattle.path_machine.specs.invariants.Steps.{size_in}
 use Rattle.path_machine.proofs.taking.take_value.Goals as goal
+use Rattle.path_machine.proofs.Tellings.{nothing_more}
 
 -- src/taking.rt:60:1
 pub returns-clause-agrees : goal.returns-clause-agrees
@@ -16,4 +16,4 @@ returns-clause-agrees c = λ e s f below outs t given plain.
     let x = c.args.x.now in
     let scene = c.scene_of-scene.ensures h sizes program s f below t in
     let means = c.in_ok-value.ensures.is e see given.type scene given.seen given.typed given.clear in
-    (refl, c.assign.ensures h sizes program _ (converted (right_value h see x.right) x.conversion) (c.in_ok-go_on.ensures h sizes program s f below t) means, sym (append-nil outs))
+    (refl, c.assign.ensures h sizes program _ (converted (right_value h see x.right) x.conversion) (c.in_ok-go_on.ensures h sizes program s f below t) means, nothing_more outs)

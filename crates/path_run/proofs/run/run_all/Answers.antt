@@ -12,7 +12,7 @@ loop-text-init g c =
     let l = places_of h (g.L.SoundLayout.rows c.args.layout.now) in
     let state = c.in_ok-state.state in
     record {
-      going = starts h (size_in c.args.run.now.sizes.now) l c.args.run.now.program.now state c.new-text.result.items c.requires.sizes c.in_ok-state.ensures.start c.in_ok-state.ensures.none c.in_ok-state.ensures.going c.new-text.ensures.items;
+      going = starts h (size_in c.args.run.now.sizes.now) l c.args.run.now.program.now c.args.trace state c.new-text.result.items c.requires.sizes c.in_ok-state.ensures.start c.in_ok-state.ensures.none c.in_ok-state.ensures.going c.new-text.ensures.items;
       budget = c.in_ok-state.ensures.budget;
     }
 
@@ -20,7 +20,7 @@ pub loop-text-preserved : goal.loop-text-preserved
 loop-text-preserved g c =
     let h = c.args.run.now.world.h.now in
     let l = places_of h (g.L.SoundLayout.rows c.args.layout.now) in
-    let turned = subst (Turned h l c.args.run.now.program.now c.loop-text.state c.turn.new.state c.turn.new.text.items) c.in-None.is c.in_ok-ended.ensures in
+    let turned = subst (Turned h l c.args.run.now.program.now c.args.trace c.loop-text.state c.turn.new.state c.turn.new.text.items) c.in-None.is c.in_ok-ended.ensures in
     record {
       going = turned.goes;
       budget = turned.budget ∙ c.loop-text.invariant.budget;
@@ -30,12 +30,12 @@ pub loop-text-smaller : goal.loop-text-smaller
 loop-text-smaller g c =
     let h = c.args.run.now.world.h.now in
     let l = places_of h (g.L.SoundLayout.rows c.args.layout.now) in
-    let turned = subst (Turned h l c.args.run.now.program.now c.loop-text.state c.turn.new.state c.turn.new.text.items) c.in-None.is c.in_ok-ended.ensures in
+    let turned = subst (Turned h l c.args.run.now.program.now c.args.trace c.loop-text.state c.turn.new.state c.turn.new.text.items) c.in-None.is c.in_ok-ended.ensures in
     less_left (budget_of c.loop-text.state) (taken_by c.loop-text.state) (budget_of c.turn.new.state) (taken_by c.turn.new.state) turned.taken turned.budget turned.goes.at_step.within
 
 pub returns-in-Some : goal.returns-in-Some
 returns-in-Some g c =
     let h = c.args.run.now.world.h.now in
     let l = places_of h (g.L.SoundLayout.rows c.args.layout.now) in
-    let ran = subst (Turned h l c.args.run.now.program.now c.loop-text.state c.turn.new.state c.turn.new.text.items) c.in-Some.is c.in_ok-ended.ensures in
-    run_is h l c.args.run.now.program.now (budget_of c.loop-text.state) c.args.steps c.turn.new.text.items c.from_vec.result c.in-Some.end c.loop-text.invariant.budget c.from_vec.ensures ran
+    let ran = subst (Turned h l c.args.run.now.program.now c.args.trace c.loop-text.state c.turn.new.state c.turn.new.text.items) c.in-Some.is c.in_ok-ended.ensures in
+    run_is h l c.args.run.now.program.now c.args.trace (budget_of c.loop-text.state) c.args.steps c.turn.new.text.items c.from_vec.result c.in-Some.end c.loop-text.invariant.budget c.from_vec.ensures ran

@@ -7,7 +7,7 @@ use Rattle.path_run.proofs.run.run_all.Given as goal
 abbrev pub invariant-loop-text : goal.invariant-loop-text
 invariant-loop-text g l =
     record {
-      going : IsGoing l.run.world.h.now (places_of l.run.world.h.now (g.L.SoundLayout.rows l.layout)) l.run.program.now l.state l.text.items;
+      going : IsGoing l.run.world.h.now (places_of l.run.world.h.now (g.L.SoundLayout.rows l.layout)) l.run.program.now l.fn.trace l.state l.text.items;
       budget : budget_of l.state ≡ l.fn.steps;
     }
 

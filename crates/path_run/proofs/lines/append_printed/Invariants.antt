@@ -1,8 +1,0 @@
-use Rattle.std.proofs.Common.{◌≡◌, ◌++◌, take}
-use Rattle.abi_sound.specs.Places.{places_of}
-use Rattle.abi_out.specs.OutTexts.{printed, text_of}
-use Rattle.path_run.proofs.lines.append_printed.Given as goal
-
--- the lines so far stand behind the text
-abbrev pub invariant-loop-out : goal.invariant-loop-out
-invariant-loop-out g l = l.text.items ≡ l.fn.text.items ++ text_of l.h (places_of l.h (g.L.SoundLayout.rows l.layout)) (printed (take l.out-index l.outs))
