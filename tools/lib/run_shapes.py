@@ -86,6 +86,12 @@ def news(part):
     return turns(f"struct K0 {{ int x; virtual ~K0() {{}} }};\n{chain}", Piece(), Piece("K59* p = new K59; delete p; ", 2 * made(60) + 1), 10_000 // part)
 
 
+def deep_news(part):
+    """Objects of a class with 1,000 subobjects in a chain, each made and deleted."""
+    chain = "".join(f"struct K{n} : K{n - 1} {{ int x{n}; }};\n" for n in range(1, 1000))
+    return turns(f"struct K0 {{ int x; }};\n{chain}", Piece(), Piece("K999* p = new K999; delete p; ", 2 * made(1000)), 660 // part)
+
+
 def pairs(count):
     """Classes K0, K1 and so on, each with a virtual base of its own and over the one before: 2 * count subobjects in the last."""
     base = lambda n: f"K{n - 1}, " if n else ""
@@ -129,4 +135,4 @@ def dump(part):
     return Run(f"{classes}int main() {{ B* p = new B; dump(p); }}\n", made(1 + 15 // part) + 2, 1)
 
 
-RUNS = [loop, calls, thunks, shared_thunks, casts, cross_casts, small_news, news, shared_news, copies, many_objects, text, dump, dumps]
+RUNS = [loop, calls, thunks, shared_thunks, casts, cross_casts, small_news, news, deep_news, shared_news, copies, many_objects, text, dump, dumps]

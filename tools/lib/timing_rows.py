@@ -30,7 +30,7 @@ def run_row(shape, command, unit):
 
 
 RUNS = [(run_shapes.loop, "turns"), (run_shapes.calls, "calls"), (run_shapes.thunks, "calls"), (run_shapes.shared_thunks, "calls"), (run_shapes.casts, "casts"),
-        (run_shapes.cross_casts, "casts"), (run_shapes.small_news, "objects"), (run_shapes.news, "objects"), (run_shapes.shared_news, "objects"),
+        (run_shapes.cross_casts, "casts"), (run_shapes.small_news, "objects"), (run_shapes.news, "objects"), (run_shapes.deep_news, "objects"), (run_shapes.shared_news, "objects"),
         (run_shapes.copies, "copies"), (run_shapes.many_objects, "objects"), (run_shapes.text, "lines"), (run_shapes.dump, "dumps"), (run_shapes.dumps, "dumps")]
 
 HIERARCHIES = [shapes.classes, shapes.chain, shapes.overriding_chain, shapes.wide, shapes.nearly_empty, shapes.diamonds, shapes.shared, shapes.empty_tower,
