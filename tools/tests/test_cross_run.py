@@ -50,6 +50,13 @@ class CrossRun(unittest.TestCase):
         self.assertIn("differ  s2: clang++ prints", done.stdout)
         self.assertTrue(done.stdout.endswith("1 programs agree, 1 differ, 0 that a compiler does not take, 0 passed over\n"))
 
+    def test_the_programs_that_are_kept(self):
+        folder = os.path.join(self.top, "kept", "here")
+        done = self.compare("--keep", folder, self.write("same.cpp", "// A 3 #1+0 0\n" + PROGRAM), self.write("other.cpp", "// A 7 #1+0 0\n" + PROGRAM))
+        self.assertEqual((done.returncode, os.listdir(folder)), (1, ["s2.cpp"]))
+        done = self.compare("--keep", self.write("file", ""), self.write("again.cpp", PROGRAM))
+        self.assertEqual((done.returncode, done.stdout, done.stderr.count("\n")), (1, "", 1))
+
     def test_what_is_passed_over(self):
         dumping = self.write("dump.cpp", "// 1\nint main() { dump(p); }\n")
         undefined = self.write("undefined.cpp", PROGRAM)
