@@ -87,21 +87,24 @@ virtual_decided h keeps numbers rows c n s own inherited are size k a b = (
 pub no_marks : (h : Classes) (numbers : List (List ℕ)) (P : Signature → Type 0) → MarksEach h numbers P []
 no_marks h numbers P = record { each = λ n s lt k. absurd (omega arith) }
 
-pub marks_more : (h : Classes) (numbers : List (List ℕ)) (P : Signature → Type 0) (row : List Bool) (n : ℕ) (b : Bool) → MarksEach h numbers P row → length row ≡ n → ((s : Signature) → IsNumberOf h numbers n s → (b ≡ true) ↔ P s) → MarksEach h numbers P (row ++ b ∷ [])
-marks_more h numbers P row n b has size new = record {
+pub one_more : {X : Type 0} (xs ys : List X) (x : X) (n : ℕ) → length xs ≡ n → ys ≡ xs ++ x ∷ [] → length ys ≡ n + 1
+one_more {X} xs ys x n size e = omega (arith, ap length e, length-append {A = X})
+
+pub marks_more : (h : Classes) (numbers : List (List ℕ)) (P : Signature → Type 0) (row grown : List Bool) (n : ℕ) (b : Bool) → MarksEach h numbers P row → length row ≡ n → ((s : Signature) → IsNumberOf h numbers n s → (b ≡ true) ↔ P s) → grown ≡ row ++ b ∷ [] → MarksEach h numbers P grown
+marks_more h numbers P row grown n b has size new e = subst (MarksEach h numbers P) (sym e) (record {
   each = λ m s lt k. ⊎_elim
       (λ small. subst (λ (x : Bool). (x ≡ true) ↔ P s) (sym (or_front row (b ∷ []) m false small)) (has.each m s small k))
       (λ past. let at : m ≡ length row = let l : length (row ++ b ∷ []) ≡ length row + 1 = length-append row (b ∷ []) in omega arith in
       let value : get_or (row ++ b ∷ []) m false ≡ b = ap (λ i. get_or (row ++ b ∷ []) i false) at ∙ or_last row b false in
       subst (λ (x : Bool). (x ≡ true) ↔ P s) (sym value) (new s (subst (λ (i : ℕ). IsNumberOf h numbers i s) (at ∙ size) k)))
       (cases_lt m (length row));
-}
+})
 
 pub no_mark_rows : (h : Classes) (numbers : List (List ℕ)) (P : ClassId → Signature → Type 0) → AreMarks h numbers P []
 no_mark_rows h numbers P = record { each = λ c n s lt k. absurd (omega arith) }
 
-pub mark_rows_more : (h : Classes) (numbers : List (List ℕ)) (count : ℕ) (P : ClassId → Signature → Type 0) (rows : List (List Bool)) (c : ClassId) (row : List Bool) → IsNumbering h numbers count → AreMarks h numbers P rows → length rows ≡ c.0 → IsMarkRow h numbers count (P c) row → AreMarks h numbers P (rows ++ row ∷ [])
-mark_rows_more h numbers count P rows c row is has size new = record {
+pub mark_rows_more : (h : Classes) (numbers : List (List ℕ)) (count : ℕ) (P : ClassId → Signature → Type 0) (rows grown : List (List Bool)) (c : ClassId) (row : List Bool) → IsNumbering h numbers count → AreMarks h numbers P rows → length rows ≡ c.0 → IsMarkRow h numbers count (P c) row → grown ≡ rows ++ row ∷ [] → AreMarks h numbers P grown
+mark_rows_more h numbers count P rows grown c row is has size new e = subst (AreMarks h numbers P) (sym e) (record {
   each = λ x n s lt k. ⊎_elim
       (λ small. subst (λ (r : List Bool). (get_or r n false ≡ true) ↔ P x s) (sym (or_front rows (row ∷ []) x.0 [] small)) (has.each x n s small k))
       (λ past. let at : x.0 ≡ length rows = let l : length (rows ++ row ∷ []) ≡ length rows + 1 = length-append rows (row ∷ []) in omega arith in
@@ -111,7 +114,7 @@ mark_rows_more h numbers count P rows c row is has size new = record {
       let all = new.size in
       subst (λ (r : List Bool). (get_or r n false ≡ true) ↔ P x s) (sym value) (subst (λ (y : ClassId). (get_or row n false ≡ true) ↔ P y s) same (new.marks.each n s (omega arith) k)))
       (cases_lt x.0 (length rows));
-}
+})
 
 pub own_decided : (h : Classes) → IsHierarchy h → (c : ClassId) (s : Signature) (f : FunctionId) (b : Bool) → f.class ≡ c → signature_of h f ≡ Some s → b ≡ says_virtual h f → (b ≡ true) ↔ SaysVirtual h c s
 own_decided h keeps c s f b class same is = (

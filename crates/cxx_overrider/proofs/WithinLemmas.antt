@@ -1,22 +1,25 @@
 -- The virtual functions that the non-virtual part of a class declares, and the lists of their numbers.
-use Rattle.std.proofs.Common.{◌≡◌, ℕ, ◌+◌, ◌⊎◌, ◌↔◌, inl, inr, ⊎_elim, Bool, true, false, Some, List, [], ◌∷◌, ◌++◌, length, get_or, refl, ap, subst, sym, ◌∙◌, arith, length-append}
+use Rattle.std.proofs.Common.{◌≡◌, ℕ, ◌+◌, ◌<◌, ◌⊎◌, ◌↔◌, inl, inr, ⊎_elim, Bool, true, false, Some, List, [], ◌∷◌, ◌++◌, length, get_or, refl, ap, subst, sym, ◌∙◌, arith, length-append}
 use Rattle.std.specs.List.{slice_get, Contains}
 use Rattle.cxx_hierarchy.specs.declared.records.ClassId.{ClassId}
 use Rattle.cxx_hierarchy.specs.declared.records.Base.{Base}
 use Rattle.cxx_hierarchy.specs.Classes.{Classes, bases_of}
 use Rattle.cxx_hierarchy.specs.Hierarchies.{IsHierarchy}
-use Rattle.cxx_hierarchy.specs.VirtualBases.{IsDirectBase}
+use Rattle.cxx_hierarchy.specs.VirtualBases.{IsDirectBase, HasVirtualBase}
 use Rattle.cxx_subobject.specs.declared.Root.TheVariants.{Whole}
 use Rattle.cxx_subobject.specs.Subobjects.{Leads, whole, subobject, last_of, join}
 use Rattle.cxx_subobject.proofs.InsideLemmas.{join_valid, join_class}
+use Rattle.cxx_subobject.proofs.PathLemmas.{virtual_below}
 use Rattle.cxx_overrider.specs.declared.FunctionId.{FunctionId}
+use Rattle.cxx_overrider.specs.declared.tables.Tables.{Tables}
 use Rattle.cxx_overrider.specs.Functions.{Signature, signature_of}
 use Rattle.cxx_overrider.specs.Overriding.{HasPart, HasVirtual, IsVirtual}
-use Rattle.cxx_overrider.specs.invariants.Numbers.{IsNumbering, IsNumberOf}
+use Rattle.cxx_overrider.specs.invariants.Numbers.{row_of, IsNumbering, IsNumberOf}
 use Rattle.cxx_overrider.specs.invariants.Marks.{AreMarks, HasMarkedPart}
 use Rattle.cxx_overrider.specs.invariants.Pure.{DeclaresNone}
 use Rattle.cxx_overrider.specs.invariants.Within.{HasVirtualWithin, ListsMarked, AreListed, AreWithin}
-use Rattle.cxx_overrider.proofs.Lists.{or_front, or_last}
+use Rattle.cxx_overrider.specs.invariants.Tables.{AreTables}
+use Rattle.cxx_overrider.proofs.Lists.{or_front, or_last, get_at}
 use Rattle.foundation.proofs.Places.{get_front, get_last, get_pushed}
 use Rattle.std.proofs.lemmas.Option.{slice_get_within}
 use Rattle.std.proofs.lemmas.Bool.{cases_lt}
@@ -171,3 +174,18 @@ within_made h numbers count rows lists is are size listed = record {
   listed = λ c n s lt k w. (listed.each c lt).listed n (is.few k.function n k.number) ((are.each c n s (omega arith) k).1 w);
   ordered = λ c i j m n lt below e f. (listed.each c lt).ordered i j m n below e f;
 }
+
+-- a virtual base has a list, and what the list has
+pub base_listed : (h : Classes) → IsHierarchy h → (t : Tables) → AreTables h t → (c v : ClassId) → c.0 < length h → HasVirtualBase h c v → v.0 < length t.within.items
+base_listed h keeps t tables c v known base = let lt = virtual_below h keeps c v base in let all = tables.all_within in omega arith
+
+pub record IsListed (h : Classes) (t : Tables) (v : ClassId) (i n : ℕ) : Type 0 where
+  pub at : slice_get (row_of t.within.items v) i ≡ Some n
+  pub few : n < t.numbering.count
+  pub valid : (s : Signature) → IsNumberOf h t.numbering.rows.items n s → HasVirtualWithin h v s
+
+pub listed_number : (h : Classes) → IsHierarchy h → (t : Tables) → AreTables h t → (c v : ClassId) → c.0 < length h → HasVirtualBase h c v → (xs : List ℕ) (i : ℕ) → xs ≡ row_of t.within.items v → i < length xs → IsListed h t v i (get_or xs i 0)
+listed_number h keeps t tables c v known base xs i e lt =
+    let at = get_at xs (row_of t.within.items v) i 0 e lt in
+    let listed = base_listed h keeps t tables c v known base in
+    record { at = at; few = tables.within.few v i _ listed at; valid = λ s k. tables.within.valid v i _ s listed at k }

@@ -1,18 +1,16 @@
-//! Which pure functions the non-virtual part of a class leaves without an overrider.
+//! Whether the non-virtual part of a class leaves a pure function without an overrider.
 
-ghost use Rattle.std.specs.Prelude.{◌≡◌, ◌<◌, ◌↔◌, true, IsTrue, IfOk, length};
+ghost use Rattle.std.specs.Prelude.{◌≡◌, ◌<◌, ◌↔◌, true, IsTrue, length};
 ghost use Rattle.cxx_overrider.specs.Functions.{Signature, is_pure};
 ghost use Rattle.cxx_overrider.specs.Overriding.{HasVirtual};
 ghost use Rattle.cxx_overrider.specs.invariants.Numbers.{IsNumbering, IsNumberOf};
-ghost use Rattle.cxx_overrider.specs.invariants.Marks.{mark_of, AreMarks, IsMarkRow, HasMarkedPart};
+ghost use Rattle.cxx_overrider.specs.invariants.Marks.{mark_of, AreMarks, HasMarkedPart};
 ghost use Rattle.cxx_overrider.specs.invariants.Pure.{LeavesPure};
 
 use crate::FunctionId;
 use crate::signatures::{Numbering, declaration, own_function};
 use crate::virtuals::{MarkRow, is_marked};
 use cxx_hierarchy::{ClassId, Hierarchy};
-use foundation::{NoMemory, Sequence};
-use std::alloc::Global;
 
 /// Whether the declaration ends in `= 0`.
 pub fn is_pure(h: &Hierarchy, f: FunctionId) -> bool
@@ -47,7 +45,7 @@ fn is_marked_pure(h: &Hierarchy, virtuals: &[MarkRow], f: FunctionId, n: usize) 
 }
 
 /// Whether a virtual pure function of the signature stands first on some path of non-virtual bases.
-fn leaves_pure(
+pub fn leaves_pure(
     h: &Hierarchy,
     numbering: &Numbering,
     virtuals: &[MarkRow],
@@ -68,48 +66,4 @@ fn leaves_pure(
         Some(f) => is_marked_pure(h, virtuals, f, n),
         None => has_marked_part(h, rows, c, n),
     }
-}
-
-fn pure_row(
-    alloc: Global,
-    h: &Hierarchy,
-    numbering: &Numbering,
-    virtuals: &[MarkRow],
-    rows: &[MarkRow],
-    c: ClassId,
-) -> Result<MarkRow, NoMemory>
-    requires known { c.0 < length h.now }
-    requires numbering { IsNumbering h.now numbering.now.rows.items numbering.now.count }
-    requires virtuals { AreMarks h.now numbering.now.rows.items (HasVirtual h.now) virtuals.now }
-    requires all { length virtuals.now ≡ length h.now }
-    requires rows { AreMarks h.now numbering.now.rows.items (LeavesPure h.now) rows.now }
-    requires size { length rows.now ≡ c.0 }
-    ensures { IfOk result (IsMarkRow h.now numbering.now.rows.items numbering.now.count (LeavesPure h.now c)) }
-{
-    let mut row = Sequence::new(alloc);
-    for n in 0..numbering.count {
-        row.push(leaves_pure(h, numbering, virtuals, rows, c, n))?;
-    }
-    Ok(row)
-}
-
-/// For each class the signatures of which a virtual pure function stands first on some path of non-virtual bases.
-pub fn pure_rows(
-    alloc: Global,
-    h: &Hierarchy,
-    numbering: &Numbering,
-    virtuals: &[MarkRow],
-) -> Result<Vec<MarkRow>, NoMemory>
-    requires numbering { IsNumbering h.now numbering.now.rows.items numbering.now.count }
-    requires virtuals { AreMarks h.now numbering.now.rows.items (HasVirtual h.now) virtuals.now }
-    requires all { length virtuals.now ≡ length h.now }
-    ensures marks { IfOk result (λ rows. AreMarks h.now numbering.now.rows.items (LeavesPure h.now) rows.items) }
-    ensures size { IfOk result (λ rows. length rows.items ≡ length h.now) }
-{
-    let mut rows = Vec::new(alloc);
-    for number in 0..h.len() {
-        let row = pure_row(alloc, h, numbering, virtuals, &rows, ClassId(number))?;
-        rows.push(row)?;
-    }
-    Ok(rows)
 }

@@ -4,10 +4,9 @@ ghost use Rattle.std.specs.Prelude.{IfOk};
 ghost use Rattle.cxx_overrider.specs.invariants.Tables.{AreTables};
 
 use crate::kinds::{KindRow, kind_rows};
-use crate::pure::pure_rows;
 use crate::signatures::{NumberRow, Numbering, number_signatures};
 use crate::virtuals::{MarkRow, virtual_rows};
-use crate::within::within_lists;
+use crate::within::{PartQuestion, part_rows, within_lists};
 use cxx_hierarchy::Hierarchy;
 use cxx_subobject::virtual_flags::classes_with_virtual_bases;
 use foundation::NoMemory;
@@ -35,7 +34,7 @@ pub fn tables_of(alloc: Global, h: &Hierarchy) -> Result<Tables, NoMemory>
     let numbering = number_signatures(alloc, h)?;
     let kinds = kind_rows(alloc, h)?;
     let virtuals = virtual_rows(alloc, h, &numbering)?;
-    let pure = pure_rows(alloc, h, &numbering, &virtuals)?;
+    let pure = part_rows(alloc, h, &numbering, &virtuals, PartQuestion::LeavesPure)?;
     let within = within_lists(alloc, h, &numbering, &virtuals)?;
     let with_virtual = classes_with_virtual_bases(alloc, h)?;
     Ok(Tables {

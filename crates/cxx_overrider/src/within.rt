@@ -1,4 +1,5 @@
-//! Which virtual functions the non-virtual part of a class declares, by the numbers of their signatures.
+//! Which virtual functions the non-virtual part of a class declares, and which pure ones it leaves without an overrider,
+//! by the numbers of their signatures.
 
 ghost use Rattle.std.specs.Prelude.{◌≡◌, ◌<◌, ◌↔◌, [], IsTrue, IfOk, length, slice_index_or};
 ghost use Rattle.cxx_hierarchy.specs.declared.records.ClassId.{ClassId};
@@ -6,9 +7,9 @@ ghost use Rattle.cxx_overrider.specs.Functions.{Signature};
 ghost use Rattle.cxx_overrider.specs.Overriding.{HasVirtual};
 ghost use Rattle.cxx_overrider.specs.invariants.Numbers.{IsNumbering, IsNumberOf};
 ghost use Rattle.cxx_overrider.specs.invariants.Marks.{AreMarks, IsMarkRow};
-ghost use Rattle.cxx_overrider.specs.invariants.Within.{HasVirtualWithin, ListsMarked, AreListed, AreWithin};
+ghost use Rattle.cxx_overrider.specs.invariants.Within.{HasVirtualWithin, IsAnswered, ListsMarked, AreListed, AreWithin};
 
-use crate::pure::has_marked_part;
+use crate::pure::{has_marked_part, leaves_pure};
 use crate::signatures::{NumberRow, Numbering, own_function};
 use crate::virtuals::{MarkRow, is_marked};
 use cxx_hierarchy::{ClassId, Hierarchy};
@@ -42,11 +43,46 @@ fn has_virtual_within(
     }
 }
 
-fn within_row(
+/// What is asked of the non-virtual part of a class.
+#[derive(Clone, Copy, Debug)]
+pub enum PartQuestion {
+    /// Whether it leaves a virtual pure function of a signature without an overrider.
+    LeavesPure,
+    /// Whether it declares a virtual function of a signature.
+    DeclaresVirtual,
+}
+
+/// The answer for a signature, from those of the classes before.
+fn part_answer(
+    h: &Hierarchy,
+    numbering: &Numbering,
+    virtuals: &[MarkRow],
+    question: PartQuestion,
+    rows: &[MarkRow],
+    c: ClassId,
+    n: usize,
+) -> bool
+    requires known { c.0 < length h.now }
+    requires numbering { IsNumbering h.now numbering.now.rows.items numbering.now.count }
+    requires virtuals { AreMarks h.now numbering.now.rows.items (HasVirtual h.now) virtuals.now }
+    requires all { length virtuals.now ≡ length h.now }
+    requires rows { AreMarks h.now numbering.now.rows.items (IsAnswered h.now question) rows.now }
+    requires size { length rows.now ≡ c.0 }
+    ensures { (s : Signature) → IsNumberOf h.now numbering.now.rows.items n s → (IsTrue result ↔ IsAnswered h.now question c s) }
+{
+    match question {
+        PartQuestion::LeavesPure => leaves_pure(h, numbering, virtuals, rows, c, n),
+        PartQuestion::DeclaresVirtual => has_virtual_within(h, numbering, virtuals, rows, c, n),
+    }
+}
+
+/// The answers for all signatures.
+fn part_row(
     alloc: Global,
     h: &Hierarchy,
     numbering: &Numbering,
     virtuals: &[MarkRow],
+    question: PartQuestion,
     rows: &[MarkRow],
     c: ClassId,
 ) -> Result<MarkRow, NoMemory>
@@ -54,33 +90,42 @@ fn within_row(
     requires numbering { IsNumbering h.now numbering.now.rows.items numbering.now.count }
     requires virtuals { AreMarks h.now numbering.now.rows.items (HasVirtual h.now) virtuals.now }
     requires all { length virtuals.now ≡ length h.now }
-    requires rows { AreMarks h.now numbering.now.rows.items (HasVirtualWithin h.now) rows.now }
+    requires rows { AreMarks h.now numbering.now.rows.items (IsAnswered h.now question) rows.now }
     requires size { length rows.now ≡ c.0 }
-    ensures { IfOk result (IsMarkRow h.now numbering.now.rows.items numbering.now.count (HasVirtualWithin h.now c)) }
+    ensures { IfOk result (IsMarkRow h.now numbering.now.rows.items numbering.now.count (IsAnswered h.now question c)) }
 {
     let mut row = Sequence::new(alloc);
     for n in 0..numbering.count {
-        row.push(has_virtual_within(h, numbering, virtuals, rows, c, n))?;
+        row.push(part_answer(h, numbering, virtuals, question, rows, c, n))?;
     }
     Ok(row)
 }
 
-/// For each class the signatures of which its non-virtual part declares a virtual function.
-fn within_rows(
+/// For each class the signatures of which its non-virtual part is as the question says.
+pub fn part_rows(
     alloc: Global,
     h: &Hierarchy,
     numbering: &Numbering,
     virtuals: &[MarkRow],
+    question: PartQuestion,
 ) -> Result<Vec<MarkRow>, NoMemory>
     requires numbering { IsNumbering h.now numbering.now.rows.items numbering.now.count }
     requires virtuals { AreMarks h.now numbering.now.rows.items (HasVirtual h.now) virtuals.now }
     requires all { length virtuals.now ≡ length h.now }
-    ensures marks { IfOk result (λ rows. AreMarks h.now numbering.now.rows.items (HasVirtualWithin h.now) rows.items) }
+    ensures marks { IfOk result (λ rows. AreMarks h.now numbering.now.rows.items (IsAnswered h.now question) rows.items) }
     ensures size { IfOk result (λ rows. length rows.items ≡ length h.now) }
 {
     let mut rows = Vec::new(alloc);
     for number in 0..h.len() {
-        let row = within_row(alloc, h, numbering, virtuals, &rows, ClassId(number))?;
+        let row = part_row(
+            alloc,
+            h,
+            numbering,
+            virtuals,
+            question,
+            &rows,
+            ClassId(number),
+        )?;
         rows.push(row)?;
     }
     Ok(rows)
@@ -136,7 +181,7 @@ pub fn within_lists(
     ensures lists { IfOk result (λ lists. AreWithin h.now numbering.now.rows.items numbering.now.count lists.items) }
     ensures size { IfOk result (λ lists. length lists.items ≡ length h.now) }
 {
-    let rows = within_rows(alloc, h, numbering, virtuals)?;
+    let rows = part_rows(alloc, h, numbering, virtuals, PartQuestion::DeclaresVirtual)?;
     let lists = number_lists(alloc, &rows, h.len(), numbering.count)?;
     Ok(lists)
 }

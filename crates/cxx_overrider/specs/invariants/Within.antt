@@ -4,9 +4,12 @@ use Rattle.cxx_hierarchy.specs.declared.records.ClassId.{ClassId}
 use Rattle.cxx_hierarchy.specs.Classes.{Classes}
 use Rattle.cxx_subobject.specs.Subobjects.{Leads, last_of}
 use Rattle.cxx_overrider.specs.declared.FunctionId.{FunctionId}
+use Rattle.cxx_overrider.specs.declared.within.PartQuestion.{PartQuestion}
+use Rattle.cxx_overrider.specs.declared.within.PartQuestion.TheVariants.{LeavesPure, DeclaresVirtual}
 use Rattle.cxx_overrider.specs.Functions.{Signature, signature_of}
 use Rattle.cxx_overrider.specs.Overriding.{IsVirtual}
 use Rattle.cxx_overrider.specs.invariants.Numbers.{IsNumberOf, row_of}
+use Rattle.cxx_overrider.specs.invariants.Pure.{LeavesPure as LeavesPureOf}
 
 -- the class, or one to which non-virtual bases alone lead from it, declares a virtual function of the signature
 pub record HasVirtualWithin (h : Classes) (c : ClassId) (signature : Signature) : Type 0 where
@@ -16,6 +19,11 @@ pub record HasVirtualWithin (h : Classes) (c : ClassId) (signature : Signature) 
   pub class : last_of c path ≡ function.class
   pub same : signature_of h function ≡ Some signature
   pub is_virtual : IsVirtual h function
+
+-- the answer to the question is yes
+abbrev pub IsAnswered : Classes → PartQuestion → ClassId → Signature → Type 0
+IsAnswered h LeavesPure = LeavesPureOf h
+IsAnswered h DeclaresVirtual = HasVirtualWithin h
 
 -- the list has the numbers below a bound that a row marks, in their order
 pub record ListsMarked (row : List Bool) (bound : ℕ) (list : List ℕ) : Type 0 where

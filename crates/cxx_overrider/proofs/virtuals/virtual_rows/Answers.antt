@@ -1,19 +1,8 @@
-use Rattle.std.proofs.Common.{◌≡◌, ◌++◌, ◌∷◌, [], Bool, List, length, subst, sym, ap, arith, length-append}
-use Rattle.cxx_hierarchy.specs.declared.records.ClassId.{ClassId}
-use Rattle.cxx_overrider.specs.Overriding.{HasVirtual}
-use Rattle.cxx_overrider.specs.invariants.Marks.{AreMarks}
-use Rattle.cxx_overrider.proofs.MarkLemmas.{mark_rows_more}
+use Rattle.cxx_overrider.proofs.MarkLemmas.{mark_rows_more, one_more}
 use Rattle.cxx_overrider.proofs.virtuals.virtual_rows.Goals as goal
 
 pub loop-number-preserved : goal.loop-number-preserved
-loop-number-preserved c =
-    let h = c.args.h.now in
-    let numbers = c.args.numbering.now.rows.items in
-    let d : ClassId = record { 0 = c.loop-number.number } in
-    let rows = c.loop-number.rows.items in
-    let e : c.push.new.self.items ≡ rows ++ c.in_ok-row.row ∷ [] = c.in_ok-push.ensures.items in
-    record {
-      size = let n = c.loop-number.invariant.size in omega (arith, ap length e, length-append {A = List Bool});
-      marks = subst (λ (x : List (List Bool)). AreMarks h numbers (HasVirtual h) x) (sym e)
-          (mark_rows_more h numbers c.args.numbering.now.count (HasVirtual h) rows d c.in_ok-row.row c.requires c.loop-number.invariant.marks c.loop-number.invariant.size c.in_ok-row.ensures);
-    }
+loop-number-preserved c = record {
+  size = one_more _ _ _ _ c.loop-number.invariant.size c.in_ok-push.ensures.items;
+  marks = mark_rows_more _ _ _ _ _ _ _ _ c.requires c.loop-number.invariant.marks c.loop-number.invariant.size c.in_ok-row.ensures c.in_ok-push.ensures.items;
+}

@@ -1,0 +1,7 @@
+use Rattle.std.proofs.Common.{◌≡◌, length}
+use Rattle.cxx_overrider.specs.invariants.Within.{IsAnswered}
+use Rattle.cxx_overrider.specs.invariants.Marks.{MarksEach}
+use Rattle.cxx_overrider.proofs.within.part_row.Given as goal
+
+abbrev pub invariant-loop-n : goal.invariant-loop-n
+invariant-loop-n l = record { size : length l.row ≡ l.n; marks : MarksEach l.h l.numbering.rows.items (IsAnswered l.h l.fn.question l.fn.c) l.row }
