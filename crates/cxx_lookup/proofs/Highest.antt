@@ -33,6 +33,19 @@ pub record IsBest (h : Classes) (hider : Option Found) (list : List Found) (n : 
 pub none_yet : (h : Classes) (hider : Option Found) (list : List Found) → IsBest h hider list 0 None
 none_yet h hider list = record { place = tt; tells = record { each = λ k found lt at. absurd (omega arith) } }
 
+-- the best one stays so where the next one that is free and goes over it stands at its place
+still_highest : (h : Classes) (hider : Option Found) (list : List Found) (i : ℕ) (x : Found) (b : ℕ) → slice_get list i ≡ Some x → (best : IsHighest h hider list i b) →
+    ((IsHidden h hider x → ⊥) → IsInside h (place_of x) (place_of best.found) → place_of x ≡ place_of best.found) → IsHighest h hider list (i + 1) b
+still_highest h hider list i x b at best next = record {
+  found = best.found;
+  there = best.there;
+  outside = best.outside;
+  top = λ j other lt there. ⊎_elim
+      (λ l. best.top j other l there)
+      (λ same. subst (λ (f : Found). (IsHidden h hider f → ⊥) → IsInside h (place_of f) (place_of best.found) → place_of f ≡ place_of best.found) (sym same) next)
+      (before_or_here list i j x other lt at there);
+}
+
 pub skipped : (h : Classes) (hider : Option Found) (list : List Found) (i : ℕ) (x : Found) (best : Option ℕ) → i < length list → x ≡ get_or list i x → IsHidden h hider x → IsBest h hider list i best → IsBest h hider list (i + 1) best
 skipped h hider list i x None within is hidden far =
     let at : slice_get list i ≡ Some x = slice_get_read list (length list) i x refl within is in
@@ -40,18 +53,10 @@ skipped h hider list i x None within is hidden far =
       place = tt;
       tells = record { each = λ k found lt there. ⊎_elim (λ l. far.tells.each k found l there) (λ same. subst (IsHidden h hider) (sym same) hidden) (before_or_here list i k x found lt at there) };
     }
-skipped h hider list i x (Some b) within is hidden far =
-    let at : slice_get list i ≡ Some x = slice_get_read list (length list) i x refl within is in
-    let best : IsHighest h hider list i b = far.tells in
-    record {
-      place = far.place;
-      tells = record {
-        found = best.found;
-        there = best.there;
-        outside = best.outside;
-        top = λ j other lt there free inside. ⊎_elim (λ l. best.top j other l there free inside) (λ same. absurd (free (subst (IsHidden h hider) (sym same) hidden))) (before_or_here list i j x other lt at there);
-      };
-    }
+skipped h hider list i x (Some b) within is hidden far = record {
+  place = far.place;
+  tells = still_highest h hider list i x b (slice_get_read list (length list) i x refl within is) far.tells (λ free inside. absurd (free hidden));
+}
 
 pub taken : (h : Classes) → IsOrder h → (hider : Option Found) (list : List Found) (i : ℕ) (x : Found) (best : Option ℕ) → i < length list → x ≡ get_or list i x → (IsHidden h hider x → ⊥) → GoesOver h x (found_at list best) →
     IsBest h hider list i best → IsBest h hider list (i + 1) (Some i)
@@ -88,19 +93,10 @@ taken h order hider list i x (Some b) within is free over far =
 pub kept : (h : Classes) (hider : Option Found) (list : List Found) (i : ℕ) (x : Found) (best : Option ℕ) → i < length list → x ≡ get_or list i x → (GoesOver h x (found_at list best) → ⊥) → IsBest h hider list i best → IsBest h hider list (i + 1) best
 kept h hider list i x None within is below far = absurd (below tt)
 kept h hider list i x (Some b) within is below far =
-    let at : slice_get list i ≡ Some x = slice_get_read list (length list) i x refl within is in
     let best : IsHighest h hider list i b = far.tells in
     record {
       place = far.place;
-      tells = record {
-        found = best.found;
-        there = best.there;
-        outside = best.outside;
-        top = λ j other lt there free inside. ⊎_elim
-            (λ l. best.top j other l there free inside)
-            (λ same. absurd (below (subst (GoesOver h x) (sym best.there) (subst (λ (f : Found). IsInside h (place_of f) (place_of best.found)) same inside))))
-            (before_or_here list i j x other lt at there);
-      };
+      tells = still_highest h hider list i x b (slice_get_read list (length list) i x refl within is) best (λ free inside. absurd (below (subst (GoesOver h x) (sym best.there) inside)));
     }
 
 -- one that nothing hides but what is hidden by a hider remains, where the hider hides none that hide it
