@@ -14,7 +14,7 @@ pub returns-in-Public-clause-follows : goal.returns-in-Public-clause-follows
 returns-in-Public-clause-follows c = λ m. then_same (λ x. x.1.now) (outside m) (outside m) (PartsEnd ∷ []) (Only Colon ∷ []) (PartsEnd ∷ []) (c.args.first ∷ c.args.rest.now) c.args.rest.now _ (λ k. takes _ PartsEnd Public (Only Colon ∷ PartsEnd ∷ []) c.args.first c.args.rest.now (outside m) k refl (search rules) refl refl) (c.label.ensures.follows (outside m))
 
 pub returns-in-Protected-clause-follows : goal.returns-in-Protected-clause-follows
-returns-in-Protected-clause-follows c = λ m. then_same (λ x. x.1.now) (outside m) (outside m) (PartsEnd ∷ []) (Only Colon ∷ []) (PartsEnd ∷ []) (c.args.first ∷ c.args.rest.now) c.args.rest.now _ (λ k. turns.label_part (c.args.first ∷ c.args.rest.now) c.args.first c.args.rest.now (outside m) k false refl (search rules)) (c.label-in-Protected.ensures.follows (outside m))
+returns-in-Protected-clause-follows c = λ m. then_same (λ x. x.1.now) (outside m) (outside m) (PartsEnd ∷ []) (Only Colon ∷ []) (PartsEnd ∷ []) (c.args.first ∷ c.args.rest.now) c.args.rest.now _ (λ k. turns.label_part false (c.args.first ∷ c.args.rest.now) c.args.first c.args.rest.now (outside m) k refl (search rules)) (c.label-in-Protected.ensures.follows (outside m))
 
 pub returns-in-Name-clause-follows : goal.returns-in-Name-clause-follows
 returns-in-Name-clause-follows c = λ m. then_same (λ x. x.1.now) (outside m) (outside m) (PartsEnd ∷ []) (AfterType ∷ []) (PartsEnd ∷ []) (c.args.first ∷ c.args.rest.now) c.args.rest.now _ (λ k. takes _ PartsEnd Name (AfterType ∷ PartsEnd ∷ []) c.args.first c.args.rest.now (outside m) k refl (search rules) refl refl) (c.name_part.ensures.follows m)

@@ -20,4 +20,4 @@ pub returns-in-Int-clause-follows : goal.returns-in-Int-clause-follows
 returns-in-Int-clause-follows c = then_to (λ x. x.1.now) (outside c.args.has_main) (λ x. outside (main_after c.args.has_main x.0)) (ItemsEnd ∷ []) (AfterInt ∷ []) (ItemsEnd ∷ []) (c.args.first ∷ c.args.rest.now) c.args.rest.now _ (λ k. takes _ ItemsEnd Int (AfterInt ∷ ItemsEnd ∷ []) c.args.first c.args.rest.now (outside c.args.has_main) k refl (search rules) refl refl) c.int_item.ensures.follows
 
 pub returns-else-not-begins_value-clause-follows : goal.returns-else-not-begins_value-clause-follows
-returns-else-not-begins_value-clause-follows c = then_same_to (λ x. x.1.now) (outside c.args.has_main) (λ x. outside (main_after c.args.has_main x.0)) (ItemsEnd ∷ []) (value_rest c.args.first.sort ++ (Only Semicolon ∷ [])) (ItemsEnd ∷ []) (c.args.first ∷ c.args.rest.now) c.args.rest.now _ (λ k. turns.value_begins (c.args.first ∷ c.args.rest.now) c.args.first c.args.rest.now (outside c.args.has_main) k refl (search rules) c.in_default.not-Int ∙ ap (run c.args.rest.now (outside c.args.has_main)) (sym (append_assoc (value_rest c.args.first.sort) (Only Semicolon ∷ []) (ItemsEnd ∷ k)))) (λ x e. ap outside (no_main_after c.args.has_main x.0 (of_ok _ _ (λ x. is_no_main x.0 ≡ true) e c.value_item.ensures.variable))) (c.value_item.ensures.follows (outside c.args.has_main))
+returns-else-not-begins_value-clause-follows c = then_same_to (λ x. x.1.now) (outside c.args.has_main) (λ x. outside (main_after c.args.has_main x.0)) (ItemsEnd ∷ []) (value_rest c.args.first.sort ++ (Only Semicolon ∷ [])) (ItemsEnd ∷ []) (c.args.first ∷ c.args.rest.now) c.args.rest.now _ (λ k. turns.value_begins (c.args.first ∷ c.args.rest.now) c.args.first c.args.rest.now (outside c.args.has_main) k refl (search rules, c.in_default.not-Int) ∙ ap (run c.args.rest.now (outside c.args.has_main)) (sym (append_assoc (value_rest c.args.first.sort) (Only Semicolon ∷ []) (ItemsEnd ∷ k)))) (λ x e. ap outside (no_main_after c.args.has_main x.0 (of_ok _ _ (λ x. is_no_main x.0 ≡ true) e c.value_item.ensures.variable))) (c.value_item.ensures.follows (outside c.args.has_main))

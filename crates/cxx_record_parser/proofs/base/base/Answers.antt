@@ -10,10 +10,10 @@ pub returns-then-is_same-clause-follows : goal.returns-then-is_same-clause-follo
 returns-then-is_same-clause-follows c = λ s. same_answer (λ x. x.1.now) s s (ABase ∷ []) (BaseAfterVirtual ∷ []) [] c.args.rest.now c.in_ok-first.after.now _ (λ k. takes _ ABase Virtual (BaseAfterVirtual ∷ []) _ _ s k c.in_ok-first.ensures.ok (search rules) refl refl) (c.base_after_virtual.ensures.follows s)
 
 pub returns-in-Some-clause-follows : goal.returns-in-Some-clause-follows
-returns-in-Some-clause-follows c = λ s. same_answer (λ x. x.1.now) s s (ABase ∷ []) (BaseAfterAccess ∷ []) [] c.args.rest.now c.in_ok-first.after.now _ (λ k. turns.access_base _ _ _ s k c.in-Some.is_public c.in_ok-first.ensures.ok (search rules)) (c.base_after_access.ensures.follows s)
+returns-in-Some-clause-follows c = λ s. same_answer (λ x. x.1.now) s s (ABase ∷ []) (BaseAfterAccess ∷ []) [] c.args.rest.now c.in_ok-first.after.now _ (λ k. turns.access_base c.in-Some.is_public _ _ _ s k c.in_ok-first.ensures.ok (search rules)) (c.base_after_access.ensures.follows s)
 
 pub returns-in_err-name-clause-follows : goal.returns-in_err-name-clause-follows
-returns-in_err-name-clause-follows c = λ s. same_error (λ x. x.1.now) s s (ABase ∷ []) (AName ∷ []) ([]) c.args.rest.now c.args.rest.now _ c.in_err-name.field-0.0 (search rules) (λ k. turns.name_base _ _ _ s k c.in_ok-first.ensures.ok (search rules) (search rules)) (c.in_err-name.ensures.follows s)
+returns-in_err-name-clause-follows c = λ s. same_error (λ x. x.1.now) s s (ABase ∷ []) (AName ∷ []) ([]) c.args.rest.now c.args.rest.now _ c.in_err-name.field-0.0 (search rules) (λ k. turns.name_base _ _ _ s k c.in_ok-first.ensures.ok (search rules, search rules)) (c.in_err-name.ensures.follows s)
 
 pub returns-clause-reads : goal.returns-clause-reads
 returns-clause-reads c = parts.a_base c.in_ok-name.ensures.reads c.in_ok-base.ensures.ok
