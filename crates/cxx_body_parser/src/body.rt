@@ -13,7 +13,7 @@ ghost use Rattle.cxx_syntax.specs.Statements.{BodyReads, StatementsRead, Stateme
 
 use crate::statement::{
     copy, delete, dump, name_statement, print_statement, return_statement, scalar_declaration,
-    this_statement,
+    statement_at, this_statement,
 };
 use cxx_grammar::{Lexeme, Sort, is_same, lexemes, next, refusal, take};
 use cxx_hierarchy::{LimitNo, Stop};
@@ -47,20 +47,12 @@ fn if_of<'a>(
     if is_same(word.sort, Sort::Else) {
         let (other, rest) = block(alloc, text, after, depth)?;
         return Ok((
-            Statement {
-                kind: StatementKind::If(test, then, Some(other)),
-                at: first.at,
-                line: first.line,
-            },
+            statement_at(first, StatementKind::If(test, then, Some(other))),
             rest,
         ));
     }
     Ok((
-        Statement {
-            kind: StatementKind::If(test, then, None),
-            at: first.at,
-            line: first.line,
-        },
+        statement_at(first, StatementKind::If(test, then, None)),
         rest,
     ))
 }
@@ -83,14 +75,7 @@ fn while_of<'a>(
     let (test, rest) = operand(alloc, text, rest)?;
     let (_close, rest) = take(rest, Sort::CloseParen)?;
     let (body, rest) = block(alloc, text, rest, depth)?;
-    Ok((
-        Statement {
-            kind: StatementKind::While(test, body),
-            at: first.at,
-            line: first.line,
-        },
-        rest,
-    ))
+    Ok((statement_at(first, StatementKind::While(test, body)), rest))
 }
 
 // A statement, the first token of which was read.

@@ -10,7 +10,7 @@ ghost use Rattle.cxx_grammar.specs.invariants.Run.{Follows};
 ghost use Rattle.cxx_hierarchy.specs.declared.records.ValueType.{ValueType};
 ghost use Rattle.cxx_grammar.specs.Table.{Only, AName, AnOperand, APointer, InitEnd, ResultEnd, RightEnd, AfterName, Member, Written, PrintEnd, is_pointer, is_scalar_word, scalar_rest, end_tasks};
 ghost use Rattle.cxx_syntax.specs.Operands.{PlaceReads, CallReads};
-ghost use Rattle.cxx_syntax.specs.Statements.{ValueReads, InitReads, ResultReads, IsFirst, StatementReads};
+ghost use Rattle.cxx_syntax.specs.Statements.{ValueReads, InitReads, ResultReads, IsFirst, BeginsAt, StatementReads};
 
 use crate::place::{Through, behind_pointer};
 use crate::right::right;
@@ -20,6 +20,17 @@ use cxx_syntax::operand::{operand, pointer};
 use cxx_syntax::scalar::scalar;
 use cxx_syntax::{CallText, Operand, PlaceText, Right, Statement, StatementKind, spot};
 use std::alloc::Global;
+
+// The statement of a kind that begins at a token.
+pub(crate) fn statement_at(first: Lexeme, kind: StatementKind) -> Statement
+    ensures { BeginsAt result first kind }
+{
+    Statement {
+        kind,
+        at: first.at,
+        line: first.line,
+    }
+}
 
 // ["=" right] before ";"
 #[tactic(auto, using(cxx_grammar::proofs::Tails::no_init))]
@@ -57,11 +68,7 @@ fn declared<'a>(
     let (_end, rest) = take(rest, Sort::Semicolon)?;
     let name = spot(alloc, text, &word)?;
     Ok((
-        Statement {
-            kind: StatementKind::Declare(ty, first.at, name, init),
-            at: first.at,
-            line: first.line,
-        },
+        statement_at(first, StatementKind::Declare(ty, first.at, name, init)),
         rest,
     ))
 }
@@ -120,11 +127,7 @@ fn assignment<'a>(
     let (_end, rest) = take(rest, Sort::Semicolon)?;
     let target = spot(alloc, text, &first)?;
     Ok((
-        Statement {
-            kind: StatementKind::Assign(target, value),
-            at: first.at,
-            line: first.line,
-        },
+        statement_at(first, StatementKind::Assign(target, value)),
         rest,
     ))
 }
@@ -145,11 +148,7 @@ fn write<'a>(
     let (value, rest) = operand(alloc, text, rest)?;
     let (_end, rest) = take(rest, Sort::Semicolon)?;
     Ok((
-        Statement {
-            kind: StatementKind::Write(place, value),
-            at: first.at,
-            line: first.line,
-        },
+        statement_at(first, StatementKind::Write(place, value)),
         rest,
     ))
 }
@@ -161,14 +160,7 @@ fn call(first: Lexeme, read: CallText, rest: &[Lexeme]) -> Result<(Statement, &[
     ensures follows { (s : State) → Follows (λ x. x.1.now) s (Only Sort.Semicolon ∷ []) rest.now s ([]) result }
 {
     let (_end, rest) = take(rest, Sort::Semicolon)?;
-    Ok((
-        Statement {
-            kind: StatementKind::Call(read),
-            at: first.at,
-            line: first.line,
-        },
-        rest,
-    ))
+    Ok((statement_at(first, StatementKind::Call(read)), rest))
 }
 
 // The rest of a statement after pointer "->".
@@ -254,14 +246,7 @@ pub(crate) fn copy<'a>(
     let (_star, rest) = take(rest, Sort::Star)?;
     let (from, rest) = pointer(alloc, text, rest)?;
     let (_end, rest) = take(rest, Sort::Semicolon)?;
-    Ok((
-        Statement {
-            kind: StatementKind::Copy(to, from),
-            at: first.at,
-            line: first.line,
-        },
-        rest,
-    ))
+    Ok((statement_at(first, StatementKind::Copy(to, from)), rest))
 }
 
 // "delete" pointer ";" after its first word
@@ -278,14 +263,7 @@ pub(crate) fn delete<'a>(
 {
     let (target, rest) = pointer(alloc, text, rest)?;
     let (_end, rest) = take(rest, Sort::Semicolon)?;
-    Ok((
-        Statement {
-            kind: StatementKind::Delete(target),
-            at: first.at,
-            line: first.line,
-        },
-        rest,
-    ))
+    Ok((statement_at(first, StatementKind::Delete(target)), rest))
 }
 
 // "dump" "(" pointer ")" ";" after its first word
@@ -304,14 +282,7 @@ pub(crate) fn dump<'a>(
     let (target, rest) = pointer(alloc, text, rest)?;
     let (_close, rest) = take(rest, Sort::CloseParen)?;
     let (_end, rest) = take(rest, Sort::Semicolon)?;
-    Ok((
-        Statement {
-            kind: StatementKind::Dump(target),
-            at: first.at,
-            line: first.line,
-        },
-        rest,
-    ))
+    Ok((statement_at(first, StatementKind::Dump(target)), rest))
 }
 
 // [operand] before ";"
@@ -346,14 +317,7 @@ pub(crate) fn return_statement<'a>(
 {
     let (value, rest) = result_of(alloc, text, rest)?;
     let (_end, rest) = take(rest, Sort::Semicolon)?;
-    Ok((
-        Statement {
-            kind: StatementKind::Return(value),
-            at: first.at,
-            line: first.line,
-        },
-        rest,
-    ))
+    Ok((statement_at(first, StatementKind::Return(value)), rest))
 }
 
 // operand ")" ";" after "print" "("
@@ -373,14 +337,7 @@ fn print_operand<'a>(
     let (value, rest) = operand(alloc, text, rest)?;
     let (_close, rest) = take(rest, Sort::CloseParen)?;
     let (_end, rest) = take(rest, Sort::Semicolon)?;
-    Ok((
-        Statement {
-            kind: StatementKind::Print(value),
-            at: first.at,
-            line: first.line,
-        },
-        rest,
-    ))
+    Ok((statement_at(first, StatementKind::Print(value)), rest))
 }
 
 // "(" "*" pointer ")" ")" ";" after "print" "(" "typeid"
@@ -405,14 +362,7 @@ fn print_type<'a>(
     let (_close, rest) = take(rest, Sort::CloseParen)?;
     let (_last, rest) = take(rest, Sort::CloseParen)?;
     let (_end, rest) = take(rest, Sort::Semicolon)?;
-    Ok((
-        Statement {
-            kind: StatementKind::PrintType(target),
-            at: first.at,
-            line: first.line,
-        },
-        rest,
-    ))
+    Ok((statement_at(first, StatementKind::PrintType(target)), rest))
 }
 
 // "<" "void" "*" ">" "(" pointer ")" ")" ";" after "print" "(" "dynamic_cast"
@@ -440,14 +390,7 @@ fn print_view<'a>(
     let (_close, rest) = take(rest, Sort::CloseParen)?;
     let (_last, rest) = take(rest, Sort::CloseParen)?;
     let (_end, rest) = take(rest, Sort::Semicolon)?;
-    Ok((
-        Statement {
-            kind: StatementKind::PrintView(target),
-            at: first.at,
-            line: first.line,
-        },
-        rest,
-    ))
+    Ok((statement_at(first, StatementKind::PrintView(target)), rest))
 }
 
 // The rest of a statement after "print" "(".

@@ -3,4 +3,4 @@ use Rattle.cxx_syntax.specs.Statements.{a_dump}
 use Rattle.cxx_body_parser.proofs.statement.dump.Goals as goal
 
 pub returns-clause-reads : goal.returns-clause-reads
-returns-clause-reads c = a_dump (record { front = refl; sort = c.requires }) c.in_ok-_open.ensures.reads c.in_ok-target.ensures.reads c.in_ok-_close.ensures.reads c.in_ok-_end.ensures.reads (record { at = refl; line = refl; kind = refl })
+returns-clause-reads c = a_dump (record { front = refl; sort = c.requires }) c.in_ok-_open.ensures.reads c.in_ok-target.ensures.reads c.in_ok-_close.ensures.reads c.in_ok-_end.ensures.reads c.statement_at.ensures
