@@ -4,5 +4,4 @@ pub mod VttSums
 pub mod NumberLemmas
 pub mod ViewLemmas
 mod TableLengths
-mod FlagLemmas
 mod CheckLemmas

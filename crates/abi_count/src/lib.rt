@@ -17,6 +17,7 @@ pub mod views;
 pub mod vtt_lengths;
 
 pub use crate::check::check_words;
+pub use crate::kinds::is_dynamic_by;
 pub use crate::laws::counted;
 pub use crate::views::{group_views, has_virtual};
 pub use crate::vtt_lengths::VttLengths;

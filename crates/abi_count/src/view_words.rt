@@ -5,16 +5,17 @@ ghost use Rattle.cxx_hierarchy.specs.declared.records.ClassId.{ClassId};
 ghost use Rattle.cxx_hierarchy.specs.Classes.{Classes};
 ghost use Rattle.cxx_hierarchy.specs.VirtualBases.{HasVirtualBase};
 ghost use Rattle.cxx_subobject.specs.Subobjects.{IsSubobject, class_of};
+ghost use Rattle.abi_primary.specs.Kinds.{TellDynamic};
 ghost use Rattle.abi_sound.specs.Places.{Places, places_of};
 ghost use Rattle.abi_slots.specs.Groups.{is_shared_base};
 ghost use Rattle.abi_slots.specs.Slots.{AreSlots, IsVirtualBase};
 ghost use Rattle.abi_slots.specs.Views.{IsView};
 ghost use Rattle.abi_count.specs.Counts.{group_words, words_of_class};
-ghost use Rattle.abi_count.specs.invariants.Flags.{TellDynamic};
 ghost use Rattle.abi_count.specs.invariants.Weights.{AreNumbers, IsHeldIn, cut, head_words, sides_of, top_words, view_at};
 
-use crate::kinds::{dynamic_flags, flag_of, is_dynamic};
+use crate::kinds::{is_dynamic, is_dynamic_by};
 use crate::numbers::{MOST_WORDS, capped, number_of};
+use abi_primary::dynamic_flags;
 use abi_slots::Slots;
 use abi_sound::SoundLayout;
 use cxx_hierarchy::{ClassId, Hierarchy};
@@ -31,18 +32,18 @@ fn class_table(slots: &Slots, c: ClassId, is_shared: bool) -> u32
 
 /// The words of the table of a head that is no virtual base.
 fn head_word_count<L: SoundLayout>(
-    _h: &Hierarchy,
+    h: &Hierarchy,
     _layout: &L,
     slots: &Slots,
     flags: &[bool],
     c: ClassId,
 ) -> u32
-    requires slots { AreSlots _h.now (places_of _h.now (L.rows _layout.now)) slots.now }
-    requires flags { TellDynamic _h.now flags.now }
-    requires known { c.0 < length _h.now }
-    ensures { result ≡ head_words _h.now (places_of _h.now (L.rows _layout.now)) c }
+    requires slots { AreSlots h.now (places_of h.now (L.rows _layout.now)) slots.now }
+    requires flags { TellDynamic h.now flags.now }
+    requires known { c.0 < length h.now }
+    ensures { result ≡ head_words h.now (places_of h.now (L.rows _layout.now)) c }
 {
-    if flag_of(flags, c) {
+    if is_dynamic_by(h, flags, c) {
         class_table(slots, c, false)
     } else {
         0

@@ -4,13 +4,14 @@ ghost use Rattle.std.specs.Prelude.{◌≡◌, ◌+◌, ◌<◌, ℕ, IfOk, List
 ghost use Rattle.cxx_hierarchy.specs.declared.records.ClassId.{ClassId};
 ghost use Rattle.cxx_hierarchy.specs.Classes.{Classes};
 ghost use Rattle.abi_sound.specs.Places.{Places, places_of};
+ghost use Rattle.abi_primary.specs.Kinds.{TellDynamic};
 ghost use Rattle.abi_count.specs.Counts.{AreVttLengths, most_words, vtt_words};
-ghost use Rattle.abi_count.specs.invariants.Flags.{TellDynamic};
 ghost use Rattle.abi_count.specs.invariants.Weights.{AreNumbers, base_words, dynamic_word, sub_words, virtual_word};
 
-use crate::kinds::{dynamic_flags, flag_of};
+use crate::kinds::is_dynamic_by;
 use crate::numbers::{capped, number_of, own_sums, pair_sums, shared_sums, sides_of};
 use crate::views::has_virtual;
+use abi_primary::dynamic_flags;
 use abi_sound::SoundLayout;
 use cxx_hierarchy::{ClassId, Hierarchy};
 use foundation::{NoMemory, Sequence};
@@ -24,12 +25,12 @@ pub struct VttLengths {
 }
 
 /// A word, where a class is dynamic.
-fn dynamic_word(_h: &Hierarchy, flags: &[bool], c: ClassId) -> u32
-    requires known { c.0 < length _h.now }
-    requires flags { TellDynamic _h.now flags.now }
-    ensures { result ≡ dynamic_word _h.now c }
+fn dynamic_word(h: &Hierarchy, flags: &[bool], c: ClassId) -> u32
+    requires known { c.0 < length h.now }
+    requires flags { TellDynamic h.now flags.now }
+    ensures { result ≡ dynamic_word h.now c }
 {
-    if flag_of(flags, c) { 1 } else { 0 }
+    if is_dynamic_by(h, flags, c) { 1 } else { 0 }
 }
 
 /// For each class a word, where it is dynamic.
@@ -53,7 +54,7 @@ fn virtual_word<L: SoundLayout>(h: &Hierarchy, layout: &L, flags: &[bool], c: Cl
     requires flags { TellDynamic h.now flags.now }
     ensures { result ≡ virtual_word h.now c }
 {
-    if flag_of(flags, c) && has_virtual(h, layout, c) {
+    if is_dynamic_by(h, flags, c) && has_virtual(h, layout, c) {
         1
     } else {
         0

@@ -4,7 +4,7 @@ ghost use Rattle.std.specs.Prelude.{◌≡◌, ◌+◌, ◌^◌, ◌<◌, ◌≤
 ghost use Rattle.std.specs.List.{list_any};
 ghost use Rattle.cxx_hierarchy.specs.Classes.{Classes};
 ghost use Rattle.cxx_subobject.specs.Preorder.{preorder};
-ghost use Rattle.abi_primary.specs.Kinds.{IsDynamic};
+ghost use Rattle.abi_primary.specs.Kinds.{IsDynamic, TellDynamic};
 ghost use Rattle.abi_primary.specs.NearlyEmpty.{IsNearlyEmpty};
 ghost use Rattle.abi_layout.specs.Refusals.{IsWellLaid, StopsAt, IsFirstStop};
 ghost use Rattle.abi_layout.specs.invariants.LaidSoFar.{IsLaidSoFar, is_shifted_base};
@@ -15,7 +15,9 @@ use crate::keeping::kept;
 use crate::known::Known;
 use crate::laid_row::{ClassFacts, NextClass, lay_out_class};
 use crate::shifted::is_shifted;
-use abi_primary::{Primary, is_dynamic, is_nearly_empty, list_if_virtual, primary_among};
+use abi_primary::{
+    Primary, dynamic_flags, flag_of, is_nearly_empty, list_if_virtual, primary_among,
+};
 use abi_sound::ClassLayout;
 use cxx_hierarchy::{ClassId, Hierarchy, Stop};
 use std::alloc::Global;
@@ -45,12 +47,11 @@ fn none_laid(alloc: Global) -> LaidSoFar
 }
 
 /// Whether a class has a virtual pointer of its own: it is dynamic and has no primary base.
-fn has_pointer(h: &Hierarchy, c: ClassId, primary: Primary) -> bool
-    requires { c.0 < length h.now }
-    ensures { IsTrue result ↔ (IsDynamic h.now c × (primary ≡ Primary.None)) }
+fn has_pointer(dynamic: &[bool], c: ClassId, primary: Primary) -> bool
+    ensures { (h : Classes) → TellDynamic h dynamic.now → c.0 < length h → IsTrue result ↔ (IsDynamic h c × (primary ≡ Primary.None)) }
 {
     match primary {
-        Primary::None => is_dynamic(h, c),
+        Primary::None => flag_of(dynamic, c),
         Primary::Direct(_) | Primary::Virtual(_) => false,
     }
 }
@@ -59,16 +60,18 @@ fn has_pointer(h: &Hierarchy, c: ClassId, primary: Primary) -> bool
 fn is_nearly(
     h: &Hierarchy,
     c: ClassId,
+    dynamic: &[bool],
     nearly: &[bool],
     rows: &[ClassLayout],
     known: &[Known],
 ) -> bool
     requires class { c.0 < length h.now }
+    requires dynamic { TellDynamic h.now dynamic.now }
     requires before { c.0 ≤ length nearly.now }
     requires row { c.0 < length rows.now }
     ensures { IsTrue result ↔ IsNearlyEmpty h.now nearly.now (list_any (is_shifted_base h.now rows.now known.now) (preorder h.now c)) c }
 {
-    if !is_nearly_empty(h, c, nearly, false) {
+    if !is_nearly_empty(h, c, dynamic, nearly, false) {
         return false;
     }
     !is_shifted(h, rows, known, c)
@@ -82,17 +85,20 @@ fn lay_out_next(
     alloc: Global,
     h: &Hierarchy,
     c: ClassId,
+    dynamic: &[bool],
     so_far: &mut LaidSoFar,
 ) -> Result<(), Stop>
     requires known { c.0 < length h.now }
+    requires dynamic { TellDynamic h.now dynamic.now }
     requires laid { IsLaidSoFar h.now c.0 so_far.old.rows.items so_far.old.known.items so_far.old.members.items so_far.old.nearly.items so_far.old.primaries.items }
     ensures laid { OnOk result (IsLaidSoFar h.now (c.0 + 1) so_far.new.rows.items so_far.new.known.items so_far.new.members.items so_far.new.nearly.items so_far.new.primaries.items) }
     ensures stop { IfErr result (λ e. (e ≡ Stop.NoMemory) ⊎ StopsAt h.now c e) }
 {
     h.keeps();
     let list = list_if_virtual(alloc, h, c)?;
-    let primary = primary_among(h, c, &so_far.nearly, &so_far.primaries, list.as_slice());
-    let has_pointer = has_pointer(h, c, primary);
+    let earlier = &so_far.primaries;
+    let primary = primary_among(h, c, dynamic, &so_far.nearly, earlier, list.as_slice());
+    let has_pointer = has_pointer(dynamic, c, primary);
     so_far.primaries.push(primary)?;
     let next = NextClass {
         c,
@@ -107,7 +113,7 @@ fn lay_out_next(
     let ClassFacts { known, members } = lay_out_class(alloc, h, &next, &mut so_far.rows)?;
     so_far.known.push(kept(alloc, h, c, known))?;
     so_far.members.push(members)?;
-    let is_nearly = is_nearly(h, c, &so_far.nearly, &so_far.rows, &so_far.known);
+    let is_nearly = is_nearly(h, c, dynamic, &so_far.nearly, &so_far.rows, &so_far.known);
     so_far.nearly.push(is_nearly)?;
     Ok(())
 }
@@ -122,9 +128,10 @@ pub fn lay_out_first(alloc: Global, h: &Hierarchy, count: u32) -> Result<AbiLayo
     ensures laid { IfOk result (λ l. IsWellLaid h.now count l) }
     ensures stop { IfErr result (λ e. (e ≡ Stop.NoMemory) ⊎ IsFirstStop h.now count e) }
 {
+    let dynamic = dynamic_flags(alloc, h)?;
     let mut so_far = none_laid(alloc);
     for n in 0..count {
-        lay_out_next(alloc, h, ClassId(n), &mut so_far)?;
+        lay_out_next(alloc, h, ClassId(n), &dynamic, &mut so_far)?;
     }
     let LaidSoFar {
         rows,

@@ -4,7 +4,6 @@ use Rattle.std.specs.Prelude.{slice_get, filter, not, ◌&&◌, ◌||◌, if◌t
 use Rattle.std.specs.List.{Contains, flat_map, list_all}
 use Rattle.std.proofs.lemmas.List.{append-nil}
 use Rattle.std.proofs.lemmas.List.Elements.{filter-append}
-use Rattle.std.proofs.lemmas.Option.{slice_get-get_or}
 use Rattle.foundation.proofs.Places.{get_pushed}
 use Rattle.foundation.proofs.Members.{Has, has_from_contains}
 use Rattle.foundation.proofs.Chosen.{has_filter, filter_none}
@@ -22,6 +21,7 @@ use Rattle.cxx_subobject.proofs.TreeLemmas.{has_preorder, same_itself}
 use Rattle.path_plan.specs.Plans.{Form}
 use Rattle.byte_code.specs.declared.op.Setting.{Setting}
 use Rattle.abi_primary.specs.declared.Primary.{Primary}
+use Rattle.abi_primary.specs.Kinds.{TellDynamic}
 use Rattle.abi_primary.proofs.KindLemmas.{base_dynamic}
 use Rattle.abi_sound.specs.Places.{Places}
 use Rattle.abi_slots.specs.Listing.{is_direct}
@@ -31,7 +31,7 @@ use Rattle.abi_slots.proofs.Heads.{dynamic_test, test_dynamic}
 use Rattle.abi_vtt.specs.Vtts.{ends_in_primary}
 use Rattle.abi_ops.specs.Setups.{Setup, places}
 use Rattle.abi_lower.specs.Blocks.{is_set_apart, setting_by}
-use Rattle.abi_pointers.specs.ClassTables.{TellDynamic, IsLone, TellLone}
+use Rattle.abi_pointers.specs.ClassTables.{IsLone, TellLone}
 use Rattle.abi_pointers.specs.Settings.{settings_of}
 use Rattle.abi_pointers.specs.declared.walks.Walk.{Walk}
 use Rattle.abi_pointers.specs.invariants.Joins.{joins}
@@ -69,8 +69,8 @@ flag_set (b ∷ flags) (suc n) e = flag_set flags n e
 pub lone_at : (h : Classes) (l : Places) (flags : List Bool) (c : ClassId) (flag : Bool) → TellLone h l flags → flag ≡ get_or flags c.0 false → flag ≡ true → IsLone h l c
 lone_at h l flags c flag tell is set = tell.each c.0 (flag_set flags c.0 (sym is ∙ set))
 
-flag_dynamic : (h : Classes) (dynamic : List Bool) (b : ClassId) → TellDynamic h dynamic → length dynamic ≡ length h → b.0 < length h → is_dynamic h b ≡ true → get_or dynamic b.0 false ≡ true
-flag_dynamic h dynamic b tell size known is = tell.each b.0 (get_or dynamic b.0 false) (slice_get-get_or dynamic b.0 false (omega arith)) ∙ is
+flag_dynamic : (h : Classes) → IsHierarchy h → (dynamic : List Bool) (b : ClassId) → TellDynamic h dynamic → b.0 < length h → is_dynamic h b ≡ true → get_or dynamic b.0 false ≡ true
+flag_dynamic h keeps dynamic b tell known is = (tell.each b known).1 (test_dynamic h keeps b is)
 
 all_pass : (p : Base ClassId → Bool) (xs : List (Base ClassId)) → list_all p xs ≡ true → (x : Base ClassId) → Has xs x → p x ≡ true
 all_pass p [] e x has = absurd has
@@ -81,9 +81,9 @@ all_pass p (y ∷ xs) e x has = ⊎_elim (λ same. ap p (sym same) ∙ (both (p 
     both true false f = absurd (cc)
     both false b f = absurd (cc)
 
-pub lone_by : (h : Classes) (l : Places) → IsHierarchy h → (c : ClassId) (primary : Primary) (dynamic lone : List Bool) (bases : List (Base ClassId)) → c.0 < length h → bases ≡ bases_of h c → primary ≡ l.primary c → length dynamic ≡ length h → TellDynamic h dynamic → TellLone h l lone →
+pub lone_by : (h : Classes) (l : Places) → IsHierarchy h → (c : ClassId) (primary : Primary) (dynamic lone : List Bool) (bases : List (Base ClassId)) → c.0 < length h → bases ≡ bases_of h c → primary ≡ l.primary c → TellDynamic h dynamic → TellLone h l lone →
     list_all (λ (base : Base ClassId). joins primary dynamic lone base) bases ≡ true → IsLone h l c
-lone_by h l keeps c primary dynamic lone bases known listed at size tell_dynamic tell_lone e =
+lone_by h l keeps c primary dynamic lone bases known listed at tell_dynamic tell_lone e =
     record { none_virtual = λ v has. none_virtual h l keeps c v has all; all_primary = all_primary h l keeps c all }
   where
     by_base : (base : Base ClassId) → Contains (bases_of h c) base → base.class.0 < length h → (base.is_virtual ≡ false) × (is_dynamic h base.class ≡ true → (is_direct (l.primary c) base.class ≡ true) × IsLone h l base.class)
@@ -92,7 +92,7 @@ lone_by h l keeps c primary dynamic lone bases known listed at size tell_dynamic
         let parts = test_parts base.is_virtual (get_or dynamic base.class.0 false) (is_direct primary base.class) (get_or lone base.class.0 false) passes in (
           parts.0,
           λ dyn.
-              let both = parts.1 (flag_dynamic h dynamic base.class tell_dynamic size low dyn) in
+              let both = parts.1 (flag_dynamic h keeps dynamic base.class tell_dynamic low dyn) in
               (ap (λ (p : Primary). is_direct p base.class) (sym at) ∙ both.0, tell_lone.each base.class.0 (flag_set lone base.class.0 both.1)),
         )
 

@@ -1,22 +1,13 @@
 -- Tables of classes that are made class by class.
-use Rattle.std.proofs.Common.{◌≡◌, ℕ, ◌+◌, ◌≤◌, ◌<◌, ⊎_elim, Bool, true, Some, List, [], ◌∷◌, ◌++◌, length, ap, subst, sym, ◌∙◌, arith}
+use Rattle.std.proofs.Common.{◌≡◌, ℕ, ◌+◌, ◌≤◌, ◌<◌, ⊎_elim, true, Some, List, [], ◌∷◌, ◌++◌, length, ap, subst, sym, ◌∙◌, arith}
 use Rattle.std.specs.Prelude.{slice_get, min}
 use Rattle.foundation.proofs.Places.{get_pushed, length_pushed}
 use Rattle.cxx_hierarchy.specs.Classes.{Classes}
 use Rattle.abi_sound.specs.Places.{Places}
-use Rattle.abi_slots.specs.Views.{is_dynamic}
 use Rattle.abi_vtt.specs.Vtts.{has_virtual}
 use Rattle.abi_vtt.specs.Blocks.{block_length}
 use Rattle.abi_count.specs.Counts.{most_words}
-use Rattle.abi_pointers.specs.ClassTables.{TellDynamic, AreBlocks}
-
-pub none_tell : (h : Classes) (flags : List Bool) → flags ≡ [] → TellDynamic h flags
-none_tell h flags e = record { each = λ n b there. absurd (let nothing : List Bool = [] in let at : slice_get nothing n ≡ Some b = subst (λ (xs : List Bool). slice_get xs n ≡ Some b) e there in cc) }
-
-pub one_more_tells : (h : Classes) (n : ℕ) (flags new : List Bool) (flag : Bool) → length flags ≡ n → new ≡ flags ++ flag ∷ [] → flag ≡ is_dynamic h (record { 0 = n }) → TellDynamic h flags → TellDynamic h new
-one_more_tells h n flags new flag size is own tell = record {
-  each = λ k b there. ⊎_elim (λ before. tell.each k b before) (λ last. last.1 ∙ own ∙ ap (λ (i : ℕ). is_dynamic h (record { 0 = i })) (sym (last.0 ∙ size))) (get_pushed flags flag k b (subst (λ (xs : List Bool). slice_get xs k ≡ Some b) is there));
-}
+use Rattle.abi_pointers.specs.ClassTables.{AreBlocks}
 
 pub none_blocks : (h : Classes) (l : Places) (blocks : List ℕ) → blocks ≡ [] → AreBlocks h l blocks
 none_blocks h l blocks e = record {

@@ -4,15 +4,12 @@ use Rattle.cxx_hierarchy.specs.declared.records.ClassId.{ClassId}
 use Rattle.cxx_hierarchy.specs.Classes.{Classes}
 use Rattle.cxx_hierarchy.specs.VirtualBases.{HasVirtualBase}
 use Rattle.cxx_subobject.specs.Subobjects.{Leads, last_of}
+use Rattle.abi_primary.specs.Kinds.{TellDynamic}
 use Rattle.abi_sound.specs.Places.{Places}
 use Rattle.abi_slots.specs.Views.{is_dynamic}
 use Rattle.abi_vtt.specs.Vtts.{has_virtual, ends_in_primary}
 use Rattle.abi_vtt.specs.Blocks.{block_length}
 use Rattle.abi_pointers.specs.declared.class_tables.ClassTables.{ClassTables}
-
--- the flag of each class, by its number, tells whether it is dynamic
-pub record TellDynamic (h : Classes) (flags : List Bool) : Type 0 where
-  pub each : (n : ℕ) (b : Bool) → slice_get flags n ≡ Some b → b ≡ is_dynamic h (record { 0 = n })
 
 -- the number of each class with virtual bases, by its number, is that of the words of its sub-VTT
 pub record AreBlocks (h : Classes) (l : Places) (blocks : List ℕ) : Type 0 where
@@ -30,7 +27,6 @@ pub record TellLone (h : Classes) (l : Places) (flags : List Bool) : Type 0 wher
 
 -- they are kept of all classes
 pub record AreClassTables (h : Classes) (l : Places) (tables : ClassTables) : Type 0 where
-  pub one_flag_each : length tables.dynamic ≡ length h
   pub flags : TellDynamic h tables.dynamic
   pub lone : TellLone h l tables.lone
   pub one_block_each : length tables.blocks ≡ length h

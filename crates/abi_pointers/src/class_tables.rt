@@ -2,15 +2,15 @@
 
 ghost use Rattle.std.specs.Prelude.{◌≡◌, ◌≤◌, ◌<◌, true, IfOk, length};
 ghost use Rattle.abi_sound.specs.Places.{places_of};
-ghost use Rattle.abi_slots.specs.Views.{is_dynamic as is_dynamic_of};
 ghost use Rattle.abi_vtt.specs.Vtts.{has_virtual};
 ghost use Rattle.abi_vtt.specs.Blocks.{block_length};
 ghost use Rattle.abi_count.specs.Counts.{all_words, most_words, vtt_words};
-ghost use Rattle.abi_pointers.specs.ClassTables.{AreBlocks, TellDynamic};
+ghost use Rattle.abi_pointers.specs.ClassTables.{AreBlocks};
 
 use crate::lengths::shared_sum;
 use crate::lone::lone_flags;
 use abi_count::{VttLengths, has_virtual};
+use abi_primary::dynamic_flags;
 use abi_sound::SoundLayout;
 use cxx_hierarchy::{ClassId, Hierarchy};
 use foundation::{NoMemory, Sequence};
@@ -23,30 +23,6 @@ pub struct ClassTables {
     pub(crate) dynamic: Sequence<bool>,
     pub(crate) lone: Sequence<bool>,
     pub(crate) blocks: Sequence<u32>,
-}
-
-/// Whether a class is dynamic.
-fn is_dynamic(h: &Hierarchy, c: ClassId) -> bool
-    requires { c.0 < length h.now }
-    ensures { result ≡ is_dynamic_of h.now c }
-{
-    h.keeps();
-    abi_primary::is_dynamic(h, c)
-}
-
-/// For each class whether it is dynamic.
-///
-/// Errors: want of memory.
-fn dynamic_flags(alloc: Global, h: &Hierarchy) -> Result<Vec<bool>, NoMemory>
-    ensures size { IfOk result (λ flags. length flags.items ≡ length h.now) }
-    ensures flags { IfOk result (λ flags. TellDynamic h.now flags.items) }
-{
-    let mut flags = Vec::new(alloc);
-    for n in 0..h.len() {
-        let flag = is_dynamic(h, ClassId(n));
-        flags.push(flag)?;
-    }
-    Ok(flags)
 }
 
 /// How many words the sub-VTT of a class with virtual bases has: those of its VTT, of which there are so many, without the

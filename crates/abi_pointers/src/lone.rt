@@ -1,29 +1,20 @@
 //! Classes of which no base is set apart: the virtual pointer of the whole is that of all dynamic bases.
 
-ghost use Rattle.std.specs.Prelude.{◌≡◌, ◌<◌, false, true, IfOk, get_or, length};
+ghost use Rattle.std.specs.Prelude.{◌≡◌, ◌<◌, true, IfOk, length};
 ghost use Rattle.std.specs.List.{list_all};
 ghost use Rattle.cxx_hierarchy.specs.declared.records.ClassId.{ClassId};
 ghost use Rattle.cxx_hierarchy.specs.declared.records.Base.{Base};
+ghost use Rattle.abi_primary.specs.Kinds.{TellDynamic};
 ghost use Rattle.abi_sound.specs.Places.{places_of};
-ghost use Rattle.abi_pointers.specs.ClassTables.{IsLone, TellDynamic, TellLone};
+ghost use Rattle.abi_pointers.specs.ClassTables.{IsLone, TellLone};
 ghost use Rattle.abi_pointers.specs.invariants.Joins.{joins};
 
-use abi_primary::Primary;
+use abi_primary::{Primary, flag_of};
 use abi_sound::SoundLayout;
 use abi_vtt::path_ends::is_direct;
 use cxx_hierarchy::{Base, ClassId, Hierarchy};
 use foundation::NoMemory;
 use std::alloc::Global;
-
-/// The flag of a class, and false behind the end.
-pub(crate) fn flag_of(flags: &[bool], d: ClassId) -> bool
-    ensures { result ≡ get_or flags.now d.0 false }
-{
-    match flags.get(d.0 as usize) {
-        Some(flag) => *flag,
-        None => false,
-    }
-}
 
 /// Whether nothing in a direct base is set apart, in a class with this primary base: the base is not dynamic, or it is the
 /// primary base and none of its own bases is set apart.
@@ -56,7 +47,6 @@ fn is_lone<L: SoundLayout>(
 ) -> bool
     requires layout { L.lays_out layout.now h.now }
     requires known { c.0 < length h.now }
-    requires size { length dynamic.now ≡ length h.now }
     requires dynamic { TellDynamic h.now dynamic.now }
     requires lone { TellLone h.now (places_of h.now (L.rows layout.now)) lone.now }
     ensures { result ≡ true → IsLone h.now (places_of h.now (L.rows layout.now)) c }
@@ -76,7 +66,6 @@ pub(crate) fn lone_flags<L: SoundLayout>(
     dynamic: &[bool],
 ) -> Result<Vec<bool>, NoMemory>
     requires layout { L.lays_out layout.now h.now }
-    requires size { length dynamic.now ≡ length h.now }
     requires dynamic { TellDynamic h.now dynamic.now }
     ensures { IfOk result (λ flags. TellLone h.now (places_of h.now (L.rows layout.now)) flags.items) }
 {

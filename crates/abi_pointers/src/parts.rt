@@ -9,9 +9,8 @@ ghost use Rattle.abi_ops.specs.Setups.{setup};
 ghost use Rattle.abi_lower.specs.Blocks.{is_set_apart};
 ghost use Rattle.abi_pointers.specs.PlanSites.{IsPlanSite};
 
-use crate::lone::flag_of;
 use crate::plan_sites::PlanSite;
-use abi_count::has_virtual;
+use abi_count::{has_virtual, is_dynamic_by};
 use abi_sound::SoundLayout;
 use abi_vtt::path_ends::{ends_in_primary, is_proper, is_shared};
 use cxx_hierarchy::ClassId;
@@ -38,7 +37,7 @@ pub(crate) fn is_set_apart<L: SoundLayout>(site: &PlanSite<L>, s: &Subobject, d:
     requires path { All (λ (c : ClassId). c.0 < length site.now.h.now) s.now.path }
     ensures { result ≡ is_set_apart (setup site.now.h.now (L.rows site.now.layout.now) site.now.program.now) s.now }
 {
-    if !flag_of(site.tables.dynamic.as_slice(), d) {
+    if !is_dynamic_by(site.h, site.tables.dynamic.as_slice(), d) {
         return false;
     }
     !ends_in_primary(site.h, site.layout, s.path.as_slice())

@@ -15,12 +15,12 @@ ghost use Rattle.abi_pointers.specs.PlanSites.{IsPlanSite};
 ghost use Rattle.abi_pointers.specs.Settings.{ArePointers, settings_of};
 ghost use Rattle.abi_pointers.specs.invariants.Walks.{IsAtPart, IsPast};
 
-use crate::lone::flag_of;
 use crate::parts::{class_at, is_set_apart};
 use crate::plan_sites::PlanSite;
 use crate::settings::{base_setting, full_setting};
 use crate::walks::{Walk, passed, point_of, start};
 use abi_lower::items::Form;
+use abi_primary::flag_of;
 use abi_sound::SoundLayout;
 use byte_code::{Op, OpList, Setting};
 use cxx_hierarchy::ClassId;

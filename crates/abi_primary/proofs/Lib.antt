@@ -1,5 +1,6 @@
 pub mod Nth
 pub mod KindLemmas
+pub mod FlagLemmas
 pub mod PrimaryLemmas
 pub mod HolderLemmas
 pub mod VirtualListLemmas

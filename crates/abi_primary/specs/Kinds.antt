@@ -1,5 +1,5 @@
 -- Dynamic and empty classes (Itanium C++ ABI 1.1).
-use Rattle.std.specs.Prelude.{◌≡◌, ℕ, zero, suc, ◌+◌, ◌==◌, Bool, true, false, not, ◌&&◌, Option, Some, None, length}
+use Rattle.std.specs.Prelude.{◌≡◌, ℕ, zero, suc, ◌+◌, ◌<◌, ◌==◌, Bool, true, false, not, ◌&&◌, ◌↔◌, IsTrue, Option, Some, None, List, length, get_or}
 use Rattle.std.specs.List.{list_all}
 use Rattle.cxx_hierarchy.specs.declared.records.ClassId.{ClassId}
 use Rattle.cxx_hierarchy.specs.declared.records.Base.{Base}
@@ -12,6 +12,18 @@ pub data IsDynamic (h : Classes) : ClassId → Type 0 where
   declares : (c : ClassId) (class : Class) → class_at h c ≡ Some class → has_virtual_function class ≡ true → IsDynamic h c
   shares : (c b : ClassId) → IsDirectBase h c true b → IsDynamic h c
   inherits : (c b : ClassId) (way : Bool) → IsDirectBase h c way b → IsDynamic h b → IsDynamic h c
+
+-- the flag of a class, by its number, and false behind the end
+abbrev pub flag_of : List Bool → ClassId → Bool
+flag_of flags c = get_or flags c.0 false
+
+-- flags that tell of each of the first n classes whether it is dynamic
+pub record TellDynamicTo (n : ℕ) (h : Classes) (flags : List Bool) : Type 0 where
+  pub size : length flags ≡ n
+  pub each : (c : ClassId) → c.0 < n → IsTrue (flag_of flags c) ↔ IsDynamic h c
+
+abbrev pub TellDynamic : Classes → List Bool → Type 0
+TellDynamic h flags = TellDynamicTo (length h) h flags
 
 -- what a class is, by what the classes before it are
 abbrev pub Kind : Type 0

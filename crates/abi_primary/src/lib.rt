@@ -7,16 +7,19 @@
 //! This crate owns what dynamic, empty and nearly empty classes are (`IsDynamic`, `IsEmpty`, `IsNearlyEmpty`), which
 //! base is the primary one (`IsPrimary`), and which subobject holds a virtual base (`holder_of`). The layer above,
 //! which lays classes out in the order of their numbers, may rely on: each answer is its definition, by lists that
-//! cover the classes before. `primary_base`, `is_nearly_empty` and `holder_of` ask the hierarchy alone; `primary_among`
-//! and `holder_among` take the list of subobjects and no memory.
+//! cover the classes before. `dynamic_flags` is the table of the dynamic classes, which takes each class once;
+//! `primary_base` and `holder_of` make what they need themselves; `primary_among`, `is_nearly_empty` and `holder_among`
+//! take the table or the list of subobjects, and no memory.
 #![tactic(auto)]
 
+pub mod flags;
 pub mod holders;
 pub mod kinds;
 pub mod listing;
 pub mod nearly_empty;
 pub mod primaries;
 
+pub use crate::flags::{dynamic_flags, flag_of};
 pub use crate::holders::{holder_among, holder_of};
 pub use crate::kinds::{is_dynamic, is_empty};
 pub use crate::listing::list_if_virtual;

@@ -3,19 +3,18 @@
 ghost use Rattle.std.specs.Prelude.{◌≡◌, ◌<◌, ◌≤◌, ◌↔◌, IsTrue, Contains, count_by, length};
 ghost use Rattle.cxx_hierarchy.specs.declared.records.ClassId.{ClassId};
 ghost use Rattle.cxx_hierarchy.specs.declared.records.Base.{Base};
+ghost use Rattle.abi_primary.specs.Kinds.{TellDynamic};
 ghost use Rattle.abi_primary.specs.NearlyEmpty.{is_nearly, is_pointer_base, IsLight, IsNearlyEmpty};
 
-use crate::kinds::{is_dynamic, is_empty};
+use crate::flags::flag_of;
+use crate::kinds::is_empty;
 use cxx_hierarchy::{Base, ClassId, Hierarchy};
 
 /// Whether the list says of a class that it is nearly empty.
 pub(crate) fn is_nearly(nearly: &[bool], c: ClassId) -> bool
     ensures { result ≡ is_nearly nearly.now c }
 {
-    match nearly.get(c.0 as usize) {
-        Some(is_nearly) => *is_nearly,
-        None => false,
-    }
+    flag_of(nearly, c)
 }
 
 /// Whether at most one base is not virtual and nearly empty.
@@ -43,10 +42,18 @@ fn are_light(h: &Hierarchy, nearly: &[bool], bases: &[Base<ClassId>]) -> bool
 }
 
 /// Whether a class is nearly empty: it has a virtual pointer and nothing else, so that another class may share its
-/// pointer (Itanium C++ ABI 1.1). `nearly` says which classes before it are, and `shifted` whether an empty base of
-/// it that lies in no virtual base lies elsewhere than at its start. It takes no memory.
-pub fn is_nearly_empty(h: &Hierarchy, c: ClassId, nearly: &[bool], shifted: bool) -> bool
+/// pointer (Itanium C++ ABI 1.1). `dynamic` says which classes are dynamic, `nearly` which classes before it are nearly
+/// empty, and `shifted` whether an empty base of it that lies in no virtual base lies elsewhere than at its start. It
+/// takes no memory.
+pub fn is_nearly_empty(
+    h: &Hierarchy,
+    c: ClassId,
+    dynamic: &[bool],
+    nearly: &[bool],
+    shifted: bool,
+) -> bool
     requires known { c.0 < length h.now }
+    requires dynamic { TellDynamic h.now dynamic.now }
     requires before { c.0 ≤ length nearly.now }
     ensures { IsTrue result ↔ IsNearlyEmpty h.now nearly.now shifted c }
 {
@@ -58,7 +65,7 @@ pub fn is_nearly_empty(h: &Hierarchy, c: ClassId, nearly: &[bool], shifted: bool
     if class.members.len() > 0 {
         return false;
     }
-    if !is_dynamic(h, c) {
+    if !flag_of(dynamic, c) {
         return false;
     }
     let bases = class.bases.as_slice();

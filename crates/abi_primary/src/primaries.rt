@@ -1,30 +1,33 @@
 //! The primary base of a class (Itanium C++ ABI 2.4, II.1).
 
-ghost use Rattle.std.specs.Prelude.{◌≡◌, ◌<◌, ◌≤◌, ℕ, true, Contains, IfOk, MatchOption, length, position, take, not, ◌&&◌};
-ghost use Rattle.std.specs.List.{list_any, find};
-ghost use Rattle.cxx_hierarchy.specs.declared.records.ClassId.{ClassId};
-ghost use Rattle.cxx_hierarchy.specs.declared.records.Base.{Base};
+ghost use Rattle.std.specs.Prelude.{◌≡◌, ◌<◌, ◌≤◌, IfOk, MatchOption, length, position, take};
+ghost use Rattle.std.specs.List.{list_any};
+ghost use Rattle.cxx_hierarchy.specs.Classes.{bases_of};
 ghost use Rattle.cxx_subobject.specs.Subobjects.{class_of};
+ghost use Rattle.abi_primary.specs.Kinds.{TellDynamic};
 ghost use Rattle.abi_primary.specs.VirtualLists.{ListsVirtual};
 ghost use Rattle.abi_primary.specs.PrimaryBase.{IsFirstDynamic, HasNoDynamicBase, is_virtual_primary, has_primary_in, has_primary, is_nearly_root, is_nearly_base, is_taken_root, is_free_base, as_primary, virtual_primary, IsPrimary};
 
 use crate::Primary;
-use crate::kinds::is_dynamic;
+use crate::flags::{dynamic_flags, flag_of};
 use crate::listing::list_if_virtual;
 use crate::nearly_empty::is_nearly;
-use cxx_hierarchy::{Base, ClassId, Hierarchy};
+use cxx_hierarchy::{ClassId, Hierarchy};
 use cxx_subobject::{Root, Subobject};
 use foundation::NoMemory;
 use std::alloc::Global;
 
-/// The class of the first base that is not virtual and dynamic.
-fn first_dynamic(h: &Hierarchy, bases: &[Base<ClassId>]) -> Option<ClassId>
-    requires { (base : Base ClassId) → Contains bases.now base → base.class.0 < length h.now }
-    ensures { MatchOption result (HasNoDynamicBase h.now bases.now) (λ b. IsFirstDynamic h.now bases.now b) }
+/// The class of the first base of a class that is not virtual and dynamic.
+fn first_dynamic(h: &Hierarchy, c: ClassId, dynamic: &[bool]) -> Option<ClassId>
+    requires known { c.0 < length h.now }
+    requires dynamic { TellDynamic h.now dynamic.now }
+    ensures { MatchOption result (HasNoDynamicBase h.now (bases_of h.now c)) (λ b. IsFirstDynamic h.now (bases_of h.now c) b) }
 {
-    for base in bases {
+    h.keeps();
+    let class = h.class(c);
+    for base in class.bases.as_slice() {
         if !base.is_virtual {
-            if is_dynamic(h, base.class) {
+            if flag_of(dynamic, base.class) {
                 return Some(base.class);
             }
         }
@@ -140,23 +143,25 @@ fn virtual_primary(nearly: &[bool], earlier: &[Primary], list: &[Subobject]) -> 
     }
 }
 
-/// The primary base of a class (Itanium C++ ABI 2.4), where `nearly` and `earlier` tell which classes before it are
-/// nearly empty and which their primary bases are, and the list has its subobjects in preorder; it may be empty where the
-/// class has no virtual base. It takes no memory.
+/// The primary base of a class (Itanium C++ ABI 2.4), where `dynamic` tells which classes are dynamic, `nearly` and
+/// `earlier` tell which classes before it are nearly empty and which their primary bases are, and the list has its
+/// subobjects in preorder; it may be empty where the class has no virtual base. It takes no memory.
 pub fn primary_among(
     h: &Hierarchy,
     c: ClassId,
+    dynamic: &[bool],
     nearly: &[bool],
     earlier: &[Primary],
     list: &[Subobject],
 ) -> Primary
     requires known { c.0 < length h.now }
+    requires dynamic { TellDynamic h.now dynamic.now }
     requires list { ListsVirtual h.now c list.now }
     requires before { length earlier.now ≡ c.0 }
     ensures { IsPrimary h.now nearly.now earlier.now c result }
 {
     h.keeps();
-    match first_dynamic(h, h.class(c).bases.as_slice()) {
+    match first_dynamic(h, c, dynamic) {
         Some(b) => Primary::Direct(b),
         None => virtual_primary(nearly, earlier, list),
     }
@@ -178,7 +183,8 @@ pub fn primary_base(
     ensures { IfOk result (λ primary. IsPrimary h.now nearly.now (take c.0 earlier.now) c primary) }
 {
     let before = &earlier[..c.0 as usize];
+    let dynamic = dynamic_flags(alloc, h)?;
     let list = list_if_virtual(alloc, h, c)?;
-    let primary = primary_among(h, c, nearly, before, list.as_slice());
+    let primary = primary_among(h, c, &dynamic, nearly, before, list.as_slice());
     Ok(primary)
 }

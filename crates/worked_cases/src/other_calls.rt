@@ -6,7 +6,7 @@
 ghost use Rattle.std.specs.Prelude.{◌≤◌, ◌<◌, length};
 
 use abi_layout::lay_out;
-use abi_primary::{Primary, holder_of, is_nearly_empty, primary_base};
+use abi_primary::{Primary, dynamic_flags, holder_of, is_nearly_empty, primary_base};
 use abi_slots::Slots;
 use abi_tables::build_tables;
 use cxx_body_parser::parse_body;
@@ -44,12 +44,13 @@ fn primary_line(alloc: Global, primary: Primary) -> Result<String, AllocError> {
 
 // The primary bases of all classes, none of which has an empty base that is moved behind the virtual pointer.
 fn primaries_of(alloc: Global, h: &Hierarchy) -> Result<Vec<Primary>, NoMemory> {
+    let dynamic = dynamic_flags(alloc, h)?;
     let mut nearly = Vec::new(alloc);
     let mut primaries = Vec::new(alloc);
     for n in 0..h.len() {
         let class = ClassId(n);
         let primary = primary_base(alloc, h, class, &nearly, &primaries)?;
-        let is_nearly = is_nearly_empty(h, class, &nearly, false);
+        let is_nearly = is_nearly_empty(h, class, &dynamic, &nearly, false);
         nearly.push(is_nearly)?;
         primaries.push(primary)?;
     }

@@ -10,7 +10,7 @@ loop-n-init c = c.none_laid-so_far.ensures c.args.h.now
 
 pub returns-in_err-lay_out_next-clause-stop : goal.returns-in_err-lay_out_next-clause-stop
 returns-in_err-lay_out_next-clause-stop c =
-    let p = err_from_is_err_and c.from_residual.result c.from_residual.ensures.1 in
+    let p = err_from_is_err_and c.from_residual-in_err-lay_out_next.result c.from_residual-in_err-lay_out_next.ensures.1 in
     let s = c.loop-n.so_far in
     rw (p.1, p.2) (first_stop c.args.h.now c.loop-n.n c.args.count s.rows.items s.known.items s.members.items s.nearly.items s.primaries.items c.in_err-lay_out_next.field-0.0 c.loop-n-test.true c.loop-n.invariant c.in_err-lay_out_next.ensures.stop)
 

@@ -18,7 +18,7 @@ pub lay_out_class-requires-clause-scene : goal.lay_out_class-requires-clause-sce
 lay_out_class-requires-clause-scene c =
     let s = c.args.so_far.now in
     let primary = c.primary_among-primary.result in
-    let next = next_by c.args.h.now c.args.c c.class.result.now s.rows.items s.known.items s.members.items s.nearly.items s.primaries.items primary c.has_pointer-has_pointer.result c.deref.result.now c.deref-2.result.now c.keeps.ensures c.class.ensures c.requires.laid c.deref.ensures.value c.deref-2.ensures.value c.primary_among-primary.ensures c.has_pointer-has_pointer.ensures in
+    let next = next_by c.args.h.now c.args.c c.class.result.now s.rows.items s.known.items s.members.items s.nearly.items s.primaries.items primary c.has_pointer-has_pointer.result c.deref.result.now c.deref-2.result.now c.keeps.ensures c.class.ensures c.requires.laid c.deref.ensures.value c.deref-2.ensures.value c.primary_among-primary.ensures (c.has_pointer-has_pointer.ensures c.args.h.now c.requires.dynamic c.requires.known) in
     scene_by c.args.h.now c.args.c c.class.result.now s.rows.items s.known.items s.members.items s.nearly.items s.primaries.items primary c.has_pointer-has_pointer.result next
     c.deref-3.result.now c.deref-4.result.now c.deref-5.result.now c.as_slice-2.result.now c.deref-3.ensures.value c.deref-4.ensures.value (c.deref-5.ensures.value ∙ c.in_ok-push.ensures.items) (subst (λ (xs : List Subobject). ListsVirtual c.args.h.now c.args.c xs) (sym c.as_slice-2.ensures) c.in_ok-list.ensures)
 
@@ -33,7 +33,7 @@ returns-in_err-known-clause-stop c =
     let p = err_from_is_err_and c.from_residual-in_err-known.result c.from_residual-in_err-known.ensures.1 in
     let s = c.args.so_far.now in
     let primary = c.primary_among-primary.result in
-    let next = next_by c.args.h.now c.args.c c.class.result.now s.rows.items s.known.items s.members.items s.nearly.items s.primaries.items primary c.has_pointer-has_pointer.result c.deref.result.now c.deref-2.result.now c.keeps.ensures c.class.ensures c.requires.laid c.deref.ensures.value c.deref-2.ensures.value c.primary_among-primary.ensures c.has_pointer-has_pointer.ensures in
+    let next = next_by c.args.h.now c.args.c c.class.result.now s.rows.items s.known.items s.members.items s.nearly.items s.primaries.items primary c.has_pointer-has_pointer.result c.deref.result.now c.deref-2.result.now c.keeps.ensures c.class.ensures c.requires.laid c.deref.ensures.value c.deref-2.ensures.value c.primary_among-primary.ensures (c.has_pointer-has_pointer.ensures c.args.h.now c.requires.dynamic c.requires.known) in
     rw (p.1, p.2)
     (refused_by c.args.h.now c.args.c c.class.result.now s.rows.items s.known.items s.members.items s.nearly.items s.primaries.items primary c.has_pointer-has_pointer.result next
     c.deref-3.result.now c.deref-5.result.now c.in_err-known.field-0.0 c.deref-3.ensures.value (c.deref-5.ensures.value ∙ c.in_ok-push.ensures.items) c.in_err-known.ensures.refused)
@@ -42,7 +42,7 @@ pub is_nearly-is_nearly-requires-clause-row : goal.is_nearly-is_nearly-requires-
 is_nearly-is_nearly-requires-clause-row c =
     let s = c.args.so_far.now in
     let primary = c.primary_among-primary.result in
-    let next = next_by c.args.h.now c.args.c c.class.result.now s.rows.items s.known.items s.members.items s.nearly.items s.primaries.items primary c.has_pointer-has_pointer.result c.deref.result.now c.deref-2.result.now c.keeps.ensures c.class.ensures c.requires.laid c.deref.ensures.value c.deref-2.ensures.value c.primary_among-primary.ensures c.has_pointer-has_pointer.ensures in
+    let next = next_by c.args.h.now c.args.c c.class.result.now s.rows.items s.known.items s.members.items s.nearly.items s.primaries.items primary c.has_pointer-has_pointer.result c.deref.result.now c.deref-2.result.now c.keeps.ensures c.class.ensures c.requires.laid c.deref.ensures.value c.deref-2.ensures.value c.primary_among-primary.ensures (c.has_pointer-has_pointer.ensures c.args.h.now c.requires.dynamic c.requires.known) in
     row_by c.args.h.now c.args.c c.class.result.now s.rows.items s.known.items s.members.items s.nearly.items s.primaries.items primary c.has_pointer-has_pointer.result next
     c.deref-3.result.now c.deref-5.result.now c.lay_out_class.new.rows.items c.deref-7.result.now c.in_ok-known.field-0 c.deref-7.ensures.value c.in_ok-known.ensures.laid
 
@@ -50,7 +50,7 @@ pub returns-clause-laid : goal.returns-clause-laid
 returns-clause-laid c =
     let s = c.args.so_far.now in
     let primary = c.primary_among-primary.result in
-    let next = next_by c.args.h.now c.args.c c.class.result.now s.rows.items s.known.items s.members.items s.nearly.items s.primaries.items primary c.has_pointer-has_pointer.result c.deref.result.now c.deref-2.result.now c.keeps.ensures c.class.ensures c.requires.laid c.deref.ensures.value c.deref-2.ensures.value c.primary_among-primary.ensures c.has_pointer-has_pointer.ensures in
+    let next = next_by c.args.h.now c.args.c c.class.result.now s.rows.items s.known.items s.members.items s.nearly.items s.primaries.items primary c.has_pointer-has_pointer.result c.deref.result.now c.deref-2.result.now c.keeps.ensures c.class.ensures c.requires.laid c.deref.ensures.value c.deref-2.ensures.value c.primary_among-primary.ensures (c.has_pointer-has_pointer.ensures c.args.h.now c.requires.dynamic c.requires.known) in
     let made = known_by c.args.h.now c.args.c c.class.result.now s.rows.items s.known.items s.members.items s.nearly.items s.primaries.items primary c.has_pointer-has_pointer.result next
     c.deref-3.result.now c.deref-5.result.now c.lay_out_class.new.rows.items c.deref-7.result.now c.in_ok-known.field-0
     c.deref-3.ensures.value (c.deref-5.ensures.value ∙ c.in_ok-push.ensures.items) c.deref-7.ensures.value c.in_ok-known.ensures.laid c.kept.result c.kept.ensures

@@ -1,7 +1,7 @@
 use Rattle.std.proofs.Common.{subst, sym}
-use Rattle.abi_count.specs.invariants.Flags.{TellDynamicTo}
-use Rattle.abi_count.proofs.FlagLemmas.{flags_none, flags_push, flags_end}
-use Rattle.abi_count.proofs.kinds.dynamic_flags.Goals as goal
+use Rattle.abi_primary.specs.Kinds.{TellDynamicTo}
+use Rattle.abi_primary.proofs.FlagLemmas.{flags_none, flags_push, flags_end}
+use Rattle.abi_primary.proofs.flags.dynamic_flags.Goals as goal
 
 pub is_dynamic_by-flag-requires-clause-before : goal.is_dynamic_by-flag-requires-clause-before
 is_dynamic_by-flag-requires-clause-before c = subst (TellDynamicTo c.loop-n.n c.args.h.now) (sym c.deref.ensures.value) c.loop-n.invariant
