@@ -5,11 +5,12 @@
 //! placed somewhere, would bring a subobject of a class to a place where there is one already.
 //!
 //! The layer above may rely on: `conflicts` is exactly membership of a moved part, and `add` adds exactly the
-//! moved parts. A question takes a look-up for each part, however large the table is.
+//! moved parts. A question takes a look-up for each part, however large the table is. Over a few parts `is_among`
+//! answers the same without a table.
 #![tactic(auto)]
 
 ghost use Rattle.std.specs.Prelude.{◌≡◌, ◌+◌, ◌^◌, ◌<◌, [], All, OnOk, OnErr};
-ghost use Rattle.abi_emptybase.specs.Table.{has_conflict, moved, Adds};
+ghost use Rattle.abi_emptybase.specs.Table.{has_conflict, holds, moved, Adds};
 
 use foundation::NoMemory;
 use std::alloc::Global;
@@ -47,6 +48,21 @@ fn moved(part: Part, at: u32) -> Part
         class: part.class,
         place: part.place + at,
     }
+}
+
+/// Whether a part is one of these.
+fn holds(parts: &[Part], part: Part) -> bool
+    ensures { result ≡ holds parts.now part }
+{
+    parts.iter().any(|other| part.class == other.class && part.place == other.place)
+}
+
+/// Whether some part, moved by `at` bytes, is one of a few. It takes no memory, and time for each part with each of the few.
+pub fn is_among(few: &[Part], parts: &[Part], at: u32) -> bool
+    requires { All (λ part. part.place + at < 2 ^ 32) parts.now }
+    ensures { result ≡ has_conflict few.now parts.now at }
+{
+    parts.iter().any(|part| holds(few, moved(*part, at)))
 }
 
 impl PlaceTable {

@@ -65,11 +65,16 @@ fn start(alloc: Global, c: ClassId, has_pointer: bool) -> Result<Placing, NoMemo
     ensures stage { IfOk result (λ placing. placing.stage ≡ start_stage c has_pointer) }
     ensures placing { IfOk result IsPlacing }
 {
-    let Placing { stage, table } = first_placing(alloc, c)?;
+    let Placing {
+        stage,
+        table,
+        listed,
+    } = first_placing(alloc, c)?;
     let behind = behind_pointer(stage, has_pointer);
     Ok(Placing {
         stage: behind,
         table,
+        listed,
     })
 }
 
@@ -120,7 +125,11 @@ pub(crate) fn arrange(
     let nvsize = size_of_kind(is_pod, size, end);
     let mut member_parts = Sequence::new(alloc);
     push_placed(&mut member_parts, members, member_places.as_slice())?;
-    let Placing { stage, table: _ } = placing;
+    let Placing {
+        stage,
+        table: _,
+        listed: _,
+    } = placing;
     Ok(Arrangement {
         size,
         align: stage.align,

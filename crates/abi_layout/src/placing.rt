@@ -5,10 +5,10 @@ ghost use Rattle.abi_emptybase.specs.Table.{has_conflict, moved};
 ghost use Rattle.cxx_hierarchy.specs.declared.stop.LimitNo.{LimitNo};
 ghost use Rattle.abi_layout.specs.Limits.{size_limit};
 ghost use Rattle.abi_layout.specs.Placements.{IsNext, IsPlace, ArePlaced, after, after_all};
-ghost use Rattle.abi_layout.specs.invariants.Alignments.{IsAlignment, IsFit, AreFit, HasTable, with_parts, IsPlacing, HasNoPlace, IsPastLimit};
+ghost use Rattle.abi_layout.specs.invariants.Alignments.{IsAlignment, IsFit, AreFit, HasTable, IsReady, with_parts, IsPlacing, HasNoPlace, IsPastLimit};
 
 use crate::component::{Component, Stage, push_moved};
-use abi_emptybase::{Part, PlaceTable};
+use abi_emptybase::{Part, PlaceTable, is_among};
 use abi_sound::PlaceList;
 use cxx_hierarchy::{LimitNo, Stop};
 use foundation::{NoMemory, Sequence};
@@ -17,11 +17,16 @@ use std::alloc::Global;
 /// The largest size of a class, in bytes.
 pub(crate) const SIZE_LIMIT: u32 = 500_000;
 
-/// The layout of a class so far, and the table of the class subobjects that were placed.
+/// Among so few class subobjects a component is compared with each, and the table is not asked.
+const FEW_PARTS: usize = 8;
+
+/// The layout of a class so far, and the table of the class subobjects that were placed: of the first ones, as many as
+/// are listed. The others wait until a component asks for the table.
 #[derive(Drop)]
 pub struct Placing {
     pub stage: Stage,
     pub table: PlaceTable,
+    pub listed: usize,
 }
 
 /// The least multiple of an alignment at or behind a place.
@@ -36,16 +41,22 @@ pub(crate) fn round_up(place: u32, align: u32) -> u32
 /// Whether the component, at this place, would bring a subobject of a class to where one of that class is already.
 fn is_taken(placing: &Placing, component: &Component, at: u32) -> bool
     requires placing { IsPlacing placing.now }
+    requires ready { IsReady placing.now component.now }
     requires component { IsFit component.now }
     requires bounded { at ≤ size_limit }
     ensures { result ≡ has_conflict placing.now.stage.parts component.now.parts at }
 {
+    let placed = placing.stage.parts.as_slice();
+    if placed.len() <= FEW_PARTS {
+        return is_among(placed, component.parts.as_slice(), at);
+    }
     placing.table.conflicts(component.parts.as_slice(), at)
 }
 
 /// The place of the next component, and None where it lies behind the largest size.
 fn find_place(placing: &Placing, component: &Component) -> Option<u32>
     requires placing { IsPlacing placing.now }
+    requires ready { IsReady placing.now component.now }
     requires component { IsFit component.now }
     ensures place { IfSome result (λ at. IsPlace placing.now.stage component.now at) }
     ensures within { IfSome result (λ at. at ≤ size_limit) }
@@ -65,14 +76,31 @@ fn find_place(placing: &Placing, component: &Component) -> Option<u32>
 }
 
 /// Puts the class subobjects of a component, which lies at a place, behind the others.
+/// The table takes them only once it is asked.
 pub(crate) fn add_parts(placing: &mut Placing, parts: &[Part], at: u32) -> Result<(), NoMemory>
     requires table { HasTable placing.old }
     requires bounded { All (λ part. part.place + at < 2 ^ 32) parts.now }
     ensures table { OnOk result (HasTable placing.new) }
     ensures stage { OnOk result (placing.new.stage ≡ with_parts placing.old.stage (map (moved at) parts.now)) }
 {
-    placing.table.add(parts, at)?;
     push_moved(&mut placing.stage.parts, parts, at)?;
+    Ok(())
+}
+
+/// Puts what the table does not have yet into it, where the next component has class subobjects and is compared with more
+/// than a few: no other one asks it.
+fn make_ready(placing: &mut Placing, component: &Component) -> Result<(), NoMemory>
+    requires { IsPlacing placing.old }
+    ensures placing { OnOk result (IsPlacing placing.new) }
+    ensures ready { OnOk result (IsReady placing.new component.now) }
+    ensures stage { OnOk result (placing.new.stage ≡ placing.old.stage) }
+{
+    let parts = placing.stage.parts.as_slice();
+    if component.parts.len() == 0 || parts.len() <= FEW_PARTS {
+        return Ok(());
+    }
+    placing.table.add(&parts[placing.listed..], 0)?;
+    placing.listed = parts.len();
     Ok(())
 }
 
@@ -114,6 +142,7 @@ pub(crate) fn place_all(
 {
     let mut places = Sequence::new(alloc);
     for component in components {
+        make_ready(placing, component)?;
         match find_place(placing, component) {
             None => return Err(Stop::Limit(LimitNo::L6)),
             Some(at) => {

@@ -152,6 +152,7 @@ fn empty_placing(alloc: Global) -> Placing
             parts: Sequence::new(alloc),
         },
         table: PlaceTable::new(alloc),
+        listed: 0,
     }
 }
 

@@ -1,6 +1,7 @@
 -- Lemmas on a class whose components are placed.
 use Rattle.std.proofs.Common.{◌+◌, [], ◌∷◌, ◌≡◌, ℕ, ◌<◌, ◌≤◌, Bool, true, false, List, ap, subst, sym, ◌∙◌, arith}
 use Rattle.std.specs.Prelude.{max, if◌then◌else◌, All, map}
+use Rattle.std.proofs.lemmas.List.{append-nil}
 use Rattle.std.proofs.lemmas.List.Elements.{All-nil, All-cons}
 use Rattle.abi_emptybase.specs.Table.{moved}
 use Rattle.cxx_hierarchy.specs.declared.records.ClassId.{ClassId}
@@ -15,12 +16,12 @@ use Rattle.abi_layout.specs.Placements.{IsNext, ArePlaced, after, after_all, par
 use Rattle.abi_layout.specs.invariants.Alignments.{IsAlignment, byte, eight_bytes, AreWithin, AreFit, IsPlacing, HasTable, IsPastLimit}
 use Rattle.abi_layout.specs.Layouts.{IsLayoutBy}
 use Rattle.abi_layout.specs.invariants.Arrangements.{stage_with, IsWithinLimit, IsTooLargeBy}
-use Rattle.abi_layout.proofs.rules.Parts.{within_further, within_moved, within_both}
+use Rattle.abi_layout.proofs.rules.Parts.{within_further, within_moved, within_both, table_stays}
 use Rattle.abi_layout.proofs.rules.PlacingLemmas.{size_grows, places_are_one, next_within}
 
-pub start_is_placing : (old new : Placing) (c : ClassId) (b : Bool) → HasTable old → old.stage ≡ first_stage c → new.table ≡ old.table → new.stage ≡ stage_with b old.stage.parts → IsPlacing new
-start_is_placing old new c b table e same is = record {
-  table = record { same = λ q. ap (λ t. Rattle.abi_emptybase.specs.Table.holds t q) same ∙ (table.same q ∙ ap (λ (s : Stage). Rattle.abi_emptybase.specs.Table.holds s.parts q) (sym is)) };
+pub start_is_placing : (old new : Placing) (c : ClassId) (b : Bool) → HasTable old → old.stage ≡ first_stage c → new.table ≡ old.table → new.listed ≡ old.listed → new.stage ≡ stage_with b old.stage.parts → IsPlacing new
+start_is_placing old new c b table e same listed is = record {
+  table = table_stays old new [] same listed (ap (λ (s : Stage). s.parts) is ∙ sym (append-nil old.stage.parts)) table;
   align = subst (λ (s : Stage). IsAlignment s.align) (sym is) (alignment b);
   dsize = subst (λ (s : Stage). s.dsize ≤ s.size) (sym is) (omega arith);
   size = subst (λ (s : Stage). s.size ≤ size_limit) (sym is) (small b);

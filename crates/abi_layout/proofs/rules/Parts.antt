@@ -1,13 +1,16 @@
 -- Lemmas on lists of parts.
-use Rattle.std.proofs.Common.{◌≡◌, ℕ, ◌+◌, ◌<◌, ◌≤◌, ◌^◌, false, List, [], ◌∷◌, ◌++◌, map, refl, ap, sym, ◌∙◌, arith}
+use Rattle.std.proofs.Common.{◌≡◌, ℕ, zero, suc, ◌+◌, ◌-◌, ◌<◌, ◌≤◌, ◌^◌, ⊎_elim, false, List, [], ◌∷◌, ◌++◌, length, map, take, drop, refl, ap, sym, ◌∙◌, arith}
 use Rattle.std.specs.Prelude.{nat_eq, ◌&&◌, ◌||◌, All}
 use Rattle.std.specs.List.{list_any}
 use Rattle.std.proofs.lemmas.Bool.{eq-eqb, eqb-true}
 use Rattle.std.proofs.lemmas.List.Elements.{All-nil, All-cons}
+use Rattle.std.proofs.lemmas.List.{length-append, length-drop, take_all, take-append-le, take-append-drop}
 use Rattle.std.proofs.lemmas.List.Folds.{list_any-append}
 use Rattle.abi_emptybase.specs.declared.Part.{Part}
-use Rattle.abi_emptybase.specs.Table.{same_part, holds, moved, has_conflict}
-use Rattle.abi_layout.specs.invariants.Alignments.{AreWithin}
+use Rattle.abi_emptybase.specs.Table.{same_part, holds, moved, has_conflict, Adds}
+use Rattle.abi_layout.specs.declared.component.Component.{Component}
+use Rattle.abi_layout.specs.declared.placing.Placing.{Placing}
+use Rattle.abi_layout.specs.invariants.Alignments.{AreWithin, HasTable, IsReady}
 pub use Rattle.foundation.proofs.Truth.{split, not_both as opposed}
 
 -- no part is behind a place, and none once it is moved
@@ -48,3 +51,47 @@ holds_more xs parts at q = list_any-append (same_part q) xs (map (moved at) part
 pub conflict_same : (table list parts : List Part) (at : ℕ) → ((q : Part) → holds table q ≡ holds list q) → has_conflict table parts at ≡ has_conflict list parts at
 conflict_same table list [] at same = refl
 conflict_same table list (part ∷ parts) at same = ap (λ b. b || has_conflict table parts at) (same (moved at part)) ∙ ap (λ b. holds list (moved at part) || b) (conflict_same table list parts at same)
+
+-- the table of the first parts, as they become more
+
+-- a table that stays has the first of more parts
+pub table_stays : (old new : Placing) (parts : List Part) → new.table ≡ old.table → new.listed ≡ old.listed → new.stage.parts ≡ old.stage.parts ++ parts → HasTable old → HasTable new
+table_stays old new parts table listed more has = record {
+  within = let some = has.within in let grown : length new.stage.parts ≡ length old.stage.parts + length parts = ap length more ∙ length-append old.stage.parts parts in omega arith;
+  same = λ q.
+      ap (λ (t : List Part). holds t q) table ∙ has.same q
+      ∙ sym (ap (λ (xs : List Part). holds xs q) (ap (λ n. take n new.stage.parts) listed ∙ (ap (take old.listed) more ∙ take-append-le old.listed old.stage.parts parts has.within)));
+}
+
+not_moved : (parts : List Part) → map (moved 0) parts ≡ parts
+not_moved [] = refl
+not_moved (part ∷ parts) = let e : part.place + 0 ≡ part.place = omega arith in ap (λ n. record { class = part.class; place = n } ∷ map (moved 0) parts) e ∙ ap (λ (xs : List Part). part ∷ xs) (not_moved parts)
+
+pub within_rest : (n end : ℕ) (parts : List Part) → AreWithin end parts → AreWithin end (drop n parts)
+within_rest zero end parts w = w
+within_rest (suc n) end [] w = tt
+within_rest (suc n) end (part ∷ parts) w = within_rest n end parts w.1
+
+pub rest_is : (n : ℕ) (xs ys : List Part) → xs ≡ ys → take (length xs - n) (drop n xs) ≡ drop n ys
+rest_is n xs ys e = take_all (length xs - n) (drop n xs) (let rest = length-drop n xs in omega arith) ∙ ap (λ (zs : List Part). drop n zs) e
+
+-- a table to which the rest was added has all parts
+pub table_of_all : (old : Placing) (table rest : List Part) → HasTable old → rest ≡ drop old.listed old.stage.parts → Adds old.table table rest 0 → (q : Part) → holds table q ≡ holds (take (length old.stage.parts) old.stage.parts) q
+table_of_all old table rest has is added q =
+    let parts = old.stage.parts in
+    added.each q
+    ∙ (ap (λ b. b || list_any (λ (part : Part). same_part (moved 0 part) q) rest) (has.same q)
+    ∙ (sym (holds_more (take old.listed parts) rest 0 q)
+    ∙ ap (λ (xs : List Part). holds xs q) (ap (λ (xs : List Part). take old.listed parts ++ xs) (not_moved rest ∙ is) ∙ (take-append-drop old.listed parts ∙ sym (take_all (length parts) parts (omega arith))))))
+
+-- what conflicts by the table conflicts by the parts, where the table is ready for the component
+pub conflict_ready : (placing : Placing) (component : Component) (at : ℕ) → HasTable placing → 8 < length placing.stage.parts → IsReady placing component → has_conflict placing.table component.parts at ≡ has_conflict placing.stage.parts component.parts at
+conflict_ready placing component at has many ready =
+    let parts = placing.stage.parts in
+    ⊎_elim
+    (λ few. absurd (omega arith))
+    (λ asked. ⊎_elim
+    (λ none. ap (λ (xs : List Part). has_conflict placing.table xs at) none ∙ sym (ap (λ (xs : List Part). has_conflict parts xs at) none))
+    (λ all. conflict_same placing.table parts component.parts at (λ q. has.same q ∙ ap (λ (xs : List Part). holds xs q) (ap (λ n. take n parts) all ∙ take_all (length parts) parts (omega arith))))
+    asked)
+    ready

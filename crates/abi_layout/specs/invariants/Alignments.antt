@@ -1,5 +1,5 @@
 -- The alignments on LP64, and what is known of components, stages and rows within the limit of sizes.
-use Rattle.std.specs.Prelude.{◌≡◌, ℕ, ◌<◌, ◌≤◌, List, [], ◌∷◌, ◌++◌}
+use Rattle.std.specs.Prelude.{◌≡◌, ℕ, ◌<◌, ◌≤◌, ◌⊎◌, List, [], ◌∷◌, ◌++◌, length, take}
 use Rattle.abi_emptybase.specs.declared.Part.{Part}
 use Rattle.abi_emptybase.specs.Table.{holds}
 use Rattle.abi_layout.specs.Limits.{size_limit}
@@ -35,14 +35,19 @@ abbrev pub AreLittle : List Component → Type 0
 AreLittle [] = Unit {0}
 AreLittle (component ∷ components) = (component.takes ≤ size_limit) × AreLittle components
 
--- the table has what the stage's list of parts has
+-- the table has the first of the stage's parts, as many as are listed
 pub record HasTable (placing : Placing) : Type 0 where
-  pub same : (q : Part) → holds placing.table q ≡ holds placing.stage.parts q
+  pub within : placing.listed ≤ length placing.stage.parts
+  pub same : (q : Part) → holds placing.table q ≡ holds (take placing.listed placing.stage.parts) q
+
+-- the table has all parts, or is not asked: the parts are few, or the component has none to ask for
+abbrev pub IsReady : Placing → Component → Type 0
+IsReady placing component = (length placing.stage.parts ≤ 8) ⊎ ((component.parts ≡ []) ⊎ (placing.listed ≡ length placing.stage.parts))
 
 abbrev pub with_parts : Stage → List Part → Stage
 with_parts stage parts = record { dsize = stage.dsize; size = stage.size; align = stage.align; parts = stage.parts ++ parts }
 
--- a stage with an alignment, within the limit of sizes, and the table of its parts
+-- a stage with an alignment, within the limit of sizes, and the table of its first parts
 pub record IsPlacing (placing : Placing) : Type 0 where
   pub table : HasTable placing
   pub align : IsAlignment placing.stage.align

@@ -1,7 +1,7 @@
 use Rattle.std.proofs.Common.{◌≡◌, ◌∙◌, true, sym, arith}
 use Rattle.abi_emptybase.specs.Table.{has_conflict}
 use Rattle.abi_layout.proofs.rules.Parts.{opposed}
-use Rattle.abi_layout.proofs.rules.PlacingLemmas.{place_at_start, first_least, place_behind, next_least, multiple_more}
+use Rattle.abi_layout.proofs.rules.PlacingLemmas.{place_at_start, first_least, place_behind, next_least, multiple_more, align_small}
 use Rattle.abi_layout.proofs.placing.find_place.Goals as goal
 use Rattle.abi_layout.proofs.placing.find_place.Goals.{else-component-via-then-component+else-not-is_taken, else-component-via-else-component}
 
@@ -21,6 +21,12 @@ pub returns-then-not-is_taken-2-clause-place : goal.returns-then-not-is_taken-2-
 returns-then-not-is_taken-2-clause-place c =
     let i = c.loop-at.invariant in
     place_behind c.args.placing.now.stage c.args.component.now c.loop-at.at i.behind i.multiple i.least (sym c.is_taken-in-loop-at.ensures ∙ c.if-not-is_taken-2.true)
+
+pub loop-at-smaller : goal.loop-at-smaller
+loop-at-smaller c =
+    let some = (align_small c.args.component.now.align c.requires.component.align).0 in
+    let within = c.loop-at-test.true in
+    omega arith
 
 pub loop-at-preserved : goal.loop-at-preserved
 loop-at-preserved c =

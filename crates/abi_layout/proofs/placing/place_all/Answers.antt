@@ -4,6 +4,7 @@ use Rattle.std.proofs.lemmas.Option.{slice_get_read}
 use Rattle.std.proofs.lemmas.List.{drop_all}
 use Rattle.abi_layout.specs.declared.component.Component.{Component}
 use Rattle.abi_layout.specs.declared.component.Stage.{Stage}
+use Rattle.abi_layout.specs.Placements.{IsPlace, after}
 use Rattle.abi_layout.proofs.rules.PlacingLemmas.{Completes, completes_more, completes_past, completes_all, completes_stage, fit_at, place_is_one}
 use Rattle.abi_layout.proofs.placing.place_all.Goals as goal
 
@@ -23,7 +24,7 @@ returns-in-None-clause-limit c = inr (
   completes_past c.args.placing.now.stage c.args.components.now c.loop-component.places c.loop-component.placing.stage c.component-item.result (drop (c.loop-component.component-index + 1) c.args.components.now)
       (subst (λ (xs : List Component). Completes c.args.placing.now.stage c.args.components.now c.loop-component.places c.loop-component.placing.stage xs)
       (rest_from c.args.components.now c.loop-component.component-index c.component-item.result c.loop-component-test.true c.component-item.is) c.loop-component.invariant.completes)
-      (λ p place. let far = c.in-None.ensures.past.past p place in omega arith),
+      (λ p place. let far = c.in-None.ensures.past.past p (subst (λ (s : Stage). IsPlace s c.component-item.result p) (sym c.in_ok-make_ready.ensures.stage) place) in omega arith),
 )
 
 pub overflow_add-at : goal.overflow_add-at
@@ -39,7 +40,7 @@ returns-then-at-component-gt-SIZE_LIMIT-clause-limit c = inr (
   completes_past c.args.placing.now.stage c.args.components.now c.loop-component.places c.loop-component.placing.stage c.component-item.result (drop (c.loop-component.component-index + 1) c.args.components.now)
       (subst (λ (xs : List Component). Completes c.args.placing.now.stage c.args.components.now c.loop-component.places c.loop-component.placing.stage xs)
       (rest_from c.args.components.now c.loop-component.component-index c.component-item.result c.loop-component-test.true c.component-item.is) c.loop-component.invariant.completes)
-      (λ p place. let same = place_is_one c.loop-component.placing.stage c.component-item.result p c.in-Some.at place c.in-Some.ensures.place in let past = c.if-at-component-gt-SIZE_LIMIT.true in omega arith),
+      (λ p place. let same = place_is_one c.loop-component.placing.stage c.component-item.result p c.in-Some.at place (subst (λ (s : Stage). IsPlace s c.component-item.result c.in-Some.at) c.in_ok-make_ready.ensures.stage c.in-Some.ensures.place) in let past = c.if-at-component-gt-SIZE_LIMIT.true in omega arith),
 )
 
 pub put-requires-clause-component : goal.put-requires-clause-component
@@ -53,10 +54,10 @@ loop-component-preserved c =
     let here = completes_more first cs c.loop-component.places c.loop-component.placing.stage c.component-item.result todo c.in-Some.at
     (subst (λ (xs : List Component). Completes first cs c.loop-component.places c.loop-component.placing.stage xs)
     (rest_from cs c.loop-component.component-index c.component-item.result c.loop-component-test.true c.component-item.is) c.loop-component.invariant.completes)
-    c.in-Some.ensures.place in
+    (subst (λ (s : Stage). IsPlace s c.component-item.result c.in-Some.at) c.in_ok-make_ready.ensures.stage c.in-Some.ensures.place) in
     record {
       completes = subst (λ (ps : List ℕ). Completes first cs ps c.put.new.placing.stage todo) (sym c.in_ok-push-in-Some.ensures.ok)
-          (subst (λ (s : Stage). Completes first cs (c.loop-component.places ++ c.in-Some.at ∷ []) s todo) (sym c.in_ok-put-in-Some.ensures.after) here);
+          (subst (λ (s : Stage). Completes first cs (c.loop-component.places ++ c.in-Some.at ∷ []) s todo) (sym (c.in_ok-put-in-Some.ensures.after ∙ ap (λ (s : Stage). after s c.component-item.result c.in-Some.at) c.in_ok-make_ready.ensures.stage)) here);
       placing = c.in_ok-put-in-Some.ensures.placing;
     }
 

@@ -17,8 +17,8 @@ pub returns-clause-placing : goal.returns-clause-placing
 returns-clause-placing c =
     let old = c.args.placing.now in
     let added = c.add_parts.new.placing in
-    let new : Placing = record { stage = stage_of c.data_end-placing.result c.max-placing.result c.max-placing-2.result added.stage.parts; table = added.table } in
+    let new : Placing = record { stage = stage_of c.data_end-placing.result c.max-placing.result c.max-placing-2.result added.stage.parts; table = added.table; listed = added.listed } in
     let is = stage_is_after old.stage added.stage c.args.component.now c.args.at c.data_end-placing.result c.max-placing.result c.max-placing-2.result
     (c.in_ok-add_parts.ensures.stage ∙ ap (λ (parts : List Part). with_parts old.stage (map (moved c.args.at) parts)) c.as_slice.ensures)
     c.data_end-placing.ensures c.max-placing.ensures c.max-placing-2.ensures in
-    put_keeps old new c.args.component.now c.args.at c.requires.placing c.requires.component c.requires.bounded (record { same = c.in_ok-add_parts.ensures.table.same }) is
+    put_keeps old new c.args.component.now c.args.at c.requires.placing c.requires.component c.requires.bounded (record { within = c.in_ok-add_parts.ensures.table.within; same = c.in_ok-add_parts.ensures.table.same }) is

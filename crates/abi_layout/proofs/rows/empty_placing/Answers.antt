@@ -1,4 +1,4 @@
-use Rattle.std.proofs.Common.{◌∙◌, List, ap, subst, sym, arith}
+use Rattle.std.proofs.Common.{List, ap, subst, sym, arith}
 use Rattle.abi_emptybase.specs.declared.Part.{Part}
 use Rattle.abi_emptybase.specs.Table.{holds}
 use Rattle.abi_layout.specs.invariants.Alignments.{byte, AreWithin}
@@ -6,7 +6,7 @@ use Rattle.abi_layout.proofs.rows.empty_placing.Goals as goal
 
 pub returns-clause-placing : goal.returns-clause-placing
 returns-clause-placing c = record {
-  table = record { same = λ q. ap (λ (t : List Part). holds t q) c.new-2.ensures ∙ ap (λ (t : List Part). holds t q) (sym c.new.ensures) };
+  table = record { within = omega arith; same = λ q. ap (λ (t : List Part). holds t q) c.new-2.ensures };
   align = byte;
   dsize = omega arith;
   size = omega arith;
