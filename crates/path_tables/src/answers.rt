@@ -12,7 +12,7 @@ ghost use Rattle.path_tables.specs.Parts.{IsNumbered, IsPartList, number_of, der
 ghost use Rattle.path_tables.specs.Kept.{id, IsCastAnswer, IsFinalAnswer, IsWithinAnswer, IsDownAnswer};
 ghost use Rattle.cxx_subobject.specs.declared.Root.TheVariants.{Shared};
 
-use crate::casts::cast_place;
+use crate::casts::{Cast, cast_place};
 use crate::finals::{FinalAt, final_at};
 use crate::kept::{CastKey, DownKey, FinalKey, WithinKey};
 use crate::parts::{PartList, first_of_class, is_of_class, is_within, part_at};
@@ -46,7 +46,15 @@ pub(crate) fn cast_number(h: &Hierarchy, list: &PartList, key: CastKey) -> Optio
     let c = ClassId(key.class);
     let x = part_at(h, c, list, key.view)?;
     let y = part_at(h, c, list, key.source)?;
-    match cast_place(h, c, list.parts.as_slice(), ClassId(key.target), x, y) {
+    let cast = Cast {
+        h,
+        c,
+        parts: list.parts.as_slice(),
+        target: ClassId(key.target),
+        view: x,
+        source: y,
+    };
+    match cast_place(&cast) {
         Some(place) => Some(number_at(list, place)),
         None => None,
     }

@@ -1,37 +1,43 @@
 //! Where a cast leads, among the subobjects of a class (ISO C++03 5.2.7 p8).
 
-ghost use Rattle.std.specs.Prelude.{◌≡◌, ◌↔◌, IsTrue, false, Some, None};
+ghost use Rattle.std.specs.Prelude.{◌≡◌, ◌↔◌, IsTrue, Some, None};
 ghost use Rattle.cxx_subobject.specs.Subobjects.{IsSubobject};
-ghost use Rattle.cxx_subobject.specs.Preorder.{preorder};
-ghost use Rattle.cxx_search.specs.Casts.{IsOnly, IsTarget, CastsDown, CastsAcross};
-ghost use Rattle.path_tables.specs.invariants.Targets.{IsWanted, is_at, IsOther, IsOtherAt, IsPlaceOf, IsCastTo};
+ghost use Rattle.cxx_search.specs.Casts.{IsOnly, CastsDown, CastsAcross};
+ghost use Rattle.path_tables.specs.invariants.Targets.{AreAmong, IsWanted, is_at, IsOther, IsOtherAt, IsPlaceOf, IsCastTo};
 
 use crate::parts::is_of_class;
 use cxx_hierarchy::{ClassId, Hierarchy};
 use cxx_subobject::{Subobject, contains, is_public_base};
 
-/// Whether a subobject is a target of a cast in a view, or one in which the source lies.
-fn is_wanted(
-    h: &Hierarchy,
-    c: ClassId,
-    target: ClassId,
-    x: &Subobject,
-    y: &Subobject,
-    over: bool,
-    t: &Subobject,
-) -> bool
-    requires x { IsSubobject h.now c x.now }
-    requires y { IsSubobject h.now c y.now }
-    requires t { IsSubobject h.now c t.now }
-    ensures { IsTrue result ↔ IsWanted h.now target x.now y.now over t.now }
+/// A cast to the class `target` from a subobject in a view, both among the subobjects of class c, which are `parts` in
+/// preorder.
+#[derive(Clone, Copy)]
+pub(crate) struct Cast<'a> {
+    pub h: &'a Hierarchy,
+    pub c: ClassId,
+    pub parts: &'a [Subobject],
+    pub target: ClassId,
+    pub view: &'a Subobject,
+    pub source: &'a Subobject,
+}
+
+/// Whether a subobject is a target of a cast, and where this is asked one in which the source lies.
+fn is_wanted(cast: &Cast, over: bool, t: &Subobject) -> bool
+    requires among { AreAmong cast.now.h.now cast.now.c cast.now.parts.now cast.now.view.now cast.now.source.now }
+    requires t { IsSubobject cast.now.h.now cast.now.c t.now }
+    ensures { IsTrue result ↔ IsWanted cast.now.h.now cast.now.target cast.now.view.now cast.now.source.now over t.now }
 {
-    if !is_of_class(t, target) {
+    if !is_of_class(t, cast.target) {
         return false;
     }
-    if !contains(h, c, x, t) {
+    if !contains(cast.h, cast.c, cast.view, t) {
         return false;
     }
-    if over { contains(h, c, t, y) } else { true }
+    if over {
+        contains(cast.h, cast.c, t, cast.source)
+    } else {
+        true
+    }
 }
 
 /// Whether this is the place to be passed over.
@@ -45,47 +51,26 @@ fn is_at(skip: Option<usize>, i: usize) -> bool
 }
 
 /// Whether a wanted target stands at a place that is not passed over.
-fn is_other(
-    h: &Hierarchy,
-    c: ClassId,
-    target: ClassId,
-    x: &Subobject,
-    y: &Subobject,
-    over: bool,
-    skip: Option<usize>,
-    i: usize,
-    t: &Subobject,
-) -> bool
-    requires x { IsSubobject h.now c x.now }
-    requires y { IsSubobject h.now c y.now }
-    requires t { IsSubobject h.now c t.now }
-    ensures { IsTrue result ↔ IsOther (IsWanted h.now target x.now y.now over) skip i t.now }
+fn is_other(cast: &Cast, over: bool, skip: Option<usize>, i: usize, t: &Subobject) -> bool
+    requires among { AreAmong cast.now.h.now cast.now.c cast.now.parts.now cast.now.view.now cast.now.source.now }
+    requires t { IsSubobject cast.now.h.now cast.now.c t.now }
+    ensures { IsTrue result ↔ IsOther (IsWanted cast.now.h.now cast.now.target cast.now.view.now cast.now.source.now over) skip i t.now }
 {
     if is_at(skip, i) {
         return false;
     }
-    is_wanted(h, c, target, x, y, over, t)
+    is_wanted(cast, over, t)
 }
 
 /// A place where a wanted target stands, but for the one that is passed over.
-fn other_wanted(
-    h: &Hierarchy,
-    c: ClassId,
-    parts: &[Subobject],
-    target: ClassId,
-    x: &Subobject,
-    y: &Subobject,
-    over: bool,
-    skip: Option<usize>,
-) -> Option<usize>
-    requires x { IsSubobject h.now c x.now }
-    requires y { IsSubobject h.now c y.now }
-    requires parts { parts.now ≡ preorder h.now c }
-    ensures { IsOtherAt (IsWanted h.now target x.now y.now over) parts.now skip result }
+fn other_wanted(cast: &Cast, over: bool, skip: Option<usize>) -> Option<usize>
+    requires { AreAmong cast.now.h.now cast.now.c cast.now.parts.now cast.now.view.now cast.now.source.now }
+    ensures { IsOtherAt (IsWanted cast.now.h.now cast.now.target cast.now.view.now cast.now.source.now over) cast.now.parts.now skip result }
 {
-    h.keeps();
+    cast.h.keeps();
+    let parts = cast.parts;
     for (i, t) in parts.iter().enumerate() {
-        if is_other(h, c, target, x, y, over, skip, i, t) {
+        if is_other(cast, over, skip, i, t) {
             return Some(i);
         }
     }
@@ -93,68 +78,39 @@ fn other_wanted(
 }
 
 /// The first place, unless another wanted target stands at another.
-fn if_only(
-    h: &Hierarchy,
-    c: ClassId,
-    parts: &[Subobject],
-    target: ClassId,
-    x: &Subobject,
-    y: &Subobject,
-    over: bool,
-    first: usize,
-) -> Option<usize>
-    requires x { IsSubobject h.now c x.now }
-    requires y { IsSubobject h.now c y.now }
-    requires parts { parts.now ≡ preorder h.now c }
-    requires first { IsOtherAt (IsWanted h.now target x.now y.now over) parts.now None (Some first) }
-    ensures { IsPlaceOf (IsOnly (IsWanted h.now target x.now y.now over)) parts.now result }
+fn if_only(cast: &Cast, over: bool, first: usize) -> Option<usize>
+    requires among { AreAmong cast.now.h.now cast.now.c cast.now.parts.now cast.now.view.now cast.now.source.now }
+    requires first { IsOtherAt (IsWanted cast.now.h.now cast.now.target cast.now.view.now cast.now.source.now over) cast.now.parts.now None (Some first) }
+    ensures { IsPlaceOf (IsOnly (IsWanted cast.now.h.now cast.now.target cast.now.view.now cast.now.source.now over)) cast.now.parts.now result }
 {
-    h.keeps();
-    match other_wanted(h, c, parts, target, x, y, over, Some(first)) {
+    cast.h.keeps();
+    match other_wanted(cast, over, Some(first)) {
         Some(_) => None,
         None => Some(first),
     }
 }
 
 /// The place of the one target, if there is exactly one.
-fn only_target(
-    h: &Hierarchy,
-    c: ClassId,
-    parts: &[Subobject],
-    target: ClassId,
-    x: &Subobject,
-    y: &Subobject,
-    over: bool,
-) -> Option<usize>
-    requires x { IsSubobject h.now c x.now }
-    requires y { IsSubobject h.now c y.now }
-    requires parts { parts.now ≡ preorder h.now c }
-    ensures { IsPlaceOf (IsOnly (IsWanted h.now target x.now y.now over)) parts.now result }
+fn only_target(cast: &Cast, over: bool) -> Option<usize>
+    requires { AreAmong cast.now.h.now cast.now.c cast.now.parts.now cast.now.view.now cast.now.source.now }
+    ensures { IsPlaceOf (IsOnly (IsWanted cast.now.h.now cast.now.target cast.now.view.now cast.now.source.now over)) cast.now.parts.now result }
 {
-    h.keeps();
-    match other_wanted(h, c, parts, target, x, y, over, None) {
-        Some(first) => if_only(h, c, parts, target, x, y, over, first),
+    cast.h.keeps();
+    match other_wanted(cast, over, None) {
+        Some(first) => if_only(cast, over, first),
         None => None,
     }
 }
 
 /// The place of the subobject to which a cast down leads, if it leads there.
-fn down_place(
-    h: &Hierarchy,
-    c: ClassId,
-    parts: &[Subobject],
-    target: ClassId,
-    x: &Subobject,
-    y: &Subobject,
-) -> Option<usize>
-    requires x { IsSubobject h.now c x.now }
-    requires y { IsSubobject h.now c y.now }
-    requires parts { parts.now ≡ preorder h.now c }
-    ensures { IsPlaceOf (CastsDown h.now target x.now y.now) parts.now result }
+fn down_place(cast: &Cast) -> Option<usize>
+    requires { AreAmong cast.now.h.now cast.now.c cast.now.parts.now cast.now.view.now cast.now.source.now }
+    ensures { IsPlaceOf (CastsDown cast.now.h.now cast.now.target cast.now.view.now cast.now.source.now) cast.now.parts.now result }
 {
-    h.keeps();
-    let i = only_target(h, c, parts, target, x, y, true)?;
-    if is_public_base(h, c, &parts[i], y) {
+    cast.h.keeps();
+    let parts = cast.parts;
+    let i = only_target(cast, true)?;
+    if is_public_base(cast.h, cast.c, &parts[i], cast.source) {
         Some(i)
     } else {
         None
@@ -162,25 +118,17 @@ fn down_place(
 }
 
 /// The same of a cast across.
-fn across_place(
-    h: &Hierarchy,
-    c: ClassId,
-    parts: &[Subobject],
-    target: ClassId,
-    x: &Subobject,
-    y: &Subobject,
-) -> Option<usize>
-    requires x { IsSubobject h.now c x.now }
-    requires y { IsSubobject h.now c y.now }
-    requires parts { parts.now ≡ preorder h.now c }
-    ensures { IsPlaceOf (CastsAcross h.now target x.now y.now) parts.now result }
+fn across_place(cast: &Cast) -> Option<usize>
+    requires { AreAmong cast.now.h.now cast.now.c cast.now.parts.now cast.now.view.now cast.now.source.now }
+    ensures { IsPlaceOf (CastsAcross cast.now.h.now cast.now.target cast.now.view.now cast.now.source.now) cast.now.parts.now result }
 {
-    h.keeps();
-    if !is_public_base(h, c, x, y) {
+    cast.h.keeps();
+    let parts = cast.parts;
+    if !is_public_base(cast.h, cast.c, cast.view, cast.source) {
         return None;
     }
-    let i = only_target(h, c, parts, target, x, y, false)?;
-    if is_public_base(h, c, x, &parts[i]) {
+    let i = only_target(cast, false)?;
+    if is_public_base(cast.h, cast.c, cast.view, &parts[i]) {
         Some(i)
     } else {
         None
@@ -188,21 +136,12 @@ fn across_place(
 }
 
 /// The place of the subobject to which a cast leads: down, else across.
-pub(crate) fn cast_place(
-    h: &Hierarchy,
-    c: ClassId,
-    parts: &[Subobject],
-    target: ClassId,
-    x: &Subobject,
-    y: &Subobject,
-) -> Option<usize>
-    requires x { IsSubobject h.now c x.now }
-    requires y { IsSubobject h.now c y.now }
-    requires parts { parts.now ≡ preorder h.now c }
-    ensures { IsCastTo h.now target x.now y.now parts.now result }
+pub(crate) fn cast_place(cast: &Cast) -> Option<usize>
+    requires { AreAmong cast.now.h.now cast.now.c cast.now.parts.now cast.now.view.now cast.now.source.now }
+    ensures { IsCastTo cast.now.h.now cast.now.target cast.now.view.now cast.now.source.now cast.now.parts.now result }
 {
-    match down_place(h, c, parts, target, x, y) {
+    match down_place(cast) {
         Some(i) => Some(i),
-        None => across_place(h, c, parts, target, x, y),
+        None => across_place(cast),
     }
 }

@@ -3,7 +3,15 @@ use Rattle.std.specs.Prelude.{◌≡◌, ℕ, Bool, true, false, nat_eq, Option,
 use Rattle.cxx_hierarchy.specs.declared.records.ClassId.{ClassId}
 use Rattle.cxx_hierarchy.specs.Classes.{Classes}
 use Rattle.cxx_subobject.specs.declared.Subobject.{Subobject}
+use Rattle.cxx_subobject.specs.Subobjects.{IsSubobject}
+use Rattle.cxx_subobject.specs.Preorder.{preorder}
 use Rattle.cxx_search.specs.Casts.{IsTarget, IsTargetOver, IsCast}
+
+-- the view x and the source y are subobjects of class c, and parts are all of these, in preorder
+pub record AreAmong (h : Classes) (c : ClassId) (parts : List Subobject) (x y : Subobject) : Type 0 where
+  pub view : IsSubobject h c x
+  pub source : IsSubobject h c y
+  pub all : parts ≡ preorder h c
 
 -- a target of the cast, and where this is asked one in which y lies
 abbrev pub IsWanted : Classes → ClassId → Subobject → Subobject → Bool → Subobject → Type 0

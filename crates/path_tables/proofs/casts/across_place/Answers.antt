@@ -4,11 +4,11 @@ use Rattle.path_tables.proofs.casts.across_place.Goals as goal
 
 pub is_public_base-requires-2-clause-inner : goal.is_public_base-requires-2-clause-inner
 is_public_base-requires-2-clause-inner c =
-    part_valid c.args.h.now c.args.c c.args.parts.now c.in_ok-i.i c.index-parts-i.result c.requires.parts (at_one (IsTarget c.args.h.now c.args.target c.args.x.now) c.args.parts.now c.in_ok-i.i c.index-parts-i.result c.index-parts-i.is c.in_ok-i.ensures).0
+    part_valid c.args.cast.now.h.now c.args.cast.now.c c.args.cast.now.parts.now c.in_ok-i.i c.index-parts-i.result c.requires.all (at_one (IsTarget c.args.cast.now.h.now c.args.cast.now.target c.args.cast.now.view.now) c.args.cast.now.parts.now c.in_ok-i.i c.index-parts-i.result c.index-parts-i.is c.in_ok-i.ensures).0
 
 pub returns-then-is_public_base : goal.returns-then-is_public_base
 returns-then-is_public_base c =
-    let one = at_one (IsTarget c.args.h.now c.args.target c.args.x.now) c.args.parts.now c.in_ok-i.i c.index-parts-i.result c.index-parts-i.is c.in_ok-i.ensures in (
+    let one = at_one (IsTarget c.args.cast.now.h.now c.args.cast.now.target c.args.cast.now.view.now) c.args.cast.now.parts.now c.in_ok-i.i c.index-parts-i.result c.index-parts-i.is c.in_ok-i.ensures in (
       c.index-parts-i.result,
       one.0,
       record {
@@ -20,5 +20,5 @@ returns-then-is_public_base c =
 
 pub returns-else-is_public_base : goal.returns-else-is_public_base
 returns-else-is_public_base c =
-    let one = at_one (IsTarget c.args.h.now c.args.target c.args.x.now) c.args.parts.now c.in_ok-i.i c.index-parts-i.result c.index-parts-i.is c.in_ok-i.ensures in
-    across_not c.args.h.now c.args.target c.args.x.now c.args.y.now c.index-parts-i.result one.1 (told_false c.is_public_base-2.result c.is_public_base-2.ensures c.if-is_public_base.false)
+    let one = at_one (IsTarget c.args.cast.now.h.now c.args.cast.now.target c.args.cast.now.view.now) c.args.cast.now.parts.now c.in_ok-i.i c.index-parts-i.result c.index-parts-i.is c.in_ok-i.ensures in
+    across_not c.args.cast.now.h.now c.args.cast.now.target c.args.cast.now.view.now c.args.cast.now.source.now c.index-parts-i.result one.1 (told_false c.is_public_base-2.result c.is_public_base-2.ensures c.if-is_public_base.false)

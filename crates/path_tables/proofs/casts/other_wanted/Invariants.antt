@@ -6,4 +6,4 @@ use Rattle.path_tables.proofs.casts.other_wanted.Given as goal
 
 -- none so far is another one
 abbrev pub invariant-loop-i : goal.invariant-loop-i
-invariant-loop-i l = (j : ℕ) (t : Subobject) → j < l.i → slice_get l.parts j ≡ Some t → IsOther (IsWanted l.h l.target l.x l.y l.over) l.skip j t → ⊥
+invariant-loop-i l = (j : ℕ) (t : Subobject) → j < l.i → slice_get l.cast.parts.now j ≡ Some t → IsOther (IsWanted l.cast.h.now l.cast.target l.cast.view.now l.cast.source.now l.over) l.skip j t → ⊥
