@@ -58,8 +58,10 @@ impl PathState {
 
     /// The next step of the run.
     ///
-    /// It puts what the step tells behind what was told before, with what a trace alone shows where there is a trace. An answer other than Went ends the run, and comes again at
-    /// each later call. Errors: want of memory. The machine is then of no use.
+    /// It puts what the step tells behind what was told before, with what a trace alone shows where there is a trace.
+    /// An answer other than Went ends the run, and comes again at each later call.
+    ///
+    /// Errors: want of memory. The machine is then of no use.
     pub fn step(&mut self, run: &Run, outs: &mut Telling) -> Result<Turn, NoMemory>
         requires setup { IsSetup run.now.world.h.now run.now.world.numbers.now run.now.world.overriders.now run.now.program.now run.now.index.now }
         requires main { is_body run.now.program.now.main ≡ true }
