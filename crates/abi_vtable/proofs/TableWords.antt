@@ -1,9 +1,9 @@
 -- The words of a table, and the tables of heads.
-use Rattle.std.proofs.Common.{◌≡◌, ℕ, ◌+◌, ◌<◌, ⊎_elim, Bool, true, Some, List, [], ◌∷◌, ◌++◌, map, length, reverse, ap, subst, sym, ◌∙◌, arith}
+use Rattle.std.proofs.Common.{◌≡◌, ℕ, ◌+◌, ◌<◌, ⊎_elim, Bool, true, Some, List, [], ◌∷◌, ◌++◌, map, length, get_or, reverse, ap, subst, sym, ◌∙◌, arith}
 use Rattle.std.specs.Prelude.{slice_get, ℤ, pos, ◌-ℤ◌}
 use Rattle.std.proofs.lemmas.Option.{slice_get_within}
 use Rattle.std.proofs.lemmas.List.{length-map}
-use Rattle.foundation.proofs.Places.{get_pushed, get_mapped}
+use Rattle.foundation.proofs.Places.{get_pushed, get_mapped, get_read}
 use Rattle.cxx_hierarchy.specs.Classes.{Classes}
 use Rattle.cxx_hierarchy.specs.Hierarchies.{IsHierarchy}
 use Rattle.cxx_subobject.specs.declared.Subobject.{Subobject}
@@ -69,6 +69,10 @@ number_below h l v view n s e =
     let lt = slice_get_within (preorder h v.class) n s e in
     subst (λ a. n < a) size lt
 
+-- the part that is read at a number
+pub read_part : (parts items : List Part) (n : ℕ) (part : Part) → items ≡ parts → n < length parts → part ≡ get_or items n part → slice_get parts n ≡ Some part
+read_part parts items n part same within read = ap (λ xs. slice_get xs n) (sym same) ∙ get_read items n part (subst (λ (xs : List Part). n < length xs) (sym same) within) read
+
 -- the table of a part
 
 module _ (h : Classes) (rows : List ClassLayout) (keeps : IsHierarchy h) (sound : IsSoundLayout h rows) (v : ViewParts) (view : IsViewParts h (places_of h rows) v) (n : ℕ) (part : Part) (there : slice_get v.parts n ≡ Some part) where
@@ -90,11 +94,14 @@ module _ (h : Classes) (rows : List ClassLayout) (keeps : IsHierarchy h) (sound 
   seen_class : class_of part.seen ≡ Some part.class
   seen_class = ap class_of of.seen ∙ join_class h v.class v.at part.at view.view.of_class of.valid ∙ of.class
 
-  pub shared_part : (b : Bool) → b ≡ is_shared_base part.seen → b ≡ true → IsVirtualBase h part.class
+  shared_part : (b : Bool) → b ≡ is_shared_base part.seen → b ≡ true → IsVirtualBase h part.class
   shared_part b is e = record { of = v.complete; has = shared_is_base h v.complete part.class part.seen of.seen_valid (sym is ∙ e) seen_class }
 
-  pub listed_offsets : (b : Bool) (list : List Offset) → b ≡ is_shared_base part.seen → list ≡ offsets h (places_of h rows) b part.class → list ≡ offsets h (places_of h rows) (is_shared_base (seen (view_in v) part.at)) part.class
+  listed_offsets : (b : Bool) (list : List Offset) → b ≡ is_shared_base part.seen → list ≡ offsets h (places_of h rows) b part.class → list ≡ offsets h (places_of h rows) (is_shared_base (seen (view_in v) part.at)) part.class
   listed_offsets b list is e = e ∙ ap (λ a. offsets h (places_of h rows) a part.class) (is ∙ ap is_shared_base of.seen)
+
+  pub told_offsets : (b : Bool) (list : List Offset) → b ≡ is_shared_base part.seen → (part.class.0 < length h → (b ≡ true → IsVirtualBase h part.class) → list ≡ offsets h (places_of h rows) b part.class) → list ≡ offsets h (places_of h rows) (is_shared_base (seen (view_in v) part.at)) part.class
+  told_offsets b list is told = listed_offsets b list is (told part_known (shared_part b is))
 
   pub part_named : (list : List Offset) → list ≡ offsets h (places_of h rows) (is_shared_base (seen (view_in v) part.at)) part.class → (i : ℕ) (y : Offset) → slice_get list i ≡ Some y → IsNamed h v.class y
   part_named list is i y e = offset_named h (places_of h rows) (view_in v) (setting_of h rows keeps sound (view_in v) view.view) part.at part.class of.valid of.class i y (ap (λ xs. slice_get xs i) (sym is) ∙ e)

@@ -1,112 +1,71 @@
-use Rattle.std.proofs.Common.{◌≡◌, ◌+◌, ◌<◌, ◌++◌, ◌∷◌, List, map, length, reverse, ap, sym, ◌∙◌, subst, arith, w64, to_z, of_z}
-use Rattle.std.specs.Prelude.{slice_get}
+use Rattle.std.proofs.Common.{◌≡◌, ◌+◌, ◌++◌, ◌∷◌, List, map, length, reverse, ap, sym, ◌∙◌, arith, w64, to_z, of_z}
 use Rattle.std.proofs.lemmas.Int.{to_z-of_z}
-use Rattle.foundation.proofs.Places.{get_read}
 use Rattle.abi_sound.specs.Places.{places_of}
 use Rattle.abi_slots.specs.declared.words.EntryWord.{EntryWord}
 use Rattle.abi_slots.specs.declared.words.TableWord.{TableWord}
 use Rattle.abi_slots.specs.declared.words.TableWord.TheVariants.{Top, Info, Entry}
-use Rattle.abi_vtable.specs.declared.view.Part.{Part}
 use Rattle.cxx_subobject.specs.Preorder.{preorder}
 use Rattle.abi_vtable.specs.invariants.Parts.{view_in}
 use Rattle.abi_vtable.proofs.Over.{part_place}
-use Rattle.abi_vtable.proofs.TableWords.{part_known, part_number, shared_part, listed_offsets, part_named, part_keys, part_along, part_table}
+use Rattle.abi_vtable.proofs.TableWords.{read_part, part_known, part_number, told_offsets, part_named, part_keys, part_along, part_table}
 use Rattle.abi_vtable.proofs.tables.table.Goals as goal
 
-pub offset_words-requires-clause-part : goal.offset_words-requires-clause-part
-offset_words-requires-clause-part g c =
-    let h = c.args.h.now in
-    let rows = g.L.SoundLayout.rows c.args.layout.now in
-    let l = places_of h rows in
-    let v = c.args.x.now in
-    let sound = g.met.L.SoundLayout.sound c.args.layout.now h c.requires.layout in
-    let part = c.index-as_slice-number.result in
-    let lt : c.args.number < length c.as_slice.result.now = subst (λ (xs : List Part). c.args.number < length xs) (sym c.as_slice.ensures) c.requires.number in
-    let there = ap (λ xs. slice_get xs c.args.number) (sym c.as_slice.ensures) ∙ get_read c.as_slice.result.now c.args.number part lt c.index-as_slice-number.is in
-    let known = part_known h rows c.keeps.ensures sound v c.requires.view c.args.number part there in
-    c.requires.view.parts.each c.args.number part there
-
-pub place_of_part-place-requires-clause-known : goal.place_of_part-place-requires-clause-known
-place_of_part-place-requires-clause-known g c = c.requires.view.view.known
-
-pub place_of_part-place-requires-clause-seen : goal.place_of_part-place-requires-clause-seen
-place_of_part-place-requires-clause-seen g c =
-    let h = c.args.h.now in
-    let rows = g.L.SoundLayout.rows c.args.layout.now in
-    let l = places_of h rows in
+pub place_of_part-place-requires : goal.place_of_part-place-requires
+place_of_part-place-requires g c =
     let v = c.args.x.now in
     let part = c.index-as_slice-number.result in
-    let lt : c.args.number < length c.as_slice.result.now = subst (λ (xs : List Part). c.args.number < length xs) (sym c.as_slice.ensures) c.requires.number in
-    let there = ap (λ xs. slice_get xs c.args.number) (sym c.as_slice.ensures) ∙ get_read c.as_slice.result.now c.args.number part lt c.index-as_slice-number.is in
+    let there = read_part v.parts c.as_slice.result.now c.args.number c.index-as_slice-number.result c.as_slice.ensures c.requires.number c.index-as_slice-number.is in
     let of = c.requires.view.parts.each c.args.number part there in
-    of.seen_valid
+    record { layout = c.requires.layout; known = c.requires.view.view.known; seen = of.seen_valid }
 
-pub offset_words-requires-clause-start : goal.offset_words-requires-clause-start
-offset_words-requires-clause-start g c =
+pub offset_words-requires : goal.offset_words-requires
+offset_words-requires g c =
     let h = c.args.h.now in
     let rows = g.L.SoundLayout.rows c.args.layout.now in
-    let l = places_of h rows in
     let v = c.args.x.now in
     let part = c.index-as_slice-number.result in
-    let lt : c.args.number < length c.as_slice.result.now = subst (λ (xs : List Part). c.args.number < length xs) (sym c.as_slice.ensures) c.requires.number in
-    let there = ap (λ xs. slice_get xs c.args.number) (sym c.as_slice.ensures) ∙ get_read c.as_slice.result.now c.args.number part lt c.index-as_slice-number.is in
-    let of = c.requires.view.parts.each c.args.number part there in
-    part_place h l (view_in v) (preorder h v.class) part c.place_of_part-place.result of c.place_of_part-place.ensures
-
-pub offset_words-requires-clause-named : goal.offset_words-requires-clause-named
-offset_words-requires-clause-named g c =
-    let h = c.args.h.now in
-    let rows = g.L.SoundLayout.rows c.args.layout.now in
-    let l = places_of h rows in
-    let v = c.args.x.now in
+    let there = read_part v.parts c.as_slice.result.now c.args.number c.index-as_slice-number.result c.as_slice.ensures c.requires.number c.index-as_slice-number.is in
     let sound = g.met.L.SoundLayout.sound c.args.layout.now h c.requires.layout in
-    let part = c.index-as_slice-number.result in
-    let lt : c.args.number < length c.as_slice.result.now = subst (λ (xs : List Part). c.args.number < length xs) (sym c.as_slice.ensures) c.requires.number in
-    let there = ap (λ xs. slice_get xs c.args.number) (sym c.as_slice.ensures) ∙ get_read c.as_slice.result.now c.args.number part lt c.index-as_slice-number.is in
-    let known = part_known h rows c.keeps.ensures sound v c.requires.view c.args.number part there in
-    let shared = shared_part h rows c.keeps.ensures sound v c.requires.view c.args.number part there c.is_shared_base.result c.is_shared_base.ensures in
-    let listed = listed_offsets h rows c.keeps.ensures sound v c.requires.view c.args.number part there c.is_shared_base.result c.offsets-offsets.result.now c.is_shared_base.ensures (c.offsets-offsets.ensures.offsets h l c.requires.slots known shared) in
-    part_named h rows c.keeps.ensures sound v c.requires.view c.args.number part there c.offsets-offsets.result.now listed
+    let listed = told_offsets h rows c.keeps.ensures sound v c.requires.view c.args.number part there c.is_shared_base.result c.offsets-offsets.result.now c.is_shared_base.ensures (c.offsets-offsets.ensures.offsets h (places_of h rows) c.requires.slots) in
+    record {
+      layout = c.requires.layout;
+      overriders = c.requires.overriders;
+      view = c.requires.view;
+      part = c.requires.view.parts.each c.args.number part there;
+      start = part_place h (places_of h rows) (view_in v) (preorder h v.class) part c.place_of_part-place.result (c.requires.view.parts.each c.args.number part there) c.place_of_part-place.ensures;
+      named = part_named h rows c.keeps.ensures sound v c.requires.view c.args.number part there c.offsets-offsets.result.now listed;
+    }
 
-pub entry_words-requires-clause-keys : goal.entry_words-requires-clause-keys
-entry_words-requires-clause-keys g c =
+pub entry_words-requires : goal.entry_words-requires
+entry_words-requires g c =
     let h = c.args.h.now in
     let rows = g.L.SoundLayout.rows c.args.layout.now in
-    let l = places_of h rows in
     let v = c.args.x.now in
-    let sound = g.met.L.SoundLayout.sound c.args.layout.now h c.requires.layout in
     let part = c.index-as_slice-number.result in
-    let lt : c.args.number < length c.as_slice.result.now = subst (λ (xs : List Part). c.args.number < length xs) (sym c.as_slice.ensures) c.requires.number in
-    let there = ap (λ xs. slice_get xs c.args.number) (sym c.as_slice.ensures) ∙ get_read c.as_slice.result.now c.args.number part lt c.index-as_slice-number.is in
-    let known = part_known h rows c.keeps.ensures sound v c.requires.view c.args.number part there in
-    part_keys h rows c.keeps.ensures sound v c.requires.view c.args.number part there c.entries-entries.result.now (c.entries-entries.ensures.entries h l c.requires.slots known)
-
-pub entry_words-requires-clause-along : goal.entry_words-requires-clause-along
-entry_words-requires-clause-along g c =
-    let h = c.args.h.now in
-    let rows = g.L.SoundLayout.rows c.args.layout.now in
-    let l = places_of h rows in
-    let v = c.args.x.now in
+    let there = read_part v.parts c.as_slice.result.now c.args.number c.index-as_slice-number.result c.as_slice.ensures c.requires.number c.index-as_slice-number.is in
     let sound = g.met.L.SoundLayout.sound c.args.layout.now h c.requires.layout in
-    let part = c.index-as_slice-number.result in
-    let lt : c.args.number < length c.as_slice.result.now = subst (λ (xs : List Part). c.args.number < length xs) (sym c.as_slice.ensures) c.requires.number in
-    let there = ap (λ xs. slice_get xs c.args.number) (sym c.as_slice.ensures) ∙ get_read c.as_slice.result.now c.args.number part lt c.index-as_slice-number.is in
-    let known = part_known h rows c.keeps.ensures sound v c.requires.view c.args.number part there in
-    part_along h rows c.keeps.ensures sound v c.requires.view c.args.number part there c.entries-entries.result.now (c.entries-entries.ensures.entries h l c.requires.slots known)
+    let keys = c.entries-entries.ensures.entries h (places_of h rows) c.requires.slots (part_known h rows c.keeps.ensures sound v c.requires.view c.args.number part there) in
+    record {
+      layout = c.requires.layout;
+      overriders = c.requires.overriders;
+      slots = c.requires.slots;
+      known = c.requires.known;
+      view = c.requires.view;
+      number = c.requires.number;
+      keys = part_keys h rows c.keeps.ensures sound v c.requires.view c.args.number part there c.entries-entries.result.now keys;
+      along = part_along h rows c.keeps.ensures sound v c.requires.view c.args.number part there c.entries-entries.result.now keys;
+    }
 
 pub returns-clause-table : goal.returns-clause-table
 returns-clause-table g c = λ t at.
     let h = c.args.h.now in
     let rows = g.L.SoundLayout.rows c.args.layout.now in
-    let l = places_of h rows in
     let v = c.args.x.now in
-    let sound = g.met.L.SoundLayout.sound c.args.layout.now h c.requires.layout in
     let part = c.index-as_slice-number.result in
-    let lt : c.args.number < length c.as_slice.result.now = subst (λ (xs : List Part). c.args.number < length xs) (sym c.as_slice.ensures) c.requires.number in
-    let there = ap (λ xs. slice_get xs c.args.number) (sym c.as_slice.ensures) ∙ get_read c.as_slice.result.now c.args.number part lt c.index-as_slice-number.is in
-    let known = part_known h rows c.keeps.ensures sound v c.requires.view c.args.number part there in
-    let shared = shared_part h rows c.keeps.ensures sound v c.requires.view c.args.number part there c.is_shared_base.result c.is_shared_base.ensures in
-    let listed = listed_offsets h rows c.keeps.ensures sound v c.requires.view c.args.number part there c.is_shared_base.result c.offsets-offsets.result.now c.is_shared_base.ensures (c.offsets-offsets.ensures.offsets h l c.requires.slots known shared) in
+    let there = read_part v.parts c.as_slice.result.now c.args.number c.index-as_slice-number.result c.as_slice.ensures c.requires.number c.index-as_slice-number.is in
+    let sound = g.met.L.SoundLayout.sound c.args.layout.now h c.requires.layout in
+    let listed = told_offsets h rows c.keeps.ensures sound v c.requires.view c.args.number part there c.is_shared_base.result c.offsets-offsets.result.now c.is_shared_base.ensures (c.offsets-offsets.ensures.offsets h (places_of h rows) c.requires.slots) in
+    let keys = c.entries-entries.ensures.entries h (places_of h rows) c.requires.slots (part_known h rows c.keeps.ensures sound v c.requires.view c.args.number part there) in
     let fits : to_z w64 (of_z w64 c.distance-top.result) ≡ c.distance-top.result = grind (arith, to_z-of_z) in
     let offset_items = c.in_ok-offset_words.offset_words.items in
     let entry_items = c.in_ok-entry_words.entry_words.items in
@@ -117,5 +76,6 @@ returns-clause-table g c = λ t at.
     ∙ ap (λ (es : List EntryWord). reverse offset_items ++ Top top ∷ Info v.class ∷ map Entry es) c.as_slice-3.ensures.value in
     let size : length c.as_slice-2.result.now ≡ length offset_items = ap length c.as_slice-2.ensures.value in
     let before : c.len.result + 2 ≡ length offset_items + 2 = ap (λ n. n + 2) (c.len.ensures ∙ sym c.as_slice-2.ensures.len ∙ size) in
-    part_table h rows c.keeps.ensures sound v c.requires.view c.args.number part there t at c.place_of_part-place.result c.offsets-offsets.result.now c.entries-entries.result.now offset_items entry_items top (c.len.result + 2) c.in_ok-words.words (part_place h l (view_in v) (preorder h v.class) part c.place_of_part-place.result (c.requires.view.parts.each c.args.number part there) c.place_of_part-place.ensures) listed (c.entries-entries.ensures.entries h l c.requires.slots known)
+    part_table h rows c.keeps.ensures sound v c.requires.view c.args.number part there t at c.place_of_part-place.result c.offsets-offsets.result.now c.entries-entries.result.now offset_items entry_items top (c.len.result + 2) c.in_ok-words.words
+    (part_place h (places_of h rows) (view_in v) (preorder h v.class) part c.place_of_part-place.result (c.requires.view.parts.each c.args.number part there) c.place_of_part-place.ensures) listed keys
     c.in_ok-offset_words.ensures (c.in_ok-entry_words.ensures.words part.at (part_number h rows c.keeps.ensures sound v c.requires.view c.args.number part there)) c.distance-top.ensures words before
