@@ -1,5 +1,5 @@
 -- The row of a class, of its parts.
-use Rattle.std.proofs.Common.{◌≡◌, ℕ, zero, suc, ◌+◌, ◌<◌, ◌≤◌, ⊎_elim, true, false, Option, Some, None, List, [], ◌∷◌, ◌++◌, map, length, refl, ap, subst, sym, ◌∙◌, arith, length-append}
+use Rattle.std.proofs.Common.{◌≡◌, ℕ, zero, suc, ◌+◌, ◌<◌, ◌≤◌, ⊎_elim, true, false, Option, Some, None, List, [], ◌∷◌, ◌++◌, map, length, refl, ap, subst, sym, ◌∙◌, arith}
 use Rattle.std.specs.Prelude.{slice_get, Contains, IfOk, Result, Ok, Err}
 use Rattle.std.proofs.lemmas.Bool.{cases_lt}
 use Rattle.foundation.specs.declared.memory.NoMemory.{NoMemory}
@@ -100,6 +100,3 @@ rows_more h l numbers rows new row c are size is grows = record {
       subst (λ (y : SlotRow). IsSlotRow h l numbers d y) last.0 (subst (λ e. IsSlotRow h l numbers e row) same is))
       (cases_lt d.0 (length rows));
 }
-
-pub one_more : {A : Type 0} (xs new : List A) (x : A) (n : ℕ) → length xs ≡ n → new ≡ xs ++ x ∷ [] → length new ≡ n + 1
-one_more xs new x n size grows = let a = ap length grows in let b = length-append xs (x ∷ []) in omega arith

@@ -1,5 +1,6 @@
 use Rattle.abi_sound.specs.Places.{places_of}
-use Rattle.abi_slots.proofs.RowParts.{rows_more, one_more}
+use Rattle.cxx_overrider.proofs.MarkLemmas.{one_more}
+use Rattle.abi_slots.proofs.RowParts.{rows_more}
 use Rattle.abi_slots.proofs.class_rows.rows_of_each.Goals as goal
 
 pub loop-number-preserved : goal.loop-number-preserved
