@@ -1,6 +1,6 @@
 //! The layout of the first classes of a hierarchy (Itanium C++ ABI 2.4).
 
-ghost use Rattle.std.specs.Prelude.{◌≡◌, ◌+◌, ◌^◌, ◌<◌, ◌≤◌, ◌⊎◌, ◌↔◌, IfOk, IfErr, OnOk, IsTrue, length};
+ghost use Rattle.std.specs.Prelude.{◌≡◌, ◌+◌, ◌<◌, ◌≤◌, ◌⊎◌, ◌↔◌, IfOk, IfErr, OnOk, IsTrue, length};
 ghost use Rattle.std.specs.List.{list_any};
 ghost use Rattle.cxx_hierarchy.specs.Classes.{Classes};
 ghost use Rattle.cxx_subobject.specs.Preorder.{preorder};

@@ -36,7 +36,8 @@ fn is_dynamic_by(h: &Hierarchy, flags: &[bool], c: ClassId) -> bool
     false
 }
 
-/// For each class, by its number, whether it is dynamic (Itanium C++ ABI 1.1). It asks each class once, and no base twice.
+/// For each class, by its number, whether it is dynamic (Itanium C++ ABI 1.1). Each class is asked once, and looks up the flag of each
+/// of its direct bases.
 ///
 /// Errors: want of memory.
 pub fn dynamic_flags(alloc: Global, h: &Hierarchy) -> Result<Vec<bool>, NoMemory>

@@ -1,14 +1,14 @@
 //! Bodies: blocks, and the statements that hold blocks.
 
-ghost use Rattle.std.specs.Prelude.{◌≡◌, ◌≤◌, ◌<◌, ◌-◌, ◌∷◌, ◌⊎◌, [], List, Bool, true, false, length, drop, IfOk, IfErr};
+ghost use Rattle.std.specs.Prelude.{◌≡◌, ◌≤◌, ◌<◌, ◌-◌, ◌∷◌, ◌⊎◌, [], Bool, false, length, drop, IfOk, IfErr};
 ghost use Rattle.cxx_hierarchy.specs.declared.stop.Stop.{Stop};
 ghost use Rattle.cxx_grammar.specs.declared.sort.Lexeme.{Lexeme};
 ghost use Rattle.cxx_grammar.specs.declared.sort.Sort.{Sort};
 ghost use Rattle.cxx_grammar.specs.Grammar.{In, block_form};
-ghost use Rattle.cxx_grammar.specs.Event.{State, sorts, Event, DerivesPrefix};
+ghost use Rattle.cxx_grammar.specs.Event.{sorts, Event, DerivesPrefix};
 ghost use Rattle.cxx_grammar.specs.Lexemes.{lexemes, block_start};
 ghost use Rattle.cxx_grammar.specs.invariants.Run.{Follows};
-ghost use Rattle.cxx_grammar.specs.Table.{Only, AnOperand, ABlock, StatementsEnd};
+ghost use Rattle.cxx_grammar.specs.Table.{ABlock, StatementsEnd};
 ghost use Rattle.cxx_syntax.specs.Statements.{BodyReads, StatementsRead, StatementReads};
 
 use crate::statement::{
