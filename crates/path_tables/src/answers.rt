@@ -13,7 +13,7 @@ ghost use Rattle.path_tables.specs.Kept.{id, IsCastAnswer, IsFinalAnswer, IsWith
 ghost use Rattle.cxx_subobject.specs.declared.Root.TheVariants.{Shared};
 
 use crate::casts::{Cast, cast_place};
-use crate::finals::{FinalAt, final_at};
+use crate::finals::{Call, FinalAt, final_at};
 use crate::kept::{CastKey, DownKey, FinalKey, WithinKey};
 use crate::parts::{PartList, first_of_class, is_of_class, is_within, part_at};
 use cxx_hierarchy::{ClassId, Hierarchy};
@@ -94,7 +94,14 @@ pub(crate) fn final_answer(
     if !o.is_virtual(f) {
         return Ok(None);
     }
-    final_at(alloc, h, o, numbers, c, x, y, f)
+    let call = Call {
+        h,
+        c,
+        view: x,
+        source: y,
+        f,
+    };
+    final_at(alloc, o, numbers, &call)
 }
 
 /// Whether the subobject of one number lies in that of another.

@@ -5,11 +5,11 @@ ghost use Rattle.cxx_hierarchy.specs.declared.records.ClassId.{ClassId};
 ghost use Rattle.cxx_subobject.specs.Subobjects.{IsSubobject, class_of, join};
 ghost use Rattle.cxx_subobject.specs.Inside.{IsInside};
 ghost use Rattle.cxx_subobject.specs.Parts.{IsWithinLimits};
-ghost use Rattle.cxx_overrider.specs.Overriding.{IsVirtual};
 ghost use Rattle.cxx_overrider.specs.Overriders.{AreOverriders};
 ghost use Rattle.cxx_search.specs.Searches.{final_in};
 ghost use Rattle.path_numbers.specs.Numbers.{AreNumbers};
 ghost use Rattle.path_tables.specs.Parts.{numbered};
+ghost use Rattle.path_tables.specs.invariants.Calls.{IsCall};
 
 use cxx_hierarchy::{ClassId, Hierarchy};
 use cxx_overrider::{FunctionId, Overriders};
@@ -23,6 +23,16 @@ use std::alloc::Global;
 pub struct FinalAt {
     pub at: u32,
     pub function: FunctionId,
+}
+
+/// A virtual function that is called on a subobject in a view, both of an object of class c.
+#[derive(Clone, Copy)]
+pub(crate) struct Call<'a> {
+    pub h: &'a Hierarchy,
+    pub c: ClassId,
+    pub view: &'a Subobject,
+    pub source: &'a Subobject,
+    pub f: FunctionId,
 }
 
 /// What lies in a subobject of class d, as a subobject of d alone.
@@ -57,40 +67,32 @@ fn part_within(
     }
 }
 
-/// The final overrider of a virtual function of the class of y, in the view x. None: y does not lie in the view.
+/// The final overrider of the function of a call. None: the source does not lie in the view.
 pub(crate) fn final_at(
     alloc: Global,
-    h: &Hierarchy,
     o: &Overriders,
     numbers: &Numbers,
-    c: ClassId,
-    x: &Subobject,
-    y: &Subobject,
-    f: FunctionId,
+    call: &Call,
 ) -> Result<Option<FinalAt>, NoMemory>
-    requires known { c.0 < length h.now }
-    requires limits { (d : ClassId) → d.0 < length h.now → IsWithinLimits h.now d }
-    requires overriders { AreOverriders h.now o.now }
-    requires numbers { AreNumbers h.now numbers.now }
-    requires x { IsSubobject h.now c x.now }
-    requires y { IsSubobject h.now c y.now }
-    requires of_class { class_of y.now ≡ Some f.class }
-    requires is_virtual { IsVirtual h.now f }
-    ensures { IfOk result (λ answer. answer ≡ numbered h.now c (final_in h.now x.now y.now f)) }
+    requires limits { (d : ClassId) → d.0 < length call.now.h.now → IsWithinLimits call.now.h.now d }
+    requires overriders { AreOverriders call.now.h.now o.now }
+    requires numbers { AreNumbers call.now.h.now numbers.now }
+    requires call { IsCall call.now.h.now call.now.c call.now.view.now call.now.source.now call.now.f }
+    ensures { IfOk result (λ answer. answer ≡ numbered call.now.h.now call.now.c (final_in call.now.h.now call.now.view.now call.now.source.now call.now.f)) }
 {
-    h.keeps();
-    if !contains(h, c, x, y) {
+    call.h.keeps();
+    if !contains(call.h, call.c, call.view, call.source) {
         return Ok(None);
     }
-    let d = match class_of(x) {
+    let d = match class_of(call.view) {
         Some(d) => d,
         None => return Ok(None),
     };
-    let inner = part_within(alloc, h, c, d, x, y)?;
-    let overrider = o.final_overrider(h, d, &inner, f)?;
-    let at = join(alloc, h, c, x, &overrider.at)?;
+    let inner = part_within(alloc, call.h, call.c, d, call.view, call.source)?;
+    let overrider = o.final_overrider(call.h, d, &inner, call.f)?;
+    let at = join(alloc, call.h, call.c, call.view, &overrider.at)?;
     Ok(Some(FinalAt {
-        at: numbers.number_in(h, c, &at),
+        at: numbers.number_in(call.h, call.c, &at),
         function: overrider.function,
     }))
 }

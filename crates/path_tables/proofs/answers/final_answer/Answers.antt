@@ -1,6 +1,7 @@
-use Rattle.std.proofs.Common.{◌≡◌, sym}
+use Rattle.std.proofs.Common.{◌≡◌, Some, sym}
 use Rattle.std.proofs.lemmas.Result.{IfOk-weaker}
 use Rattle.cxx_subobject.specs.Subobjects.{class_of}
+use Rattle.cxx_overrider.specs.Overriding.{IsVirtual}
 use Rattle.cxx_search.specs.Searches.{final_in}
 use Rattle.cxx_search.proofs.Casts.{of_class}
 use Rattle.path_tables.specs.Parts.{numbered}
@@ -12,12 +13,18 @@ use Rattle.path_tables.proofs.answers.final_answer.Goals as goal
 pub returns-then-not-is_of_class : goal.returns-then-not-is_of_class
 returns-then-not-is_of_class c = final_other c.args.h.now c.keeps.ensures c.args.key c.in-Some-part_at.y.now c.in-Some-part_at.ensures c.if-not-is_of_class.ensures
 
-pub final_at-requires-clause-known : goal.final_at-requires-clause-known
-final_at-requires-clause-known c = class_there c.args.h.now (id c.args.key.class) c.in-Some-part_at.y.now (function_of c.args.key) c.in-Some-part_at.ensures.valid
-    (of_class (id c.args.key.owner) (class_of c.in-Some-part_at.y.now) (sym c.if-not-is_of_class.ensures)) (told_true c.is_virtual.result (c.is_virtual.ensures c.args.h.now c.requires.overriders) c.if-not-is_virtual.false)
-
-pub final_at-requires-clause-of_class : goal.final_at-requires-clause-of_class
-final_at-requires-clause-of_class c = of_class (id c.args.key.owner) (class_of c.in-Some-part_at.y.now) (sym c.if-not-is_of_class.ensures)
+pub final_at-requires-clause-call : goal.final_at-requires-clause-call
+final_at-requires-clause-call c =
+    let f = function_of c.args.key in
+    let class : class_of c.in-Some-part_at.y.now ≡ Some f.class = of_class (id c.args.key.owner) (class_of c.in-Some-part_at.y.now) (sym c.if-not-is_of_class.ensures) in
+    let is_virtual : IsVirtual c.args.h.now f = told_true c.is_virtual.result (c.is_virtual.ensures c.args.h.now c.requires.overriders) c.if-not-is_virtual.false in
+    record {
+      known = class_there c.args.h.now (id c.args.key.class) c.in-Some-part_at.y.now f c.in-Some-part_at.ensures.valid class is_virtual;
+      view = c.in-Some.ensures.valid;
+      source = c.in-Some-part_at.ensures.valid;
+      of_class = class;
+      is_virtual = is_virtual;
+    }
 
 pub returns : goal.returns
 returns c = IfOk-weaker c.final_at.result (λ answer. answer ≡ numbered c.args.h.now (id c.args.key.class) (final_in c.args.h.now c.in-Some.x.now c.in-Some-part_at.y.now (function_of c.args.key))) (IsFinalAnswer c.args.h.now c.args.key) (λ answer e. final_for_all c.args.h.now c.keeps.ensures c.args.key c.in-Some.x.now c.in-Some-part_at.y.now c.in-Some.ensures c.in-Some-part_at.ensures answer e) c.final_at.ensures
