@@ -20,9 +20,9 @@ use Rattle.abi_slots.specs.declared.words.TableWord.TheVariants.{Top, Info, Entr
 use Rattle.abi_slots.specs.declared.words.Offset.{Offset}
 use Rattle.abi_slots.specs.Listing.{entries, offsets}
 use Rattle.abi_slots.specs.Slots.{IsVirtualBase}
-use Rattle.abi_slots.specs.Views.{View, seen, place}
+use Rattle.abi_slots.specs.Views.{seen, place}
 use Rattle.abi_slots.specs.Groups.{GoAlong, between, is_shared_base, IsOffsetWord, IsEntryWord, IsTable}
-use Rattle.abi_slots.proofs.Chains.{same_some}
+use Rattle.abi_slots.proofs.Chains.{Setting, same_some}
 use Rattle.abi_slots.proofs.Settings.{setting_of}
 use Rattle.abi_vtable.specs.declared.view.Part.{Part}
 use Rattle.abi_vtable.specs.declared.view.ViewParts.{ViewParts}
@@ -69,63 +69,72 @@ number_below h l v view n s e =
     let lt = slice_get_within (preorder h v.class) n s e in
     subst (λ a. n < a) size lt
 
--- the part that is read at a number
-pub read_part : (parts items : List Part) (n : ℕ) (part : Part) → items ≡ parts → n < length parts → part ≡ get_or items n part → slice_get parts n ≡ Some part
-read_part parts items n part same within read = ap (λ xs. slice_get xs n) (sym same) ∙ get_read items n part (subst (λ (xs : List Part). n < length xs) (sym same) within) read
+-- the part stands at a number of a view, whose classes are a hierarchy and soundly laid out
+pub record IsAtNumber (h : Classes) (rows : List ClassLayout) (v : ViewParts) (n : ℕ) (part : Part) : Type 0 where
+  pub keeps : IsHierarchy h
+  pub sound : IsSoundLayout h rows
+  pub view : IsViewParts h (places_of h rows) v
+  pub there : slice_get v.parts n ≡ Some part
+
+-- so does the part that is read at a number
+pub read_part : (h : Classes) (rows : List ClassLayout) → IsHierarchy h → IsSoundLayout h rows → (v : ViewParts) → IsViewParts h (places_of h rows) v → (items : List Part) (n : ℕ) (part : Part) → items ≡ v.parts → n < length v.parts → part ≡ get_or items n part → IsAtNumber h rows v n part
+read_part h rows keeps sound v view items n part same within read = record {
+  keeps = keeps;
+  sound = sound;
+  view = view;
+  there = ap (λ xs. slice_get xs n) (sym same) ∙ get_read items n part (subst (λ (xs : List Part). n < length xs) (sym same) within) read;
+}
 
 -- the table of a part
 
-module _ (h : Classes) (rows : List ClassLayout) (keeps : IsHierarchy h) (sound : IsSoundLayout h rows) (v : ViewParts) (view : IsViewParts h (places_of h rows) v) (n : ℕ) (part : Part) (there : slice_get v.parts n ≡ Some part) where
-  abbrev l : Places
-  l = places_of h rows
+module _ {h : Classes} {rows : List ClassLayout} {v : ViewParts} {n : ℕ} {part : Part} (at : IsAtNumber h rows v n part) where
+  pub part_of : IsPartOf h (places_of h rows) (view_in v) (preorder h v.class) part
+  part_of = at.view.parts.each n part at.there
 
-  abbrev x : View
-  x = view_in v
-
-  of : IsPartOf h (places_of h rows) (view_in v) (preorder h v.class) part
-  of = view.parts.each n part there
+  setting : Setting h (places_of h rows) (view_in v)
+  setting = setting_of h rows at.keeps at.sound (view_in v) at.view.view
 
   pub part_known : part.class.0 < length h
-  part_known = class_known h keeps (view_in v) view.view part.at part.class of.valid of.class
+  part_known = class_known h at.keeps (view_in v) at.view.view part.at part.class part_of.valid part_of.class
 
   pub part_number : slice_get (preorder h v.class) n ≡ Some part.at
-  part_number = ap (λ xs. slice_get xs n) (sym view.parts.subobjects) ∙ get_map at_of v.parts n part there
+  part_number = ap (λ xs. slice_get xs n) (sym at.view.parts.subobjects) ∙ get_map at_of v.parts n part at.there
 
   seen_class : class_of part.seen ≡ Some part.class
-  seen_class = ap class_of of.seen ∙ join_class h v.class v.at part.at view.view.of_class of.valid ∙ of.class
+  seen_class = ap class_of part_of.seen ∙ join_class h v.class v.at part.at at.view.view.of_class part_of.valid ∙ part_of.class
 
   shared_part : (b : Bool) → b ≡ is_shared_base part.seen → b ≡ true → IsVirtualBase h part.class
-  shared_part b is e = record { of = v.complete; has = shared_is_base h v.complete part.class part.seen of.seen_valid (sym is ∙ e) seen_class }
+  shared_part b is e = record { of = v.complete; has = shared_is_base h v.complete part.class part.seen part_of.seen_valid (sym is ∙ e) seen_class }
 
   listed_offsets : (b : Bool) (list : List Offset) → b ≡ is_shared_base part.seen → list ≡ offsets h (places_of h rows) b part.class → list ≡ offsets h (places_of h rows) (is_shared_base (seen (view_in v) part.at)) part.class
-  listed_offsets b list is e = e ∙ ap (λ a. offsets h (places_of h rows) a part.class) (is ∙ ap is_shared_base of.seen)
+  listed_offsets b list is e = e ∙ ap (λ a. offsets h (places_of h rows) a part.class) (is ∙ ap is_shared_base part_of.seen)
 
   pub told_offsets : (b : Bool) (list : List Offset) → b ≡ is_shared_base part.seen → (part.class.0 < length h → (b ≡ true → IsVirtualBase h part.class) → list ≡ offsets h (places_of h rows) b part.class) → list ≡ offsets h (places_of h rows) (is_shared_base (seen (view_in v) part.at)) part.class
   told_offsets b list is told = listed_offsets b list is (told part_known (shared_part b is))
 
   pub part_named : (list : List Offset) → list ≡ offsets h (places_of h rows) (is_shared_base (seen (view_in v) part.at)) part.class → (i : ℕ) (y : Offset) → slice_get list i ≡ Some y → IsNamed h v.class y
-  part_named list is i y e = offset_named h (places_of h rows) (view_in v) (setting_of h rows keeps sound (view_in v) view.view) part.at part.class of.valid of.class i y (ap (λ xs. slice_get xs i) (sym is) ∙ e)
+  part_named list is i y e = offset_named h (places_of h rows) (view_in v) setting part.at part.class part_of.valid part_of.class i y (ap (λ xs. slice_get xs i) (sym is) ∙ e)
 
   pub part_keys : (list : List EntryKey) → list ≡ entries h (places_of h rows) part.class → (i : ℕ) (k : EntryKey) → slice_get list i ≡ Some k → k.function.class.0 < length h
   part_keys list is i k e =
-      let low = entry_low h (places_of h rows) (view_in v) (setting_of h rows keeps sound (view_in v) view.view) part.class part_known k (record { index = i; there = ap (λ xs. slice_get xs i) (sym is) ∙ e }) in
+      let low = entry_low h (places_of h rows) (view_in v) setting part.class part_known k (record { index = i; there = ap (λ xs. slice_get xs i) (sym is) ∙ e }) in
       let known = part_known in
       omega arith
 
   pub part_along : (list : List EntryKey) → list ≡ entries h (places_of h rows) part.class → (i : ℕ) (k : EntryKey) → slice_get list i ≡ Some k → AreAlong h (places_of h rows) (view_in v) k i (slice_get (preorder h v.class) n)
   part_along list is i k e = subst (λ o. AreAlong h (places_of h rows) (view_in v) k i o) (sym part_number)
-      (all_along h (places_of h rows) (view_in v) (setting_of h rows keeps sound (view_in v) view.view) part.at part.class i k of.valid of.class (ap (λ xs. slice_get xs i) (sym is) ∙ e))
+      (all_along h (places_of h rows) (view_in v) setting part.at part.class i k part_of.valid part_of.class (ap (λ xs. slice_get xs i) (sym is) ∙ e))
 
   pub part_table : (t : Subobject) → slice_get (preorder h v.class) n ≡ Some t → (at_place : ℕ) (listed : List Offset) (keys : List EntryKey) (offset_words : List TableWord) (entry_words : List EntryWord) (top : ℤ) (before : ℕ) (words : List TableWord) →
       at_place ≡ place (places_of h rows) (view_in v) part.at → listed ≡ offsets h (places_of h rows) (is_shared_base (seen (view_in v) part.at)) part.class → keys ≡ entries h (places_of h rows) part.class →
       GoAlong (IsOffsetWord h (places_of h rows) (view_in v) part.at) listed offset_words → GoAlong (IsEntryWord h (places_of h rows) (view_in v) part.at) keys entry_words →
       top ≡ pos v.start -ℤ pos at_place → words ≡ reverse offset_words ++ Top top ∷ Info v.class ∷ map Entry entry_words → before ≡ length offset_words + 2 →
       IsTable h (places_of h rows) (view_in v) t (record { class = part.class; place = at_place; before = before; words = words })
-  part_table t at at_place listed keys offset_words entry_words top before words is_place is_listed is_keys are_offsets are_entries is_top is_words is_before =
-      let same : t ≡ part.at = same_some t part.at (sym at ∙ part_number) in
-      let value : top ≡ between (places_of h rows) v.complete (seen (view_in v) part.at) (seen (view_in v) (whole_of v.class)) = is_top ∙ ap (λ m. pos m -ℤ pos at_place) view.start ∙ ap (λ m. pos (place (places_of h rows) (view_in v) (whole_of v.class)) -ℤ pos m) is_place in
+  part_table t here at_place listed keys offset_words entry_words top before words is_place is_listed is_keys are_offsets are_entries is_top is_words is_before =
+      let same : t ≡ part.at = same_some t part.at (sym here ∙ part_number) in
+      let value : top ≡ between (places_of h rows) v.complete (seen (view_in v) part.at) (seen (view_in v) (whole_of v.class)) = is_top ∙ ap (λ m. pos m -ℤ pos at_place) at.view.start ∙ ap (λ m. pos (place (places_of h rows) (view_in v) (whole_of v.class)) -ℤ pos m) is_place in
       let all : IsTable h (places_of h rows) (view_in v) part.at (record { class = part.class; place = at_place; before = before; words = words }) = record {
-        class = of.class;
+        class = part_of.class;
         place = is_place;
         offset_words = offset_words;
         are_offsets = subst (λ xs. GoAlong (IsOffsetWord h (places_of h rows) (view_in v) part.at) xs offset_words) is_listed are_offsets;

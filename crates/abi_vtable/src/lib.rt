@@ -12,6 +12,7 @@
 pub mod heads;
 pub mod laws;
 pub mod returns;
+pub mod table_sites;
 pub mod tables;
 pub mod view;
 pub mod words;

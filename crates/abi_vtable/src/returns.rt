@@ -8,16 +8,17 @@ ghost use Rattle.abi_sound.specs.Places.{Places, places_of};
 ghost use Rattle.abi_slots.specs.Slots.{AreSlots};
 ghost use Rattle.abi_slots.specs.Groups.{vbase_bytes, adjust_by, return_for};
 ghost use Rattle.abi_vtable.specs.invariants.Returns.{AreKnown};
+ghost use Rattle.abi_vtable.specs.invariants.Sites.{IsTableSite};
 
+use crate::table_sites::TableSite;
 use abi_slots::functions::{base_of, conversion};
 use abi_slots::{Conversion, ReturnAdjust, Slots};
 use abi_sound::SoundLayout;
 use abi_thunk::return_adjust;
-use cxx_hierarchy::{ClassId, Hierarchy};
+use cxx_hierarchy::ClassId;
 use cxx_overrider::FunctionId;
 use cxx_subobject::Root;
 use foundation::NoMemory;
-use std::alloc::Global;
 
 /// A conversion, and the adjustment of a result that is converted so.
 #[derive(Clone, Copy, Debug, PartialEq, Eq)]
@@ -52,23 +53,20 @@ fn vbase_for(slots: &Slots, c: ClassId, root: Root) -> Option<i64>
 ///
 /// Errors: want of memory.
 fn converted<L: SoundLayout>(
-    alloc: Global,
-    h: &Hierarchy,
-    layout: &L,
-    slots: &Slots,
+    site: &TableSite<L>,
     classes: Conversion,
 ) -> Result<Option<ReturnAdjust>, NoMemory>
-    requires layout { L.lays_out layout.now h.now }
-    requires slots { AreSlots h.now (places_of h.now (L.rows layout.now)) slots.now }
-    requires known { classes.from.0 < length h.now }
-    ensures { IfOk result (λ adjust. adjust ≡ adjust_by h.now (places_of h.now (L.rows layout.now)) (Some classes)) }
+    requires layout { L.lays_out site.now.layout.now site.now.h.now }
+    requires site { IsTableSite site.now.h.now (L.rows site.now.layout.now) site.now.overriders.now site.now.slots.now }
+    requires known { classes.from.0 < length site.now.h.now }
+    ensures { IfOk result (λ adjust. adjust ≡ adjust_by site.now.h.now (places_of site.now.h.now (L.rows site.now.layout.now)) (Some classes)) }
 {
-    let base = match base_of(alloc, h, classes.from, classes.to)? {
+    let base = match base_of(site.alloc, site.h, classes.from, classes.to)? {
         Some(base) => base,
         None => return Ok(None),
     };
-    let vbase = vbase_for(slots, classes.from, base.root);
-    Ok(return_adjust(h, layout, classes.from, &base, vbase))
+    let vbase = vbase_for(site.slots, classes.from, base.root);
+    Ok(return_adjust(site.h, site.layout, classes.from, &base, vbase))
 }
 
 /// How the result of a function is adjusted at an entry that was listed for another. A conversion that is met for the first
@@ -76,23 +74,20 @@ fn converted<L: SoundLayout>(
 ///
 /// Errors: want of memory.
 pub(crate) fn return_for<L: SoundLayout>(
-    alloc: Global,
-    h: &Hierarchy,
-    layout: &L,
-    slots: &Slots,
+    site: &TableSite<L>,
     known: &mut Vec<KnownReturn>,
     f: FunctionId,
     g: FunctionId,
 ) -> Result<Option<ReturnAdjust>, NoMemory>
-    requires layout { L.lays_out layout.now h.now }
-    requires slots { AreSlots h.now (places_of h.now (L.rows layout.now)) slots.now }
-    requires known { AreKnown h.now (places_of h.now (L.rows layout.now)) known.old.items }
-    requires first { f.class.0 < length h.now }
-    requires second { g.class.0 < length h.now }
-    ensures adjust { IfOk result (λ adjust. adjust ≡ return_for h.now (places_of h.now (L.rows layout.now)) f g) }
-    ensures known { OnOk result (AreKnown h.now (places_of h.now (L.rows layout.now)) known.new.items) }
+    requires layout { L.lays_out site.now.layout.now site.now.h.now }
+    requires site { IsTableSite site.now.h.now (L.rows site.now.layout.now) site.now.overriders.now site.now.slots.now }
+    requires known { AreKnown site.now.h.now (places_of site.now.h.now (L.rows site.now.layout.now)) known.old.items }
+    requires first { f.class.0 < length site.now.h.now }
+    requires second { g.class.0 < length site.now.h.now }
+    ensures adjust { IfOk result (λ adjust. adjust ≡ return_for site.now.h.now (places_of site.now.h.now (L.rows site.now.layout.now)) f g) }
+    ensures known { OnOk result (AreKnown site.now.h.now (places_of site.now.h.now (L.rows site.now.layout.now)) known.new.items) }
 {
-    let classes = match conversion(h, f, g) {
+    let classes = match conversion(site.h, f, g) {
         Some(classes) => classes,
         None => return Ok(None),
     };
@@ -100,7 +95,7 @@ pub(crate) fn return_for<L: SoundLayout>(
         Some(adjust) => return Ok(adjust),
         None => {}
     }
-    let adjust = converted(alloc, h, layout, slots, classes)?;
+    let adjust = converted(site, classes)?;
     known.push(KnownReturn { classes, adjust })?;
     Ok(adjust)
 }

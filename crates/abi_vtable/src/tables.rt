@@ -17,10 +17,12 @@ ghost use Rattle.abi_slots.specs.Views.{place, heads};
 ghost use Rattle.abi_slots.specs.Groups.{GoAlong, is_shared_base, IsOffsetWord, IsEntryWord, IsTable, IsGroup};
 ghost use Rattle.abi_vtable.specs.invariants.Parts.{IsPartOf, IsViewParts, view_in, numbered};
 ghost use Rattle.abi_vtable.specs.invariants.Returns.{AreKnown};
+ghost use Rattle.abi_vtable.specs.invariants.Sites.{IsTableSite};
 ghost use Rattle.abi_vtable.specs.invariants.Words.{IsNamed, AreAlong};
 
 use crate::heads::heads_of;
 use crate::returns::KnownReturn;
+use crate::table_sites::TableSite;
 use crate::view::{Part, ViewParts, place_of_part, view_parts};
 use crate::words::{distance, entry_word, offset_word};
 use abi_slots::{
@@ -47,26 +49,23 @@ fn is_shared_base(s: &Subobject) -> bool
 ///
 /// Errors: want of memory.
 fn offset_words<L: SoundLayout>(
-    alloc: Global,
-    h: &Hierarchy,
-    o: &Overriders,
-    layout: &L,
+    site: &TableSite<L>,
     x: &ViewParts,
     t: &Part,
     start: u32,
     offsets: &[Offset],
 ) -> Result<Vec<TableWord>, NoMemory>
-    requires layout { L.lays_out layout.now h.now }
-    requires overriders { AreOverriders h.now o.now }
-    requires view { IsViewParts h.now (places_of h.now (L.rows layout.now)) x.now }
-    requires part { IsPartOf h.now (places_of h.now (L.rows layout.now)) (view_in x.now) (preorder h.now x.now.class) t.now }
-    requires start { start ≡ place (places_of h.now (L.rows layout.now)) (view_in x.now) t.now.at }
-    requires named { (i : ℕ) (offset : Offset) → slice_get offsets.now i ≡ Some offset → IsNamed h.now x.now.class offset }
-    ensures { IfOk result (λ words. GoAlong (IsOffsetWord h.now (places_of h.now (L.rows layout.now)) (view_in x.now) t.now.at) offsets.now words.items) }
+    requires layout { L.lays_out site.now.layout.now site.now.h.now }
+    requires site { IsTableSite site.now.h.now (L.rows site.now.layout.now) site.now.overriders.now site.now.slots.now }
+    requires view { IsViewParts site.now.h.now (places_of site.now.h.now (L.rows site.now.layout.now)) x.now }
+    requires part { IsPartOf site.now.h.now (places_of site.now.h.now (L.rows site.now.layout.now)) (view_in x.now) (preorder site.now.h.now x.now.class) t.now }
+    requires start { start ≡ place (places_of site.now.h.now (L.rows site.now.layout.now)) (view_in x.now) t.now.at }
+    requires named { (i : ℕ) (offset : Offset) → slice_get offsets.now i ≡ Some offset → IsNamed site.now.h.now x.now.class offset }
+    ensures { IfOk result (λ words. GoAlong (IsOffsetWord site.now.h.now (places_of site.now.h.now (L.rows site.now.layout.now)) (view_in x.now) t.now.at) offsets.now words.items) }
 {
-    let mut words = Vec::new(alloc);
+    let mut words = Vec::new(site.alloc);
     for offset in offsets {
-        let word = offset_word(alloc, h, o, layout, x, t, start, offset)?;
+        let word = offset_word(site, x, t, start, offset)?;
         words.push(word)?;
     }
     Ok(words)
@@ -76,30 +75,25 @@ fn offset_words<L: SoundLayout>(
 ///
 /// Errors: want of memory.
 fn entry_words<L: SoundLayout>(
-    alloc: Global,
-    h: &Hierarchy,
-    o: &Overriders,
-    layout: &L,
-    slots: &Slots,
+    site: &TableSite<L>,
     known: &mut Vec<KnownReturn>,
     x: &ViewParts,
     number: usize,
     entries: &[EntryKey],
 ) -> Result<Vec<EntryWord>, NoMemory>
-    requires layout { L.lays_out layout.now h.now }
-    requires overriders { AreOverriders h.now o.now }
-    requires slots { AreSlots h.now (places_of h.now (L.rows layout.now)) slots.now }
-    requires known { AreKnown h.now (places_of h.now (L.rows layout.now)) known.old.items }
-    requires view { IsViewParts h.now (places_of h.now (L.rows layout.now)) x.now }
+    requires layout { L.lays_out site.now.layout.now site.now.h.now }
+    requires site { IsTableSite site.now.h.now (L.rows site.now.layout.now) site.now.overriders.now site.now.slots.now }
+    requires known { AreKnown site.now.h.now (places_of site.now.h.now (L.rows site.now.layout.now)) known.old.items }
+    requires view { IsViewParts site.now.h.now (places_of site.now.h.now (L.rows site.now.layout.now)) x.now }
     requires number { number < length x.now.parts }
-    requires keys { (i : ℕ) (key : EntryKey) → slice_get entries.now i ≡ Some key → key.function.class.0 < length h.now }
-    requires along { (i : ℕ) (key : EntryKey) → slice_get entries.now i ≡ Some key → AreAlong h.now (places_of h.now (L.rows layout.now)) (view_in x.now) key i (slice_get (preorder h.now x.now.class) number) }
-    ensures words { IfOk result (λ words. (t : Subobject) → slice_get (preorder h.now x.now.class) number ≡ Some t → GoAlong (IsEntryWord h.now (places_of h.now (L.rows layout.now)) (view_in x.now) t) entries.now words.items) }
-    ensures known { OnOk result (AreKnown h.now (places_of h.now (L.rows layout.now)) known.new.items) }
+    requires keys { (i : ℕ) (key : EntryKey) → slice_get entries.now i ≡ Some key → key.function.class.0 < length site.now.h.now }
+    requires along { (i : ℕ) (key : EntryKey) → slice_get entries.now i ≡ Some key → AreAlong site.now.h.now (places_of site.now.h.now (L.rows site.now.layout.now)) (view_in x.now) key i (slice_get (preorder site.now.h.now x.now.class) number) }
+    ensures words { IfOk result (λ words. (t : Subobject) → slice_get (preorder site.now.h.now x.now.class) number ≡ Some t → GoAlong (IsEntryWord site.now.h.now (places_of site.now.h.now (L.rows site.now.layout.now)) (view_in x.now) t) entries.now words.items) }
+    ensures known { OnOk result (AreKnown site.now.h.now (places_of site.now.h.now (L.rows site.now.layout.now)) known.new.items) }
 {
-    let mut words = Vec::new(alloc);
+    let mut words = Vec::new(site.alloc);
     for (n, key) in entries.iter().enumerate() {
-        let word = entry_word(alloc, h, o, layout, slots, known, x, number, n, *key)?;
+        let word = entry_word(site, known, x, number, n, *key)?;
         words.push(word)?;
     }
     Ok(words)
@@ -150,34 +144,29 @@ fn words_of(
 ///
 /// Errors: want of memory.
 fn table<L: SoundLayout>(
-    alloc: Global,
-    h: &Hierarchy,
-    o: &Overriders,
-    layout: &L,
-    slots: &Slots,
+    site: &TableSite<L>,
     known: &mut Vec<KnownReturn>,
     x: &ViewParts,
     number: usize,
 ) -> Result<Table, NoMemory>
-    requires layout { L.lays_out layout.now h.now }
-    requires overriders { AreOverriders h.now o.now }
-    requires slots { AreSlots h.now (places_of h.now (L.rows layout.now)) slots.now }
-    requires known { AreKnown h.now (places_of h.now (L.rows layout.now)) known.old.items }
-    requires view { IsViewParts h.now (places_of h.now (L.rows layout.now)) x.now }
+    requires layout { L.lays_out site.now.layout.now site.now.h.now }
+    requires site { IsTableSite site.now.h.now (L.rows site.now.layout.now) site.now.overriders.now site.now.slots.now }
+    requires known { AreKnown site.now.h.now (places_of site.now.h.now (L.rows site.now.layout.now)) known.old.items }
+    requires view { IsViewParts site.now.h.now (places_of site.now.h.now (L.rows site.now.layout.now)) x.now }
     requires number { number < length x.now.parts }
-    ensures table { IfOk result (λ table. (t : Subobject) → slice_get (preorder h.now x.now.class) number ≡ Some t → IsTable h.now (places_of h.now (L.rows layout.now)) (view_in x.now) t table) }
-    ensures known { OnOk result (AreKnown h.now (places_of h.now (L.rows layout.now)) known.new.items) }
+    ensures table { IfOk result (λ table. (t : Subobject) → slice_get (preorder site.now.h.now x.now.class) number ≡ Some t → IsTable site.now.h.now (places_of site.now.h.now (L.rows site.now.layout.now)) (view_in x.now) t table) }
+    ensures known { OnOk result (AreKnown site.now.h.now (places_of site.now.h.now (L.rows site.now.layout.now)) known.new.items) }
 {
-    h.keeps();
+    site.h.keeps();
     let t = &x.parts.as_slice()[number];
-    let place = place_of_part(h, layout, x, t);
-    let offsets = slots.offsets(t.class, is_shared_base(&t.seen));
-    let offset_words = offset_words(alloc, h, o, layout, x, t, place, offsets)?;
-    let entries = slots.entries(t.class);
-    let entry_words = entry_words(alloc, h, o, layout, slots, known, x, number, entries)?;
+    let place = place_of_part(site.h, site.layout, x, t);
+    let offsets = site.slots.offsets(t.class, is_shared_base(&t.seen));
+    let offset_words = offset_words(site, x, t, place, offsets)?;
+    let entries = site.slots.entries(t.class);
+    let entry_words = entry_words(site, known, x, number, entries)?;
     let top = distance(place, x.start);
     let words = words_of(
-        alloc,
+        site.alloc,
         offset_words.as_slice(),
         top,
         x.class,
@@ -195,25 +184,20 @@ fn table<L: SoundLayout>(
 ///
 /// Errors: want of memory.
 fn tables_of<L: SoundLayout>(
-    alloc: Global,
-    h: &Hierarchy,
-    o: &Overriders,
-    layout: &L,
-    slots: &Slots,
+    site: &TableSite<L>,
     x: &ViewParts,
     numbers: &[usize],
 ) -> Result<TableList, NoMemory>
-    requires layout { L.lays_out layout.now h.now }
-    requires overriders { AreOverriders h.now o.now }
-    requires slots { AreSlots h.now (places_of h.now (L.rows layout.now)) slots.now }
-    requires view { IsViewParts h.now (places_of h.now (L.rows layout.now)) x.now }
-    requires heads { numbered (preorder h.now x.now.class) numbers.now ≡ map Some (heads h.now (places_of h.now (L.rows layout.now)) (view_in x.now)) }
-    ensures { IfOk result (GoAlong (IsTable h.now (places_of h.now (L.rows layout.now)) (view_in x.now)) (heads h.now (places_of h.now (L.rows layout.now)) (view_in x.now))) }
+    requires layout { L.lays_out site.now.layout.now site.now.h.now }
+    requires site { IsTableSite site.now.h.now (L.rows site.now.layout.now) site.now.overriders.now site.now.slots.now }
+    requires view { IsViewParts site.now.h.now (places_of site.now.h.now (L.rows site.now.layout.now)) x.now }
+    requires heads { numbered (preorder site.now.h.now x.now.class) numbers.now ≡ map Some (heads site.now.h.now (places_of site.now.h.now (L.rows site.now.layout.now)) (view_in x.now)) }
+    ensures { IfOk result (GoAlong (IsTable site.now.h.now (places_of site.now.h.now (L.rows site.now.layout.now)) (view_in x.now)) (heads site.now.h.now (places_of site.now.h.now (L.rows site.now.layout.now)) (view_in x.now))) }
 {
-    let mut tables = Sequence::new(alloc);
-    let mut known = Vec::new(alloc);
+    let mut tables = Sequence::new(site.alloc);
+    let mut known = Vec::new(site.alloc);
     for number in numbers {
-        let one = table(alloc, h, o, layout, slots, &mut known, x, *number)?;
+        let one = table(site, &mut known, x, *number)?;
         tables.push(one)?;
     }
     Ok(tables)
@@ -242,7 +226,14 @@ pub fn group<L: SoundLayout>(
     h.keeps();
     let x = view_parts(alloc, h, layout, name)?;
     let numbers = heads_of(alloc, &x)?;
-    let tables = tables_of(alloc, h, o, layout, slots, &x, numbers.as_slice())?;
+    let site = TableSite {
+        alloc,
+        h,
+        overriders: o,
+        layout,
+        slots,
+    };
+    let tables = tables_of(&site, &x, numbers.as_slice())?;
     Ok(Group {
         name: GroupName {
             complete: name.complete,

@@ -110,8 +110,8 @@ fn is_holder<L: SoundLayout>(
     }
 }
 
-/// The number of the next of the chain of a subobject of the view, which stands at a number. A direct primary base stands
-/// behind it, and most often next to it.
+/// The number of the next of the chain of a part, which stands at a number of the list. A direct primary base stands behind
+/// it, and most often next to it.
 ///
 /// Errors: want of memory.
 fn next_of<L: SoundLayout>(
@@ -121,28 +121,26 @@ fn next_of<L: SoundLayout>(
     x: &ViewParts,
     list: &[Subobject],
     number: usize,
-    s: &Subobject,
-    in_object: &Subobject,
-    class: ClassId,
+    part: &Part,
 ) -> Result<Option<usize>, NoMemory>
     requires layout { L.lays_out layout.now h.now }
     requires view { IsView h.now (view_in x.now) }
     requires list { list.now ≡ preorder h.now x.now.class }
-    requires valid { IsSubobject h.now x.now.class s.now }
-    requires class { class_of s.now ≡ Some class }
-    requires known { class.0 < length h.now }
-    requires object { in_object.now ≡ seen (view_in x.now) s.now }
-    ensures { IfOk result (λ n. IsNumberOf list.now n (next (places_of h.now (L.rows layout.now)) (view_in x.now) s.now)) }
+    requires valid { IsSubobject h.now x.now.class part.now.at }
+    requires class { class_of part.now.at ≡ Some part.now.class }
+    requires known { part.now.class.0 < length h.now }
+    requires seen { part.now.seen ≡ seen (view_in x.now) part.now.at }
+    ensures { IfOk result (λ n. IsNumberOf list.now n (next (places_of h.now (L.rows layout.now)) (view_in x.now) part.now.at)) }
 {
     h.keeps();
-    match layout.layout(class).primary {
+    match layout.layout(part.class).primary {
         Primary::None => Ok(None),
         Primary::Direct(b) => {
-            let below = subobject_below(alloc, s, &[b])?;
+            let below = subobject_below(alloc, &part.at, &[b])?;
             Ok(number_of(list, &below, number))
         }
         Primary::Virtual(v) => {
-            if !is_holder(layout, h, x.complete, v, in_object) {
+            if !is_holder(layout, h, x.complete, v, &part.seen) {
                 return Ok(None);
             }
             let base = shared_base(alloc, v)?;
@@ -174,14 +172,15 @@ fn part_of<L: SoundLayout>(
     let class = class_at(s);
     let at = subobject_below(alloc, s, &[])?;
     let seen = join(alloc, h, x.complete, &x.at, s)?;
-    let next = next_of(alloc, h, layout, x, list, number, s, &seen, class)?;
-    Ok(Part {
+    let mut part = Part {
         at,
         class,
         is_dynamic: is_dynamic(h, class),
         seen,
-        next,
-    })
+        next: None,
+    };
+    part.next = next_of(alloc, h, layout, x, list, number, &part)?;
+    Ok(part)
 }
 
 /// The place of a part in the complete object, in bytes. Few parts are asked for theirs, and a long path takes time.

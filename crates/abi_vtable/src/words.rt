@@ -8,7 +8,6 @@ ghost use Rattle.cxx_subobject.specs.Subobjects.{IsSubobject};
 ghost use Rattle.cxx_subobject.specs.Inside.{IsInside};
 ghost use Rattle.cxx_subobject.specs.Preorder.{preorder};
 ghost use Rattle.cxx_overrider.specs.Functions.{is_pure};
-ghost use Rattle.cxx_overrider.specs.Overriders.{AreOverriders};
 ghost use Rattle.abi_sound.specs.Places.{Places, places_of};
 ghost use Rattle.abi_slots.specs.declared.words.EntryKey.{EntryKey};
 ghost use Rattle.abi_slots.specs.declared.words.Offset.{Offset};
@@ -17,16 +16,18 @@ ghost use Rattle.abi_slots.specs.Views.{place, next, first_in};
 ghost use Rattle.abi_slots.specs.Groups.{GoAlong, named_in, vcall_for, code_word, declares_at, IsOffsetWord, IsEntryWord};
 ghost use Rattle.abi_vtable.specs.invariants.Parts.{IsNumberOf, IsPartOf, IsViewParts, IsSomeView, view_in};
 ghost use Rattle.abi_vtable.specs.invariants.Returns.{AreKnown};
+ghost use Rattle.abi_vtable.specs.invariants.Sites.{IsTableSite};
 ghost use Rattle.abi_vtable.specs.invariants.Words.{IsNamed, IsOver, HasVcall, AreAlong, IsDeclaredBy, runs_at};
 
 use crate::returns::{KnownReturn, return_for};
+use crate::table_sites::TableSite;
 use crate::view::{Part, ViewParts, place_of_part};
 use abi_slots::{EntryKey, EntryWord, Offset, Slots, TableWord};
 use abi_sound::SoundLayout;
 use abi_thunk::{shared_place, this_adjust};
 use cxx_hierarchy::{ClassId, Hierarchy};
+use cxx_overrider::FunctionId;
 use cxx_overrider::signatures::declaration;
-use cxx_overrider::{FunctionId, Overriders};
 use cxx_subobject::listing::longer_path;
 use cxx_subobject::{Root, Subobject, contains, is_longer};
 use foundation::NoMemory;
@@ -93,34 +94,31 @@ fn named_in(alloc: Global, d: ClassId, path: &[ClassId]) -> Result<Subobject, No
 ///
 /// Errors: want of memory.
 pub(crate) fn offset_word<L: SoundLayout>(
-    alloc: Global,
-    h: &Hierarchy,
-    o: &Overriders,
-    layout: &L,
+    site: &TableSite<L>,
     x: &ViewParts,
     t: &Part,
     start: u32,
     offset: &Offset,
 ) -> Result<TableWord, NoMemory>
-    requires layout { L.lays_out layout.now h.now }
-    requires overriders { AreOverriders h.now o.now }
-    requires view { IsViewParts h.now (places_of h.now (L.rows layout.now)) x.now }
-    requires part { IsPartOf h.now (places_of h.now (L.rows layout.now)) (view_in x.now) (preorder h.now x.now.class) t.now }
-    requires start { start ≡ place (places_of h.now (L.rows layout.now)) (view_in x.now) t.now.at }
-    requires named { IsNamed h.now x.now.class offset.now }
-    ensures { IfOk result (IsOffsetWord h.now (places_of h.now (L.rows layout.now)) (view_in x.now) t.now.at offset.now) }
+    requires layout { L.lays_out site.now.layout.now site.now.h.now }
+    requires site { IsTableSite site.now.h.now (L.rows site.now.layout.now) site.now.overriders.now site.now.slots.now }
+    requires view { IsViewParts site.now.h.now (places_of site.now.h.now (L.rows site.now.layout.now)) x.now }
+    requires part { IsPartOf site.now.h.now (places_of site.now.h.now (L.rows site.now.layout.now)) (view_in x.now) (preorder site.now.h.now x.now.class) t.now }
+    requires start { start ≡ place (places_of site.now.h.now (L.rows site.now.layout.now)) (view_in x.now) t.now.at }
+    requires named { IsNamed site.now.h.now x.now.class offset.now }
+    ensures { IfOk result (IsOffsetWord site.now.h.now (places_of site.now.h.now (L.rows site.now.layout.now)) (view_in x.now) t.now.at offset.now) }
 {
-    h.keeps();
+    site.h.keeps();
     match offset {
         Offset::ToBase(v) => {
-            let place = shared_place(h, layout, x.complete, *v);
+            let place = shared_place(site.h, site.layout, x.complete, *v);
             Ok(TableWord::Vbase(distance(start, place), *v))
         }
         Offset::ToOverrider(path, f) => {
-            let s = named_in(alloc, x.class, path.as_slice())?;
-            let g = o.final_function(h, x.class, &s, *f);
-            let part = part_over(h, x, &s, g.class);
-            let place = place_of_part(h, layout, x, part);
+            let s = named_in(site.alloc, x.class, path.as_slice())?;
+            let g = site.overriders.final_function(site.h, x.class, &s, *f);
+            let part = part_over(site.h, x, &s, g.class);
+            let place = place_of_part(site.h, site.layout, x, part);
             Ok(TableWord::Vcall(distance(start, place), *f))
         }
     }
@@ -192,10 +190,7 @@ fn is_pure(h: &Hierarchy, f: FunctionId) -> bool
 ///
 /// Errors: want of memory.
 fn code_word<L: SoundLayout>(
-    alloc: Global,
-    h: &Hierarchy,
-    layout: &L,
-    slots: &Slots,
+    site: &TableSite<L>,
     known: &mut Vec<KnownReturn>,
     x: &ViewParts,
     key: EntryKey,
@@ -203,22 +198,22 @@ fn code_word<L: SoundLayout>(
     to: &Part,
     g: FunctionId,
 ) -> Result<EntryWord, NoMemory>
-    requires layout { L.lays_out layout.now h.now }
-    requires slots { AreSlots h.now (places_of h.now (L.rows layout.now)) slots.now }
-    requires known { AreKnown h.now (places_of h.now (L.rows layout.now)) known.old.items }
-    requires view { IsViewParts h.now (places_of h.now (L.rows layout.now)) x.now }
-    requires from { IsPartOf h.now (places_of h.now (L.rows layout.now)) (view_in x.now) (preorder h.now x.now.class) from.now }
-    requires to { IsPartOf h.now (places_of h.now (L.rows layout.now)) (view_in x.now) (preorder h.now x.now.class) to.now }
-    requires key { key.function.class.0 < length h.now }
-    requires function { g.class.0 < length h.now }
-    requires vcall { HasVcall h.now (places_of h.now (L.rows layout.now)) key.function from.now.at.root }
-    requires code { is_pure h.now g ≡ false }
-    ensures word { IfOk result (λ word. word ≡ code_word h.now (places_of h.now (L.rows layout.now)) (view_in x.now) key from.now.at (runs_at to.now.at g)) }
-    ensures known { OnOk result (AreKnown h.now (places_of h.now (L.rows layout.now)) known.new.items) }
+    requires layout { L.lays_out site.now.layout.now site.now.h.now }
+    requires site { IsTableSite site.now.h.now (L.rows site.now.layout.now) site.now.overriders.now site.now.slots.now }
+    requires known { AreKnown site.now.h.now (places_of site.now.h.now (L.rows site.now.layout.now)) known.old.items }
+    requires view { IsViewParts site.now.h.now (places_of site.now.h.now (L.rows site.now.layout.now)) x.now }
+    requires from { IsPartOf site.now.h.now (places_of site.now.h.now (L.rows site.now.layout.now)) (view_in x.now) (preorder site.now.h.now x.now.class) from.now }
+    requires to { IsPartOf site.now.h.now (places_of site.now.h.now (L.rows site.now.layout.now)) (view_in x.now) (preorder site.now.h.now x.now.class) to.now }
+    requires key { key.function.class.0 < length site.now.h.now }
+    requires function { g.class.0 < length site.now.h.now }
+    requires vcall { HasVcall site.now.h.now (places_of site.now.h.now (L.rows site.now.layout.now)) key.function from.now.at.root }
+    requires code { is_pure site.now.h.now g ≡ false }
+    ensures word { IfOk result (λ word. word ≡ code_word site.now.h.now (places_of site.now.h.now (L.rows site.now.layout.now)) (view_in x.now) key from.now.at (runs_at to.now.at g)) }
+    ensures known { OnOk result (AreKnown site.now.h.now (places_of site.now.h.now (L.rows site.now.layout.now)) known.new.items) }
 {
-    let vcall = vcall_for(slots, key.function, &from.at, &to.at);
-    let this = this_adjust(h, layout, x.complete, &from.seen, &to.seen, vcall);
-    let result = return_for(alloc, h, layout, slots, known, g, key.function)?;
+    let vcall = vcall_for(site.slots, key.function, &from.at, &to.at);
+    let this = this_adjust(site.h, site.layout, x.complete, &from.seen, &to.seen, vcall);
+    let result = return_for(site, known, g, key.function)?;
     Ok(EntryWord::Code(g, key.kind, this, result))
 }
 
@@ -226,38 +221,35 @@ fn code_word<L: SoundLayout>(
 ///
 /// Errors: want of memory.
 pub(crate) fn entry_word<L: SoundLayout>(
-    alloc: Global,
-    h: &Hierarchy,
-    o: &Overriders,
-    layout: &L,
-    slots: &Slots,
+    site: &TableSite<L>,
     known: &mut Vec<KnownReturn>,
     x: &ViewParts,
     number: usize,
     n: usize,
     key: EntryKey,
 ) -> Result<EntryWord, NoMemory>
-    requires layout { L.lays_out layout.now h.now }
-    requires overriders { AreOverriders h.now o.now }
-    requires slots { AreSlots h.now (places_of h.now (L.rows layout.now)) slots.now }
-    requires known { AreKnown h.now (places_of h.now (L.rows layout.now)) known.old.items }
-    requires view { IsViewParts h.now (places_of h.now (L.rows layout.now)) x.now }
+    requires layout { L.lays_out site.now.layout.now site.now.h.now }
+    requires site { IsTableSite site.now.h.now (L.rows site.now.layout.now) site.now.overriders.now site.now.slots.now }
+    requires known { AreKnown site.now.h.now (places_of site.now.h.now (L.rows site.now.layout.now)) known.old.items }
+    requires view { IsViewParts site.now.h.now (places_of site.now.h.now (L.rows site.now.layout.now)) x.now }
     requires number { number < length x.now.parts }
-    requires key { key.function.class.0 < length h.now }
-    requires along { AreAlong h.now (places_of h.now (L.rows layout.now)) (view_in x.now) key n (slice_get (preorder h.now x.now.class) number) }
-    ensures word { IfOk result (λ word. (t : Subobject) → slice_get (preorder h.now x.now.class) number ≡ Some t → IsEntryWord h.now (places_of h.now (L.rows layout.now)) (view_in x.now) t key word) }
-    ensures known { OnOk result (AreKnown h.now (places_of h.now (L.rows layout.now)) known.new.items) }
+    requires key { key.function.class.0 < length site.now.h.now }
+    requires along { AreAlong site.now.h.now (places_of site.now.h.now (L.rows site.now.layout.now)) (view_in x.now) key n (slice_get (preorder site.now.h.now x.now.class) number) }
+    ensures word { IfOk result (λ word. (t : Subobject) → slice_get (preorder site.now.h.now x.now.class) number ≡ Some t → IsEntryWord site.now.h.now (places_of site.now.h.now (L.rows site.now.layout.now)) (view_in x.now) t key word) }
+    ensures known { OnOk result (AreKnown site.now.h.now (places_of site.now.h.now (L.rows site.now.layout.now)) known.new.items) }
 {
-    h.keeps();
-    let found = match declarer_below(h, slots, x, Some(number), n, x.class.0 + 1) {
+    site.h.keeps();
+    let found = match declarer_below(site.h, site.slots, x, Some(number), n, x.class.0 + 1) {
         Some(found) => found,
         None => return Ok(EntryWord::Unused),
     };
     let from = &x.parts.as_slice()[found.part];
-    let g = o.final_function(h, x.class, &from.at, found.function);
-    if is_pure(h, g) {
+    let g = site
+        .overriders
+        .final_function(site.h, x.class, &from.at, found.function);
+    if is_pure(site.h, g) {
         return Ok(EntryWord::Pure(g));
     }
-    let to = part_over(h, x, &from.at, g.class);
-    code_word(alloc, h, layout, slots, known, x, key, from, to, g)
+    let to = part_over(site.h, x, &from.at, g.class);
+    code_word(site, known, x, key, from, to, g)
 }

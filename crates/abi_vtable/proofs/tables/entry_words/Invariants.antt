@@ -10,4 +10,4 @@ use Rattle.abi_vtable.specs.invariants.Words.{GoAlongTo}
 use Rattle.abi_vtable.proofs.tables.entry_words.Given as goal
 
 abbrev pub invariant-loop-n : goal.invariant-loop-n
-invariant-loop-n g l = AreKnown l.h (places_of l.h (g.L.SoundLayout.rows l.layout)) l.known.items × ((t : Subobject) → slice_get (preorder l.h l.x.class) l.number ≡ Some t → GoAlongTo (IsEntryWord l.h (places_of l.h (g.L.SoundLayout.rows l.layout)) (view_in l.x) t) l.entries l.n l.words.items)
+invariant-loop-n g l = AreKnown l.site.h.now (places_of l.site.h.now (g.L.SoundLayout.rows l.site.layout.now)) l.known.items × ((t : Subobject) → slice_get (preorder l.site.h.now l.x.class) l.number ≡ Some t → GoAlongTo (IsEntryWord l.site.h.now (places_of l.site.h.now (g.L.SoundLayout.rows l.site.layout.now)) (view_in l.x) t) l.entries l.n l.words.items)

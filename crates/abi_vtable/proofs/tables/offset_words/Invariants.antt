@@ -5,4 +5,4 @@ use Rattle.abi_vtable.specs.invariants.Words.{GoAlongTo}
 use Rattle.abi_vtable.proofs.tables.offset_words.Given as goal
 
 abbrev pub invariant-loop-offset : goal.invariant-loop-offset
-invariant-loop-offset g l = GoAlongTo (IsOffsetWord l.h (places_of l.h (g.L.SoundLayout.rows l.layout)) (view_in l.x) l.t.at) l.offsets l.offset-index l.words.items
+invariant-loop-offset g l = GoAlongTo (IsOffsetWord l.site.h.now (places_of l.site.h.now (g.L.SoundLayout.rows l.site.layout.now)) (view_in l.x) l.t.at) l.offsets l.offset-index l.words.items

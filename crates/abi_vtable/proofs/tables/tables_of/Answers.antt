@@ -10,8 +10,8 @@ use Rattle.abi_vtable.proofs.tables.tables_of.Goals as goal
 
 pub table-requires-clause-number : goal.table-requires-clause-number
 table-requires-clause-number g c =
-    let h = c.args.h.now in
-    let l = places_of h (g.L.SoundLayout.rows c.args.layout.now) in
+    let h = c.args.site.now.h.now in
+    let l = places_of h (g.L.SoundLayout.rows c.args.site.now.layout.now) in
     let v = c.args.x.now in
     let n = get_or c.args.numbers.now c.loop-number.number-index 0 in
     let at = head_at (preorder h v.class) (heads h l (view_in v)) c.args.numbers.now c.loop-number.number-index n c.requires.heads (read_at c.args.numbers.now c.loop-number.number-index 0 c.loop-number-test.true) in
@@ -19,8 +19,8 @@ table-requires-clause-number g c =
 
 pub loop-number-preserved : goal.loop-number-preserved
 loop-number-preserved g c =
-    let h = c.args.h.now in
-    let l = places_of h (g.L.SoundLayout.rows c.args.layout.now) in
+    let h = c.args.site.now.h.now in
+    let l = places_of h (g.L.SoundLayout.rows c.args.site.now.layout.now) in
     let v = c.args.x.now in
     let n = get_or c.args.numbers.now c.loop-number.number-index 0 in
     let at = head_at (preorder h v.class) (heads h l (view_in v)) c.args.numbers.now c.loop-number.number-index n c.requires.heads (read_at c.args.numbers.now c.loop-number.number-index 0 c.loop-number-test.true) in

@@ -7,4 +7,4 @@ use Rattle.abi_vtable.specs.invariants.Words.{GoAlongTo}
 use Rattle.abi_vtable.proofs.tables.tables_of.Given as goal
 
 abbrev pub invariant-loop-number : goal.invariant-loop-number
-invariant-loop-number g l = AreKnown l.h (places_of l.h (g.L.SoundLayout.rows l.layout)) l.known.items × GoAlongTo (IsTable l.h (places_of l.h (g.L.SoundLayout.rows l.layout)) (view_in l.x)) (heads l.h (places_of l.h (g.L.SoundLayout.rows l.layout)) (view_in l.x)) l.number-index l.tables
+invariant-loop-number g l = AreKnown l.site.h.now (places_of l.site.h.now (g.L.SoundLayout.rows l.site.layout.now)) l.known.items × GoAlongTo (IsTable l.site.h.now (places_of l.site.h.now (g.L.SoundLayout.rows l.site.layout.now)) (view_in l.x)) (heads l.site.h.now (places_of l.site.h.now (g.L.SoundLayout.rows l.site.layout.now)) (view_in l.x)) l.number-index l.tables

@@ -7,25 +7,25 @@ use Rattle.abi_vtable.proofs.view.next_of.Goals as goal
 pub returns-then-not-is_holder : goal.returns-then-not-is_holder
 returns-then-not-is_holder g c =
     let l = places_of c.args.h.now (g.L.SoundLayout.rows c.args.layout.now) in
-    no_number c.args.list.now _ (elsewhere_next l (view_in c.args.x.now) c.args.s.now c.args.in_object.now c.args.class c.in-Virtual.v c.requires.class (ap primary_in c.layout.ensures ∙ c.in-Virtual.is) c.requires.object (sym c.is_holder.ensures ∙ c.if-not-is_holder.true))
+    no_number c.args.list.now _ (elsewhere_next l (view_in c.args.x.now) c.args.part.now.at c.args.part.now.seen c.args.part.now.class c.in-Virtual.v c.requires.class (ap primary_in c.layout.ensures ∙ c.in-Virtual.is) c.requires.seen (sym c.is_holder.ensures ∙ c.if-not-is_holder.true))
 
 pub returns-in-None : goal.returns-in-None
 returns-in-None g c =
     let l = places_of c.args.h.now (g.L.SoundLayout.rows c.args.layout.now) in
-    no_number c.args.list.now _ (no_next l (view_in c.args.x.now) c.args.s.now c.args.class c.requires.class (ap primary_in c.layout.ensures ∙ c.in-None.is))
+    no_number c.args.list.now _ (no_next l (view_in c.args.x.now) c.args.part.now.at c.args.part.now.class c.requires.class (ap primary_in c.layout.ensures ∙ c.in-None.is))
 
 pub returns-in_ok-below-in-Direct : goal.returns-in_ok-below-in-Direct
 returns-in_ok-below-in-Direct g c =
     let h = c.args.h.now in
     let rows = g.L.SoundLayout.rows c.args.layout.now in
     let x = view_in c.args.x.now in
-    next_number h rows c.keeps.ensures (g.met.L.SoundLayout.sound c.args.layout.now h c.requires.layout) x c.requires.view c.args.list.now c.args.s.now c.in_ok-below-in-Direct.below _ c.number_of.result c.requires.list c.requires.valid
-    (direct_next (places_of h rows) x c.args.s.now c.args.class c.in-Direct.b c.requires.class (ap primary_in c.layout.ensures ∙ c.in-Direct.is)) c.in_ok-below-in-Direct.ensures c.number_of.ensures
+    next_number h rows c.keeps.ensures (g.met.L.SoundLayout.sound c.args.layout.now h c.requires.layout) x c.requires.view c.args.list.now c.args.part.now.at c.in_ok-below-in-Direct.below _ c.number_of.result c.requires.list c.requires.valid
+    (direct_next (places_of h rows) x c.args.part.now.at c.args.part.now.class c.in-Direct.b c.requires.class (ap primary_in c.layout.ensures ∙ c.in-Direct.is)) c.in_ok-below-in-Direct.ensures c.number_of.ensures
 
 pub returns-in_ok-base-in-Virtual : goal.returns-in_ok-base-in-Virtual
 returns-in_ok-base-in-Virtual g c =
     let h = c.args.h.now in
     let rows = g.L.SoundLayout.rows c.args.layout.now in
     let x = view_in c.args.x.now in
-    next_number h rows c.keeps.ensures (g.met.L.SoundLayout.sound c.args.layout.now h c.requires.layout) x c.requires.view c.args.list.now c.args.s.now c.in_ok-base-in-Virtual.base _ c.number_of-in-Virtual.result c.requires.list c.requires.valid
-    (held_next (places_of h rows) x c.args.s.now c.args.in_object.now c.args.class c.in-Virtual.v c.requires.class (ap primary_in c.layout.ensures ∙ c.in-Virtual.is) c.requires.object (sym c.is_holder.ensures ∙ c.if-not-is_holder.false)) c.in_ok-base-in-Virtual.ensures c.number_of-in-Virtual.ensures
+    next_number h rows c.keeps.ensures (g.met.L.SoundLayout.sound c.args.layout.now h c.requires.layout) x c.requires.view c.args.list.now c.args.part.now.at c.in_ok-base-in-Virtual.base _ c.number_of-in-Virtual.result c.requires.list c.requires.valid
+    (held_next (places_of h rows) x c.args.part.now.at c.args.part.now.seen c.args.part.now.class c.in-Virtual.v c.requires.class (ap primary_in c.layout.ensures ∙ c.in-Virtual.is) c.requires.seen (sym c.is_holder.ensures ∙ c.if-not-is_holder.false)) c.in_ok-base-in-Virtual.ensures c.number_of-in-Virtual.ensures
