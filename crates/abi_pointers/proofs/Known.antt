@@ -65,7 +65,7 @@ pub member_known : (h : Classes) → IsHierarchy h → (c d : ClassId) (m i : �
 member_known h keeps c d m i known element = let low : d.0 < c.0 = keeps.objects c d element.member (contains_at (members_of h c) m element.member element.there) element.type_is in omega arith
 
 -- an element lies within its class
-pub element_small : (h : Classes) (rows : List ClassLayout) → IsSoundLayout h rows → (c d : ClassId) (m i : ℕ) → c.0 < length h → IsElement h c m i (Object d) → (places_of h rows).member c m + i * (places_of h rows).size d < 1048576
+element_small : (h : Classes) (rows : List ClassLayout) → IsSoundLayout h rows → (c d : ClassId) (m i : ℕ) → c.0 < length h → IsElement h c m i (Object d) → (places_of h rows).member c m + i * (places_of h rows).size d < 1048576
 element_small h rows sound c d m i known element =
     let l = places_of h rows in
     let inner = Inherit (whole_of d) ∷ [] in
@@ -79,8 +79,11 @@ element_small h rows sound c d m i known element =
 pub element_same : (a b n f size place : ℕ) → a ≡ place → f ≡ n → b ≡ size → a + f * size ≡ place + n * b
 element_same a b n f size place e g k = ap (λ i. i + f * size) e ∙ ap (λ i. place + i * size) g ∙ ap (λ i. place + n * i) (sym k)
 
-pub element_fits : (a b n f size place : ℕ) → place + n * b < 1048576 → a ≡ place → f ≡ n → b ≡ size → a + f * size < 2 ^ 32
-element_fits a b n f size place less e g k = let same = element_same a b n f size place e g k in omega arith
+numbers_fit : (a b n f size place : ℕ) → place + n * b < 1048576 → a ≡ place → f ≡ n → b ≡ size → a + f * size < 2 ^ 32
+numbers_fit a b n f size place less e g k = let same = element_same a b n f size place e g k in omega arith
+
+pub element_fits : (h : Classes) (rows : List ClassLayout) → IsSoundLayout h rows → (c d : ClassId) (m i : ℕ) → c.0 < length h → IsElement h c m i (Object d) → (a f size : ℕ) → a ≡ (places_of h rows).member c m → f ≡ i → (places_of h rows).size d ≡ size → a + f * size < 2 ^ 32
+element_fits h rows sound c d m i known element a f size e g k = numbers_fit a ((places_of h rows).size d) i f size ((places_of h rows).member c m) (element_small h rows sound c d m i known element) e g k
 
 -- registers
 

@@ -6,7 +6,7 @@ use Rattle.abi_sound.specs.Places.{member_place, size_in}
 use Rattle.abi_lower.specs.Items.{first_index}
 use Rattle.abi_lower.specs.Blocks.{base_course, stride_of}
 use Rattle.abi_ops.specs.Setups.{PlanCode, setup}
-use Rattle.abi_pointers.proofs.Known.{element_fits, element_same, element_small, member_known}
+use Rattle.abi_pointers.proofs.Known.{element_fits, element_same, member_known}
 use Rattle.abi_pointers.proofs.OpeningNumbers.{opening_same}
 use Rattle.abi_pointers.proofs.openings.member_opening.Goals as goal
 
@@ -18,20 +18,14 @@ layout-requires g c =
 
 pub overflow_mul-result : goal.overflow_mul-result
 overflow_mul-result g c =
-    let h = c.args.site.now.h.now in
-    let rows = g.L.SoundLayout.rows c.args.site.now.layout.now in
-    let n = first_index c.args.way c.args.count in
-    let small = element_small h rows (g.met.L.SoundLayout.sound c.args.site.now.layout.now h c.requires.layout) c.args.c c.args.d c.args.m n c.requires.known c.requires.element in
-    let fits = element_fits c.member_place.result (size_in (slice_get rows c.args.d.0)) n c.first_of.result c.layout.result.now.size (member_place rows c.args.c c.args.m) small c.member_place.ensures c.first_of.ensures (ap size_in c.layout.ensures) in
+    let fits = element_fits c.args.site.now.h.now (g.L.SoundLayout.rows c.args.site.now.layout.now) (g.met.L.SoundLayout.sound c.args.site.now.layout.now c.args.site.now.h.now c.requires.layout) c.args.c c.args.d c.args.m (first_index c.args.way c.args.count) c.requires.known c.requires.element
+    c.member_place.result c.first_of.result c.layout.result.now.size c.member_place.ensures c.first_of.ensures (ap size_in c.layout.ensures) in
     omega arith
 
 pub overflow_add-result : goal.overflow_add-result
 overflow_add-result g c =
-    let h = c.args.site.now.h.now in
-    let rows = g.L.SoundLayout.rows c.args.site.now.layout.now in
-    let n = first_index c.args.way c.args.count in
-    let small = element_small h rows (g.met.L.SoundLayout.sound c.args.site.now.layout.now h c.requires.layout) c.args.c c.args.d c.args.m n c.requires.known c.requires.element in
-    let fits = element_fits c.member_place.result (size_in (slice_get rows c.args.d.0)) n c.first_of.result c.layout.result.now.size (member_place rows c.args.c c.args.m) small c.member_place.ensures c.first_of.ensures (ap size_in c.layout.ensures) in
+    let fits = element_fits c.args.site.now.h.now (g.L.SoundLayout.rows c.args.site.now.layout.now) (g.met.L.SoundLayout.sound c.args.site.now.layout.now c.args.site.now.h.now c.requires.layout) c.args.c c.args.d c.args.m (first_index c.args.way c.args.count) c.requires.known c.requires.element
+    c.member_place.result c.first_of.result c.layout.result.now.size c.member_place.ensures c.first_of.ensures (ap size_in c.layout.ensures) in
     omega arith
 
 pub part_start-requires : goal.part_start-requires
