@@ -1,61 +1,21 @@
--- One element and one member more is tested.
-use Rattle.std.proofs.Common.{◌≡◌, ℕ, zero, suc, ◌+◌, ◌*◌, ◌<◌, Bool, Some, List, [], ◌∷◌, ◌++◌, ap, sym, ◌∙◌, arith, append_assoc}
-use Rattle.std.specs.Prelude.{slice_get}
-use Rattle.std.specs.List.{flat_map}
-use mathlib.Core.Path.{fun_ext}
+-- One object more is tested, and all that a copy tests.
+use Rattle.std.proofs.Common.{◌≡◌, ℕ, zero, suc, ◌+◌, ◌<◌, Bool, List, [], ◌∷◌, ◌++◌, ap, ◌∙◌, arith, append_assoc}
 use Rattle.cxx_hierarchy.specs.declared.records.ClassId.{ClassId}
-use Rattle.cxx_hierarchy.specs.declared.records.Member.{Member}
-use Rattle.cxx_hierarchy.specs.declared.records.FieldType.{FieldType}
-use Rattle.cxx_hierarchy.specs.declared.records.FieldType.TheVariants.{Object}
-use Rattle.cxx_hierarchy.specs.Classes.{members_of}
-use Rattle.cxx_hierarchy.specs.Declarations.{elements_of}
-use Rattle.path_plan.specs.Plans.{upto}
-use Rattle.abi_sound.specs.Locations.{size_of_type, element_place}
 use Rattle.abi_ops.specs.declared.uses.Used.{Used}
 use Rattle.abi_ops.specs.declared.uses.Used.TheVariants.{Guards}
-use Rattle.abi_ops.specs.Setups.{Setup, places}
+use Rattle.abi_ops.specs.Setups.{Setup}
 use Rattle.cxx_search.specs.Searches.{has_virtual_base}
 use Rattle.cxx_program.specs.declared.operand.TypedOperand.{TypedOperand}
 use Rattle.abi_ops.specs.Arguments.{Block, free}
 use Rattle.abi_ops.specs.Operands.{operand_register}
 use Rattle.abi_ops.specs.Uses.{arrow_used, views_if}
-use Rattle.abi_copies.specs.CopyTests.{element_used, member_used, covered_used, copy_used}
-use Rattle.abi_copies.specs.invariants.Pushes.{CoversElements, CoversMember, CoversMembers, CoversOwn}
-use Rattle.abi_copies.proofs.Pushed.{numbers_flat}
-use Rattle.abi_copies.proofs.CopySteps.{elements_there}
+use Rattle.abi_copies.specs.CopyTests.{covered_used, copy_used}
+use Rattle.abi_copies.specs.invariants.Pushes.{CoversOwn}
 
-pub elements_next : (x : Setup) (r : ℕ) (d : ClassId) (start stride i at : ℕ) (old mid asked new : List Used) → at ≡ start + i * stride → CoversElements x r d start stride i old mid → asked ≡ mid ++ Guards r at d.0 ∷ [] → CoversOwn x r d at asked new → CoversElements x r d start stride (i + 1) old new
-elements_next x r d start stride i at old mid asked new is before guards more = record { adds = of_number }
-  where
-    of_number : (n : ℕ) → d.0 < n → new ≡ old ++ flat_map (λ i. Guards r (start + i * stride) d.0 ∷ covered_used x r n d (start + i * stride)) (upto (i + 1))
-    of_number zero low = absurd (omega arith)
-    of_number (suc n) low =
-        let give = λ (k : ℕ). Guards r k d.0 ∷ covered_used x r (suc n) d k in
-        let last : new ≡ mid ++ give (start + i * stride) =
-        more.adds n (omega arith) ∙ (ap (λ (l : List Used). l ++ covered_used x r (suc n) d at) guards ∙ (append_assoc mid (Guards r at d.0 ∷ []) (covered_used x r (suc n) d at) ∙ ap (λ (k : ℕ). mid ++ give k) is)) in
-        numbers_flat (λ i. give (start + i * stride)) i old mid new (before.adds (suc n) low) last
-
-pub objects_tested : (x : Setup) (r : ℕ) (b d : ClassId) (member : Member ClassId) (start stride count : ℕ) (old new : List Used) → member.ty ≡ Object d → stride ≡ size_of_type (places x) member.ty → count ≡ elements_of member.count → d.0 < b.0
-    → CoversElements x r d start stride count old new → CoversMember x r b member start old new
-objects_tested x r b d member start stride count old new ty size many below added = record {
-  adds = λ n low.
-      added.adds n (omega arith)
-      ∙ ap (λ (k : ℕ). old ++ flat_map (λ i. Guards r (start + i * k) d.0 ∷ covered_used x r n d (start + i * k)) (upto count)) size
-      ∙ ap (λ (k : ℕ). old ++ flat_map (λ i. Guards r (start + i * size_of_type (places x) member.ty) d.0 ∷ covered_used x r n d (start + i * size_of_type (places x) member.ty)) (upto k)) many
-      ∙ ap (λ (u : FieldType ClassId). old ++ element_used (covered_used x r n) r (λ i. start + i * size_of_type (places x) member.ty) (upto (elements_of member.count)) u) (sym ty);
-}
-
-pub tested_next : (x : Setup) (r : ℕ) (b : ClassId) (offset start m : ℕ) (member : Member ClassId) (old mid new : List Used) → slice_get (members_of x.h b) m ≡ Some member → start ≡ offset + (places x).member b m
-    → CoversMembers x r b offset m old mid → CoversMember x r b member start mid new → CoversMembers x r b offset (m + 1) old new
-tested_next x r b offset start m member old mid new there is before more = record {
-  adds = λ n low.
-      let give = λ (k : ℕ). member_used (covered_used x r n) r (λ i. offset + element_place x.h (places x) (Some b) k i) (slice_get (members_of x.h b) k) in
-      let last : new ≡ mid ++ give m =
-      more.adds n low
-      ∙ ap (λ (at : ℕ → ℕ). mid ++ element_used (covered_used x r n) r at (upto (elements_of member.count)) member.ty) (fun_ext (elements_there x b offset start m member there is))
-      ∙ ap (λ o. mid ++ member_used (covered_used x r n) r (λ i. offset + element_place x.h (places x) (Some b) m i) o) (sym there) in
-      numbers_flat give m old mid new (before.adds n low) last;
-}
+-- the test of an object of class d and those inside it, as the definition counts classes
+pub object_tested : (x : Setup) (r : ℕ) (d : ClassId) (at : ℕ) (mid asked new : List Used) → asked ≡ mid ++ Guards r at d.0 ∷ [] → CoversOwn x r d at asked new → (n : ℕ) → d.0 < n → new ≡ mid ++ Guards r at d.0 ∷ covered_used x r n d at
+object_tested x r d at mid asked new guards more zero low = absurd (omega arith)
+object_tested x r d at mid asked new guards more (suc n) low = more.adds n (omega arith) ∙ (ap (λ (l : List Used). l ++ covered_used x r (suc n) d at) guards ∙ append_assoc mid (Guards r at d.0 ∷ []) (covered_used x r (suc n) d at))
 
 joined : (old mid new first rest : List Used) → mid ≡ old ++ first → new ≡ mid ++ rest → new ≡ old ++ (first ++ rest)
 joined old mid new first rest e f = f ∙ (ap (λ (l : List Used). l ++ rest) e ∙ append_assoc old first rest)

@@ -1,4 +1,5 @@
 pub mod Pushed
+pub mod MemberSteps
 pub mod CopySteps
 pub mod CoverSteps
 pub mod Near

@@ -30,6 +30,13 @@ pub member_there : (h : Classes) (b : ClassId) (class : Class) (list : List (Mem
 member_there h b class list m member there is less at =
     ap (λ (o : Option Class). slice_get (members_in o) m) there ∙ (ap (λ (l : List (Member ClassId)). slice_get l m) (sym is) ∙ (slice_get-get_or list m member less ∙ ap (λ (x : Member ClassId). Some x) (sym at)))
 
+-- member m of class b lies its place behind a subobject, so many bytes behind a register, and is near
+pub record IsNearMember (h : Classes) (l : Places) (b : ClassId) (offset m : ℕ) (member : Member ClassId) (start : ℕ) : Type 0 where
+  pub there : slice_get (members_of h b) m ≡ Some member
+  pub lies : start ≡ offset + l.member b m
+  pub low : start < 2 ^ 21
+  pub fits : FitsMember h l b member start
+
 module _ (h : Classes) (keeps : IsHierarchy h) (l : Places) where
   pub base_low : (d : ClassId) (offset : ℕ) (s : Subobject) → FitsObject h l d offset → IsSubobject h d s → offset + l.place d s < 2 ^ 21
   base_low d offset s fits valid =
@@ -80,6 +87,18 @@ module _ (h : Classes) (keeps : IsHierarchy h) (l : Places) where
       by_type : (ty : FieldType ClassId) → member.ty ≡ ty → offset + l.member b m < 2 ^ 21
       by_type (Value t) e = let low = (fits.members m member there).values 0 t (some_element b m member there) e in omega arith
       by_type (Object d) e = let low = object_low d (offset + l.member b m + 0 * l.size d) ((fits.members m member there).objects 0 d (some_element b m member there) e) in omega arith
+
+  -- a member at which a loop over a class's members stands
+  pub near_member : {b : ClassId} {offset place : ℕ} {class : Class} {list : List (Member ClassId)} {member : Member ClassId} (m : ℕ) → FitsOwn h l b offset → class_at h b ≡ Some class → list ≡ class.members → m < length list → member ≡ get_or list m member → place ≡ l.member b m → IsNearMember h l b offset m member (offset + place)
+  near_member {b} {offset} {place} {class} {list} {member} m fits found is less at lies =
+      let there = member_there h b class list m member found is less at in
+      let low = member_low b offset m member fits there in
+      record {
+        there = there;
+        lies = ap (λ (n : ℕ). offset + n) lies;
+        low = omega arith;
+        fits = subst (λ (n : ℕ). FitsMember h l b member (offset + n)) (sym lies) (fits.members m member there);
+      }
 
 -- in a sound layout
 pub start_fits : (h : Classes) → IsHierarchy h → (rows : List ClassLayout) → IsSoundLayout h rows → (b : ClassId) → b.0 < length h → FitsOwn h (places_of h rows) b 0

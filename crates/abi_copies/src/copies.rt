@@ -1,16 +1,13 @@
 //! The copies of the leaves of a part.
 
-ghost use Rattle.std.specs.Prelude.{◌≡◌, ◌<◌, ◌≤◌, ◌+◌, ◌*◌, ◌^◌, ◌++◌, ℕ, OnOk, length, map, Some, slice_get};
+ghost use Rattle.std.specs.Prelude.{◌≡◌, ◌<◌, ◌+◌, ◌*◌, ◌^◌, ◌++◌, ℕ, OnOk, length, map, Some};
 ghost use Rattle.cxx_hierarchy.specs.declared.records.ClassId.{ClassId};
-ghost use Rattle.cxx_hierarchy.specs.Classes.{members_of};
 ghost use Rattle.cxx_subobject.specs.Subobjects.{class_of};
 ghost use Rattle.cxx_subobject.specs.Preorder.{preorder};
 ghost use Rattle.path_plan.specs.Plans.{upto};
 ghost use Rattle.byte_code.specs.declared.op.Op.TheVariants.{Copy};
-ghost use Rattle.abi_sound.specs.Places.{places_of};
-ghost use Rattle.abi_ops.specs.Setups.{setup};
-ghost use Rattle.abi_ops.specs.Arguments.{block_in};
-ghost use Rattle.abi_ops.specs.invariants.Fits.{IsSite, FitsBase, FitsOperand};
+ghost use Rattle.abi_ops.specs.invariants.Fits.{FitsBase, FitsOperand};
+ghost use Rattle.abi_ops.specs.invariants.Sites.{site_setup, site_places, site_block, IsLaidSite};
 ghost use Rattle.abi_copies.specs.CopyOps.{subobject_copies, copy_ops};
 ghost use Rattle.abi_copies.specs.invariants.Fits.{FitsObject, FitsMember, FitsOwn};
 ghost use Rattle.abi_copies.specs.invariants.Pushes.{AddsObjects, AddsMember, AddsOwn, AddsObject};
@@ -65,11 +62,10 @@ fn push_objects<L: SoundLayout>(
     d: ClassId,
     elements: Elements,
 ) -> Result<(), NoMemory>
-    requires layout { L.lays_out site.now.layout.now site.now.h.now }
-    requires site { IsSite site.now.h.now (L.rows site.now.layout.now) site.now.slots.now site.now.body.now }
+    requires laid { IsLaidSite L.lays_out L.rows site.now }
     requires known { d.0 < length site.now.h.now }
-    requires fits { (i : ℕ) → i < elements.count → FitsObject site.now.h.now (places_of site.now.h.now (L.rows site.now.layout.now)) d (elements.start + i * elements.stride) }
-    ensures { OnOk result (AddsObjects (setup site.now.h.now (L.rows site.now.layout.now) site.now.program.now) sides d elements.start elements.stride elements.count ops.old ops.new) }
+    requires fits { (i : ℕ) → i < elements.count → FitsObject site.now.h.now (site_places L.rows site.now) d (elements.start + i * elements.stride) }
+    ensures { OnOk result (AddsObjects (site_setup L.rows site.now) sides d elements.start elements.stride elements.count ops.old ops.new) }
 {
     let bases = list_subobjects(site.alloc, site.h, d)?;
     for i in 0..elements.count {
@@ -88,11 +84,10 @@ fn push_member<L: SoundLayout>(
     member: &Member<ClassId>,
     start: u32,
 ) -> Result<(), NoMemory>
-    requires layout { L.lays_out site.now.layout.now site.now.h.now }
-    requires site { IsSite site.now.h.now (L.rows site.now.layout.now) site.now.slots.now site.now.body.now }
+    requires laid { IsLaidSite L.lays_out L.rows site.now }
     requires known { b.0 < length site.now.h.now }
-    requires fits { FitsMember site.now.h.now (places_of site.now.h.now (L.rows site.now.layout.now)) b member.now start }
-    ensures { OnOk result (AddsMember (setup site.now.h.now (L.rows site.now.layout.now) site.now.program.now) sides b member.now start ops.old ops.new) }
+    requires fits { FitsMember site.now.h.now (site_places L.rows site.now) b member.now start }
+    ensures { OnOk result (AddsMember (site_setup L.rows site.now) sides b member.now start ops.old ops.new) }
 {
     let elements = Elements {
         start,
@@ -114,11 +109,10 @@ fn push_own<L: SoundLayout>(
     b: ClassId,
     offset: u32,
 ) -> Result<(), NoMemory>
-    requires layout { L.lays_out site.now.layout.now site.now.h.now }
-    requires site { IsSite site.now.h.now (L.rows site.now.layout.now) site.now.slots.now site.now.body.now }
+    requires laid { IsLaidSite L.lays_out L.rows site.now }
     requires known { b.0 < length site.now.h.now }
-    requires fits { FitsOwn site.now.h.now (places_of site.now.h.now (L.rows site.now.layout.now)) b offset }
-    ensures { OnOk result (AddsOwn (setup site.now.h.now (L.rows site.now.layout.now) site.now.program.now) sides b offset ops.old ops.new) }
+    requires fits { FitsOwn site.now.h.now (site_places L.rows site.now) b offset }
+    ensures { OnOk result (AddsOwn (site_setup L.rows site.now) sides b offset ops.old ops.new) }
 {
     let members = site.h.class(b).members.as_slice();
     for (m, member) in members.iter().enumerate() {
@@ -138,12 +132,11 @@ fn push_object<L: SoundLayout>(
     bases: &[Subobject],
     offset: u32,
 ) -> Result<(), NoMemory>
-    requires layout { L.lays_out site.now.layout.now site.now.h.now }
-    requires site { IsSite site.now.h.now (L.rows site.now.layout.now) site.now.slots.now site.now.body.now }
+    requires laid { IsLaidSite L.lays_out L.rows site.now }
     requires known { d.0 < length site.now.h.now }
     requires listed { bases.now ≡ preorder site.now.h.now d }
-    requires fits { FitsObject site.now.h.now (places_of site.now.h.now (L.rows site.now.layout.now)) d offset }
-    ensures { OnOk result (AddsObject (setup site.now.h.now (L.rows site.now.layout.now) site.now.program.now) sides d offset ops.old ops.new) }
+    requires fits { FitsObject site.now.h.now (site_places L.rows site.now) d offset }
+    ensures { OnOk result (AddsObject (site_setup L.rows site.now) sides d offset ops.old ops.new) }
 {
     for base in bases {
         let start = offset + site.layout.place(site.h, d, base);
@@ -160,10 +153,9 @@ fn push_subobject<L: SoundLayout>(
     c: ClassId,
     base: &Subobject,
 ) -> Result<(), NoMemory>
-    requires layout { L.lays_out site.now.layout.now site.now.h.now }
-    requires site { IsSite site.now.h.now (L.rows site.now.layout.now) site.now.slots.now site.now.body.now }
+    requires laid { IsLaidSite L.lays_out L.rows site.now }
     requires base { FitsBase site.now.h.now c base.now }
-    ensures { OnOk result (ops.new ≡ ops.old ++ subobject_copies (block_in (setup site.now.h.now (L.rows site.now.layout.now) site.now.program.now) site.now.body.now) parts.to parts.from c base.now) }
+    ensures { OnOk result (ops.new ≡ ops.old ++ subobject_copies (site_block L.rows site.now) parts.to parts.from c base.now) }
 {
     let sides = Sides {
         to: site.free(2),
@@ -187,11 +179,10 @@ pub fn push_copy<L: SoundLayout>(
     from: TypedOperand,
     c: ClassId,
 ) -> Result<(), NoMemory>
-    requires layout { L.lays_out site.now.layout.now site.now.h.now }
-    requires site { IsSite site.now.h.now (L.rows site.now.layout.now) site.now.slots.now site.now.body.now }
+    requires laid { IsLaidSite L.lays_out L.rows site.now }
     requires known { c.0 < length site.now.h.now }
     requires operands { FitsOperand to × FitsOperand from }
-    ensures { OnOk result (ops.new ≡ ops.old ++ copy_ops (block_in (setup site.now.h.now (L.rows site.now.layout.now) site.now.program.now) site.now.body.now) to from c) }
+    ensures { OnOk result (ops.new ≡ ops.old ++ copy_ops (site_block L.rows site.now) to from c) }
 {
     let parts = Sides {
         to: operand_register(site.free(0), to),

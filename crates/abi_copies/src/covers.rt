@@ -1,15 +1,12 @@
 //! What a copy reads and tests: both pointers, and the class members that it covers.
 
-ghost use Rattle.std.specs.Prelude.{◌≡◌, ◌<◌, ◌≤◌, ◌+◌, ◌*◌, ◌^◌, ◌++◌, ℕ, OnOk, length};
-ghost use Rattle.cxx_hierarchy.specs.declared.records.ClassId.{ClassId};
+ghost use Rattle.std.specs.Prelude.{◌≡◌, ◌<◌, ◌+◌, ◌*◌, ◌++◌, ℕ, OnOk, length};
 ghost use Rattle.cxx_search.specs.Searches.{has_virtual_base as has_virtual_base_of};
-ghost use Rattle.abi_sound.specs.Places.{places_of};
-ghost use Rattle.abi_ops.specs.Setups.{setup};
-ghost use Rattle.abi_ops.specs.Arguments.{block_in};
-ghost use Rattle.abi_ops.specs.invariants.Fits.{IsSite, FitsOperand};
+ghost use Rattle.abi_ops.specs.invariants.Fits.{FitsOperand};
+ghost use Rattle.abi_ops.specs.invariants.Sites.{site_setup, site_places, site_block, IsSiteAt, IsLaidSite};
 ghost use Rattle.abi_copies.specs.CopyTests.{copy_front, copy_used};
 ghost use Rattle.abi_copies.specs.invariants.Fits.{FitsObject, FitsMember, FitsOwn};
-ghost use Rattle.abi_copies.specs.invariants.Pushes.{CoversElements, CoversMember, CoversOwn};
+ghost use Rattle.abi_copies.specs.invariants.Pushes.{CoversObjects, CoversMember, CoversOwn};
 
 use crate::distances::{Elements, type_bytes};
 use abi_ops::operands::{operand_register, push_operand};
@@ -31,9 +28,9 @@ pub fn push_copy_front<L: SoundLayout>(
     to: TypedOperand,
     from: TypedOperand,
 ) -> Result<(), NoMemory>
-    requires site { IsSite site.now.h.now (L.rows site.now.layout.now) site.now.slots.now site.now.body.now }
+    requires site { IsSiteAt L.rows site.now }
     requires operands { FitsOperand to × FitsOperand from }
-    ensures { OnOk result (ops.new ≡ ops.old ++ copy_front (block_in (setup site.now.h.now (L.rows site.now.layout.now) site.now.program.now) site.now.body.now) to from) }
+    ensures { OnOk result (ops.new ≡ ops.old ++ copy_front (site_block L.rows site.now) to from) }
 {
     push_operand(ops, site.free(0), to)?;
     push_operand(ops, site.free(1), from)?;
@@ -58,11 +55,10 @@ fn push_elements_used<L: SoundLayout>(
     d: ClassId,
     elements: Elements,
 ) -> Result<(), NoMemory>
-    requires layout { L.lays_out site.now.layout.now site.now.h.now }
-    requires site { IsSite site.now.h.now (L.rows site.now.layout.now) site.now.slots.now site.now.body.now }
+    requires laid { IsLaidSite L.lays_out L.rows site.now }
     requires known { d.0 < length site.now.h.now }
-    requires fits { (i : ℕ) → i < elements.count → FitsObject site.now.h.now (places_of site.now.h.now (L.rows site.now.layout.now)) d (elements.start + i * elements.stride) }
-    ensures { OnOk result (CoversElements (setup site.now.h.now (L.rows site.now.layout.now) site.now.program.now) r d elements.start elements.stride elements.count uses.old uses.new) }
+    requires fits { (i : ℕ) → i < elements.count → FitsObject site.now.h.now (site_places L.rows site.now) d (elements.start + i * elements.stride) }
+    ensures { OnOk result (CoversObjects (site_setup L.rows site.now) r d elements.start elements.stride elements.count uses.old uses.new) }
 {
     for i in 0..elements.count {
         let distance = elements.place(i);
@@ -82,11 +78,10 @@ fn push_member_used<L: SoundLayout>(
     member: &Member<ClassId>,
     start: u32,
 ) -> Result<(), NoMemory>
-    requires layout { L.lays_out site.now.layout.now site.now.h.now }
-    requires site { IsSite site.now.h.now (L.rows site.now.layout.now) site.now.slots.now site.now.body.now }
+    requires laid { IsLaidSite L.lays_out L.rows site.now }
     requires known { b.0 < length site.now.h.now }
-    requires fits { FitsMember site.now.h.now (places_of site.now.h.now (L.rows site.now.layout.now)) b member.now start }
-    ensures { OnOk result (CoversMember (setup site.now.h.now (L.rows site.now.layout.now) site.now.program.now) r b member.now start uses.old uses.new) }
+    requires fits { FitsMember site.now.h.now (site_places L.rows site.now) b member.now start }
+    ensures { OnOk result (CoversMember (site_setup L.rows site.now) r b member.now start uses.old uses.new) }
 {
     match &member.ty {
         FieldType::Value(_) => Ok(()),
@@ -110,11 +105,10 @@ fn push_covered<L: SoundLayout>(
     c: ClassId,
     offset: u32,
 ) -> Result<(), NoMemory>
-    requires layout { L.lays_out site.now.layout.now site.now.h.now }
-    requires site { IsSite site.now.h.now (L.rows site.now.layout.now) site.now.slots.now site.now.body.now }
+    requires laid { IsLaidSite L.lays_out L.rows site.now }
     requires known { c.0 < length site.now.h.now }
-    requires fits { FitsOwn site.now.h.now (places_of site.now.h.now (L.rows site.now.layout.now)) c offset }
-    ensures { OnOk result (CoversOwn (setup site.now.h.now (L.rows site.now.layout.now) site.now.program.now) r c offset uses.old uses.new) }
+    requires fits { FitsOwn site.now.h.now (site_places L.rows site.now) c offset }
+    ensures { OnOk result (CoversOwn (site_setup L.rows site.now) r c offset uses.old uses.new) }
 {
     let members = site.h.class(c).members.as_slice();
     for (m, member) in members.iter().enumerate() {
@@ -134,11 +128,10 @@ pub fn push_copy_used<L: SoundLayout>(
     from: TypedOperand,
     c: ClassId,
 ) -> Result<(), NoMemory>
-    requires layout { L.lays_out site.now.layout.now site.now.h.now }
-    requires site { IsSite site.now.h.now (L.rows site.now.layout.now) site.now.slots.now site.now.body.now }
+    requires laid { IsLaidSite L.lays_out L.rows site.now }
     requires known { c.0 < length site.now.h.now }
     requires operands { FitsOperand to × FitsOperand from }
-    ensures { OnOk result (uses.new ≡ uses.old ++ copy_used (block_in (setup site.now.h.now (L.rows site.now.layout.now) site.now.program.now) site.now.body.now) to from c) }
+    ensures { OnOk result (uses.new ≡ uses.old ++ copy_used (site_block L.rows site.now) to from c) }
 {
     let read = site.free(0);
     let again = site.free(1);

@@ -3,8 +3,9 @@
 ghost use Rattle.std.specs.Prelude.{◌≡◌, ◌<◌, ◌+◌, ◌*◌, ◌^◌, length};
 ghost use Rattle.cxx_hierarchy.specs.declared.records.ClassId.{ClassId};
 ghost use Rattle.cxx_hierarchy.specs.declared.records.FieldType.TheVariants.{Object};
-ghost use Rattle.abi_sound.specs.Places.{places_of, size_of_value};
+ghost use Rattle.abi_sound.specs.Places.{size_of_value};
 ghost use Rattle.abi_sound.specs.Locations.{size_of_type};
+ghost use Rattle.abi_ops.specs.invariants.Sites.{site_places};
 
 use abi_ops::sites::Site;
 use abi_ops::widths::width;
@@ -49,7 +50,7 @@ pub fn value_bytes(ty: &ValueType<ClassId>) -> u8
 /// The bytes of an element of a type.
 pub fn type_bytes<L: SoundLayout>(site: &Site<L>, ty: &FieldType<ClassId>) -> u32
     requires { (d : ClassId) → ty.now ≡ Object d → d.0 < length (L.rows site.now.layout.now) }
-    ensures { result ≡ size_of_type (places_of site.now.h.now (L.rows site.now.layout.now)) ty.now }
+    ensures { result ≡ size_of_type (site_places L.rows site.now) ty.now }
 {
     match ty {
         FieldType::Value(ty) => value_bytes(ty) as u32,

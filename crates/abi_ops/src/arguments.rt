@@ -3,12 +3,11 @@
 ghost use Rattle.std.specs.Prelude.{◌≡◌, ◌<◌, ◌≤◌, ◌+◌, ◌++◌, OnOk, IfOk, length};
 ghost use Rattle.std.specs.List.{AllByRecursion};
 ghost use Rattle.cxx_hierarchy.specs.Limits.{most_parameters};
-ghost use Rattle.cxx_program.specs.Typed.{scope_of};
-ghost use Rattle.abi_ops.specs.Setups.{setup};
 ghost use Rattle.abi_ops.specs.Operands.{operand_class};
 ghost use Rattle.abi_ops.specs.Uses.{check_list, convert_used};
-ghost use Rattle.abi_ops.specs.Arguments.{block_in, free, argument_front, argument_used, argument_ops, taken_ops, checked_taken, argument_read, argument_converted, arguments_front, arguments_used, arguments_ops, arguments_registers};
-ghost use Rattle.abi_ops.specs.invariants.Fits.{IsSite, FitsVariable, FitsOperand, FitsConversion, FitsArgument};
+ghost use Rattle.abi_ops.specs.Arguments.{free, argument_front, argument_used, argument_ops, taken_ops, argument_read, argument_converted, arguments_front, arguments_used, arguments_ops, arguments_registers};
+ghost use Rattle.abi_ops.specs.invariants.Fits.{FitsVariable, FitsOperand, FitsConversion, FitsArgument};
+ghost use Rattle.abi_ops.specs.invariants.Sites.{site_scope, site_block, IsSiteAt, IsLaidSite};
 
 use crate::operands::{assign, operand_register, push_converted, push_operand};
 use crate::reads::{push_convert_used, push_reads};
@@ -31,7 +30,7 @@ pub fn push_value_used<L: SoundLayout>(
     r: u32,
 ) -> Result<(), NoMemory>
     requires { FitsOperand operand }
-    ensures { OnOk result (uses.new ≡ uses.old ++ argument_used (block_in (setup site.now.h.now (L.rows site.now.layout.now) site.now.program.now) site.now.body.now) (record { operand = operand; conversion = conversion.now }) r) }
+    ensures { OnOk result (uses.new ≡ uses.old ++ argument_used (site_block L.rows site.now) (record { operand = operand; conversion = conversion.now }) r) }
 {
     push_reads(uses, site, r, operand)?;
     let class = site.operand_class(operand);
@@ -48,8 +47,8 @@ pub fn push_argument_used<L: SoundLayout>(
     a: &Argument,
     r: u32,
 ) -> Result<(), NoMemory>
-    requires { FitsArgument site.now.h.now (scope_of site.now.h.now site.now.program.now.globals site.now.body.now) a.now }
-    ensures { OnOk result (uses.new ≡ uses.old ++ argument_used (block_in (setup site.now.h.now (L.rows site.now.layout.now) site.now.program.now) site.now.body.now) a.now r) }
+    requires { FitsArgument site.now.h.now (site_scope site.now) a.now }
+    ensures { OnOk result (uses.new ≡ uses.old ++ argument_used (site_block L.rows site.now) a.now r) }
 {
     push_value_used(uses, site, a.operand, &a.conversion, r)?;
     Ok(())
@@ -65,10 +64,9 @@ pub fn push_argument<L: SoundLayout>(
     to: u32,
     r: u32,
 ) -> Result<(), NoMemory>
-    requires layout { L.lays_out site.now.layout.now site.now.h.now }
-    requires site { IsSite site.now.h.now (L.rows site.now.layout.now) site.now.slots.now site.now.body.now }
-    requires fits { FitsArgument site.now.h.now (scope_of site.now.h.now site.now.program.now.globals site.now.body.now) a.now }
-    ensures { OnOk result (list.new ≡ list.old ++ argument_ops (block_in (setup site.now.h.now (L.rows site.now.layout.now) site.now.program.now) site.now.body.now) a.now to r) }
+    requires laid { IsLaidSite L.lays_out L.rows site.now }
+    requires fits { FitsArgument site.now.h.now (site_scope site.now) a.now }
+    ensures { OnOk result (list.new ≡ list.old ++ argument_ops (site_block L.rows site.now) a.now to r) }
 {
     let class = site.operand_class(a.operand);
     let from = operand_register(r, a.operand);
@@ -78,18 +76,18 @@ pub fn push_argument<L: SoundLayout>(
 
 /// The register into which argument `n` of a call is read.
 fn argument_read<L: SoundLayout>(site: &Site<L>, n: u32) -> u32
-    requires site { IsSite site.now.h.now (L.rows site.now.layout.now) site.now.slots.now site.now.body.now }
+    requires site { IsSiteAt L.rows site.now }
     requires few { n < most_parameters }
-    ensures { result ≡ argument_read (block_in (setup site.now.h.now (L.rows site.now.layout.now) site.now.program.now) site.now.body.now) n }
+    ensures { result ≡ argument_read (site_block L.rows site.now) n }
 {
     site.free(5 + 2 * n)
 }
 
 /// The register of its converted value.
 fn argument_converted<L: SoundLayout>(site: &Site<L>, n: u32) -> u32
-    requires site { IsSite site.now.h.now (L.rows site.now.layout.now) site.now.slots.now site.now.body.now }
+    requires site { IsSiteAt L.rows site.now }
     requires few { n < most_parameters }
-    ensures { result ≡ argument_converted (block_in (setup site.now.h.now (L.rows site.now.layout.now) site.now.program.now) site.now.body.now) n }
+    ensures { result ≡ argument_converted (site_block L.rows site.now) n }
 {
     site.free(6 + 2 * n)
 }
@@ -103,10 +101,10 @@ pub fn push_arguments_front<L: SoundLayout>(
     n: u32,
     arguments: &[Argument],
 ) -> Result<(), NoMemory>
-    requires site { IsSite site.now.h.now (L.rows site.now.layout.now) site.now.slots.now site.now.body.now }
-    requires fits { AllByRecursion (FitsArgument site.now.h.now (scope_of site.now.h.now site.now.program.now.globals site.now.body.now)) arguments.now }
+    requires site { IsSiteAt L.rows site.now }
+    requires fits { AllByRecursion (FitsArgument site.now.h.now (site_scope site.now)) arguments.now }
     requires few { n + length arguments.now ≤ most_parameters }
-    ensures { OnOk result (ops.new ≡ ops.old ++ arguments_front (block_in (setup site.now.h.now (L.rows site.now.layout.now) site.now.program.now) site.now.body.now) n arguments.now) }
+    ensures { OnOk result (ops.new ≡ ops.old ++ arguments_front (site_block L.rows site.now) n arguments.now) }
 {
     match arguments {
         [] => {}
@@ -127,10 +125,10 @@ pub fn push_arguments_used<L: SoundLayout>(
     n: u32,
     arguments: &[Argument],
 ) -> Result<(), NoMemory>
-    requires site { IsSite site.now.h.now (L.rows site.now.layout.now) site.now.slots.now site.now.body.now }
-    requires fits { AllByRecursion (FitsArgument site.now.h.now (scope_of site.now.h.now site.now.program.now.globals site.now.body.now)) arguments.now }
+    requires site { IsSiteAt L.rows site.now }
+    requires fits { AllByRecursion (FitsArgument site.now.h.now (site_scope site.now)) arguments.now }
     requires few { n + length arguments.now ≤ most_parameters }
-    ensures { OnOk result (uses.new ≡ uses.old ++ arguments_used (block_in (setup site.now.h.now (L.rows site.now.layout.now) site.now.program.now) site.now.body.now) n arguments.now) }
+    ensures { OnOk result (uses.new ≡ uses.old ++ arguments_used (site_block L.rows site.now) n arguments.now) }
 {
     match arguments {
         [] => {}
@@ -151,11 +149,10 @@ pub fn push_arguments<L: SoundLayout>(
     n: u32,
     arguments: &[Argument],
 ) -> Result<(), NoMemory>
-    requires layout { L.lays_out site.now.layout.now site.now.h.now }
-    requires site { IsSite site.now.h.now (L.rows site.now.layout.now) site.now.slots.now site.now.body.now }
-    requires fits { AllByRecursion (FitsArgument site.now.h.now (scope_of site.now.h.now site.now.program.now.globals site.now.body.now)) arguments.now }
+    requires laid { IsLaidSite L.lays_out L.rows site.now }
+    requires fits { AllByRecursion (FitsArgument site.now.h.now (site_scope site.now)) arguments.now }
     requires few { n + length arguments.now ≤ most_parameters }
-    ensures { OnOk result (list.new ≡ list.old ++ arguments_ops (block_in (setup site.now.h.now (L.rows site.now.layout.now) site.now.program.now) site.now.body.now) n arguments.now) }
+    ensures { OnOk result (list.new ≡ list.old ++ arguments_ops (site_block L.rows site.now) n arguments.now) }
 {
     match arguments {
         [] => {}
@@ -175,9 +172,9 @@ fn push_registers<L: SoundLayout>(
     n: u32,
     arguments: &[Argument],
 ) -> Result<(), NoMemory>
-    requires site { IsSite site.now.h.now (L.rows site.now.layout.now) site.now.slots.now site.now.body.now }
+    requires site { IsSiteAt L.rows site.now }
     requires few { n + length arguments.now ≤ most_parameters }
-    ensures { OnOk result (list.new ≡ list.old ++ arguments_registers (block_in (setup site.now.h.now (L.rows site.now.layout.now) site.now.program.now) site.now.body.now) n arguments.now) }
+    ensures { OnOk result (list.new ≡ list.old ++ arguments_registers (site_block L.rows site.now) n arguments.now) }
 {
     match arguments {
         [] => {}
@@ -196,9 +193,9 @@ pub fn registers<L: SoundLayout>(
     site: &Site<L>,
     arguments: &[Argument],
 ) -> Result<RegisterList, NoMemory>
-    requires site { IsSite site.now.h.now (L.rows site.now.layout.now) site.now.slots.now site.now.body.now }
+    requires site { IsSiteAt L.rows site.now }
     requires few { length arguments.now ≤ most_parameters }
-    ensures { IfOk result (λ list. list ≡ arguments_registers (block_in (setup site.now.h.now (L.rows site.now.layout.now) site.now.program.now) site.now.body.now) 0 arguments.now) }
+    ensures { IfOk result (λ list. list ≡ arguments_registers (site_block L.rows site.now) 0 arguments.now) }
 {
     let mut list = Sequence::new(site.alloc);
     push_registers(&mut list, site, 0, arguments)?;
@@ -217,38 +214,30 @@ pub fn push_taken<L: SoundLayout>(
     to: u32,
     from: u32,
 ) -> Result<(), NoMemory>
-    requires layout { L.lays_out site.now.layout.now site.now.h.now }
-    requires site { IsSite site.now.h.now (L.rows site.now.layout.now) site.now.slots.now site.now.body.now }
+    requires laid { IsLaidSite L.lays_out L.rows site.now }
     requires variable { FitsVariable variable }
     requires fits { FitsConversion site.now.h.now class conversion.now }
-    ensures { OnOk result (list.new ≡ list.old ++ taken_ops (block_in (setup site.now.h.now (L.rows site.now.layout.now) site.now.program.now) site.now.body.now) variable class conversion.now to from) }
+    ensures { OnOk result (list.new ≡ list.old ++ taken_ops (site_block L.rows site.now) variable class conversion.now to from) }
 {
     push_converted(list, site, class, conversion, to, from)?;
     list.push(assign(variable, to))?;
     Ok(())
 }
 
-/// The same, with the tests of a conversion whose value was just made.
+/// Puts the tests of a conversion whose value was just made behind others.
 ///
 /// Errors: want of memory.
-pub fn push_checked_taken<L: SoundLayout>(
+pub fn push_convert_checks<L>(
     list: &mut FinishList,
     site: &Site<L>,
-    variable: Variable,
     class: Option<ClassId>,
     conversion: &Conversion,
-    to: u32,
     from: u32,
 ) -> Result<(), NoMemory>
-    requires layout { L.lays_out site.now.layout.now site.now.h.now }
-    requires site { IsSite site.now.h.now (L.rows site.now.layout.now) site.now.slots.now site.now.body.now }
-    requires variable { FitsVariable variable }
-    requires fits { FitsConversion site.now.h.now class conversion.now }
-    ensures { OnOk result (list.new ≡ list.old ++ checked_taken (block_in (setup site.now.h.now (L.rows site.now.layout.now) site.now.program.now) site.now.body.now) variable class conversion.now to from) }
+    ensures { OnOk result (list.new ≡ list.old ++ check_list (convert_used class conversion.now from)) }
 {
     let mut uses = Sequence::new(site.alloc);
     push_convert_used(&mut uses, class, conversion, from)?;
     push_checks(list, uses.as_slice())?;
-    push_taken(list, site, variable, class, conversion, to, from)?;
     Ok(())
 }

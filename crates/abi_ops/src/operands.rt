@@ -3,14 +3,14 @@
 ghost use Rattle.std.specs.Prelude.{◌≡◌, ◌<◌, ◌+◌, ◌++◌, ℕ, OnOk, IfOk};
 ghost use Rattle.cxx_subobject.specs.declared.Root.TheVariants.{Whole, Shared};
 ghost use Rattle.cxx_subobject.specs.Subobjects.{subobject};
-ghost use Rattle.abi_sound.specs.Places.{places_of};
 ghost use Rattle.abi_slots.specs.Listing.{vbase_number};
 ghost use Rattle.abi_slots.specs.Slots.{word_number};
 ghost use Rattle.byte_code.specs.Numbers.{word_of};
 ghost use Rattle.path_model.specs.Outs.{class_or_first};
-ghost use Rattle.abi_ops.specs.Setups.{setup, local_register};
+ghost use Rattle.abi_ops.specs.Setups.{local_register};
 ghost use Rattle.abi_ops.specs.Operands.{operand_ops, operand_register, base_ops, converted_ops, assign_op, ops_of};
-ghost use Rattle.abi_ops.specs.invariants.Fits.{IsSite, FitsVariable, FitsOperand, FitsBase, FitsConversion, most_locals};
+ghost use Rattle.abi_ops.specs.invariants.Fits.{FitsVariable, FitsOperand, FitsBase, FitsConversion, most_locals};
+ghost use Rattle.abi_ops.specs.invariants.Sites.{site_setup, site_places, IsSiteAt, IsLaidSite};
 
 use crate::sites::Site;
 use crate::widths::{WORD, kind_of_number};
@@ -86,10 +86,10 @@ pub fn class_or_first(class: Option<ClassId>) -> ClassId
 
 /// The number of the word that leads from an object of class `c` to the virtual base in which a subobject lies.
 fn vbase_word<L: SoundLayout>(site: &Site<L>, c: ClassId, v: ClassId, i: &Subobject) -> i32
-    requires site { IsSite site.now.h.now (L.rows site.now.layout.now) site.now.slots.now site.now.body.now }
+    requires site { IsSiteAt L.rows site.now }
     requires base { FitsBase site.now.h.now c i.now }
     requires shared { i.now.root ≡ Shared v }
-    ensures { result ≡ word_number (vbase_number site.now.h.now (places_of site.now.h.now (L.rows site.now.layout.now)) c v) }
+    ensures { result ≡ word_number (vbase_number site.now.h.now (site_places L.rows site.now) c v) }
 {
     site.slots.vbase(c, v)
 }
@@ -103,11 +103,10 @@ fn place_behind<L: SoundLayout>(
     v: ClassId,
     i: &Subobject,
 ) -> Result<u64, NoMemory>
-    requires layout { L.lays_out site.now.layout.now site.now.h.now }
-    requires site { IsSite site.now.h.now (L.rows site.now.layout.now) site.now.slots.now site.now.body.now }
+    requires laid { IsLaidSite L.lays_out L.rows site.now }
     requires base { FitsBase site.now.h.now c i.now }
     requires shared { i.now.root ≡ Shared v }
-    ensures { IfOk result (λ offset. offset ≡ (places_of site.now.h.now (L.rows site.now.layout.now)).place v (subobject Whole i.now.path)) }
+    ensures { IfOk result (λ offset. offset ≡ (site_places L.rows site.now).place v (subobject Whole i.now.path)) }
 {
     let _c = c;
     let path = longer_path(site.alloc, i.path.as_slice(), &[])?;
@@ -129,10 +128,9 @@ pub fn push_base<L: SoundLayout>(
     to: u32,
     from: u32,
 ) -> Result<(), NoMemory>
-    requires layout { L.lays_out site.now.layout.now site.now.h.now }
-    requires site { IsSite site.now.h.now (L.rows site.now.layout.now) site.now.slots.now site.now.body.now }
+    requires laid { IsLaidSite L.lays_out L.rows site.now }
     requires base { FitsBase site.now.h.now c i.now }
-    ensures { OnOk result (list.new ≡ list.old ++ base_ops (setup site.now.h.now (L.rows site.now.layout.now) site.now.program.now) c i.now to from) }
+    ensures { OnOk result (list.new ≡ list.old ++ base_ops (site_setup L.rows site.now) c i.now to from) }
 {
     match i.root {
         Root::Whole => {
@@ -172,10 +170,9 @@ pub fn push_converted<L: SoundLayout>(
     to: u32,
     from: u32,
 ) -> Result<(), NoMemory>
-    requires layout { L.lays_out site.now.layout.now site.now.h.now }
-    requires site { IsSite site.now.h.now (L.rows site.now.layout.now) site.now.slots.now site.now.body.now }
+    requires laid { IsLaidSite L.lays_out L.rows site.now }
     requires fits { FitsConversion site.now.h.now class conversion.now }
-    ensures { OnOk result (list.new ≡ list.old ++ converted_ops (setup site.now.h.now (L.rows site.now.layout.now) site.now.program.now) class conversion.now to from) }
+    ensures { OnOk result (list.new ≡ list.old ++ converted_ops (site_setup L.rows site.now) class conversion.now to from) }
 {
     match conversion {
         Conversion::Number(scalar) => {

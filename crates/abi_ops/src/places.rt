@@ -7,16 +7,16 @@ ghost use Rattle.cxx_hierarchy.specs.declared.records.FieldType.TheVariants.{Obj
 ghost use Rattle.cxx_hierarchy.specs.Classes.{leaf_type, members_of};
 ghost use Rattle.cxx_hierarchy.specs.Limits.{most_elements};
 ghost use Rattle.cxx_subobject.specs.Subobjects.{class_of};
-ghost use Rattle.cxx_program.specs.Typed.{scope_of};
-ghost use Rattle.abi_sound.specs.Places.{places_of, size_of_value};
+ghost use Rattle.abi_sound.specs.Places.{size_of_value};
 ghost use Rattle.abi_sound.specs.Locations.{size_of_type, stride_in};
 ghost use Rattle.path_model.specs.Outs.{class_or_first as class_or_first_of};
 ghost use Rattle.path_model.specs.Order.{first_base};
 ghost use Rattle.path_model.specs.Uses.{is_shared as is_shared_base};
-ghost use Rattle.abi_ops.specs.Setups.{setup, value_width as value_width_of};
+ghost use Rattle.abi_ops.specs.Setups.{value_width as value_width_of};
 ghost use Rattle.abi_ops.specs.Operands.{pointed as pointed_of};
 ghost use Rattle.abi_ops.specs.PlaceOps.{element_distance, element_ops, path_ops, place_ops, passed_used, place_used, place_type, type_or_int, element_type_at};
-ghost use Rattle.abi_ops.specs.invariants.Fits.{IsSite, FitsBase, FitsPath, FitsPlace, FitsPassed};
+ghost use Rattle.abi_ops.specs.invariants.Fits.{FitsBase, FitsPath, FitsPlace, FitsPassed};
+ghost use Rattle.abi_ops.specs.invariants.Sites.{site_setup, site_places, site_scope, IsLaidSite};
 
 use crate::operands::{class_or_first, operand_register, push_base};
 use crate::reads::{is_shared, push_arrow, push_guards, push_views_if};
@@ -43,7 +43,7 @@ fn value_size(ty: &ValueType<ClassId>) -> u32
 /// The bytes of what is of a type.
 fn type_size<L: SoundLayout>(site: &Site<L>, ty: &FieldType<ClassId>) -> u32
     requires { (d : ClassId) → ty.now ≡ Object d → d.0 < length (L.rows site.now.layout.now) }
-    ensures { result ≡ size_of_type (places_of site.now.h.now (L.rows site.now.layout.now)) ty.now }
+    ensures { result ≡ size_of_type (site_places L.rows site.now) ty.now }
 {
     match ty {
         FieldType::Value(ty) => value_size(ty),
@@ -63,10 +63,9 @@ fn member_at(h: &Hierarchy, d: ClassId, m: u32) -> Option<&Member<ClassId>>
 
 /// The bytes of an element of a member of a class.
 fn stride<L: SoundLayout>(site: &Site<L>, d: ClassId, m: u32) -> u32
-    requires layout { L.lays_out site.now.layout.now site.now.h.now }
-    requires site { IsSite site.now.h.now (L.rows site.now.layout.now) site.now.slots.now site.now.body.now }
+    requires laid { IsLaidSite L.lays_out L.rows site.now }
     requires known { d.0 < length site.now.h.now }
-    ensures { result ≡ stride_in (places_of site.now.h.now (L.rows site.now.layout.now)) (slice_get (members_of site.now.h.now d) m) }
+    ensures { result ≡ stride_in (site_places L.rows site.now) (slice_get (members_of site.now.h.now d) m) }
 {
     match member_at(site.h, d, m) {
         Some(member) => type_size(site, &member.ty),
@@ -89,10 +88,9 @@ fn element_distance<L: SoundLayout>(
     member: u32,
     index: u32,
 ) -> u64
-    requires layout { L.lays_out site.now.layout.now site.now.h.now }
-    requires site { IsSite site.now.h.now (L.rows site.now.layout.now) site.now.slots.now site.now.body.now }
+    requires laid { IsLaidSite L.lays_out L.rows site.now }
     requires known { (d : ClassId) → class_of base.now ≡ Some d → d.0 < length site.now.h.now }
-    ensures is { result ≡ element_distance (setup site.now.h.now (L.rows site.now.layout.now) site.now.program.now) base.now member index }
+    ensures is { result ≡ element_distance (site_setup L.rows site.now) base.now member index }
     ensures small { index < most_elements → result < 2 ^ 45 }
 {
     match class_of(base) {
@@ -114,10 +112,9 @@ fn push_element<L: SoundLayout>(
     index: u32,
     r: u32,
 ) -> Result<(), NoMemory>
-    requires layout { L.lays_out site.now.layout.now site.now.h.now }
-    requires site { IsSite site.now.h.now (L.rows site.now.layout.now) site.now.slots.now site.now.body.now }
+    requires laid { IsLaidSite L.lays_out L.rows site.now }
     requires fits { FitsBase site.now.h.now c base.now }
-    ensures { OnOk result (list.new ≡ list.old ++ element_ops (setup site.now.h.now (L.rows site.now.layout.now) site.now.program.now) c base.now member index r) }
+    ensures { OnOk result (list.new ≡ list.old ++ element_ops (site_setup L.rows site.now) c base.now member index r) }
 {
     push_base(list, site, c, base, r, r)?;
     let offset = element_distance(site, base, member, index);
@@ -138,10 +135,9 @@ fn push_path<L: SoundLayout>(
     last: &TypedPlace,
     r: u32,
 ) -> Result<(), NoMemory>
-    requires layout { L.lays_out site.now.layout.now site.now.h.now }
-    requires site { IsSite site.now.h.now (L.rows site.now.layout.now) site.now.slots.now site.now.body.now }
+    requires laid { IsLaidSite L.lays_out L.rows site.now }
     requires fits { FitsPath site.now.h.now c passed.now last.now.base }
-    ensures { OnOk result (list.new ≡ list.old ++ path_ops (setup site.now.h.now (L.rows site.now.layout.now) site.now.program.now) c passed.now last.now.base last.now.member last.now.index r) }
+    ensures { OnOk result (list.new ≡ list.old ++ path_ops (site_setup L.rows site.now) c passed.now last.now.base last.now.member last.now.index r) }
 {
     match passed {
         [] => push_element(list, site, c, &last.base, last.member, last.index, r)?,
@@ -163,10 +159,9 @@ pub fn push_place<L: SoundLayout>(
     to: u32,
     from: u32,
 ) -> Result<(), NoMemory>
-    requires layout { L.lays_out site.now.layout.now site.now.h.now }
-    requires site { IsSite site.now.h.now (L.rows site.now.layout.now) site.now.slots.now site.now.body.now }
+    requires laid { IsLaidSite L.lays_out L.rows site.now }
     requires fits { FitsPlace site.now.h.now place.now }
-    ensures { OnOk result (list.new ≡ list.old ++ place_ops (setup site.now.h.now (L.rows site.now.layout.now) site.now.program.now) place.now to from) }
+    ensures { OnOk result (list.new ≡ list.old ++ place_ops (site_setup L.rows site.now) place.now to from) }
 {
     list.push(Finish::Move { to, from })?;
     push_path(list, site, place.class, place.passed.as_slice(), place, to)?;
@@ -176,10 +171,9 @@ pub fn push_place<L: SoundLayout>(
 /// How far a class member that is passed lies behind the part of class `c` from which it is reached, where no virtual base is on
 /// the way.
 fn passed_distance<L: SoundLayout>(site: &Site<L>, c: ClassId, p: &PassedMember) -> u64
-    requires layout { L.lays_out site.now.layout.now site.now.h.now }
-    requires site { IsSite site.now.h.now (L.rows site.now.layout.now) site.now.slots.now site.now.body.now }
+    requires laid { IsLaidSite L.lays_out L.rows site.now }
     requires fits { FitsPassed site.now.h.now c p.now }
-    ensures is { result ≡ (places_of site.now.h.now (L.rows site.now.layout.now)).place c p.now.base + element_distance (setup site.now.h.now (L.rows site.now.layout.now) site.now.program.now) p.now.base p.now.member p.now.index }
+    ensures is { result ≡ (site_places L.rows site.now).place c p.now.base + element_distance (site_setup L.rows site.now) p.now.base p.now.member p.now.index }
     ensures small { result < 2 ^ 46 }
 {
     site.layout.place(site.h, c, &p.base) as u64
@@ -196,11 +190,10 @@ fn push_passed_used<L: SoundLayout>(
     last: &Subobject,
     r: u32,
 ) -> Result<(), NoMemory>
-    requires layout { L.lays_out site.now.layout.now site.now.h.now }
-    requires site { IsSite site.now.h.now (L.rows site.now.layout.now) site.now.slots.now site.now.body.now }
+    requires laid { IsLaidSite L.lays_out L.rows site.now }
     requires fits { FitsPath site.now.h.now c passed.now last.now }
     requires small { offset + c.0 * 2 ^ 46 ≤ 2 ^ 60 }
-    ensures { OnOk result (uses.new ≡ uses.old ++ passed_used (setup site.now.h.now (L.rows site.now.layout.now) site.now.program.now) c offset passed.now r) }
+    ensures { OnOk result (uses.new ≡ uses.old ++ passed_used (site_setup L.rows site.now) c offset passed.now r) }
 {
     match passed {
         [] => {}
@@ -235,10 +228,9 @@ pub fn push_place_used<L: SoundLayout>(
     place: &TypedPlace,
     r: u32,
 ) -> Result<(), NoMemory>
-    requires layout { L.lays_out site.now.layout.now site.now.h.now }
-    requires site { IsSite site.now.h.now (L.rows site.now.layout.now) site.now.slots.now site.now.body.now }
+    requires laid { IsLaidSite L.lays_out L.rows site.now }
     requires fits { FitsPlace site.now.h.now place.now }
-    ensures { OnOk result (uses.new ≡ uses.old ++ place_used (setup site.now.h.now (L.rows site.now.layout.now) site.now.program.now) (scope_of site.now.h.now site.now.program.now.globals site.now.body.now) place.now r) }
+    ensures { OnOk result (uses.new ≡ uses.old ++ place_used (site_setup L.rows site.now) (site_scope site.now) place.now r) }
 {
     let register = operand_register(r, place.pointer);
     push_arrow(uses, site, r, place.pointer, place.class)?;
@@ -292,7 +284,7 @@ fn leaf_class(leaf: Option<&ValueType<ClassId>>) -> Option<ClassId>
 
 /// The bytes of the leaf that a place leads to.
 pub fn place_width<L: SoundLayout>(site: &Site<L>, place: &TypedPlace) -> Width
-    ensures { result ≡ value_width_of (place_type (setup site.now.h.now (L.rows site.now.layout.now) site.now.program.now) place.now) }
+    ensures { result ≡ value_width_of (place_type (site_setup L.rows site.now) place.now) }
 {
     let d = class_or_first(class_of(&place.base));
     value_width(element_type(site.h, d, place.member))
@@ -300,7 +292,7 @@ pub fn place_width<L: SoundLayout>(site: &Site<L>, place: &TypedPlace) -> Width
 
 /// The class to which the leaf points that a place leads to, if it is a pointer.
 pub fn place_class<L: SoundLayout>(site: &Site<L>, place: &TypedPlace) -> Option<ClassId>
-    ensures { result ≡ pointed_of (place_type (setup site.now.h.now (L.rows site.now.layout.now) site.now.program.now) place.now) }
+    ensures { result ≡ pointed_of (place_type (site_setup L.rows site.now) place.now) }
 {
     let d = class_or_first(class_of(&place.base));
     leaf_class(element_type(site.h, d, place.member))

@@ -1,11 +1,11 @@
 //! What parts of a statement use: reads, conversions and arrows.
 
 ghost use Rattle.std.specs.Prelude.{◌≡◌, ◌++◌, ◌∷◌, [], Some, OnOk};
-ghost use Rattle.cxx_program.specs.Typed.{scope_of};
 ghost use Rattle.path_model.specs.Uses.{is_shared};
 ghost use Rattle.abi_ops.specs.declared.uses.Used.TheVariants.{Guards};
 ghost use Rattle.abi_ops.specs.Uses.{reads_by, reads, views_if, convert_used, arrow_used};
 ghost use Rattle.abi_ops.specs.invariants.Fits.{FitsOperand};
+ghost use Rattle.abi_ops.specs.invariants.Sites.{site_scope};
 
 use crate::operands::{class_or_first, operand_register};
 use crate::sites::Site;
@@ -35,7 +35,7 @@ pub fn push_reads<L>(
     operand: TypedOperand,
 ) -> Result<(), NoMemory>
     requires { FitsOperand operand }
-    ensures { OnOk result (uses.new ≡ uses.old ++ reads (scope_of site.now.h.now site.now.program.now.globals site.now.body.now) r operand) }
+    ensures { OnOk result (uses.new ≡ uses.old ++ reads (site_scope site.now) r operand) }
 {
     match operand {
         TypedOperand::Number(_) => {}
@@ -133,7 +133,7 @@ pub fn push_arrow<L>(
     c: ClassId,
 ) -> Result<(), NoMemory>
     requires { FitsOperand p }
-    ensures { OnOk result (uses.new ≡ uses.old ++ arrow_used (scope_of site.now.h.now site.now.program.now.globals site.now.body.now) r p c) }
+    ensures { OnOk result (uses.new ≡ uses.old ++ arrow_used (site_scope site.now) r p c) }
 {
     let register = operand_register(r, p);
     push_reads(uses, site, r, p)?;

@@ -2,11 +2,11 @@
 
 ghost use Rattle.std.specs.Prelude.{◌≡◌, ◌+◌, ◌<◌, ◌^◌, ℕ, Some, length};
 ghost use Rattle.std.specs.Option.{option_copied};
-ghost use Rattle.cxx_program.specs.Typed.{scope_of, variable_type};
-ghost use Rattle.abi_ops.specs.Setups.{setup, spare_register};
-ghost use Rattle.abi_ops.specs.Arguments.{block_in, free};
-ghost use Rattle.abi_ops.specs.invariants.Fits.{IsSite};
+ghost use Rattle.cxx_program.specs.Typed.{variable_type};
+ghost use Rattle.abi_ops.specs.Setups.{spare_register};
+ghost use Rattle.abi_ops.specs.Arguments.{free};
 ghost use Rattle.abi_ops.specs.Operands.{operand_class, pointed_in};
+ghost use Rattle.abi_ops.specs.invariants.Sites.{site_scope, site_block, IsSiteAt};
 
 use abi_slots::{CodeNumbers, Slots};
 use abi_sound::SoundLayout;
@@ -53,7 +53,7 @@ fn this_class(owner: Owner) -> Option<ClassId>
 impl<'a, L: SoundLayout> Site<'a, L> {
     /// The register that nothing writes.
     pub fn spare(&self) -> u32
-        requires { IsSite self.now.h.now (L.rows self.now.layout.now) self.now.slots.now self.now.body.now }
+        requires { IsSiteAt L.rows self.now }
         ensures { result ≡ spare_register (Some self.now.body.now) }
     {
         self.body.locals.len() as u32 + 1
@@ -61,9 +61,9 @@ impl<'a, L: SoundLayout> Site<'a, L> {
 
     /// A register that is free for the ops of a block.
     pub fn free(&self, n: u32) -> u32
-        requires site { IsSite self.now.h.now (L.rows self.now.layout.now) self.now.slots.now self.now.body.now }
+        requires site { IsSiteAt L.rows self.now }
         requires few { n < 64 }
-        ensures { result ≡ free (block_in (setup self.now.h.now (L.rows self.now.layout.now) self.now.program.now) self.now.body.now) n }
+        ensures { result ≡ free (site_block L.rows self.now) n }
     {
         self.body.locals.len() as u32 + 2 + n
     }
@@ -72,7 +72,7 @@ impl<'a, L: SoundLayout> Site<'a, L> {
 impl<'a, L> Site<'a, L> {
     /// The type of a variable.
     pub fn variable_type(&self, variable: Variable) -> Option<&'a ValueType<ClassId>>
-        ensures { option_copied result ≡ variable_type (scope_of self.now.h.now self.now.program.now.globals self.now.body.now) variable }
+        ensures { option_copied result ≡ variable_type (site_scope self.now) variable }
     {
         match variable {
             Variable::Global(n) => self.program.globals.as_slice().get(n),
@@ -82,7 +82,7 @@ impl<'a, L> Site<'a, L> {
 
     /// The class that an operand points to, if it is a pointer.
     pub fn operand_class(&self, operand: TypedOperand) -> Option<ClassId>
-        ensures { result ≡ operand_class (scope_of self.now.h.now self.now.program.now.globals self.now.body.now) operand }
+        ensures { result ≡ operand_class (site_scope self.now) operand }
     {
         match operand {
             TypedOperand::Variable(variable) => pointed(self.variable_type(variable)),

@@ -1,7 +1,7 @@
 -- The entry of a deleting destructor stands behind that of the complete one, in the tables of each class (Itanium C++ ABI 2.5.2).
 use Rattle.std.proofs.Common.{◌≡◌, ℕ, zero, suc, ◌+◌, ◌<◌, Bool, true, false, Option, Some, None, List, [], ◌∷◌, ◌++◌, map, length, refl, ap, subst, sym, ◌∙◌, arith}
 use Rattle.std.specs.Prelude.{◌&&◌, ◌||◌, not, if◌then◌else◌, slice_get, Contains}
-use Rattle.std.specs.List.{list_any, find, filter, flat_map}
+use Rattle.std.specs.List.{list_any, find, flat_map}
 use Rattle.foundation.proofs.Truth.{split}
 use Rattle.foundation.proofs.Members.{index_of, has_from_contains, contains_from_has}
 use Rattle.cxx_hierarchy.specs.declared.records.ClassId.{ClassId}
@@ -18,7 +18,6 @@ use Rattle.abi_primary.specs.declared.Primary.TheVariants.{None as NoPrimary, Di
 use Rattle.abi_sound.specs.declared.class_layout.ClassLayout.{ClassLayout}
 use Rattle.abi_sound.specs.Places.{Places, places_of}
 use Rattle.abi_sound.specs.Sound.{IsSoundLayout}
-use Rattle.abi_slots.specs.declared.words.CodeKind.{CodeKind}
 use Rattle.abi_slots.specs.declared.words.CodeKind.TheVariants.{Plain, Complete, Deleting}
 use Rattle.abi_slots.specs.declared.words.EntryKey.{EntryKey}
 use Rattle.abi_slots.specs.Listing.{key, kinds_in, keys_of, own_keys, needs_return, shares, same_function, same_key, or_itself, listing, place_in, entry_number, primary_entries, new_entries, entries_in, entries}

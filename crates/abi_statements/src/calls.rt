@@ -1,25 +1,19 @@
 //! Calls: the pointer is read into the first free register, the receiver stands in the second, the result comes into the third.
 
-ghost use Rattle.std.specs.Prelude.{◌≡◌, ◌<◌, ◌+◌, ◌∷◌, [], ◌++◌, true, false, ◌||◌, OnOk, IfOk, Contains, length, Some, None};
+ghost use Rattle.std.specs.Prelude.{◌≡◌, ◌++◌, true, false, OnOk, IfOk, Contains, Some};
 ghost use Rattle.std.specs.Option.{option_copied};
 ghost use Rattle.cxx_overrider.specs.Functions.{declaration_of, return_of};
 ghost use Rattle.cxx_overrider.specs.Virtuals.{own};
-ghost use Rattle.cxx_program.specs.Typed.{scope_of};
 ghost use Rattle.path_model.specs.Uses.{is_shared_way};
-ghost use Rattle.abi_sound.specs.Places.{places_of};
-ghost use Rattle.abi_slots.specs.Listing.{pointee, entry_number};
-ghost use Rattle.abi_slots.specs.Slots.{first_key};
-ghost use Rattle.abi_ops.specs.Setups.{setup, FunctionCode};
-ghost use Rattle.abi_ops.specs.Routines.{start_by};
-ghost use Rattle.abi_ops.specs.Operands.{ops_of};
-ghost use Rattle.abi_ops.specs.Uses.{check_ops};
-ghost use Rattle.abi_ops.specs.Arguments.{block_in, free, arguments_registers};
+ghost use Rattle.abi_slots.specs.Listing.{pointee};
+ghost use Rattle.abi_ops.specs.Arguments.{arguments_registers};
 ghost use Rattle.abi_statements.specs.Rights.{through_class, qualifier_distance, call_views, call_used, qualifier_ops, receiver_ops, result_class, call_entry, call_op, call_front, call_ops, unused, result_taken, object_taken};
-ghost use Rattle.abi_ops.specs.invariants.Fits.{IsSite, FitsVariable, FitsConversion};
+ghost use Rattle.abi_ops.specs.invariants.Fits.{FitsVariable, FitsConversion};
+ghost use Rattle.abi_ops.specs.invariants.Sites.{site_setup, site_scope, site_block, site_start, IsSiteAt, IsLaidSite};
 ghost use Rattle.abi_statements.specs.invariants.Fits.{FitsWay, FitsCall};
 
 use abi_ops::arguments::{
-    push_arguments, push_arguments_front, push_arguments_used, push_checked_taken, push_taken,
+    push_arguments, push_arguments_front, push_arguments_used, push_convert_checks, push_taken,
     registers,
 };
 use abi_ops::operands::{class_or_first, operand_register, push_base, push_done, push_operand};
@@ -48,10 +42,9 @@ fn through_class(call: &TypedCall) -> ClassId
 
 /// How far the subobject before `::` lies behind that of the pointer.
 fn qualifier_distance<L: SoundLayout>(site: &Site<L>, call: &TypedCall) -> u64
-    requires layout { L.lays_out site.now.layout.now site.now.h.now }
-    requires site { IsSite site.now.h.now (L.rows site.now.layout.now) site.now.slots.now site.now.body.now }
+    requires laid { IsLaidSite L.lays_out L.rows site.now }
     requires way { FitsWay site.now.h.now call.now.class call.now.qualifier }
-    ensures { result ≡ qualifier_distance (block_in (setup site.now.h.now (L.rows site.now.layout.now) site.now.program.now) site.now.body.now) call.now }
+    ensures { result ≡ qualifier_distance (site_block L.rows site.now) call.now }
 {
     match &call.qualifier {
         Some(i) => site.layout.place(site.h, call.class, i) as u64,
@@ -67,10 +60,9 @@ fn push_call_views<L: SoundLayout>(
     call: &TypedCall,
     r: u32,
 ) -> Result<(), NoMemory>
-    requires layout { L.lays_out site.now.layout.now site.now.h.now }
-    requires site { IsSite site.now.h.now (L.rows site.now.layout.now) site.now.slots.now site.now.body.now }
+    requires laid { IsLaidSite L.lays_out L.rows site.now }
     requires way { FitsWay site.now.h.now call.now.class call.now.qualifier }
-    ensures { OnOk result (uses.new ≡ uses.old ++ call_views (block_in (setup site.now.h.now (L.rows site.now.layout.now) site.now.program.now) site.now.body.now) is_first call.now r) }
+    ensures { OnOk result (uses.new ≡ uses.old ++ call_views (site_block L.rows site.now) is_first call.now r) }
 {
     if is_first {
         push_views_if(uses, true, r, 0, call.class)?;
@@ -99,10 +91,9 @@ pub fn push_call_used<L: SoundLayout>(
     site: &Site<L>,
     call: &TypedCall,
 ) -> Result<(), NoMemory>
-    requires layout { L.lays_out site.now.layout.now site.now.h.now }
-    requires site { IsSite site.now.h.now (L.rows site.now.layout.now) site.now.slots.now site.now.body.now }
-    requires fits { FitsCall site.now.h.now (scope_of site.now.h.now site.now.program.now.globals site.now.body.now) call.now }
-    ensures { OnOk result (uses.new ≡ uses.old ++ call_used (block_in (setup site.now.h.now (L.rows site.now.layout.now) site.now.program.now) site.now.body.now) call.now) }
+    requires laid { IsLaidSite L.lays_out L.rows site.now }
+    requires fits { FitsCall site.now.h.now (site_scope site.now) call.now }
+    ensures { OnOk result (uses.new ≡ uses.old ++ call_used (site_block L.rows site.now) call.now) }
 {
     let r = site.free(0);
     let register = operand_register(r, call.pointer);
@@ -121,9 +112,9 @@ pub fn push_call_front<L: SoundLayout>(
     site: &Site<L>,
     call: &TypedCall,
 ) -> Result<(), NoMemory>
-    requires site { IsSite site.now.h.now (L.rows site.now.layout.now) site.now.slots.now site.now.body.now }
-    requires fits { FitsCall site.now.h.now (scope_of site.now.h.now site.now.program.now.globals site.now.body.now) call.now }
-    ensures { OnOk result (ops.new ≡ ops.old ++ call_front (block_in (setup site.now.h.now (L.rows site.now.layout.now) site.now.program.now) site.now.body.now) call.now) }
+    requires site { IsSiteAt L.rows site.now }
+    requires fits { FitsCall site.now.h.now (site_scope site.now) call.now }
+    ensures { OnOk result (ops.new ≡ ops.old ++ call_front (site_block L.rows site.now) call.now) }
 {
     push_operand(ops, site.free(0), call.pointer)?;
     push_arguments_front(ops, site, 0, call.arguments.as_slice())?;
@@ -138,10 +129,9 @@ fn push_qualifier<L: SoundLayout>(
     to: u32,
     from: u32,
 ) -> Result<(), NoMemory>
-    requires layout { L.lays_out site.now.layout.now site.now.h.now }
-    requires site { IsSite site.now.h.now (L.rows site.now.layout.now) site.now.slots.now site.now.body.now }
+    requires laid { IsLaidSite L.lays_out L.rows site.now }
     requires way { FitsWay site.now.h.now call.now.class call.now.qualifier }
-    ensures { OnOk result (list.new ≡ list.old ++ qualifier_ops (block_in (setup site.now.h.now (L.rows site.now.layout.now) site.now.program.now) site.now.body.now) call.now to from call.now.qualifier) }
+    ensures { OnOk result (list.new ≡ list.old ++ qualifier_ops (site_block L.rows site.now) call.now to from call.now.qualifier) }
 {
     match &call.qualifier {
         Some(i) => push_base(list, site, call.class, i, to, from)?,
@@ -156,10 +146,9 @@ fn push_receiver<L: SoundLayout>(
     site: &Site<L>,
     call: &TypedCall,
 ) -> Result<(), NoMemory>
-    requires layout { L.lays_out site.now.layout.now site.now.h.now }
-    requires site { IsSite site.now.h.now (L.rows site.now.layout.now) site.now.slots.now site.now.body.now }
-    requires fits { FitsCall site.now.h.now (scope_of site.now.h.now site.now.program.now.globals site.now.body.now) call.now }
-    ensures { OnOk result (list.new ≡ list.old ++ receiver_ops (block_in (setup site.now.h.now (L.rows site.now.layout.now) site.now.program.now) site.now.body.now) call.now) }
+    requires laid { IsLaidSite L.lays_out L.rows site.now }
+    requires fits { FitsCall site.now.h.now (site_scope site.now) call.now }
+    ensures { OnOk result (list.new ≡ list.old ++ receiver_ops (site_block L.rows site.now) call.now) }
 {
     let to = site.free(1);
     let from = operand_register(site.free(0), call.pointer);
@@ -194,7 +183,7 @@ pub fn return_class(h: &Hierarchy, f: FunctionId) -> Option<ClassId>
 
 /// The number of the class to which the result of a function points, if it is a pointer.
 pub fn result_class<L: SoundLayout>(site: &Site<L>, f: FunctionId) -> Option<u32>
-    ensures { result ≡ result_class (setup site.now.h.now (L.rows site.now.layout.now) site.now.program.now) f }
+    ensures { result ≡ result_class (site_setup L.rows site.now) f }
 {
     match return_class(site.h, f) {
         Some(class) => Some(class.0),
@@ -204,9 +193,9 @@ pub fn result_class<L: SoundLayout>(site: &Site<L>, f: FunctionId) -> Option<u32
 
 /// The number of the entry of a virtual function.
 fn call_entry<L: SoundLayout>(site: &Site<L>, f: FunctionId) -> u32
-    requires site { IsSite site.now.h.now (L.rows site.now.layout.now) site.now.slots.now site.now.body.now }
+    requires site { IsSiteAt L.rows site.now }
     requires own { Contains (own site.now.h.now f.class) f }
-    ensures { result ≡ call_entry (setup site.now.h.now (L.rows site.now.layout.now) site.now.program.now) f }
+    ensures { result ≡ call_entry (site_setup L.rows site.now) f }
 {
     site.slots.entry(f)
 }
@@ -219,10 +208,10 @@ fn push_entry_call<L: SoundLayout>(
     arguments: RegisterList,
     taken: ResultUse,
 ) -> Result<(), NoMemory>
-    requires site { IsSite site.now.h.now (L.rows site.now.layout.now) site.now.slots.now site.now.body.now }
+    requires site { IsSiteAt L.rows site.now }
     requires own { Contains (own site.now.h.now call.now.function.class) call.now.function }
-    requires registers { arguments ≡ arguments_registers (block_in (setup site.now.h.now (L.rows site.now.layout.now) site.now.program.now) site.now.body.now) 0 call.now.arguments }
-    ensures { OnOk result (ops.new ≡ ops.old ++ call_op (block_in (setup site.now.h.now (L.rows site.now.layout.now) site.now.program.now) site.now.body.now) (start_by (setup site.now.h.now (L.rows site.now.layout.now) site.now.program.now) site.now.numbers.now) true call.now taken) }
+    requires registers { arguments ≡ arguments_registers (site_block L.rows site.now) 0 call.now.arguments }
+    ensures { OnOk result (ops.new ≡ ops.old ++ call_op (site_block L.rows site.now) (site_start L.rows site.now) true call.now taken) }
 {
     let this = site.free(1);
     let entry = call_entry(site, call.function);
@@ -245,9 +234,9 @@ fn push_code_call<L: SoundLayout>(
     arguments: RegisterList,
     taken: ResultUse,
 ) -> Result<(), NoMemory>
-    requires site { IsSite site.now.h.now (L.rows site.now.layout.now) site.now.slots.now site.now.body.now }
-    requires registers { arguments ≡ arguments_registers (block_in (setup site.now.h.now (L.rows site.now.layout.now) site.now.program.now) site.now.body.now) 0 call.now.arguments }
-    ensures { OnOk result (ops.new ≡ ops.old ++ call_op (block_in (setup site.now.h.now (L.rows site.now.layout.now) site.now.program.now) site.now.body.now) (start_by (setup site.now.h.now (L.rows site.now.layout.now) site.now.program.now) site.now.numbers.now) false call.now taken) }
+    requires site { IsSiteAt L.rows site.now }
+    requires registers { arguments ≡ arguments_registers (site_block L.rows site.now) 0 call.now.arguments }
+    ensures { OnOk result (ops.new ≡ ops.old ++ call_op (site_block L.rows site.now) (site_start L.rows site.now) false call.now taken) }
 {
     ops.push(Op::CallCode {
         block: start_of(site.numbers, call.function, BlockKind::Plain),
@@ -265,10 +254,9 @@ fn push_call_op<L: SoundLayout>(
     call: &TypedCall,
     taken: ResultUse,
 ) -> Result<(), NoMemory>
-    requires layout { L.lays_out site.now.layout.now site.now.h.now }
-    requires site { IsSite site.now.h.now (L.rows site.now.layout.now) site.now.slots.now site.now.body.now }
-    requires fits { FitsCall site.now.h.now (scope_of site.now.h.now site.now.program.now.globals site.now.body.now) call.now }
-    ensures { OnOk result (ops.new ≡ ops.old ++ call_op (block_in (setup site.now.h.now (L.rows site.now.layout.now) site.now.program.now) site.now.body.now) (start_by (setup site.now.h.now (L.rows site.now.layout.now) site.now.program.now) site.now.numbers.now) call.now.is_dispatched call.now taken) }
+    requires laid { IsLaidSite L.lays_out L.rows site.now }
+    requires fits { FitsCall site.now.h.now (site_scope site.now) call.now }
+    ensures { OnOk result (ops.new ≡ ops.old ++ call_op (site_block L.rows site.now) (site_start L.rows site.now) call.now.is_dispatched call.now taken) }
 {
     let arguments = registers(site, call.arguments.as_slice())?;
     if call.is_dispatched {
@@ -288,10 +276,9 @@ pub fn push_call<L: SoundLayout>(
     call: &TypedCall,
     taken: ResultUse,
 ) -> Result<(), NoMemory>
-    requires layout { L.lays_out site.now.layout.now site.now.h.now }
-    requires site { IsSite site.now.h.now (L.rows site.now.layout.now) site.now.slots.now site.now.body.now }
-    requires fits { FitsCall site.now.h.now (scope_of site.now.h.now site.now.program.now.globals site.now.body.now) call.now }
-    ensures { OnOk result (ops.new ≡ ops.old ++ call_ops (block_in (setup site.now.h.now (L.rows site.now.layout.now) site.now.program.now) site.now.body.now) (start_by (setup site.now.h.now (L.rows site.now.layout.now) site.now.program.now) site.now.numbers.now) call.now taken) }
+    requires laid { IsLaidSite L.lays_out L.rows site.now }
+    requires fits { FitsCall site.now.h.now (site_scope site.now) call.now }
+    ensures { OnOk result (ops.new ≡ ops.old ++ call_ops (site_block L.rows site.now) (site_start L.rows site.now) call.now taken) }
 {
     let mut receiver = Sequence::new(site.alloc);
     push_receiver(&mut receiver, site, call)?;
@@ -306,7 +293,7 @@ pub fn push_call<L: SoundLayout>(
 
 /// A result that no variable takes.
 pub fn unused<L: SoundLayout>(site: &Site<L>, f: FunctionId) -> ResultUse
-    ensures { result ≡ unused (setup site.now.h.now (L.rows site.now.layout.now) site.now.program.now) f }
+    ensures { result ≡ unused (site_setup L.rows site.now) f }
 {
     ResultUse {
         to: None,
@@ -324,26 +311,19 @@ pub fn result_taken<L: SoundLayout>(
     f: FunctionId,
     conversion: &Conversion,
 ) -> Result<ResultUse, NoMemory>
-    requires layout { L.lays_out site.now.layout.now site.now.h.now }
-    requires site { IsSite site.now.h.now (L.rows site.now.layout.now) site.now.slots.now site.now.body.now }
+    requires laid { IsLaidSite L.lays_out L.rows site.now }
     requires variable { FitsVariable variable }
     requires fits { FitsConversion site.now.h.now (pointee (return_of site.now.h.now f)) conversion.now }
-    ensures { IfOk result (λ taken. taken ≡ result_taken (block_in (setup site.now.h.now (L.rows site.now.layout.now) site.now.program.now) site.now.body.now) variable (pointee (return_of site.now.h.now f)) (result_class (setup site.now.h.now (L.rows site.now.layout.now) site.now.program.now) f) conversion.now) }
+    ensures { IfOk result (λ taken. taken ≡ result_taken (site_block L.rows site.now) variable (pointee (return_of site.now.h.now f)) (result_class (site_setup L.rows site.now) f) conversion.now) }
 {
-    let to = site.free(2);
-    let mut finish = Sequence::new(site.alloc);
+    let from = site.free(2);
+    let to = site.free(3);
     let class = return_class(site.h, f);
-    push_checked_taken(
-        &mut finish,
-        site,
-        variable,
-        class,
-        conversion,
-        site.free(3),
-        to,
-    )?;
+    let mut finish = Sequence::new(site.alloc);
+    push_convert_checks(&mut finish, site, class, conversion, from)?;
+    push_taken(&mut finish, site, variable, class, conversion, to, from)?;
     Ok(ResultUse {
-        to: Some(to),
+        to: Some(from),
         class: result_class(site, f),
         finish,
     })
@@ -358,25 +338,18 @@ pub fn object_taken<L: SoundLayout>(
     d: ClassId,
     conversion: &Conversion,
 ) -> Result<ResultUse, NoMemory>
-    requires layout { L.lays_out site.now.layout.now site.now.h.now }
-    requires site { IsSite site.now.h.now (L.rows site.now.layout.now) site.now.slots.now site.now.body.now }
+    requires laid { IsLaidSite L.lays_out L.rows site.now }
     requires variable { FitsVariable variable }
     requires fits { FitsConversion site.now.h.now (Some d) conversion.now }
-    ensures { IfOk result (λ taken. taken ≡ object_taken (block_in (setup site.now.h.now (L.rows site.now.layout.now) site.now.program.now) site.now.body.now) variable d conversion.now) }
+    ensures { IfOk result (λ taken. taken ≡ object_taken (site_block L.rows site.now) variable d conversion.now) }
 {
-    let to = site.free(2);
+    let from = site.free(2);
+    let to = site.free(3);
+    let class = Some(d);
     let mut finish = Sequence::new(site.alloc);
-    push_taken(
-        &mut finish,
-        site,
-        variable,
-        Some(d),
-        conversion,
-        site.free(3),
-        to,
-    )?;
+    push_taken(&mut finish, site, variable, class, conversion, to, from)?;
     Ok(ResultUse {
-        to: Some(to),
+        to: Some(from),
         class: None,
         finish,
     })

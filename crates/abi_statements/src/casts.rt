@@ -1,14 +1,10 @@
 //! Casts: what is tested of the pointer, and what is done with it.
 
-ghost use Rattle.std.specs.Prelude.{◌≡◌, ◌<◌, ◌∷◌, [], ◌++◌, OnOk, if◌then◌else◌};
-ghost use Rattle.cxx_subobject.specs.Subobjects.{class_of};
-ghost use Rattle.cxx_program.specs.declared.statement.TypedRight.TheVariants.{Cast};
-ghost use Rattle.abi_sound.specs.Places.{places_of};
-ghost use Rattle.abi_ops.specs.Setups.{setup};
-ghost use Rattle.abi_ops.specs.Operands.{operand_class};
-ghost use Rattle.abi_ops.specs.Arguments.{block_in, class_at};
+ghost use Rattle.std.specs.Prelude.{◌≡◌, ◌++◌, OnOk};
+ghost use Rattle.abi_ops.specs.Arguments.{class_at};
 ghost use Rattle.abi_statements.specs.Rights.{back_by, cast_used, cast_ops, cast_class};
-ghost use Rattle.abi_ops.specs.invariants.Fits.{IsSite, FitsOperand, FitsBase};
+ghost use Rattle.abi_ops.specs.invariants.Fits.{FitsOperand, FitsBase};
+ghost use Rattle.abi_ops.specs.invariants.Sites.{site_places, site_block, IsLaidSite};
 ghost use Rattle.abi_statements.specs.invariants.Fits.{FitsCast};
 
 use abi_ops::operands::{class_or_first, operand_register, push_base, push_done};
@@ -31,17 +27,16 @@ fn back_by(n: u32) -> u64
 
 /// How far an object of a class lies from a subobject of it, modulo 2^64.
 fn distance_down<L: SoundLayout>(site: &Site<L>, target: ClassId, i: &Subobject) -> u64
-    requires layout { L.lays_out site.now.layout.now site.now.h.now }
-    requires site { IsSite site.now.h.now (L.rows site.now.layout.now) site.now.slots.now site.now.body.now }
+    requires laid { IsLaidSite L.lays_out L.rows site.now }
     requires fits { FitsBase site.now.h.now target i.now }
-    ensures { result ≡ back_by ((places_of site.now.h.now (L.rows site.now.layout.now)).place target i.now) }
+    ensures { result ≡ back_by ((site_places L.rows site.now).place target i.now) }
 {
     back_by(site.layout.place(site.h, target, i))
 }
 
 /// The class that an operand points to.
 pub fn class_at<L: SoundLayout>(site: &Site<L>, operand: TypedOperand) -> ClassId
-    ensures { result ≡ class_at (block_in (setup site.now.h.now (L.rows site.now.layout.now) site.now.program.now) site.now.body.now) operand }
+    ensures { result ≡ class_at (site_block L.rows site.now) operand }
 {
     class_or_first(site.operand_class(operand))
 }
@@ -54,11 +49,10 @@ pub fn push_cast_used<L: SoundLayout>(
     r: u32,
     p: TypedOperand,
 ) -> Result<(), NoMemory>
-    requires layout { L.lays_out site.now.layout.now site.now.h.now }
-    requires site { IsSite site.now.h.now (L.rows site.now.layout.now) site.now.slots.now site.now.body.now }
+    requires laid { IsLaidSite L.lays_out L.rows site.now }
     requires operand { FitsOperand p }
-    requires fits { FitsCast site.now.h.now (class_at (block_in (setup site.now.h.now (L.rows site.now.layout.now) site.now.program.now) site.now.body.now) p) cast.now }
-    ensures { OnOk result (uses.new ≡ uses.old ++ cast_used (block_in (setup site.now.h.now (L.rows site.now.layout.now) site.now.program.now) site.now.body.now) cast.now r p) }
+    requires fits { FitsCast site.now.h.now (class_at (site_block L.rows site.now) p) cast.now }
+    ensures { OnOk result (uses.new ≡ uses.old ++ cast_used (site_block L.rows site.now) cast.now r p) }
 {
     let register = operand_register(r, p);
     let c = class_at(site, p);
@@ -90,10 +84,9 @@ pub fn push_cast<L: SoundLayout>(
     from: u32,
     c: ClassId,
 ) -> Result<(), NoMemory>
-    requires layout { L.lays_out site.now.layout.now site.now.h.now }
-    requires site { IsSite site.now.h.now (L.rows site.now.layout.now) site.now.slots.now site.now.body.now }
+    requires laid { IsLaidSite L.lays_out L.rows site.now }
     requires fits { FitsCast site.now.h.now c cast.now }
-    ensures { OnOk result (ops.new ≡ ops.old ++ cast_ops (block_in (setup site.now.h.now (L.rows site.now.layout.now) site.now.program.now) site.now.body.now) cast.now to from c) }
+    ensures { OnOk result (ops.new ≡ ops.old ++ cast_ops (site_block L.rows site.now) cast.now to from c) }
 {
     match cast {
         TypedCast::Same => ops.push(Op::Does(Finish::Move { to, from }))?,

@@ -1,17 +1,13 @@
 //! How an object is deleted.
 
-ghost use Rattle.std.specs.Prelude.{◌≡◌, true, ◌<◌, ◌+◌, ◌∷◌, [], ◌++◌, OnOk, length};
+ghost use Rattle.std.specs.Prelude.{◌≡◌, true, ◌<◌, ◌∷◌, [], ◌++◌, OnOk, length};
 ghost use Rattle.cxx_overrider.specs.Overriders.{AreOverriders};
 ghost use Rattle.cxx_overrider.specs.Virtuals.{is_virtual};
 ghost use Rattle.cxx_search.specs.Searches.{destructor_of};
-ghost use Rattle.abi_sound.specs.Places.{places_of};
 ghost use Rattle.abi_slots.specs.Listing.{entry_number, key};
 ghost use Rattle.abi_slots.specs.declared.words.CodeKind.TheVariants.{Deleting};
-ghost use Rattle.abi_ops.specs.Setups.{setup};
-ghost use Rattle.abi_ops.specs.Routines.{start_by};
-ghost use Rattle.abi_ops.specs.Arguments.{block_in};
-ghost use Rattle.abi_ops.specs.invariants.Fits.{IsSite};
 ghost use Rattle.abi_statements.specs.Statements.{delete_op};
+ghost use Rattle.abi_ops.specs.invariants.Sites.{site_places, site_block, site_start, IsLaidSite};
 
 use abi_ops::routines::{destructor_of, start_of};
 use abi_ops::sites::Site;
@@ -33,11 +29,10 @@ pub fn is_virtual_end<L: SoundLayout>(site: &Site<L>, c: ClassId) -> bool
 
 /// The number of the entry of the deleting destructor of a class: it stands behind that of the complete one (Itanium C++ ABI 2.5.2).
 fn deleting_entry<L: SoundLayout>(site: &Site<L>, c: ClassId) -> u32
-    requires layout { L.lays_out site.now.layout.now site.now.h.now }
-    requires site { IsSite site.now.h.now (L.rows site.now.layout.now) site.now.slots.now site.now.body.now }
+    requires laid { IsLaidSite L.lays_out L.rows site.now }
     requires known { c.0 < length site.now.h.now }
     requires is_virtual { is_virtual site.now.h.now (destructor_of site.now.h.now c) ≡ true }
-    ensures { result ≡ entry_number site.now.h.now (places_of site.now.h.now (L.rows site.now.layout.now)) (key (destructor_of site.now.h.now c) Deleting) }
+    ensures { result ≡ entry_number site.now.h.now (site_places L.rows site.now) (key (destructor_of site.now.h.now c) Deleting) }
 {
     let _entries = site.slots.entries(c);
     site.slots.entry(destructor_of(site.h, c)) + 1
@@ -52,11 +47,10 @@ pub fn push_delete<L: SoundLayout>(
     c: ClassId,
     this: u32,
 ) -> Result<(), NoMemory>
-    requires layout { L.lays_out site.now.layout.now site.now.h.now }
-    requires site { IsSite site.now.h.now (L.rows site.now.layout.now) site.now.slots.now site.now.body.now }
+    requires laid { IsLaidSite L.lays_out L.rows site.now }
     requires overriders { AreOverriders site.now.h.now site.now.overriders.now }
     requires known { c.0 < length site.now.h.now }
-    ensures { OnOk result (ops.new ≡ ops.old ++ delete_op (block_in (setup site.now.h.now (L.rows site.now.layout.now) site.now.program.now) site.now.body.now) (start_by (setup site.now.h.now (L.rows site.now.layout.now) site.now.program.now) site.now.numbers.now) (is_virtual site.now.h.now (destructor_of site.now.h.now c)) c this ∷ []) }
+    ensures { OnOk result (ops.new ≡ ops.old ++ delete_op (site_block L.rows site.now) (site_start L.rows site.now) (is_virtual site.now.h.now (destructor_of site.now.h.now c)) c this ∷ []) }
 {
     if is_virtual_end(site, c) {
         let entry = deleting_entry(site, c);

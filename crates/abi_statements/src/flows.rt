@@ -1,12 +1,11 @@
 //! Where control goes from a statement, and how an operand is printed.
 
-ghost use Rattle.std.specs.Prelude.{◌≡◌, ◌<◌, ◌^◌, ◌+◌, ◌∷◌, [], ◌++◌, OnOk, Some, None};
+ghost use Rattle.std.specs.Prelude.{◌≡◌, ◌<◌, ◌^◌, ◌+◌, ◌∷◌, [], ◌++◌, OnOk};
 ghost use Rattle.std.specs.Option.{option_copied};
-ghost use Rattle.cxx_program.specs.Typed.{scope_of};
 ghost use Rattle.path_model.specs.Effects.{block_at};
 ghost use Rattle.byte_code.specs.declared.op.Op.TheVariants.{Jump};
-ghost use Rattle.cxx_program.specs.declared.statement.TypedKind.TheVariants.{Copy};
 ghost use Rattle.abi_statements.specs.Statements.{print_as as print_as_of, operand_print, written_width as written_width_of};
+ghost use Rattle.abi_ops.specs.invariants.Sites.{site_scope};
 
 use abi_ops::sites::Site;
 use abi_ops::widths::register_width;
@@ -17,12 +16,13 @@ use cxx_program::{TypedOperand, Variable};
 use foundation::NoMemory;
 
 /// Where control goes from a statement: the block of the first statement of its body, its own number, and that of the statement
-/// behind it.
+/// behind it, whose block has a number of 32 bits.
 #[derive(Clone, Copy)]
 pub struct Flow {
     pub base: u32,
     pub number: usize,
     pub next: usize,
+    ghost room: { base + next < 2 ^ 32 },
 }
 
 /// The block of a statement of the body.
@@ -35,7 +35,6 @@ pub fn target(flow: Flow, m: usize) -> u32
 
 /// Goes on to the statement behind.
 pub fn push_jump(ops: &mut OpList, flow: Flow) -> Result<(), NoMemory>
-    requires { flow.base + flow.next < 2 ^ 32 }
     ensures { OnOk result (ops.new ≡ ops.old ++ Jump (flow.base + flow.next) ∷ []) }
 {
     ops.push(Op::Jump {
@@ -74,7 +73,7 @@ fn written_width(number: i64) -> Width
 
 /// How an operand is printed.
 pub fn operand_print<L: SoundLayout>(site: &Site<L>, p: TypedOperand) -> PrintAs
-    ensures { result ≡ operand_print (scope_of site.now.h.now site.now.program.now.globals site.now.body.now) p }
+    ensures { result ≡ operand_print (site_scope site.now) p }
 {
     match p {
         TypedOperand::Variable(variable) => print_as(site.variable_type(variable)),

@@ -1,18 +1,14 @@
 //! Leaves that are loaded, and addresses of class members.
 
-ghost use Rattle.std.specs.Prelude.{◌≡◌, ◌<◌, ◌∷◌, [], ◌++◌, OnOk, Some, None, if◌then◌else◌};
-ghost use Rattle.cxx_subobject.specs.Subobjects.{class_of};
+ghost use Rattle.std.specs.Prelude.{◌≡◌, ◌++◌, OnOk};
 ghost use Rattle.cxx_program.specs.declared.statement.TypedRight.TheVariants.{Read, Address};
-ghost use Rattle.path_model.specs.Outs.{class_or_first as class_or_first_of};
-ghost use Rattle.abi_ops.specs.Setups.{setup};
-ghost use Rattle.abi_ops.specs.Routines.{start_by};
-ghost use Rattle.abi_ops.specs.Operands.{pointed};
-ghost use Rattle.abi_ops.specs.PlaceOps.{type_or_int, place_type, element_type_at};
-ghost use Rattle.abi_ops.specs.Arguments.{block_in, free};
-ghost use Rattle.abi_statements.specs.Rights.{loaded_used, load_ops, right_ops};
-ghost use Rattle.abi_ops.specs.invariants.Fits.{IsSite, FitsVariable, FitsConversion, FitsPlace};
+ghost use Rattle.abi_ops.specs.PlaceOps.{place_type};
+ghost use Rattle.abi_statements.specs.Rights.{loaded_used, load_ops};
+ghost use Rattle.abi_ops.specs.invariants.Fits.{FitsPlace};
+ghost use Rattle.abi_ops.specs.invariants.Sites.{site_setup, site_block, IsLaidSite};
+ghost use Rattle.abi_statements.specs.invariants.Sites.{site_right, FitsTaken};
 
-use abi_ops::arguments::{push_checked_taken, push_taken};
+use abi_ops::arguments::{push_convert_checks, push_taken};
 use abi_ops::operands::{operand_register, push_done};
 use abi_ops::places::{place_class, place_width, push_place};
 use abi_ops::reads::push_convert_used;
@@ -34,10 +30,9 @@ fn push_load<L: SoundLayout>(
     to: u32,
     from: u32,
 ) -> Result<(), NoMemory>
-    requires layout { L.lays_out site.now.layout.now site.now.h.now }
-    requires site { IsSite site.now.h.now (L.rows site.now.layout.now) site.now.slots.now site.now.body.now }
+    requires laid { IsLaidSite L.lays_out L.rows site.now }
     requires fits { FitsPlace site.now.h.now place.now }
-    ensures { OnOk result (ops.new ≡ ops.old ++ load_ops (block_in (setup site.now.h.now (L.rows site.now.layout.now) site.now.program.now) site.now.body.now) place.now to from) }
+    ensures { OnOk result (ops.new ≡ ops.old ++ load_ops (site_block L.rows site.now) place.now to from) }
 {
     let width = place_width(site, place);
     let mut list = Sequence::new(site.alloc);
@@ -66,7 +61,7 @@ fn push_loaded_used<L: SoundLayout>(
     conversion: &Conversion,
     register: u32,
 ) -> Result<(), NoMemory>
-    ensures { OnOk result (uses.new ≡ uses.old ++ loaded_used (place_type (setup site.now.h.now (L.rows site.now.layout.now) site.now.program.now) place.now) conversion.now register) }
+    ensures { OnOk result (uses.new ≡ uses.old ++ loaded_used (place_type (site_setup L.rows site.now) place.now) conversion.now register) }
 {
     match place_class(site, place) {
         None => {}
@@ -86,27 +81,19 @@ pub fn push_read_right<L: SoundLayout>(
     place: &TypedPlace,
     conversion: &Conversion,
 ) -> Result<(), NoMemory>
-    requires layout { L.lays_out site.now.layout.now site.now.h.now }
-    requires site { IsSite site.now.h.now (L.rows site.now.layout.now) site.now.slots.now site.now.body.now }
-    requires variable { FitsVariable v }
-    requires fits { FitsPlace site.now.h.now place.now × FitsConversion site.now.h.now (pointed (type_or_int (element_type_at site.now.h.now (class_or_first_of (class_of place.now.base)) place.now.member))) conversion.now }
-    ensures { OnOk result (ops.new ≡ ops.old ++ right_ops (block_in (setup site.now.h.now (L.rows site.now.layout.now) site.now.program.now) site.now.body.now) (start_by (setup site.now.h.now (L.rows site.now.layout.now) site.now.program.now) site.now.numbers.now) v (Read place.now) conversion.now) }
+    requires laid { IsLaidSite L.lays_out L.rows site.now }
+    requires fits { FitsTaken site.now v (Read place.now) conversion.now }
+    ensures { OnOk result (ops.new ≡ ops.old ++ site_right L.rows site.now v (Read place.now) conversion.now) }
 {
     let loaded = site.free(2);
     push_load(ops, site, place, loaded, site.free(1))?;
     let mut uses = Sequence::new(site.alloc);
     push_loaded_used(&mut uses, site, place, conversion, loaded)?;
     push_check_ops(site.alloc, ops, uses.as_slice())?;
+    let class = place_class(site, place);
+    let to = site.free(3);
     let mut list = Sequence::new(site.alloc);
-    push_taken(
-        &mut list,
-        site,
-        v,
-        place_class(site, place),
-        conversion,
-        site.free(3),
-        loaded,
-    )?;
+    push_taken(&mut list, site, v, class, conversion, to, loaded)?;
     push_done(ops, list.as_slice())?;
     Ok(())
 }
@@ -120,11 +107,9 @@ pub fn push_address_right<L: SoundLayout>(
     d: ClassId,
     conversion: &Conversion,
 ) -> Result<(), NoMemory>
-    requires layout { L.lays_out site.now.layout.now site.now.h.now }
-    requires site { IsSite site.now.h.now (L.rows site.now.layout.now) site.now.slots.now site.now.body.now }
-    requires variable { FitsVariable v }
-    requires fits { FitsPlace site.now.h.now place.now × FitsConversion site.now.h.now (Some d) conversion.now }
-    ensures { OnOk result (ops.new ≡ ops.old ++ right_ops (block_in (setup site.now.h.now (L.rows site.now.layout.now) site.now.program.now) site.now.body.now) (start_by (setup site.now.h.now (L.rows site.now.layout.now) site.now.program.now) site.now.numbers.now) v (Address place.now d) conversion.now) }
+    requires laid { IsLaidSite L.lays_out L.rows site.now }
+    requires fits { FitsTaken site.now v (Address place.now d) conversion.now }
+    ensures { OnOk result (ops.new ≡ ops.old ++ site_right L.rows site.now v (Address place.now d) conversion.now) }
 {
     let there = site.free(1);
     let pointer = operand_register(site.free(0), place.pointer);
@@ -132,7 +117,8 @@ pub fn push_address_right<L: SoundLayout>(
     push_place(&mut moves, site, place, there, pointer)?;
     push_done(ops, moves.as_slice())?;
     let mut list = Sequence::new(site.alloc);
-    push_checked_taken(&mut list, site, v, Some(d), conversion, site.free(2), there)?;
+    push_convert_checks(&mut list, site, Some(d), conversion, there)?;
+    push_taken(&mut list, site, v, Some(d), conversion, site.free(2), there)?;
     push_done(ops, list.as_slice())?;
     Ok(())
 }

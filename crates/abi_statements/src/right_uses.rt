@@ -1,15 +1,14 @@
 //! What right sides read and use.
 
-ghost use Rattle.std.specs.Prelude.{◌≡◌, ◌<◌, ◌∷◌, [], ◌++◌, OnOk, if◌then◌else◌};
-ghost use Rattle.cxx_program.specs.declared.statement.TypedRight.TheVariants.{Operand, SamePointer, Not, Read, Address, Call, New, Cast, TypeEqual};
-ghost use Rattle.cxx_program.specs.Typed.{scope_of};
-ghost use Rattle.abi_ops.specs.declared.uses.Used.TheVariants.{Overflows, Views};
-ghost use Rattle.abi_ops.specs.Setups.{setup, width_of};
+ghost use Rattle.std.specs.Prelude.{◌≡◌, ◌∷◌, [], ◌++◌, OnOk};
+ghost use Rattle.cxx_program.specs.declared.statement.TypedRight.TheVariants.{Arithmetic as ArithmeticRight};
+ghost use Rattle.cxx_program.specs.declared.operand.Conversion.TheVariants.{Same};
+ghost use Rattle.abi_ops.specs.declared.uses.Used.TheVariants.{Views};
 ghost use Rattle.abi_ops.specs.Operands.{operand_register as operand_register_of};
-ghost use Rattle.abi_ops.specs.Uses.{reads, arrow_used};
-ghost use Rattle.abi_ops.specs.Arguments.{block_in, free, class_at};
+ghost use Rattle.abi_ops.specs.Uses.{arrow_used};
 ghost use Rattle.abi_statements.specs.Rights.{arith_kind, right_front, right_used};
-ghost use Rattle.abi_ops.specs.invariants.Fits.{IsSite, FitsOperand};
+ghost use Rattle.abi_ops.specs.invariants.Fits.{FitsOperand};
+ghost use Rattle.abi_ops.specs.invariants.Sites.{site_scope, site_block, IsSiteAt, IsLaidSite};
 ghost use Rattle.abi_statements.specs.invariants.Fits.{FitsRight};
 
 use crate::calls::{push_call_front, push_call_used};
@@ -23,7 +22,7 @@ use abi_ops::uses::{UseList, Used};
 use abi_ops::widths::width;
 use abi_sound::SoundLayout;
 use byte_code::{ArithKind, OpList};
-use cxx_hierarchy::Scalar;
+use cxx_hierarchy::{ClassId, Scalar};
 use cxx_program::{Arithmetic, Conversion, TypedOperand, TypedRight};
 use foundation::NoMemory;
 
@@ -50,9 +49,9 @@ pub fn push_right_front<L: SoundLayout>(
     site: &Site<L>,
     right: &TypedRight,
 ) -> Result<(), NoMemory>
-    requires site { IsSite site.now.h.now (L.rows site.now.layout.now) site.now.slots.now site.now.body.now }
-    requires fits { FitsRight site.now.h.now (scope_of site.now.h.now site.now.program.now.globals site.now.body.now) right.now }
-    ensures { OnOk result (ops.new ≡ ops.old ++ right_front (block_in (setup site.now.h.now (L.rows site.now.layout.now) site.now.program.now) site.now.body.now) right.now) }
+    requires site { IsSiteAt L.rows site.now }
+    requires fits { FitsRight site.now.h.now (site_scope site.now) right.now }
+    ensures { OnOk result (ops.new ≡ ops.old ++ right_front (site_block L.rows site.now) right.now) }
 {
     let first = site.free(0);
     match right {
@@ -86,10 +85,10 @@ fn push_arithmetic_used<L: SoundLayout>(
     p: TypedOperand,
     q: TypedOperand,
 ) -> Result<(), NoMemory>
-    requires site { IsSite site.now.h.now (L.rows site.now.layout.now) site.now.slots.now site.now.body.now }
+    requires site { IsSiteAt L.rows site.now }
     requires left { FitsOperand p }
     requires right { FitsOperand q }
-    ensures { OnOk result (uses.new ≡ uses.old ++ (reads (scope_of site.now.h.now site.now.program.now.globals site.now.body.now) (free (block_in (setup site.now.h.now (L.rows site.now.layout.now) site.now.program.now) site.now.body.now) 0) p ++ (reads (scope_of site.now.h.now site.now.program.now.globals site.now.body.now) (free (block_in (setup site.now.h.now (L.rows site.now.layout.now) site.now.program.now) site.now.body.now) 1) q ++ Overflows (arith_kind op) (width_of scalar) (operand_register_of (free (block_in (setup site.now.h.now (L.rows site.now.layout.now) site.now.program.now) site.now.body.now) 0) p) (operand_register_of (free (block_in (setup site.now.h.now (L.rows site.now.layout.now) site.now.program.now) site.now.body.now) 1) q) ∷ []))) }
+    ensures { OnOk result (uses.new ≡ uses.old ++ right_used (site_block L.rows site.now) (ArithmeticRight op scalar p q) Same) }
 {
     push_reads(uses, site, site.free(0), p)?;
     push_reads(uses, site, site.free(1), q)?;
@@ -102,18 +101,19 @@ fn push_arithmetic_used<L: SoundLayout>(
     Ok(())
 }
 
-/// Puts the uses of a test of a type behind others.
-fn push_type_used<L: SoundLayout>(
+/// Puts the uses of a look at the type of a view behind others, by a pointer to class `c`.
+///
+/// Errors: want of memory.
+pub fn push_type_used<L>(
     uses: &mut UseList,
     site: &Site<L>,
+    r: u32,
     p: TypedOperand,
+    c: ClassId,
 ) -> Result<(), NoMemory>
-    requires site { IsSite site.now.h.now (L.rows site.now.layout.now) site.now.slots.now site.now.body.now }
-    requires fits { FitsOperand p }
-    ensures { OnOk result (uses.new ≡ uses.old ++ (arrow_used (scope_of site.now.h.now site.now.program.now.globals site.now.body.now) (free (block_in (setup site.now.h.now (L.rows site.now.layout.now) site.now.program.now) site.now.body.now) 0) p (class_at (block_in (setup site.now.h.now (L.rows site.now.layout.now) site.now.program.now) site.now.body.now) p) ++ Views (operand_register_of (free (block_in (setup site.now.h.now (L.rows site.now.layout.now) site.now.program.now) site.now.body.now) 0) p) 0 (class_at (block_in (setup site.now.h.now (L.rows site.now.layout.now) site.now.program.now) site.now.body.now) p).0 ∷ [])) }
+    requires { FitsOperand p }
+    ensures { OnOk result (uses.new ≡ uses.old ++ (arrow_used (site_scope site.now) r p c ++ Views (operand_register_of r p) 0 c.0 ∷ [])) }
 {
-    let r = site.free(0);
-    let c = class_at(site, p);
     push_arrow(uses, site, r, p, c)?;
     push_views_if(uses, true, operand_register(r, p), 0, c)?;
     Ok(())
@@ -128,10 +128,9 @@ pub fn push_right_used<L: SoundLayout>(
     right: &TypedRight,
     conversion: &Conversion,
 ) -> Result<(), NoMemory>
-    requires layout { L.lays_out site.now.layout.now site.now.h.now }
-    requires site { IsSite site.now.h.now (L.rows site.now.layout.now) site.now.slots.now site.now.body.now }
-    requires fits { FitsRight site.now.h.now (scope_of site.now.h.now site.now.program.now.globals site.now.body.now) right.now }
-    ensures { OnOk result (uses.new ≡ uses.old ++ right_used (block_in (setup site.now.h.now (L.rows site.now.layout.now) site.now.program.now) site.now.body.now) right.now conversion.now) }
+    requires laid { IsLaidSite L.lays_out L.rows site.now }
+    requires fits { FitsRight site.now.h.now (site_scope site.now) right.now }
+    ensures { OnOk result (uses.new ≡ uses.old ++ right_used (site_block L.rows site.now) right.now conversion.now) }
 {
     let first = site.free(0);
     match right {
@@ -150,7 +149,7 @@ pub fn push_right_used<L: SoundLayout>(
         TypedRight::Call(call) => push_call_used(uses, site, call)?,
         TypedRight::New(_) => {}
         TypedRight::Cast(cast, p) => push_cast_used(uses, site, cast, first, *p)?,
-        TypedRight::TypeEqual(p, _) => push_type_used(uses, site, *p)?,
+        TypedRight::TypeEqual(p, _) => push_type_used(uses, site, first, *p, class_at(site, *p))?,
     }
     Ok(())
 }

@@ -1,25 +1,19 @@
 //! What right sides do, behind their tests.
 
-ghost use Rattle.std.specs.Prelude.{◌≡◌, ◌<◌, ◌∷◌, [], ◌++◌, OnOk, length, Some, None, if◌then◌else◌};
-ghost use Rattle.cxx_overrider.specs.Functions.{return_of};
-ghost use Rattle.cxx_program.specs.declared.statement.TypedRight.TheVariants.{Operand, Arithmetic as ArithmeticRight, SamePointer, Not, Read, Address, Call, New, Cast, TypeEqual};
-ghost use Rattle.cxx_program.specs.Typed.{scope_of};
-ghost use Rattle.path_model.specs.Outs.{class_or_first as class_or_first_of};
-ghost use Rattle.abi_slots.specs.Listing.{pointee};
+ghost use Rattle.std.specs.Prelude.{◌≡◌, ◌++◌, OnOk, None, if◌then◌else◌};
+ghost use Rattle.cxx_program.specs.declared.statement.TypedRight.TheVariants.{Operand, Arithmetic as ArithmeticRight, SamePointer, Not, Call, New, Cast, TypeEqual};
 ghost use Rattle.byte_code.specs.declared.op.ArithKind.TheVariants.{Equal as EqualKind, NotEqual as NotEqualKind};
-ghost use Rattle.abi_ops.specs.Setups.{setup};
-ghost use Rattle.abi_ops.specs.Routines.{start_by};
-ghost use Rattle.abi_ops.specs.Operands.{operand_class, ops_of};
-ghost use Rattle.abi_ops.specs.Arguments.{block_in, free, class_at, argument_ops};
-ghost use Rattle.abi_statements.specs.Rights.{arith_kind, cast_class, right_ops};
-ghost use Rattle.abi_ops.specs.invariants.Fits.{IsSite, FitsVariable, FitsOperand, FitsConversion, FitsArgument};
-ghost use Rattle.abi_statements.specs.invariants.Fits.{FitsCast, FitsCall, FitsRight, right_class};
+ghost use Rattle.abi_ops.specs.Operands.{ops_of};
+ghost use Rattle.abi_ops.specs.Arguments.{argument_ops, taken_ops};
+ghost use Rattle.abi_ops.specs.invariants.Fits.{FitsVariable, FitsConversion, FitsArgument};
+ghost use Rattle.abi_ops.specs.invariants.Sites.{site_scope, site_block, IsLaidSite};
+ghost use Rattle.abi_statements.specs.invariants.Sites.{site_right, FitsTaken};
 
 use crate::calls::{object_taken, push_call, result_taken};
 use crate::casts::{cast_class, class_at, push_cast};
 use crate::loads::{push_address_right, push_read_right};
 use crate::right_uses::arith_kind;
-use abi_ops::arguments::{push_argument, push_checked_taken, push_taken};
+use abi_ops::arguments::{push_argument, push_convert_checks, push_taken};
 use abi_ops::operands::{operand_register, push_done};
 use abi_ops::routines::{constructor_of, start_of};
 use abi_ops::sites::Site;
@@ -41,23 +35,34 @@ fn push_operand_right<L: SoundLayout>(
     p: TypedOperand,
     conversion: &Conversion,
 ) -> Result<(), NoMemory>
-    requires layout { L.lays_out site.now.layout.now site.now.h.now }
-    requires site { IsSite site.now.h.now (L.rows site.now.layout.now) site.now.slots.now site.now.body.now }
-    requires variable { FitsVariable v }
-    requires fits { FitsOperand p × FitsConversion site.now.h.now (operand_class (scope_of site.now.h.now site.now.program.now.globals site.now.body.now) p) conversion.now }
-    ensures { OnOk result (ops.new ≡ ops.old ++ right_ops (block_in (setup site.now.h.now (L.rows site.now.layout.now) site.now.program.now) site.now.body.now) (start_by (setup site.now.h.now (L.rows site.now.layout.now) site.now.program.now) site.now.numbers.now) v (Operand p) conversion.now) }
+    requires laid { IsLaidSite L.lays_out L.rows site.now }
+    requires fits { FitsTaken site.now v (Operand p) conversion.now }
+    ensures { OnOk result (ops.new ≡ ops.old ++ site_right L.rows site.now v (Operand p) conversion.now) }
 {
+    let class = site.operand_class(p);
     let from = operand_register(site.free(0), p);
     let mut list = Sequence::new(site.alloc);
-    push_taken(
-        &mut list,
-        site,
-        v,
-        site.operand_class(p),
-        conversion,
-        site.free(2),
-        from,
-    )?;
+    push_taken(&mut list, site, v, class, conversion, site.free(2), from)?;
+    push_done(ops, list.as_slice())?;
+    Ok(())
+}
+
+/// Converts a number in a register, and gives it to a variable.
+fn push_number_taken<L: SoundLayout>(
+    ops: &mut OpList,
+    site: &Site<L>,
+    v: Variable,
+    conversion: &Conversion,
+    to: u32,
+    from: u32,
+) -> Result<(), NoMemory>
+    requires laid { IsLaidSite L.lays_out L.rows site.now }
+    requires variable { FitsVariable v }
+    requires fits { FitsConversion site.now.h.now None conversion.now }
+    ensures { OnOk result (ops.new ≡ ops.old ++ ops_of (taken_ops (site_block L.rows site.now) v None conversion.now to from)) }
+{
+    let mut list = Sequence::new(site.alloc);
+    push_taken(&mut list, site, v, None, conversion, to, from)?;
     push_done(ops, list.as_slice())?;
     Ok(())
 }
@@ -73,11 +78,9 @@ fn push_arithmetic_right<L: SoundLayout>(
     q: TypedOperand,
     conversion: &Conversion,
 ) -> Result<(), NoMemory>
-    requires layout { L.lays_out site.now.layout.now site.now.h.now }
-    requires site { IsSite site.now.h.now (L.rows site.now.layout.now) site.now.slots.now site.now.body.now }
-    requires variable { FitsVariable v }
-    requires fits { FitsOperand p × FitsOperand q × FitsConversion site.now.h.now None conversion.now }
-    ensures { OnOk result (ops.new ≡ ops.old ++ right_ops (block_in (setup site.now.h.now (L.rows site.now.layout.now) site.now.program.now) site.now.body.now) (start_by (setup site.now.h.now (L.rows site.now.layout.now) site.now.program.now) site.now.numbers.now) v (ArithmeticRight op scalar p q) conversion.now) }
+    requires laid { IsLaidSite L.lays_out L.rows site.now }
+    requires fits { FitsTaken site.now v (ArithmeticRight op scalar p q) conversion.now }
+    ensures { OnOk result (ops.new ≡ ops.old ++ site_right L.rows site.now v (ArithmeticRight op scalar p q) conversion.now) }
 {
     let to = site.free(2);
     ops.push(Op::Arith {
@@ -87,9 +90,7 @@ fn push_arithmetic_right<L: SoundLayout>(
         left: operand_register(site.free(0), p),
         right: operand_register(site.free(1), q),
     })?;
-    let mut list = Sequence::new(site.alloc);
-    push_taken(&mut list, site, v, None, conversion, site.free(3), to)?;
-    push_done(ops, list.as_slice())?;
+    push_number_taken(ops, site, v, conversion, site.free(3), to)?;
     Ok(())
 }
 
@@ -112,10 +113,9 @@ fn push_converted_argument<L: SoundLayout>(
     to: u32,
     r: u32,
 ) -> Result<(), NoMemory>
-    requires layout { L.lays_out site.now.layout.now site.now.h.now }
-    requires site { IsSite site.now.h.now (L.rows site.now.layout.now) site.now.slots.now site.now.body.now }
-    requires fits { FitsArgument site.now.h.now (scope_of site.now.h.now site.now.program.now.globals site.now.body.now) a.now }
-    ensures { OnOk result (ops.new ≡ ops.old ++ ops_of (argument_ops (block_in (setup site.now.h.now (L.rows site.now.layout.now) site.now.program.now) site.now.body.now) a.now to r)) }
+    requires laid { IsLaidSite L.lays_out L.rows site.now }
+    requires fits { FitsArgument site.now.h.now (site_scope site.now) a.now }
+    ensures { OnOk result (ops.new ≡ ops.old ++ ops_of (argument_ops (site_block L.rows site.now) a.now to r)) }
 {
     let mut list = Sequence::new(site.alloc);
     push_argument(&mut list, site, a, to, r)?;
@@ -133,11 +133,9 @@ fn push_same_right<L: SoundLayout>(
     q: &Argument,
     conversion: &Conversion,
 ) -> Result<(), NoMemory>
-    requires layout { L.lays_out site.now.layout.now site.now.h.now }
-    requires site { IsSite site.now.h.now (L.rows site.now.layout.now) site.now.slots.now site.now.body.now }
-    requires variable { FitsVariable v }
-    requires fits { FitsArgument site.now.h.now (scope_of site.now.h.now site.now.program.now.globals site.now.body.now) p.now × FitsArgument site.now.h.now (scope_of site.now.h.now site.now.program.now.globals site.now.body.now) q.now × FitsConversion site.now.h.now None conversion.now }
-    ensures { OnOk result (ops.new ≡ ops.old ++ right_ops (block_in (setup site.now.h.now (L.rows site.now.layout.now) site.now.program.now) site.now.body.now) (start_by (setup site.now.h.now (L.rows site.now.layout.now) site.now.program.now) site.now.numbers.now) v (SamePointer differ p.now q.now) conversion.now) }
+    requires laid { IsLaidSite L.lays_out L.rows site.now }
+    requires fits { FitsTaken site.now v (SamePointer differ p.now q.now) conversion.now }
+    ensures { OnOk result (ops.new ≡ ops.old ++ site_right L.rows site.now v (SamePointer differ p.now q.now) conversion.now) }
 {
     let left = site.free(2);
     let right = site.free(3);
@@ -153,9 +151,7 @@ fn push_same_right<L: SoundLayout>(
         left,
         right,
     })?;
-    let mut list = Sequence::new(site.alloc);
-    push_taken(&mut list, site, v, None, conversion, site.free(5), to)?;
-    push_done(ops, list.as_slice())?;
+    push_number_taken(ops, site, v, conversion, site.free(5), to)?;
     Ok(())
 }
 
@@ -167,11 +163,9 @@ fn push_not_right<L: SoundLayout>(
     p: TypedOperand,
     conversion: &Conversion,
 ) -> Result<(), NoMemory>
-    requires layout { L.lays_out site.now.layout.now site.now.h.now }
-    requires site { IsSite site.now.h.now (L.rows site.now.layout.now) site.now.slots.now site.now.body.now }
-    requires variable { FitsVariable v }
-    requires fits { FitsOperand p × FitsConversion site.now.h.now None conversion.now }
-    ensures { OnOk result (ops.new ≡ ops.old ++ right_ops (block_in (setup site.now.h.now (L.rows site.now.layout.now) site.now.program.now) site.now.body.now) (start_by (setup site.now.h.now (L.rows site.now.layout.now) site.now.program.now) site.now.numbers.now) v (Not p) conversion.now) }
+    requires laid { IsLaidSite L.lays_out L.rows site.now }
+    requires fits { FitsTaken site.now v (Not p) conversion.now }
+    ensures { OnOk result (ops.new ≡ ops.old ++ site_right L.rows site.now v (Not p) conversion.now) }
 {
     let zero = site.free(1);
     let to = site.free(2);
@@ -183,9 +177,7 @@ fn push_not_right<L: SoundLayout>(
         left: operand_register(site.free(0), p),
         right: zero,
     })?;
-    let mut list = Sequence::new(site.alloc);
-    push_taken(&mut list, site, v, None, conversion, site.free(3), to)?;
-    push_done(ops, list.as_slice())?;
+    push_number_taken(ops, site, v, conversion, site.free(3), to)?;
     Ok(())
 }
 
@@ -197,11 +189,9 @@ fn push_call_right<L: SoundLayout>(
     call: &TypedCall,
     conversion: &Conversion,
 ) -> Result<(), NoMemory>
-    requires layout { L.lays_out site.now.layout.now site.now.h.now }
-    requires site { IsSite site.now.h.now (L.rows site.now.layout.now) site.now.slots.now site.now.body.now }
-    requires variable { FitsVariable v }
-    requires fits { FitsCall site.now.h.now (scope_of site.now.h.now site.now.program.now.globals site.now.body.now) call.now × FitsConversion site.now.h.now (pointee (return_of site.now.h.now call.now.function)) conversion.now }
-    ensures { OnOk result (ops.new ≡ ops.old ++ right_ops (block_in (setup site.now.h.now (L.rows site.now.layout.now) site.now.program.now) site.now.body.now) (start_by (setup site.now.h.now (L.rows site.now.layout.now) site.now.program.now) site.now.numbers.now) v (Call call.now) conversion.now) }
+    requires laid { IsLaidSite L.lays_out L.rows site.now }
+    requires fits { FitsTaken site.now v (Call call.now) conversion.now }
+    ensures { OnOk result (ops.new ≡ ops.old ++ site_right L.rows site.now v (Call call.now) conversion.now) }
 {
     let taken = result_taken(site, v, call.function, conversion)?;
     push_call(ops, site, call, taken)?;
@@ -216,11 +206,9 @@ fn push_new_right<L: SoundLayout>(
     d: ClassId,
     conversion: &Conversion,
 ) -> Result<(), NoMemory>
-    requires layout { L.lays_out site.now.layout.now site.now.h.now }
-    requires site { IsSite site.now.h.now (L.rows site.now.layout.now) site.now.slots.now site.now.body.now }
-    requires variable { FitsVariable v }
-    requires fits { (d.0 < length site.now.h.now) × FitsConversion site.now.h.now (Some d) conversion.now }
-    ensures { OnOk result (ops.new ≡ ops.old ++ right_ops (block_in (setup site.now.h.now (L.rows site.now.layout.now) site.now.program.now) site.now.body.now) (start_by (setup site.now.h.now (L.rows site.now.layout.now) site.now.program.now) site.now.numbers.now) v (New d) conversion.now) }
+    requires laid { IsLaidSite L.lays_out L.rows site.now }
+    requires fits { FitsTaken site.now v (New d) conversion.now }
+    ensures { OnOk result (ops.new ≡ ops.old ++ site_right L.rows site.now v (New d) conversion.now) }
 {
     let taken = object_taken(site, v, d, conversion)?;
     let block = start_of(
@@ -246,25 +234,17 @@ fn push_cast_right<L: SoundLayout>(
     p: TypedOperand,
     conversion: &Conversion,
 ) -> Result<(), NoMemory>
-    requires layout { L.lays_out site.now.layout.now site.now.h.now }
-    requires site { IsSite site.now.h.now (L.rows site.now.layout.now) site.now.slots.now site.now.body.now }
-    requires variable { FitsVariable v }
-    requires fits { FitsOperand p × FitsCast site.now.h.now (class_or_first_of (operand_class (scope_of site.now.h.now site.now.program.now.globals site.now.body.now) p)) cast.now × FitsConversion site.now.h.now (Some (cast_class cast.now (class_or_first_of (operand_class (scope_of site.now.h.now site.now.program.now.globals site.now.body.now) p)))) conversion.now }
-    ensures { OnOk result (ops.new ≡ ops.old ++ right_ops (block_in (setup site.now.h.now (L.rows site.now.layout.now) site.now.program.now) site.now.body.now) (start_by (setup site.now.h.now (L.rows site.now.layout.now) site.now.program.now) site.now.numbers.now) v (Cast cast.now p) conversion.now) }
+    requires laid { IsLaidSite L.lays_out L.rows site.now }
+    requires fits { FitsTaken site.now v (Cast cast.now p) conversion.now }
+    ensures { OnOk result (ops.new ≡ ops.old ++ site_right L.rows site.now v (Cast cast.now p) conversion.now) }
 {
     let c = class_at(site, p);
     let there = site.free(1);
     push_cast(ops, site, cast, there, operand_register(site.free(0), p), c)?;
+    let class = Some(cast_class(cast, c));
     let mut list = Sequence::new(site.alloc);
-    push_checked_taken(
-        &mut list,
-        site,
-        v,
-        Some(cast_class(cast, c)),
-        conversion,
-        site.free(2),
-        there,
-    )?;
+    push_convert_checks(&mut list, site, class, conversion, there)?;
+    push_taken(&mut list, site, v, class, conversion, site.free(2), there)?;
     push_done(ops, list.as_slice())?;
     Ok(())
 }
@@ -278,11 +258,9 @@ fn push_type_right<L: SoundLayout>(
     d: ClassId,
     conversion: &Conversion,
 ) -> Result<(), NoMemory>
-    requires layout { L.lays_out site.now.layout.now site.now.h.now }
-    requires site { IsSite site.now.h.now (L.rows site.now.layout.now) site.now.slots.now site.now.body.now }
-    requires variable { FitsVariable v }
-    requires fits { FitsOperand p × FitsConversion site.now.h.now None conversion.now }
-    ensures { OnOk result (ops.new ≡ ops.old ++ right_ops (block_in (setup site.now.h.now (L.rows site.now.layout.now) site.now.program.now) site.now.body.now) (start_by (setup site.now.h.now (L.rows site.now.layout.now) site.now.program.now) site.now.numbers.now) v (TypeEqual p d) conversion.now) }
+    requires laid { IsLaidSite L.lays_out L.rows site.now }
+    requires fits { FitsTaken site.now v (TypeEqual p d) conversion.now }
+    ensures { OnOk result (ops.new ≡ ops.old ++ site_right L.rows site.now v (TypeEqual p d) conversion.now) }
 {
     let left = site.free(1);
     let right = site.free(2);
@@ -302,9 +280,7 @@ fn push_type_right<L: SoundLayout>(
         left,
         right,
     })?;
-    let mut list = Sequence::new(site.alloc);
-    push_taken(&mut list, site, v, None, conversion, site.free(4), to)?;
-    push_done(ops, list.as_slice())?;
+    push_number_taken(ops, site, v, conversion, site.free(4), to)?;
     Ok(())
 }
 
@@ -318,12 +294,9 @@ pub fn push_right<L: SoundLayout>(
     right: &TypedRight,
     conversion: &Conversion,
 ) -> Result<(), NoMemory>
-    requires layout { L.lays_out site.now.layout.now site.now.h.now }
-    requires site { IsSite site.now.h.now (L.rows site.now.layout.now) site.now.slots.now site.now.body.now }
-    requires variable { FitsVariable v }
-    requires fits { FitsRight site.now.h.now (scope_of site.now.h.now site.now.program.now.globals site.now.body.now) right.now }
-    requires conversion { FitsConversion site.now.h.now (right_class site.now.h.now (scope_of site.now.h.now site.now.program.now.globals site.now.body.now) right.now) conversion.now }
-    ensures { OnOk result (ops.new ≡ ops.old ++ right_ops (block_in (setup site.now.h.now (L.rows site.now.layout.now) site.now.program.now) site.now.body.now) (start_by (setup site.now.h.now (L.rows site.now.layout.now) site.now.program.now) site.now.numbers.now) v right.now conversion.now) }
+    requires laid { IsLaidSite L.lays_out L.rows site.now }
+    requires fits { FitsTaken site.now v right.now conversion.now }
+    ensures { OnOk result (ops.new ≡ ops.old ++ site_right L.rows site.now v right.now conversion.now) }
 {
     match right {
         TypedRight::Operand(p) => push_operand_right(ops, site, v, *p, conversion)?,

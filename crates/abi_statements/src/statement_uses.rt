@@ -1,19 +1,20 @@
 //! What statements read, and what is tested of them.
 
-ghost use Rattle.std.specs.Prelude.{◌≡◌, ◌<◌, ◌+◌, ◌++◌, OnOk, length, Some, None, ℕ};
+ghost use Rattle.std.specs.Prelude.{◌≡◌, ◌<◌, ◌∷◌, [], ◌++◌, OnOk, length, Some, ℕ};
 ghost use Rattle.cxx_overrider.specs.Overriders.{AreOverriders};
-ghost use Rattle.cxx_overrider.specs.Virtuals.{is_virtual};
-ghost use Rattle.cxx_program.specs.Typed.{scope_of};
-ghost use Rattle.cxx_program.specs.declared.statement.TypedKind.TheVariants.{Declare, Assign, Write, Copy, Call, Delete, If, While, Return, Print, PrintType, PrintView, Dump};
-ghost use Rattle.abi_ops.specs.Setups.{setup, spare_register};
-ghost use Rattle.abi_ops.specs.Arguments.{block_in, free};
-ghost use Rattle.abi_ops.specs.invariants.Fits.{IsSite, FitsOperand, FitsPlace, FitsArgument, most_locals};
+ghost use Rattle.cxx_program.specs.declared.statement.TypedKind.TheVariants.{Write, Delete, PrintView};
+ghost use Rattle.abi_ops.specs.declared.uses.Used.TheVariants.{Follows, Dumps};
+ghost use Rattle.abi_ops.specs.Setups.{spare_register};
+ghost use Rattle.abi_ops.specs.Operands.{operand_register as operand_register_of};
+ghost use Rattle.abi_ops.specs.Uses.{reads};
+ghost use Rattle.abi_ops.specs.invariants.Fits.{FitsOperand, FitsPlace, FitsArgument, most_locals};
+ghost use Rattle.abi_ops.specs.invariants.Sites.{site_scope, site_block, IsSiteAt, IsLaidSite};
 ghost use Rattle.abi_statements.specs.Statements.{declared_front, kind_front, kind_used};
 ghost use Rattle.abi_statements.specs.invariants.Fits.{FitsDeclared, FitsKind};
 
 use crate::calls::{push_call_front, push_call_used};
 use crate::deletes::is_virtual_end;
-use crate::right_uses::{push_right_front, push_right_used};
+use crate::right_uses::{push_right_front, push_right_used, push_type_used};
 use abi_copies::covers::{push_copy_front, push_copy_used};
 use abi_ops::arguments::push_argument_used;
 use abi_ops::operands::{local_register, operand_register, push_operand};
@@ -34,10 +35,10 @@ fn push_declared_front<L: SoundLayout>(
     n: usize,
     value: &Option<Converted>,
 ) -> Result<(), NoMemory>
-    requires site { IsSite site.now.h.now (L.rows site.now.layout.now) site.now.slots.now site.now.body.now }
+    requires site { IsSiteAt L.rows site.now }
     requires local { n < most_locals }
-    requires fits { FitsDeclared site.now.h.now (scope_of site.now.h.now site.now.program.now.globals site.now.body.now) value.now }
-    ensures { OnOk result (ops.new ≡ ops.old ++ declared_front (block_in (setup site.now.h.now (L.rows site.now.layout.now) site.now.program.now) site.now.body.now) (spare_register (Some site.now.body.now)) n value.now) }
+    requires fits { FitsDeclared site.now.h.now (site_scope site.now) value.now }
+    ensures { OnOk result (ops.new ≡ ops.old ++ declared_front (site_block L.rows site.now) (spare_register (Some site.now.body.now)) n value.now) }
 {
     ops.push(Op::Does(Finish::Move {
         to: local_register(n),
@@ -58,9 +59,9 @@ pub fn push_kind_front<L: SoundLayout>(
     site: &Site<L>,
     kind: &TypedKind,
 ) -> Result<(), NoMemory>
-    requires site { IsSite site.now.h.now (L.rows site.now.layout.now) site.now.slots.now site.now.body.now }
-    requires fits { (size n : ℕ) × FitsKind site.now.h.now (scope_of site.now.h.now site.now.program.now.globals site.now.body.now) size n kind.now }
-    ensures { OnOk result (ops.new ≡ ops.old ++ kind_front (block_in (setup site.now.h.now (L.rows site.now.layout.now) site.now.program.now) site.now.body.now) (spare_register (Some site.now.body.now)) kind.now) }
+    requires site { IsSiteAt L.rows site.now }
+    requires fits { (size n : ℕ) × FitsKind site.now.h.now (site_scope site.now) size n kind.now }
+    ensures { OnOk result (ops.new ≡ ops.old ++ kind_front (site_block L.rows site.now) (spare_register (Some site.now.body.now)) kind.now) }
 {
     let first = site.free(0);
     match kind {
@@ -92,11 +93,11 @@ fn push_delete_used<L: SoundLayout>(
     p: TypedOperand,
     c: ClassId,
 ) -> Result<(), NoMemory>
-    requires site { IsSite site.now.h.now (L.rows site.now.layout.now) site.now.slots.now site.now.body.now }
+    requires site { IsSiteAt L.rows site.now }
     requires overriders { AreOverriders site.now.h.now site.now.overriders.now }
     requires operand { FitsOperand p }
     requires known { c.0 < length site.now.h.now }
-    ensures { OnOk result (uses.new ≡ uses.old ++ kind_used (block_in (setup site.now.h.now (L.rows site.now.layout.now) site.now.program.now) site.now.body.now) (Delete p c)) }
+    ensures { OnOk result (uses.new ≡ uses.old ++ kind_used (site_block L.rows site.now) (Delete p c)) }
 {
     let r = site.free(0);
     let register = operand_register(r, p);
@@ -113,16 +114,16 @@ fn push_delete_used<L: SoundLayout>(
     Ok(())
 }
 
-/// Puts the uses of a print of a type or of a view behind others; a type asks for a pointer that is not null.
-fn push_shown_used<L: SoundLayout>(
+/// Puts the uses of a print of a view behind others.
+fn push_print_view_used<L: SoundLayout>(
     uses: &mut UseList,
     site: &Site<L>,
     p: TypedOperand,
     c: ClassId,
 ) -> Result<(), NoMemory>
-    requires site { IsSite site.now.h.now (L.rows site.now.layout.now) site.now.slots.now site.now.body.now }
+    requires site { IsSiteAt L.rows site.now }
     requires operand { FitsOperand p }
-    ensures { OnOk result (uses.new ≡ uses.old ++ kind_used (block_in (setup site.now.h.now (L.rows site.now.layout.now) site.now.program.now) site.now.body.now) (PrintView p c)) }
+    ensures { OnOk result (uses.new ≡ uses.old ++ kind_used (site_block L.rows site.now) (PrintView p c)) }
 {
     let r = site.free(0);
     let register = operand_register(r, p);
@@ -132,36 +133,16 @@ fn push_shown_used<L: SoundLayout>(
     Ok(())
 }
 
-/// Puts the uses of a print of a type behind others.
-fn push_type_used<L: SoundLayout>(
-    uses: &mut UseList,
-    site: &Site<L>,
-    p: TypedOperand,
-    c: ClassId,
-) -> Result<(), NoMemory>
-    requires site { IsSite site.now.h.now (L.rows site.now.layout.now) site.now.slots.now site.now.body.now }
-    requires operand { FitsOperand p }
-    ensures { OnOk result (uses.new ≡ uses.old ++ kind_used (block_in (setup site.now.h.now (L.rows site.now.layout.now) site.now.program.now) site.now.body.now) (PrintType p c)) }
-{
-    let r = site.free(0);
-    push_arrow(uses, site, r, p, c)?;
-    push_views_if(uses, true, operand_register(r, p), 0, c)?;
-    Ok(())
-}
-
 /// Puts the uses of a dump behind others.
-fn push_dump_used<L: SoundLayout>(
+fn push_dump_used<L>(
     uses: &mut UseList,
     site: &Site<L>,
+    r: u32,
     p: TypedOperand,
-    c: ClassId,
 ) -> Result<(), NoMemory>
-    requires site { IsSite site.now.h.now (L.rows site.now.layout.now) site.now.slots.now site.now.body.now }
-    requires operand { FitsOperand p }
-    ensures { OnOk result (uses.new ≡ uses.old ++ kind_used (block_in (setup site.now.h.now (L.rows site.now.layout.now) site.now.program.now) site.now.body.now) (Dump p c)) }
+    requires { FitsOperand p }
+    ensures { OnOk result (uses.new ≡ uses.old ++ (reads (site_scope site.now) r p ++ Follows (operand_register_of r p) ∷ Dumps (operand_register_of r p) ∷ [])) }
 {
-    let _c = c;
-    let r = site.free(0);
     let register = operand_register(r, p);
     push_reads(uses, site, r, p)?;
     uses.push(Used::Follows { register })?;
@@ -176,11 +157,10 @@ fn push_write_used<L: SoundLayout>(
     place: &TypedPlace,
     a: &Argument,
 ) -> Result<(), NoMemory>
-    requires layout { L.lays_out site.now.layout.now site.now.h.now }
-    requires site { IsSite site.now.h.now (L.rows site.now.layout.now) site.now.slots.now site.now.body.now }
+    requires laid { IsLaidSite L.lays_out L.rows site.now }
     requires place { FitsPlace site.now.h.now place.now }
-    requires fits { FitsArgument site.now.h.now (scope_of site.now.h.now site.now.program.now.globals site.now.body.now) a.now }
-    ensures { OnOk result (uses.new ≡ uses.old ++ kind_used (block_in (setup site.now.h.now (L.rows site.now.layout.now) site.now.program.now) site.now.body.now) (Write place.now a.now)) }
+    requires fits { FitsArgument site.now.h.now (site_scope site.now) a.now }
+    ensures { OnOk result (uses.new ≡ uses.old ++ kind_used (site_block L.rows site.now) (Write place.now a.now)) }
 {
     push_place_used(uses, site, place, site.free(0))?;
     push_argument_used(uses, site, a, site.free(1))?;
@@ -195,11 +175,10 @@ pub fn push_kind_used<L: SoundLayout>(
     site: &Site<L>,
     kind: &TypedKind,
 ) -> Result<(), NoMemory>
-    requires layout { L.lays_out site.now.layout.now site.now.h.now }
-    requires site { IsSite site.now.h.now (L.rows site.now.layout.now) site.now.slots.now site.now.body.now }
+    requires laid { IsLaidSite L.lays_out L.rows site.now }
     requires overriders { AreOverriders site.now.h.now site.now.overriders.now }
-    requires fits { (size n : ℕ) × FitsKind site.now.h.now (scope_of site.now.h.now site.now.program.now.globals site.now.body.now) size n kind.now }
-    ensures { OnOk result (uses.new ≡ uses.old ++ kind_used (block_in (setup site.now.h.now (L.rows site.now.layout.now) site.now.program.now) site.now.body.now) kind.now) }
+    requires fits { (size n : ℕ) × FitsKind site.now.h.now (site_scope site.now) size n kind.now }
+    ensures { OnOk result (uses.new ≡ uses.old ++ kind_used (site_block L.rows site.now) kind.now) }
 {
     let first = site.free(0);
     match kind {
@@ -215,9 +194,9 @@ pub fn push_kind_used<L: SoundLayout>(
             push_reads(uses, site, first, *p)?;
         }
         TypedKind::Return(Some(a)) => push_argument_used(uses, site, a, first)?,
-        TypedKind::PrintType(p, c) => push_type_used(uses, site, *p, *c)?,
-        TypedKind::PrintView(p, c) => push_shown_used(uses, site, *p, *c)?,
-        TypedKind::Dump(p, c) => push_dump_used(uses, site, *p, *c)?,
+        TypedKind::PrintType(p, c) => push_type_used(uses, site, first, *p, *c)?,
+        TypedKind::PrintView(p, c) => push_print_view_used(uses, site, *p, *c)?,
+        TypedKind::Dump(p, _) => push_dump_used(uses, site, first, *p)?,
     }
     Ok(())
 }

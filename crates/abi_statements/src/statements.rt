@@ -1,17 +1,16 @@
 //! What statements do, behind their tests.
 
-ghost use Rattle.std.specs.Prelude.{◌≡◌, ◌<◌, ◌-◌, ◌^◌, ◌+◌, ◌++◌, OnOk, length, Some, None};
+ghost use Rattle.std.specs.Prelude.{◌≡◌, ◌<◌, ◌-◌, ◌^◌, ◌+◌, ◌∷◌, [], ◌++◌, OnOk, length};
 ghost use Rattle.cxx_overrider.specs.Overriders.{AreOverriders};
-ghost use Rattle.cxx_program.specs.Typed.{scope_of};
-ghost use Rattle.path_model.specs.Effects.{block_at};
-ghost use Rattle.byte_code.specs.declared.op.Op.TheVariants.{Jump};
-ghost use Rattle.cxx_program.specs.declared.statement.TypedKind.TheVariants.{Declare, Assign, Write, Copy, Call, Delete, If, While, Return, Print, PrintType, PrintView, Dump};
-ghost use Rattle.abi_ops.specs.Setups.{setup, FunctionCode};
-ghost use Rattle.abi_ops.specs.Routines.{start_by};
-ghost use Rattle.abi_ops.specs.Arguments.{block_in, free};
-ghost use Rattle.abi_ops.specs.invariants.Fits.{IsSite, FitsVariable, FitsOperand, FitsPlace, FitsArgument, most_locals};
-ghost use Rattle.abi_statements.specs.Statements.{operand_print, returned_ops, kind_ops};
+ghost use Rattle.cxx_program.specs.declared.statement.TypedKind.TheVariants.{Assign, Write, Copy, Call, Delete, If, While, Print, Dump};
+ghost use Rattle.byte_code.specs.declared.op.Op.TheVariants.{Print as PrintOp, Jump};
+ghost use Rattle.abi_ops.specs.Setups.{FunctionCode};
+ghost use Rattle.abi_ops.specs.Arguments.{free};
+ghost use Rattle.abi_ops.specs.invariants.Fits.{FitsVariable, FitsOperand, FitsPlace, FitsArgument};
+ghost use Rattle.abi_ops.specs.invariants.Sites.{site_scope, site_block, IsSiteAt, IsLaidSite};
+ghost use Rattle.abi_statements.specs.Statements.{returned_ops};
 ghost use Rattle.abi_statements.specs.invariants.Fits.{FitsCall, FitsConverted, FitsReturn, FitsKind, routine_of};
+ghost use Rattle.abi_statements.specs.invariants.Sites.{site_kind};
 
 use crate::calls::{push_call, result_class, unused};
 use crate::deletes::push_delete;
@@ -38,10 +37,9 @@ fn push_result<L: SoundLayout>(
     f: FunctionId,
     value: &Option<Argument>,
 ) -> Result<(), NoMemory>
-    requires layout { L.lays_out site.now.layout.now site.now.h.now }
-    requires site { IsSite site.now.h.now (L.rows site.now.layout.now) site.now.slots.now site.now.body.now }
-    requires fits { FitsReturn site.now.h.now (scope_of site.now.h.now site.now.program.now.globals site.now.body.now) value.now }
-    ensures { OnOk result (ops.new ≡ ops.old ++ returned_ops (block_in (setup site.now.h.now (L.rows site.now.layout.now) site.now.program.now) site.now.body.now) (FunctionCode f) value.now) }
+    requires laid { IsLaidSite L.lays_out L.rows site.now }
+    requires fits { FitsReturn site.now.h.now (site_scope site.now) value.now }
+    ensures { OnOk result (ops.new ≡ ops.old ++ returned_ops (site_block L.rows site.now) (FunctionCode f) value.now) }
 {
     match value {
         None => ops.push(Op::Return {
@@ -68,36 +66,15 @@ fn push_return<L: SoundLayout>(
     site: &Site<L>,
     value: &Option<Argument>,
 ) -> Result<(), NoMemory>
-    requires layout { L.lays_out site.now.layout.now site.now.h.now }
-    requires site { IsSite site.now.h.now (L.rows site.now.layout.now) site.now.slots.now site.now.body.now }
-    requires fits { FitsReturn site.now.h.now (scope_of site.now.h.now site.now.program.now.globals site.now.body.now) value.now }
-    ensures { OnOk result (ops.new ≡ ops.old ++ returned_ops (block_in (setup site.now.h.now (L.rows site.now.layout.now) site.now.program.now) site.now.body.now) (routine_of site.now.body.now.owner) value.now) }
+    requires laid { IsLaidSite L.lays_out L.rows site.now }
+    requires fits { FitsReturn site.now.h.now (site_scope site.now) value.now }
+    ensures { OnOk result (ops.new ≡ ops.old ++ returned_ops (site_block L.rows site.now) (routine_of site.now.body.now.owner) value.now) }
 {
     match site.body.owner {
         Owner::Main => ops.push(Op::End)?,
         Owner::Function(f) => push_result(ops, site, f, value)?,
         Owner::Constructor(_) | Owner::Destructor(_) => {}
     }
-    Ok(())
-}
-
-/// Gives a local that is declared its value.
-fn push_begin<L: SoundLayout>(
-    ops: &mut OpList,
-    site: &Site<L>,
-    flow: Flow,
-    n: usize,
-    v: &Converted,
-) -> Result<(), NoMemory>
-    requires layout { L.lays_out site.now.layout.now site.now.h.now }
-    requires site { IsSite site.now.h.now (L.rows site.now.layout.now) site.now.slots.now site.now.body.now }
-    requires room { flow.base + flow.next < 2 ^ 32 }
-    requires local { n < most_locals }
-    requires fits { FitsConverted site.now.h.now (scope_of site.now.h.now site.now.program.now.globals site.now.body.now) v.now }
-    ensures { OnOk result (ops.new ≡ ops.old ++ kind_ops (block_in (setup site.now.h.now (L.rows site.now.layout.now) site.now.program.now) site.now.body.now) (start_by (setup site.now.h.now (L.rows site.now.layout.now) site.now.program.now) site.now.numbers.now) (routine_of site.now.body.now.owner) (λ m. flow.base + m) flow.number flow.next (Declare n (Some v.now))) }
-{
-    push_right(ops, site, Variable::Local(n), &v.right, &v.conversion)?;
-    push_jump(ops, flow)?;
     Ok(())
 }
 
@@ -109,12 +86,10 @@ fn push_assign<L: SoundLayout>(
     variable: Variable,
     v: &Converted,
 ) -> Result<(), NoMemory>
-    requires layout { L.lays_out site.now.layout.now site.now.h.now }
-    requires site { IsSite site.now.h.now (L.rows site.now.layout.now) site.now.slots.now site.now.body.now }
-    requires room { flow.base + flow.next < 2 ^ 32 }
+    requires laid { IsLaidSite L.lays_out L.rows site.now }
     requires variable { FitsVariable variable }
-    requires fits { FitsConverted site.now.h.now (scope_of site.now.h.now site.now.program.now.globals site.now.body.now) v.now }
-    ensures { OnOk result (ops.new ≡ ops.old ++ kind_ops (block_in (setup site.now.h.now (L.rows site.now.layout.now) site.now.program.now) site.now.body.now) (start_by (setup site.now.h.now (L.rows site.now.layout.now) site.now.program.now) site.now.numbers.now) (routine_of site.now.body.now.owner) (λ m. flow.base + m) flow.number flow.next (Assign variable v.now)) }
+    requires fits { FitsConverted site.now.h.now (site_scope site.now) v.now }
+    ensures { OnOk result (ops.new ≡ ops.old ++ site_kind L.rows site.now flow (Assign variable v.now)) }
 {
     push_right(ops, site, variable, &v.right, &v.conversion)?;
     push_jump(ops, flow)?;
@@ -129,12 +104,10 @@ fn push_write<L: SoundLayout>(
     place: &TypedPlace,
     a: &Argument,
 ) -> Result<(), NoMemory>
-    requires layout { L.lays_out site.now.layout.now site.now.h.now }
-    requires site { IsSite site.now.h.now (L.rows site.now.layout.now) site.now.slots.now site.now.body.now }
-    requires room { flow.base + flow.next < 2 ^ 32 }
+    requires laid { IsLaidSite L.lays_out L.rows site.now }
     requires place { FitsPlace site.now.h.now place.now }
-    requires fits { FitsArgument site.now.h.now (scope_of site.now.h.now site.now.program.now.globals site.now.body.now) a.now }
-    ensures { OnOk result (ops.new ≡ ops.old ++ kind_ops (block_in (setup site.now.h.now (L.rows site.now.layout.now) site.now.program.now) site.now.body.now) (start_by (setup site.now.h.now (L.rows site.now.layout.now) site.now.program.now) site.now.numbers.now) (routine_of site.now.body.now.owner) (λ m. flow.base + m) flow.number flow.next (Write place.now a.now)) }
+    requires fits { FitsArgument site.now.h.now (site_scope site.now) a.now }
+    ensures { OnOk result (ops.new ≡ ops.old ++ site_kind L.rows site.now flow (Write place.now a.now)) }
 {
     let there = site.free(2);
     let value = site.free(3);
@@ -164,12 +137,10 @@ fn push_copy_of<L: SoundLayout>(
     from: TypedOperand,
     c: ClassId,
 ) -> Result<(), NoMemory>
-    requires layout { L.lays_out site.now.layout.now site.now.h.now }
-    requires site { IsSite site.now.h.now (L.rows site.now.layout.now) site.now.slots.now site.now.body.now }
-    requires room { flow.base + flow.next < 2 ^ 32 }
+    requires laid { IsLaidSite L.lays_out L.rows site.now }
     requires operands { FitsOperand to × FitsOperand from }
     requires known { c.0 < length site.now.h.now }
-    ensures { OnOk result (ops.new ≡ ops.old ++ kind_ops (block_in (setup site.now.h.now (L.rows site.now.layout.now) site.now.program.now) site.now.body.now) (start_by (setup site.now.h.now (L.rows site.now.layout.now) site.now.program.now) site.now.numbers.now) (routine_of site.now.body.now.owner) (λ m. flow.base + m) flow.number flow.next (Copy to from c)) }
+    ensures { OnOk result (ops.new ≡ ops.old ++ site_kind L.rows site.now flow (Copy to from c)) }
 {
     push_copy(ops, site, to, from, c)?;
     push_jump(ops, flow)?;
@@ -183,11 +154,9 @@ fn push_call_only<L: SoundLayout>(
     flow: Flow,
     call: &TypedCall,
 ) -> Result<(), NoMemory>
-    requires layout { L.lays_out site.now.layout.now site.now.h.now }
-    requires site { IsSite site.now.h.now (L.rows site.now.layout.now) site.now.slots.now site.now.body.now }
-    requires room { flow.base + flow.next < 2 ^ 32 }
-    requires fits { FitsCall site.now.h.now (scope_of site.now.h.now site.now.program.now.globals site.now.body.now) call.now }
-    ensures { OnOk result (ops.new ≡ ops.old ++ kind_ops (block_in (setup site.now.h.now (L.rows site.now.layout.now) site.now.program.now) site.now.body.now) (start_by (setup site.now.h.now (L.rows site.now.layout.now) site.now.program.now) site.now.numbers.now) (routine_of site.now.body.now.owner) (λ m. flow.base + m) flow.number flow.next (Call call.now)) }
+    requires laid { IsLaidSite L.lays_out L.rows site.now }
+    requires fits { FitsCall site.now.h.now (site_scope site.now) call.now }
+    ensures { OnOk result (ops.new ≡ ops.old ++ site_kind L.rows site.now flow (Call call.now)) }
 {
     push_call(ops, site, call, unused(site, call.function))?;
     push_jump(ops, flow)?;
@@ -202,13 +171,11 @@ fn push_delete_of<L: SoundLayout>(
     p: TypedOperand,
     c: ClassId,
 ) -> Result<(), NoMemory>
-    requires layout { L.lays_out site.now.layout.now site.now.h.now }
-    requires site { IsSite site.now.h.now (L.rows site.now.layout.now) site.now.slots.now site.now.body.now }
-    requires room { flow.base + flow.next < 2 ^ 32 }
+    requires laid { IsLaidSite L.lays_out L.rows site.now }
     requires overriders { AreOverriders site.now.h.now site.now.overriders.now }
     requires operand { FitsOperand p }
     requires known { c.0 < length site.now.h.now }
-    ensures { OnOk result (ops.new ≡ ops.old ++ kind_ops (block_in (setup site.now.h.now (L.rows site.now.layout.now) site.now.program.now) site.now.body.now) (start_by (setup site.now.h.now (L.rows site.now.layout.now) site.now.program.now) site.now.numbers.now) (routine_of site.now.body.now.owner) (λ m. flow.base + m) flow.number flow.next (Delete p c)) }
+    ensures { OnOk result (ops.new ≡ ops.old ++ site_kind L.rows site.now flow (Delete p c)) }
 {
     push_delete(ops, site, c, operand_register(site.free(0), p))?;
     push_jump(ops, flow)?;
@@ -224,11 +191,10 @@ fn push_branch<L: SoundLayout>(
     other: usize,
     behind: usize,
 ) -> Result<(), NoMemory>
-    requires site { IsSite site.now.h.now (L.rows site.now.layout.now) site.now.slots.now site.now.body.now }
-    requires room { flow.base + flow.next < 2 ^ 32 }
+    requires site { IsSiteAt L.rows site.now }
     requires operand { FitsOperand p }
     requires within { (flow.base + other < 2 ^ 32) × (flow.base + behind < 2 ^ 32) × (flow.base + (flow.number + 1) < 2 ^ 32) }
-    ensures { OnOk result (ops.new ≡ ops.old ++ kind_ops (block_in (setup site.now.h.now (L.rows site.now.layout.now) site.now.program.now) site.now.body.now) (start_by (setup site.now.h.now (L.rows site.now.layout.now) site.now.program.now) site.now.numbers.now) (routine_of site.now.body.now.owner) (λ m. flow.base + m) flow.number flow.next (If p other behind)) }
+    ensures { OnOk result (ops.new ≡ ops.old ++ site_kind L.rows site.now flow (If p other behind)) }
 {
     let first = block_at(flow.number + 1, other, flow.next);
     let second = block_at(other, behind, flow.next);
@@ -250,11 +216,10 @@ fn push_loop<L: SoundLayout>(
     p: TypedOperand,
     behind: usize,
 ) -> Result<(), NoMemory>
-    requires site { IsSite site.now.h.now (L.rows site.now.layout.now) site.now.slots.now site.now.body.now }
-    requires room { flow.base + flow.next < 2 ^ 32 }
+    requires site { IsSiteAt L.rows site.now }
     requires operand { FitsOperand p }
     requires within { flow.base + (flow.number + 1) < 2 ^ 32 }
-    ensures { OnOk result (ops.new ≡ ops.old ++ kind_ops (block_in (setup site.now.h.now (L.rows site.now.layout.now) site.now.program.now) site.now.body.now) (start_by (setup site.now.h.now (L.rows site.now.layout.now) site.now.program.now) site.now.numbers.now) (routine_of site.now.body.now.owner) (λ m. flow.base + m) flow.number flow.next (While p behind)) }
+    ensures { OnOk result (ops.new ≡ ops.old ++ site_kind L.rows site.now flow (While p behind)) }
 {
     let first = block_at(flow.number + 1, behind, flow.number);
     push_jump(ops, flow)?;
@@ -272,10 +237,9 @@ fn push_print<L: SoundLayout>(
     flow: Flow,
     p: TypedOperand,
 ) -> Result<(), NoMemory>
-    requires site { IsSite site.now.h.now (L.rows site.now.layout.now) site.now.slots.now site.now.body.now }
-    requires room { flow.base + flow.next < 2 ^ 32 }
+    requires site { IsSiteAt L.rows site.now }
     requires operand { FitsOperand p }
-    ensures { OnOk result (ops.new ≡ ops.old ++ kind_ops (block_in (setup site.now.h.now (L.rows site.now.layout.now) site.now.program.now) site.now.body.now) (start_by (setup site.now.h.now (L.rows site.now.layout.now) site.now.program.now) site.now.numbers.now) (routine_of site.now.body.now.owner) (λ m. flow.base + m) flow.number flow.next (Print p)) }
+    ensures { OnOk result (ops.new ≡ ops.old ++ site_kind L.rows site.now flow (Print p)) }
 {
     ops.push(Op::Print {
         from: operand_register(site.free(0), p),
@@ -285,51 +249,21 @@ fn push_print<L: SoundLayout>(
     Ok(())
 }
 
-/// Prints the type of a view.
-fn push_print_type<L: SoundLayout>(
+/// Finds what is shown of a view, and prints it.
+fn push_shown<L: SoundLayout>(
     ops: &mut OpList,
     site: &Site<L>,
     flow: Flow,
-    p: TypedOperand,
-    c: ClassId,
+    find: Op,
+    what: PrintAs,
 ) -> Result<(), NoMemory>
-    requires site { IsSite site.now.h.now (L.rows site.now.layout.now) site.now.slots.now site.now.body.now }
-    requires room { flow.base + flow.next < 2 ^ 32 }
-    requires operand { FitsOperand p }
-    ensures { OnOk result (ops.new ≡ ops.old ++ kind_ops (block_in (setup site.now.h.now (L.rows site.now.layout.now) site.now.program.now) site.now.body.now) (start_by (setup site.now.h.now (L.rows site.now.layout.now) site.now.program.now) site.now.numbers.now) (routine_of site.now.body.now.owner) (λ m. flow.base + m) flow.number flow.next (PrintType p c)) }
+    requires { IsSiteAt L.rows site.now }
+    ensures { OnOk result (ops.new ≡ ops.old ++ find ∷ PrintOp (free (site_block L.rows site.now) 1) what ∷ Jump (flow.base + flow.next) ∷ []) }
 {
-    let _c = c;
-    let to = site.free(1);
-    let base = operand_register(site.free(0), p);
-    ops.push(Op::TypeOf { to, base })?;
+    ops.push(find)?;
     ops.push(Op::Print {
-        from: to,
-        what: PrintAs::Class,
-    })?;
-    push_jump(ops, flow)?;
-    Ok(())
-}
-
-/// Prints the address of a view.
-fn push_print_view<L: SoundLayout>(
-    ops: &mut OpList,
-    site: &Site<L>,
-    flow: Flow,
-    p: TypedOperand,
-    c: ClassId,
-) -> Result<(), NoMemory>
-    requires site { IsSite site.now.h.now (L.rows site.now.layout.now) site.now.slots.now site.now.body.now }
-    requires room { flow.base + flow.next < 2 ^ 32 }
-    requires operand { FitsOperand p }
-    ensures { OnOk result (ops.new ≡ ops.old ++ kind_ops (block_in (setup site.now.h.now (L.rows site.now.layout.now) site.now.program.now) site.now.body.now) (start_by (setup site.now.h.now (L.rows site.now.layout.now) site.now.program.now) site.now.numbers.now) (routine_of site.now.body.now.owner) (λ m. flow.base + m) flow.number flow.next (PrintView p c)) }
-{
-    let _c = c;
-    let to = site.free(1);
-    let base = operand_register(site.free(0), p);
-    ops.push(Op::Top { to, base })?;
-    ops.push(Op::Print {
-        from: to,
-        what: PrintAs::Address,
+        from: site.free(1),
+        what,
     })?;
     push_jump(ops, flow)?;
     Ok(())
@@ -343,10 +277,9 @@ fn push_dump<L: SoundLayout>(
     p: TypedOperand,
     c: ClassId,
 ) -> Result<(), NoMemory>
-    requires site { IsSite site.now.h.now (L.rows site.now.layout.now) site.now.slots.now site.now.body.now }
-    requires room { flow.base + flow.next < 2 ^ 32 }
+    requires site { IsSiteAt L.rows site.now }
     requires operand { FitsOperand p }
-    ensures { OnOk result (ops.new ≡ ops.old ++ kind_ops (block_in (setup site.now.h.now (L.rows site.now.layout.now) site.now.program.now) site.now.body.now) (start_by (setup site.now.h.now (L.rows site.now.layout.now) site.now.program.now) site.now.numbers.now) (routine_of site.now.body.now.owner) (λ m. flow.base + m) flow.number flow.next (Dump p c)) }
+    ensures { OnOk result (ops.new ≡ ops.old ++ site_kind L.rows site.now flow (Dump p c)) }
 {
     let _c = c;
     ops.push(Op::Dump {
@@ -365,16 +298,16 @@ pub fn push_kind<L: SoundLayout>(
     flow: Flow,
     kind: &TypedKind,
 ) -> Result<(), NoMemory>
-    requires layout { L.lays_out site.now.layout.now site.now.h.now }
-    requires site { IsSite site.now.h.now (L.rows site.now.layout.now) site.now.slots.now site.now.body.now }
+    requires laid { IsLaidSite L.lays_out L.rows site.now }
     requires overriders { AreOverriders site.now.h.now site.now.overriders.now }
-    requires room { flow.base + flow.next < 2 ^ 32 }
-    requires fits { FitsKind site.now.h.now (scope_of site.now.h.now site.now.program.now.globals site.now.body.now) (2 ^ 32 - (flow.base + 1)) flow.number kind.now }
-    ensures { OnOk result (ops.new ≡ ops.old ++ kind_ops (block_in (setup site.now.h.now (L.rows site.now.layout.now) site.now.program.now) site.now.body.now) (start_by (setup site.now.h.now (L.rows site.now.layout.now) site.now.program.now) site.now.numbers.now) (routine_of site.now.body.now.owner) (λ m. flow.base + m) flow.number flow.next kind.now) }
+    requires fits { FitsKind site.now.h.now (site_scope site.now) (2 ^ 32 - (flow.base + 1)) flow.number kind.now }
+    ensures { OnOk result (ops.new ≡ ops.old ++ site_kind L.rows site.now flow kind.now) }
 {
+    let first = site.free(0);
+    let to = site.free(1);
     match kind {
         TypedKind::Declare(_, None) => push_jump(ops, flow)?,
-        TypedKind::Declare(n, Some(v)) => push_begin(ops, site, flow, *n, v)?,
+        TypedKind::Declare(n, Some(v)) => push_assign(ops, site, flow, Variable::Local(*n), v)?,
         TypedKind::Assign(variable, v) => push_assign(ops, site, flow, *variable, v)?,
         TypedKind::Write(place, a) => push_write(ops, site, flow, place, a)?,
         TypedKind::Copy(to, from, c) => push_copy_of(ops, site, flow, *to, *from, *c)?,
@@ -386,8 +319,14 @@ pub fn push_kind<L: SoundLayout>(
         TypedKind::While(p, behind) => push_loop(ops, site, flow, *p, *behind)?,
         TypedKind::Return(value) => push_return(ops, site, value)?,
         TypedKind::Print(p) => push_print(ops, site, flow, *p)?,
-        TypedKind::PrintType(p, c) => push_print_type(ops, site, flow, *p, *c)?,
-        TypedKind::PrintView(p, c) => push_print_view(ops, site, flow, *p, *c)?,
+        TypedKind::PrintType(p, _) => {
+            let base = operand_register(first, *p);
+            push_shown(ops, site, flow, Op::TypeOf { to, base }, PrintAs::Class)?;
+        }
+        TypedKind::PrintView(p, _) => {
+            let base = operand_register(first, *p);
+            push_shown(ops, site, flow, Op::Top { to, base }, PrintAs::Address)?;
+        }
         TypedKind::Dump(p, c) => push_dump(ops, site, flow, *p, *c)?,
     }
     Ok(())

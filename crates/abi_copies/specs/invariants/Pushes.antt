@@ -1,8 +1,9 @@
 -- What the calls put behind other ops, whatever number of classes the definitions are told.
-use Rattle.std.specs.Prelude.{◌≡◌, ℕ, ◌+◌, ◌*◌, ◌<◌, ◌≤◌, List, ◌∷◌, ◌++◌, Some, length, slice_get}
+use Rattle.std.specs.Prelude.{◌≡◌, ℕ, ◌+◌, ◌*◌, ◌<◌, ◌≤◌, List, ◌∷◌, ◌++◌, Option, Some, length, slice_get}
 use Rattle.std.specs.List.{flat_map}
 use Rattle.cxx_hierarchy.specs.declared.records.ClassId.{ClassId}
 use Rattle.cxx_hierarchy.specs.declared.records.Member.{Member}
+use Rattle.cxx_hierarchy.specs.declared.records.FieldType.{FieldType}
 use Rattle.cxx_hierarchy.specs.Classes.{members_of}
 use Rattle.cxx_hierarchy.specs.Declarations.{elements_of}
 use Rattle.cxx_subobject.specs.declared.Subobject.{Subobject}
@@ -18,17 +19,29 @@ use Rattle.abi_ops.specs.declared.uses.Used.TheVariants.{Guards}
 use Rattle.abi_copies.specs.CopyTests.{element_used, member_used, covered_used}
 use Rattle.abi_copies.specs.CopyOps.{typed_copies, member_copies, own_copies, object_copies}
 
--- the leaves of the first k of some objects of class d, one behind the other
-pub record AddsObjects (x : Setup) (sides : Sides) (d : ClassId) (start stride k : ℕ) (old new : List Op) : Type 0 where
-  pub adds : (n : ℕ) → d.0 < n → new ≡ old ++ flat_map (λ i. object_copies x sides n d (start + i * stride)) (upto k)
+-- what is put for the first k of some objects of class d, one behind the other, where `give` says what is put for one at a place
+pub record PutsObjects {A : Type 0} (give : (n at : ℕ) → List A) (d : ClassId) (start stride k : ℕ) (old new : List A) : Type 0 where
+  pub adds : (n : ℕ) → d.0 < n → new ≡ old ++ flat_map (λ i. give n (start + i * stride)) (upto k)
+
+-- what is put for a member of class b
+pub record PutsMember {A : Type 0} (give : (n : ℕ) (at : ℕ → ℕ) → List ℕ → FieldType ClassId → List A) (x : Setup) (b : ClassId) (member : Member ClassId) (start : ℕ) (old new : List A) : Type 0 where
+  pub adds : (n : ℕ) → b.0 ≤ n → new ≡ old ++ give n (λ i. start + i * size_of_type (places x) member.ty) (upto (elements_of member.count)) member.ty
+
+-- what is put for the first k members of class b
+pub record PutsMembers {A : Type 0} (give : (n : ℕ) (at : ℕ → ℕ) → Option (Member ClassId) → List A) (x : Setup) (b : ClassId) (offset k : ℕ) (old new : List A) : Type 0 where
+  pub adds : (n : ℕ) → b.0 ≤ n → new ≡ old ++ flat_map (λ m. give n (λ i. offset + element_place x.h (places x) (Some b) m i) (slice_get (members_of x.h b) m)) (upto k)
+
+-- the leaves of the first k of some objects of class d
+abbrev pub AddsObjects : Setup → Sides → ClassId → (start stride k : ℕ) → List Op → List Op → Type 0
+AddsObjects x sides d start stride k old new = PutsObjects (λ n at. object_copies x sides n d at) d start stride k old new
 
 -- those of a member of class b
-pub record AddsMember (x : Setup) (sides : Sides) (b : ClassId) (member : Member ClassId) (start : ℕ) (old new : List Op) : Type 0 where
-  pub adds : (n : ℕ) → b.0 ≤ n → new ≡ old ++ typed_copies (object_copies x sides n) sides (λ i. start + i * size_of_type (places x) member.ty) (upto (elements_of member.count)) member.ty
+abbrev pub AddsMember : Setup → Sides → ClassId → Member ClassId → (start : ℕ) → List Op → List Op → Type 0
+AddsMember x sides b member start old new = PutsMember (λ n at indices ty. typed_copies (object_copies x sides n) sides at indices ty) x b member start old new
 
 -- those of the first k members of class b
-pub record AddsMembers (x : Setup) (sides : Sides) (b : ClassId) (offset k : ℕ) (old new : List Op) : Type 0 where
-  pub adds : (n : ℕ) → b.0 ≤ n → new ≡ old ++ flat_map (λ m. member_copies (object_copies x sides n) sides (λ i. offset + element_place x.h (places x) (Some b) m i) (slice_get (members_of x.h b) m)) (upto k)
+abbrev pub AddsMembers : Setup → Sides → ClassId → (offset k : ℕ) → List Op → List Op → Type 0
+AddsMembers x sides b offset k old new = PutsMembers (λ n at o. member_copies (object_copies x sides n) sides at o) x b offset k old new
 
 -- those of all members
 abbrev pub AddsOwn : Setup → Sides → ClassId → ℕ → List Op → List Op → Type 0
@@ -42,17 +55,17 @@ pub record AddsBases (x : Setup) (sides : Sides) (d : ClassId) (offset : ℕ) (b
 abbrev pub AddsObject : Setup → Sides → ClassId → ℕ → List Op → List Op → Type 0
 AddsObject x sides d offset old new = AddsBases x sides d offset (preorder x.h d) old new
 
--- the tests of the first k of some objects of class d, one behind the other, and of the class members inside them
-pub record CoversElements (x : Setup) (r : ℕ) (d : ClassId) (start stride k : ℕ) (old new : List Used) : Type 0 where
-  pub adds : (n : ℕ) → d.0 < n → new ≡ old ++ flat_map (λ i. Guards r (start + i * stride) d.0 ∷ covered_used x r n d (start + i * stride)) (upto k)
+-- the tests of the first k of some objects of class d, and of the class members inside them
+abbrev pub CoversObjects : Setup → (r : ℕ) → ClassId → (start stride k : ℕ) → List Used → List Used → Type 0
+CoversObjects x r d start stride k old new = PutsObjects (λ n at. Guards r at d.0 ∷ covered_used x r n d at) d start stride k old new
 
 -- those of a member of class b
-pub record CoversMember (x : Setup) (r : ℕ) (b : ClassId) (member : Member ClassId) (start : ℕ) (old new : List Used) : Type 0 where
-  pub adds : (n : ℕ) → b.0 ≤ n → new ≡ old ++ element_used (covered_used x r n) r (λ i. start + i * size_of_type (places x) member.ty) (upto (elements_of member.count)) member.ty
+abbrev pub CoversMember : Setup → (r : ℕ) → ClassId → Member ClassId → (start : ℕ) → List Used → List Used → Type 0
+CoversMember x r b member start old new = PutsMember (λ n at indices ty. element_used (covered_used x r n) r at indices ty) x b member start old new
 
 -- those of the first k members of class b
-pub record CoversMembers (x : Setup) (r : ℕ) (b : ClassId) (offset k : ℕ) (old new : List Used) : Type 0 where
-  pub adds : (n : ℕ) → b.0 ≤ n → new ≡ old ++ flat_map (λ m. member_used (covered_used x r n) r (λ i. offset + element_place x.h (places x) (Some b) m i) (slice_get (members_of x.h b) m)) (upto k)
+abbrev pub CoversMembers : Setup → (r : ℕ) → ClassId → (offset k : ℕ) → List Used → List Used → Type 0
+CoversMembers x r b offset k old new = PutsMembers (λ n at o. member_used (covered_used x r n) r at o) x b offset k old new
 
 -- those of all members
 abbrev pub CoversOwn : Setup → ℕ → ClassId → ℕ → List Used → List Used → Type 0
