@@ -10,9 +10,9 @@ use crate::conversions::converted_operand;
 use crate::copies::copy_type;
 use crate::faults::FaultList;
 use crate::known::Known;
-use crate::scene::{Scene, Setting};
+use crate::site::Site;
 use crate::values::operand_of;
-use cxx_hierarchy::{ClassId, Hierarchy, ValueType};
+use cxx_hierarchy::{ClassId, ValueType};
 use cxx_program::{Argument, ArgumentList, Conversion};
 use cxx_syntax::Operand;
 use foundation::{NoMemory, Sequence};
@@ -20,15 +20,13 @@ use foundation::{NoMemory, Sequence};
 /// An operand as it is.
 #[tactic(auto, unfolding(crate::specs::Calls::plain_operand))]
 fn plain_operand(
-    setting: &Setting,
-    scene: &Scene,
-    at: u32,
+    site: &Site,
     faults: &mut FaultList,
     operand: &Operand,
 ) -> Result<Option<Argument>, NoMemory>
-    ensures { Answers result faults.old faults.new (plain_operand setting.now scene.now at operand.now) }
+    ensures { Answers result faults.old faults.new (plain_operand site.now.setting.now site.now.scene.now site.now.at operand.now) }
 {
-    let Some(value) = operand_of(setting, scene, at, faults, operand)? else {
+    let Some(value) = operand_of(site, faults, operand)? else {
         return Ok(None);
     };
     Ok(Some(Argument {
@@ -40,22 +38,19 @@ fn plain_operand(
 /// An argument, and the type of its parameter, where it has one.
 #[tactic(auto, unfolding(crate::specs::Calls::argument_of))]
 fn argument_of(
-    h: &Hierarchy,
+    site: &Site,
     known: &mut Known,
-    setting: &Setting,
-    scene: &Scene,
-    at: u32,
     faults: &mut FaultList,
     parameter: Option<ValueType<ClassId>>,
     operand: &Operand,
 ) -> Result<Option<Argument>, NoMemory>
-    requires knows { Knows h.now known.old }
-    ensures answers { Answers result faults.old faults.new (argument_of h.now setting.now scene.now at parameter operand.now) }
-    ensures knows { OnOk result (Knows h.now known.new) }
+    requires knows { Knows site.now.h.now known.old }
+    ensures answers { Answers result faults.old faults.new (argument_of site.now.h.now site.now.setting.now site.now.scene.now site.now.at parameter operand.now) }
+    ensures knows { OnOk result (Knows site.now.h.now known.new) }
 {
     match parameter {
-        None => plain_operand(setting, scene, at, faults, operand),
-        Some(ty) => converted_operand(h, known, setting, scene, at, faults, &ty, operand),
+        None => plain_operand(site, faults, operand),
+        Some(ty) => converted_operand(site, known, faults, &ty, operand),
     }
 }
 
@@ -86,23 +81,20 @@ fn nth(parameters: &[ValueType<ClassId>], n: usize) -> Option<ValueType<ClassId>
 /// The arguments of a call, by the types of the parameters.
 #[tactic(auto, unfolding(crate::specs::Calls::arguments_of))]
 pub(crate) fn arguments_of(
-    h: &Hierarchy,
+    site: &Site,
     known: &mut Known,
-    setting: &Setting,
-    scene: &Scene,
-    at: u32,
     faults: &mut FaultList,
     parameters: &[ValueType<ClassId>],
     operands: &[Operand],
 ) -> Result<Option<ArgumentList>, NoMemory>
-    requires knows { Knows h.now known.old }
-    ensures answers { Answers result faults.old faults.new (arguments_of h.now setting.now scene.now at parameters.now 0 operands.now) }
-    ensures knows { OnOk result (Knows h.now known.new) }
+    requires knows { Knows site.now.h.now known.old }
+    ensures answers { Answers result faults.old faults.new (arguments_of site.now.h.now site.now.setting.now site.now.scene.now site.now.at parameters.now 0 operands.now) }
+    ensures knows { OnOk result (Knows site.now.h.now known.new) }
 {
     let mut list = Some(Sequence::new(known.alloc));
     for (n, operand) in operands.iter().enumerate() {
         let parameter = nth(parameters, n);
-        let argument = argument_of(h, known, setting, scene, at, faults, parameter, operand)?;
+        let argument = argument_of(site, known, faults, parameter, operand)?;
         list = joined(list, argument)?;
     }
     Ok(list)

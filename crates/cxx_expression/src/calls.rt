@@ -16,7 +16,7 @@ use crate::faults::{FaultList, note};
 use crate::known::Known;
 use crate::look_up::{Looked, function_record, looked_up};
 use crate::qualified::qualified_call;
-use crate::scene::{Scene, Setting};
+use crate::site::Site;
 use crate::typed::{CallValue, FoundFunction, Target};
 use crate::values::pointer_of;
 use cxx_hierarchy::{ClassId, Hierarchy, Param, Rule, ValueType};
@@ -75,18 +75,17 @@ fn function_in(
 /// The function that a name means in a class.
 #[tactic(auto, unfolding(crate::specs::Calls::function_of))]
 pub(crate) fn function_of(
-    h: &Hierarchy,
+    site: &Site,
     known: &mut Known,
-    at: u32,
     faults: &mut FaultList,
     c: ClassId,
     x: &Spot,
 ) -> Result<Option<FoundFunction>, NoMemory>
-    requires knows { Knows h.now known.old }
-    ensures answers { Answers result faults.old faults.new (function_of h.now at c x.now) }
-    ensures knows { OnOk result (Knows h.now known.new) }
+    requires knows { Knows site.now.h.now known.old }
+    ensures answers { Answers result faults.old faults.new (function_of site.now.h.now site.now.at c x.now) }
+    ensures knows { OnOk result (Knows site.now.h.now known.new) }
 {
-    match looked_up(h, known, c, x.name.as_slice())? {
+    match looked_up(site.h, known, c, x.name.as_slice())? {
         Looked::Missing => {
             note(faults, Rule::NoSuchMember, x.at)?;
             Ok(None)
@@ -95,9 +94,9 @@ pub(crate) fn function_of(
             note(faults, Rule::AmbiguousName, x.at)?;
             Ok(None)
         }
-        Looked::Function(s, number) => function_in(known.alloc, h, x.at, faults, s, number),
+        Looked::Function(s, number) => function_in(known.alloc, site.h, x.at, faults, s, number),
         Looked::Member(_, _) => {
-            note(faults, Rule::TypeMismatch, at)?;
+            note(faults, Rule::TypeMismatch, site.at)?;
             Ok(None)
         }
     }
@@ -106,26 +105,23 @@ pub(crate) fn function_of(
 /// The pointer and the function of a call.
 #[tactic(auto, unfolding(crate::specs::Calls::target_of))]
 fn target_of(
-    h: &Hierarchy,
+    site: &Site,
     known: &mut Known,
-    setting: &Setting,
-    scene: &Scene,
-    at: u32,
     faults: &mut FaultList,
     call: &CallText,
 ) -> Result<Option<Target>, NoMemory>
-    requires knows { Knows h.now known.old }
-    ensures answers { Answers result faults.old faults.new (target_of h.now setting.now scene.now at call.now) }
-    ensures knows { OnOk result (Knows h.now known.new) }
+    requires knows { Knows site.now.h.now known.old }
+    ensures answers { Answers result faults.old faults.new (target_of site.now.h.now site.now.setting.now site.now.scene.now site.now.at call.now) }
+    ensures knows { OnOk result (Knows site.now.h.now known.new) }
 {
-    let Some(pointer) = pointer_of(setting, scene, at, faults, &call.pointer)? else {
+    let Some(pointer) = pointer_of(site, faults, &call.pointer)? else {
         return Ok(None);
     };
-    let Some(found) = function_of(h, known, at, faults, pointer.class, &call.name)? else {
+    let Some(found) = function_of(site, known, faults, pointer.class, &call.name)? else {
         return Ok(None);
     };
     if call.arguments.len() != found.parameters.len() {
-        note(faults, Rule::TypeMismatch, at)?;
+        note(faults, Rule::TypeMismatch, site.at)?;
     }
     Ok(Some(Target { pointer, found }))
 }
@@ -175,28 +171,24 @@ fn is_virtual(h: &Hierarchy, o: &Overriders, f: FunctionId) -> bool
 /// A call of the function that the pointer's class means.
 #[tactic(auto, unfolding(crate::specs::Calls::plain_call))]
 fn plain_call(
-    h: &Hierarchy,
-    o: &Overriders,
+    site: &Site,
     known: &mut Known,
-    setting: &Setting,
-    scene: &Scene,
-    at: u32,
     faults: &mut FaultList,
     call: &CallText,
 ) -> Result<Option<CallValue>, NoMemory>
-    requires made { AreOverriders h.now o.now }
-    requires knows { Knows h.now known.old }
-    ensures answers { Answers result faults.old faults.new (plain_call h.now setting.now scene.now at call.now) }
-    ensures knows { OnOk result (Knows h.now known.new) }
+    requires made { AreOverriders site.now.h.now site.now.overriders.now }
+    requires knows { Knows site.now.h.now known.old }
+    ensures answers { Answers result faults.old faults.new (plain_call site.now.h.now site.now.setting.now site.now.scene.now site.now.at call.now) }
+    ensures knows { OnOk result (Knows site.now.h.now known.new) }
 {
-    let target = target_of(h, known, setting, scene, at, faults, call)?;
+    let target = target_of(site, known, faults, call)?;
     let parameters = parameters_in(&target);
     let operands = call.arguments.as_slice();
-    let list = arguments_of(h, known, setting, scene, at, faults, parameters, operands)?;
+    let list = arguments_of(site, known, faults, parameters, operands)?;
     let (Some(target), Some(arguments)) = (target, list) else {
         return Ok(None);
     };
-    let is_dispatched = is_virtual(h, o, target.found.function);
+    let is_dispatched = is_virtual(site.h, site.overriders, target.found.function);
     Ok(Some(dispatched(target, is_dispatched, arguments)))
 }
 
@@ -204,22 +196,18 @@ fn plain_call(
 /// E22, and those of the arguments.
 #[tactic(auto, unfolding(crate::specs::Calls::call_of))]
 pub fn call_of(
-    h: &Hierarchy,
-    o: &Overriders,
+    site: &Site,
     known: &mut Known,
-    setting: &Setting,
-    scene: &Scene,
-    at: u32,
     faults: &mut FaultList,
     call: &CallText,
 ) -> Result<Option<CallValue>, NoMemory>
-    requires made { AreOverriders h.now o.now }
-    requires knows { Knows h.now known.old }
-    ensures answers { Answers result faults.old faults.new (call_of h.now setting.now scene.now at call.now) }
-    ensures knows { OnOk result (Knows h.now known.new) }
+    requires made { AreOverriders site.now.h.now site.now.overriders.now }
+    requires knows { Knows site.now.h.now known.old }
+    ensures answers { Answers result faults.old faults.new (call_of site.now.h.now site.now.setting.now site.now.scene.now site.now.at call.now) }
+    ensures knows { OnOk result (Knows site.now.h.now known.new) }
 {
     match &call.class {
-        None => plain_call(h, o, known, setting, scene, at, faults, call),
-        Some(x) => qualified_call(h, known, setting, scene, at, faults, call, x),
+        None => plain_call(site, known, faults, call),
+        Some(x) => qualified_call(site, known, faults, call, x),
     }
 }

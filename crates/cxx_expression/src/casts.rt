@@ -10,10 +10,10 @@ use crate::faults::{FaultList, note};
 use crate::known::Known;
 use crate::look_up::{Based, base_up, is_polymorphic};
 use crate::operators::truth_value;
-use crate::scene::{Scene, Setting};
+use crate::site::Site;
 use crate::typed::{Pointer, RightValue};
 use crate::values::pointer_of;
-use cxx_hierarchy::{ClassId, Hierarchy, Rule, ValueType};
+use cxx_hierarchy::{ClassId, Rule, ValueType};
 use cxx_program::{TypedCast, TypedRight};
 use cxx_subobject::{Root, Subobject};
 use cxx_syntax::{CastKind, CastText, PointerText, Spot};
@@ -64,53 +64,51 @@ fn up_or_down(
 /// A static cast.
 #[tactic(auto, unfolding(crate::specs::Casts::static_cast))]
 fn static_cast(
-    h: &Hierarchy,
+    site: &Site,
     known: &mut Known,
-    at: u32,
     faults: &mut FaultList,
     c: ClassId,
     d: ClassId,
 ) -> Result<Option<TypedCast>, NoMemory>
-    requires knows { Knows h.now known.old }
-    ensures answers { Answers result faults.old faults.new (static_cast h.now at c d) }
-    ensures knows { OnOk result (Knows h.now known.new) }
+    requires knows { Knows site.now.h.now known.old }
+    ensures answers { Answers result faults.old faults.new (static_cast site.now.h.now site.now.at c d) }
+    ensures knows { OnOk result (Knows site.now.h.now known.new) }
 {
     if c.0 == d.0 {
         return Ok(Some(TypedCast::Same));
     }
-    let up = base_up(h, known, c, d)?;
-    let down = base_up(h, known, d, c)?;
-    up_or_down(at, faults, d, up, down)
+    let up = base_up(site.h, known, c, d)?;
+    let down = base_up(site.h, known, d, c)?;
+    up_or_down(site.at, faults, d, up, down)
 }
 
 /// A dynamic cast.
 #[tactic(auto, unfolding(crate::specs::Casts::dynamic_cast))]
 fn dynamic_cast(
-    h: &Hierarchy,
+    site: &Site,
     known: &mut Known,
-    at: u32,
     faults: &mut FaultList,
     c: ClassId,
     d: ClassId,
 ) -> Result<Option<TypedCast>, NoMemory>
-    requires knows { Knows h.now known.old }
-    ensures answers { Answers result faults.old faults.new (dynamic_cast h.now at c d) }
-    ensures knows { OnOk result (Knows h.now known.new) }
+    requires knows { Knows site.now.h.now known.old }
+    ensures answers { Answers result faults.old faults.new (dynamic_cast site.now.h.now site.now.at c d) }
+    ensures knows { OnOk result (Knows site.now.h.now known.new) }
 {
     if c.0 == d.0 {
         return Ok(Some(TypedCast::Same));
     }
-    match base_up(h, known, c, d)? {
+    match base_up(site.h, known, c, d)? {
         Based::Base(s) => Ok(Some(TypedCast::Up(s))),
         Based::TwoBases => {
-            note(faults, Rule::AmbiguousBase, at)?;
+            note(faults, Rule::AmbiguousBase, site.at)?;
             Ok(None)
         }
         Based::NotBase => {
-            if is_polymorphic(h, known, c)? {
+            if is_polymorphic(site.h, known, c)? {
                 return Ok(Some(TypedCast::Dynamic(d)));
             }
-            note(faults, Rule::NotPolymorphic, at)?;
+            note(faults, Rule::NotPolymorphic, site.at)?;
             Ok(None)
         }
     }
@@ -119,45 +117,41 @@ fn dynamic_cast(
 /// A cast from a class to another.
 #[tactic(auto, unfolding(crate::specs::Casts::cast_of))]
 fn cast_of(
-    h: &Hierarchy,
+    site: &Site,
     known: &mut Known,
-    at: u32,
     faults: &mut FaultList,
     kind: CastKind,
     c: ClassId,
     d: ClassId,
 ) -> Result<Option<TypedCast>, NoMemory>
-    requires knows { Knows h.now known.old }
-    ensures answers { Answers result faults.old faults.new (cast_of h.now at kind c d) }
-    ensures knows { OnOk result (Knows h.now known.new) }
+    requires knows { Knows site.now.h.now known.old }
+    ensures answers { Answers result faults.old faults.new (cast_of site.now.h.now site.now.at kind c d) }
+    ensures knows { OnOk result (Knows site.now.h.now known.new) }
 {
     match kind {
-        CastKind::Static | CastKind::Plain => static_cast(h, known, at, faults, c, d),
-        CastKind::Dynamic => dynamic_cast(h, known, at, faults, c, d),
+        CastKind::Static | CastKind::Plain => static_cast(site, known, faults, c, d),
+        CastKind::Dynamic => dynamic_cast(site, known, faults, c, d),
     }
 }
 
 /// A cast as a right side.
 #[tactic(auto, unfolding(crate::specs::Casts::cast_right))]
 pub(crate) fn cast_right(
-    h: &Hierarchy,
+    site: &Site,
     known: &mut Known,
-    setting: &Setting,
-    scene: &Scene,
-    at: u32,
     faults: &mut FaultList,
     text: &CastText,
 ) -> Result<Option<RightValue>, NoMemory>
-    requires knows { Knows h.now known.old }
-    ensures answers { Answers result faults.old faults.new (cast_right h.now setting.now scene.now at text.now) }
-    ensures knows { OnOk result (Knows h.now known.new) }
+    requires knows { Knows site.now.h.now known.old }
+    ensures answers { Answers result faults.old faults.new (cast_right site.now.h.now site.now.setting.now site.now.scene.now site.now.at text.now) }
+    ensures knows { OnOk result (Knows site.now.h.now known.new) }
 {
-    let target = class_of(h, faults, &text.target)?;
-    let pointer = pointer_of(setting, scene, at, faults, &text.pointer)?;
+    let target = class_of(site.h, faults, &text.target)?;
+    let pointer = pointer_of(site, faults, &text.pointer)?;
     let (Some(target), Some(pointer)) = (target, pointer) else {
         return Ok(None);
     };
-    let Some(cast) = cast_of(h, known, at, faults, text.kind, pointer.class, target)? else {
+    let Some(cast) = cast_of(site, known, faults, text.kind, pointer.class, target)? else {
         return Ok(None);
     };
     Ok(Some(RightValue {
@@ -171,23 +165,20 @@ pub(crate) fn cast_right(
 /// statement's first token. Faults: E18, E19, E22.
 #[tactic(auto, unfolding(crate::specs::Casts::polymorphic_pointer))]
 pub fn polymorphic_pointer(
-    h: &Hierarchy,
+    site: &Site,
     known: &mut Known,
-    setting: &Setting,
-    scene: &Scene,
-    at: u32,
     faults: &mut FaultList,
     pointer: &PointerText,
 ) -> Result<Option<Pointer>, NoMemory>
-    requires knows { Knows h.now known.old }
-    ensures answers { Answers result faults.old faults.new (polymorphic_pointer h.now setting.now scene.now at pointer.now) }
-    ensures knows { OnOk result (Knows h.now known.new) }
+    requires knows { Knows site.now.h.now known.old }
+    ensures answers { Answers result faults.old faults.new (polymorphic_pointer site.now.h.now site.now.setting.now site.now.scene.now site.now.at pointer.now) }
+    ensures knows { OnOk result (Knows site.now.h.now known.new) }
 {
-    let Some(pointer) = pointer_of(setting, scene, at, faults, pointer)? else {
+    let Some(pointer) = pointer_of(site, faults, pointer)? else {
         return Ok(None);
     };
-    if !is_polymorphic(h, known, pointer.class)? {
-        note(faults, Rule::NotPolymorphic, at)?;
+    if !is_polymorphic(site.h, known, pointer.class)? {
+        note(faults, Rule::NotPolymorphic, site.at)?;
         return Ok(None);
     }
     Ok(Some(pointer))
@@ -196,21 +187,18 @@ pub fn polymorphic_pointer(
 /// `typeid(*pointer) == typeid(class)`.
 #[tactic(auto, unfolding(crate::specs::Casts::type_right))]
 pub(crate) fn type_right(
-    h: &Hierarchy,
+    site: &Site,
     known: &mut Known,
-    setting: &Setting,
-    scene: &Scene,
-    at: u32,
     faults: &mut FaultList,
     pointer: &PointerText,
     name: &Spot,
 ) -> Result<Option<RightValue>, NoMemory>
-    requires knows { Knows h.now known.old }
-    ensures answers { Answers result faults.old faults.new (type_right h.now setting.now scene.now at pointer.now name.now) }
-    ensures knows { OnOk result (Knows h.now known.new) }
+    requires knows { Knows site.now.h.now known.old }
+    ensures answers { Answers result faults.old faults.new (type_right site.now.h.now site.now.setting.now site.now.scene.now site.now.at pointer.now name.now) }
+    ensures knows { OnOk result (Knows site.now.h.now known.new) }
 {
-    let pointer = polymorphic_pointer(h, known, setting, scene, at, faults, pointer)?;
-    let class = class_of(h, faults, name)?;
+    let pointer = polymorphic_pointer(site, known, faults, pointer)?;
+    let class = class_of(site.h, faults, name)?;
     let (Some(pointer), Some(class)) = (pointer, class) else {
         return Ok(None);
     };

@@ -9,10 +9,10 @@ use crate::faults::{FaultList, note};
 use crate::known::Known;
 use crate::look_up::{Based, base_up};
 use crate::operators::{calculated, truth_value};
-use crate::scene::{Scene, Setting};
-use crate::typed::{RightValue, Value};
+use crate::site::Site;
+use crate::typed::{Pointer, RightValue, Value};
 use crate::values::operand_of;
-use cxx_hierarchy::{ClassId, Hierarchy, Rule, ValueType};
+use cxx_hierarchy::{ClassId, Rule, ValueType};
 use cxx_program::{Argument, Arithmetic, Conversion, TypedOperand, TypedRight};
 use cxx_syntax::Operand;
 use foundation::NoMemory;
@@ -66,23 +66,22 @@ fn one_converted(
 /// How pointers to two classes become pointers to one.
 #[tactic(auto, unfolding(crate::specs::Operators::to_one_class))]
 fn to_one_class(
-    h: &Hierarchy,
+    site: &Site,
     known: &mut Known,
-    at: u32,
     faults: &mut FaultList,
     c: ClassId,
     d: ClassId,
 ) -> Result<Option<(Conversion, Conversion)>, NoMemory>
-    requires knows { Knows h.now known.old }
-    ensures answers { Answers result faults.old faults.new (to_one_class h.now at c d) }
-    ensures knows { OnOk result (Knows h.now known.new) }
+    requires knows { Knows site.now.h.now known.old }
+    ensures answers { Answers result faults.old faults.new (to_one_class site.now.h.now site.now.at c d) }
+    ensures knows { OnOk result (Knows site.now.h.now known.new) }
 {
     if c.0 == d.0 {
         return Ok(Some((Conversion::Same, Conversion::Same)));
     }
-    let up = base_up(h, known, c, d)?;
-    let down = base_up(h, known, d, c)?;
-    one_converted(at, faults, up, down)
+    let up = base_up(site.h, known, c, d)?;
+    let down = base_up(site.h, known, d, c)?;
+    one_converted(site.at, faults, up, down)
 }
 
 fn equality(differ: bool) -> Arithmetic
@@ -98,24 +97,21 @@ fn equality(differ: bool) -> Arithmetic
 /// Two pointers.
 #[tactic(auto, unfolding(crate::specs::Operators::pointers_right))]
 fn pointers_right(
-    h: &Hierarchy,
+    site: &Site,
     known: &mut Known,
-    at: u32,
     faults: &mut FaultList,
     differ: bool,
-    a: TypedOperand,
-    c: ClassId,
-    b: TypedOperand,
-    d: ClassId,
+    a: Pointer,
+    b: Pointer,
 ) -> Result<Option<RightValue>, NoMemory>
-    requires knows { Knows h.now known.old }
-    ensures answers { Answers result faults.old faults.new (pointers_right h.now at differ a c b d) }
-    ensures knows { OnOk result (Knows h.now known.new) }
+    requires knows { Knows site.now.h.now known.old }
+    ensures answers { Answers result faults.old faults.new (pointers_right site.now.h.now site.now.at differ a.operand a.class b.operand b.class) }
+    ensures knows { OnOk result (Knows site.now.h.now known.new) }
 {
-    let Some(conversions) = to_one_class(h, known, at, faults, c, d)? else {
+    let Some(conversions) = to_one_class(site, known, faults, a.class, b.class)? else {
         return Ok(None);
     };
-    Ok(Some(same_pointer(differ, a, b, conversions)))
+    Ok(Some(same_pointer(differ, a.operand, b.operand, conversions)))
 }
 
 /// A pointer, and a number that must be a null pointer constant.
@@ -141,17 +137,16 @@ fn null_right(
 /// Two numbers, two pointers, or a pointer and a null pointer constant.
 #[tactic(auto, unfolding(crate::specs::Operators::compared))]
 fn compared(
-    h: &Hierarchy,
+    site: &Site,
     known: &mut Known,
-    at: u32,
     faults: &mut FaultList,
     differ: bool,
     a: &Value,
     b: &Value,
 ) -> Result<Option<RightValue>, NoMemory>
-    requires knows { Knows h.now known.old }
-    ensures answers { Answers result faults.old faults.new (compared h.now at differ a.now.operand a.now.ty a.now.is_null b.now.operand b.now.ty b.now.is_null) }
-    ensures knows { OnOk result (Knows h.now known.new) }
+    requires knows { Knows site.now.h.now known.old }
+    ensures answers { Answers result faults.old faults.new (compared site.now.h.now site.now.at differ a.now.operand a.now.ty a.now.is_null b.now.operand b.now.ty b.now.is_null) }
+    ensures knows { OnOk result (Knows site.now.h.now known.new) }
 {
     let (x, y) = (a.operand, b.operand);
     match (&a.ty, &b.ty) {
@@ -160,14 +155,22 @@ fn compared(
         }
         (ValueType::Number(_), ValueType::Pointer(_)) => {
             let conversions = (Conversion::Null, Conversion::Same);
-            null_right(at, faults, a.is_null, differ, x, y, conversions)
+            null_right(site.at, faults, a.is_null, differ, x, y, conversions)
         }
         (ValueType::Pointer(_), ValueType::Number(_)) => {
             let conversions = (Conversion::Same, Conversion::Null);
-            null_right(at, faults, b.is_null, differ, x, y, conversions)
+            null_right(site.at, faults, b.is_null, differ, x, y, conversions)
         }
         (ValueType::Pointer(c), ValueType::Pointer(d)) => {
-            pointers_right(h, known, at, faults, differ, x, *c, y, *d)
+            let left = Pointer {
+                operand: x,
+                class: *c,
+            };
+            let right = Pointer {
+                operand: y,
+                class: *d,
+            };
+            pointers_right(site, known, faults, differ, left, right)
         }
     }
 }
@@ -175,24 +178,21 @@ fn compared(
 /// `==`, or `!=` where the operands are to differ.
 #[tactic(auto, unfolding(crate::specs::Operators::equal_right))]
 pub(crate) fn equal_right(
-    h: &Hierarchy,
+    site: &Site,
     known: &mut Known,
-    setting: &Setting,
-    scene: &Scene,
-    at: u32,
     faults: &mut FaultList,
     differ: bool,
     x: &Operand,
     y: &Operand,
 ) -> Result<Option<RightValue>, NoMemory>
-    requires knows { Knows h.now known.old }
-    ensures answers { Answers result faults.old faults.new (equal_right h.now setting.now scene.now at differ x.now y.now) }
-    ensures knows { OnOk result (Knows h.now known.new) }
+    requires knows { Knows site.now.h.now known.old }
+    ensures answers { Answers result faults.old faults.new (equal_right site.now.h.now site.now.setting.now site.now.scene.now site.now.at differ x.now y.now) }
+    ensures knows { OnOk result (Knows site.now.h.now known.new) }
 {
-    let left = operand_of(setting, scene, at, faults, x)?;
-    let right = operand_of(setting, scene, at, faults, y)?;
+    let left = operand_of(site, faults, x)?;
+    let right = operand_of(site, faults, y)?;
     let (Some(a), Some(b)) = (left, right) else {
         return Ok(None);
     };
-    compared(h, known, at, faults, differ, &a, &b)
+    compared(site, known, faults, differ, &a, &b)
 }

@@ -8,9 +8,9 @@ ghost use Rattle.cxx_expression.specs.invariants.Known.{Knows};
 use crate::faults::{FaultList, note};
 use crate::known::Known;
 use crate::look_up::{Based, base_up};
-use crate::scene::{Scene, Setting};
+use crate::site::Site;
 use crate::values::operand_of;
-use cxx_hierarchy::{ClassId, Hierarchy, Rule, ValueType};
+use cxx_hierarchy::{ClassId, Rule, ValueType};
 use cxx_program::{Argument, Conversion};
 use cxx_subobject::Subobject;
 use cxx_syntax::Operand;
@@ -19,28 +19,27 @@ use foundation::NoMemory;
 /// A class as a proper base of another, or none where they are one class.
 #[tactic(auto, unfolding(crate::specs::Values::path_to))]
 pub(crate) fn path_to(
-    h: &Hierarchy,
+    site: &Site,
     known: &mut Known,
-    at: u32,
     faults: &mut FaultList,
     from: ClassId,
     to: ClassId,
 ) -> Result<Option<Option<Subobject>>, NoMemory>
-    requires knows { Knows h.now known.old }
-    ensures answers { Answers result faults.old faults.new (path_to h.now at from to) }
-    ensures knows { OnOk result (Knows h.now known.new) }
+    requires knows { Knows site.now.h.now known.old }
+    ensures answers { Answers result faults.old faults.new (path_to site.now.h.now site.now.at from to) }
+    ensures knows { OnOk result (Knows site.now.h.now known.new) }
 {
     if from.0 == to.0 {
         return Ok(Some(None));
     }
-    match base_up(h, known, from, to)? {
+    match base_up(site.h, known, from, to)? {
         Based::Base(s) => Ok(Some(Some(s))),
         Based::TwoBases => {
-            note(faults, Rule::AmbiguousBase, at)?;
+            note(faults, Rule::AmbiguousBase, site.at)?;
             Ok(None)
         }
         Based::NotBase => {
-            note(faults, Rule::NotBase, at)?;
+            note(faults, Rule::NotBase, site.at)?;
             Ok(None)
         }
     }
@@ -58,18 +57,17 @@ fn conversion_by(path: Option<Subobject>) -> Conversion
 /// How a pointer to a class becomes one to another; `at` is the place of the statement's first token. Faults: E15, E16.
 #[tactic(auto, unfolding(crate::specs::Values::class_conversion))]
 pub fn class_conversion(
-    h: &Hierarchy,
+    site: &Site,
     known: &mut Known,
-    at: u32,
     faults: &mut FaultList,
     from: ClassId,
     to: ClassId,
 ) -> Result<Option<Conversion>, NoMemory>
-    requires knows { Knows h.now known.old }
-    ensures answers { Answers result faults.old faults.new (class_conversion h.now at from to) }
-    ensures knows { OnOk result (Knows h.now known.new) }
+    requires knows { Knows site.now.h.now known.old }
+    ensures answers { Answers result faults.old faults.new (class_conversion site.now.h.now site.now.at from to) }
+    ensures knows { OnOk result (Knows site.now.h.now known.new) }
 {
-    let Some(path) = path_to(h, known, at, faults, from, to)? else {
+    let Some(path) = path_to(site, known, faults, from, to)? else {
         return Ok(None);
     };
     Ok(Some(conversion_by(path)))
@@ -78,17 +76,16 @@ pub fn class_conversion(
 /// How a value becomes one of a type; `at` is the place of the statement's first token. Faults: E15, E16, E19.
 #[tactic(auto, unfolding(crate::specs::Values::conversion_of))]
 pub fn conversion_of(
-    h: &Hierarchy,
+    site: &Site,
     known: &mut Known,
-    at: u32,
     faults: &mut FaultList,
     from: &ValueType<ClassId>,
     is_null: bool,
     to: &ValueType<ClassId>,
 ) -> Result<Option<Conversion>, NoMemory>
-    requires knows { Knows h.now known.old }
-    ensures answers { Answers result faults.old faults.new (conversion_of h.now at from.now is_null to.now) }
-    ensures knows { OnOk result (Knows h.now known.new) }
+    requires knows { Knows site.now.h.now known.old }
+    ensures answers { Answers result faults.old faults.new (conversion_of site.now.h.now site.now.at from.now is_null to.now) }
+    ensures knows { OnOk result (Knows site.now.h.now known.new) }
 {
     match (from, to) {
         (ValueType::Number(_), ValueType::Number(scalar)) => Ok(Some(Conversion::Number(*scalar))),
@@ -96,15 +93,15 @@ pub fn conversion_of(
             if is_null {
                 return Ok(Some(Conversion::Null));
             }
-            note(faults, Rule::TypeMismatch, at)?;
+            note(faults, Rule::TypeMismatch, site.at)?;
             Ok(None)
         }
         (ValueType::Pointer(_), ValueType::Number(_)) => {
-            note(faults, Rule::TypeMismatch, at)?;
+            note(faults, Rule::TypeMismatch, site.at)?;
             Ok(None)
         }
         (ValueType::Pointer(c), ValueType::Pointer(d)) => {
-            class_conversion(h, known, at, faults, *c, *d)
+            class_conversion(site, known, faults, *c, *d)
         }
     }
 }
@@ -113,23 +110,20 @@ pub fn conversion_of(
 /// and of its conversion.
 #[tactic(auto, unfolding(crate::specs::Values::converted_operand))]
 pub fn converted_operand(
-    h: &Hierarchy,
+    site: &Site,
     known: &mut Known,
-    setting: &Setting,
-    scene: &Scene,
-    at: u32,
     faults: &mut FaultList,
     ty: &ValueType<ClassId>,
     operand: &Operand,
 ) -> Result<Option<Argument>, NoMemory>
-    requires knows { Knows h.now known.old }
-    ensures answers { Answers result faults.old faults.new (converted_operand h.now setting.now scene.now at ty.now operand.now) }
-    ensures knows { OnOk result (Knows h.now known.new) }
+    requires knows { Knows site.now.h.now known.old }
+    ensures answers { Answers result faults.old faults.new (converted_operand site.now.h.now site.now.setting.now site.now.scene.now site.now.at ty.now operand.now) }
+    ensures knows { OnOk result (Knows site.now.h.now known.new) }
 {
-    let Some(value) = operand_of(setting, scene, at, faults, operand)? else {
+    let Some(value) = operand_of(site, faults, operand)? else {
         return Ok(None);
     };
-    let Some(conversion) = conversion_of(h, known, at, faults, &value.ty, value.is_null, ty)? else {
+    let Some(conversion) = conversion_of(site, known, faults, &value.ty, value.is_null, ty)? else {
         return Ok(None);
     };
     Ok(Some(Argument {

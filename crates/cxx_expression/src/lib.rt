@@ -28,6 +28,7 @@ mod qualified;
 mod rights;
 mod scalars;
 pub mod scene;
+pub mod site;
 pub mod typed;
 mod values;
 
@@ -42,5 +43,6 @@ pub use crate::laws::answered;
 pub use crate::places::leaf_of;
 pub use crate::rights::{converted_right, right_of};
 pub use crate::scene::{Entry, EntryList, Returns, Scene, Setting};
+pub use crate::site::Site;
 pub use crate::typed::{CallValue, LeafPlace, Number, Pointer, RightValue, Value};
 pub use crate::values::{constant_of, number_of, operand_of, pointer_of, variable_of};

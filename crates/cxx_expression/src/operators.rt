@@ -9,10 +9,10 @@ use crate::comparisons::equal_right;
 use crate::faults::FaultList;
 use crate::known::Known;
 use crate::scalars::common_type;
-use crate::scene::{Scene, Setting};
+use crate::site::Site;
 use crate::typed::{Number, RightValue};
 use crate::values::number_of;
-use cxx_hierarchy::{Hierarchy, Scalar, ValueType};
+use cxx_hierarchy::{Scalar, ValueType};
 use cxx_program::{Arithmetic, TypedOperand, TypedRight};
 use cxx_syntax::{BinaryOp, Operand};
 use foundation::NoMemory;
@@ -60,18 +60,16 @@ pub(crate) fn calculated(
 /// An operator that takes numbers alone.
 #[tactic(auto, unfolding(crate::specs::Operators::arithmetic_right))]
 fn arithmetic_right(
-    setting: &Setting,
-    scene: &Scene,
-    at: u32,
+    site: &Site,
     faults: &mut FaultList,
     op: Arithmetic,
     x: &Operand,
     y: &Operand,
 ) -> Result<Option<RightValue>, NoMemory>
-    ensures { Answers result faults.old faults.new (arithmetic_right setting.now scene.now at op x.now y.now) }
+    ensures { Answers result faults.old faults.new (arithmetic_right site.now.setting.now site.now.scene.now site.now.at op x.now y.now) }
 {
-    let left = number_of(setting, scene, at, faults, x)?;
-    let right = number_of(setting, scene, at, faults, y)?;
+    let left = number_of(site, faults, x)?;
+    let right = number_of(site, faults, y)?;
     let (Some(a), Some(b)) = (left, right) else {
         return Ok(None);
     };
@@ -81,19 +79,16 @@ fn arithmetic_right(
 /// An operator of two operands.
 #[tactic(auto, unfolding(crate::specs::Operators::binary_right))]
 pub(crate) fn binary_right(
-    h: &Hierarchy,
+    site: &Site,
     known: &mut Known,
-    setting: &Setting,
-    scene: &Scene,
-    at: u32,
     faults: &mut FaultList,
     x: &Operand,
     op: BinaryOp,
     y: &Operand,
 ) -> Result<Option<RightValue>, NoMemory>
-    requires knows { Knows h.now known.old }
-    ensures answers { Answers result faults.old faults.new (binary_right h.now setting.now scene.now at x.now op y.now) }
-    ensures knows { OnOk result (Knows h.now known.new) }
+    requires knows { Knows site.now.h.now known.old }
+    ensures answers { Answers result faults.old faults.new (binary_right site.now.h.now site.now.setting.now site.now.scene.now site.now.at x.now op y.now) }
+    ensures knows { OnOk result (Knows site.now.h.now known.new) }
 {
     let op = match op {
         BinaryOp::Add => Arithmetic::Add,
@@ -101,24 +96,22 @@ pub(crate) fn binary_right(
         BinaryOp::Multiply => Arithmetic::Multiply,
         BinaryOp::Less => Arithmetic::Less,
         BinaryOp::LessEqual => Arithmetic::LessEqual,
-        BinaryOp::Equal => return equal_right(h, known, setting, scene, at, faults, false, x, y),
-        BinaryOp::NotEqual => return equal_right(h, known, setting, scene, at, faults, true, x, y),
+        BinaryOp::Equal => return equal_right(site, known, faults, false, x, y),
+        BinaryOp::NotEqual => return equal_right(site, known, faults, true, x, y),
     };
-    arithmetic_right(setting, scene, at, faults, op, x, y)
+    arithmetic_right(site, faults, op, x, y)
 }
 
 /// `!` of a number.
 #[tactic(auto, unfolding(crate::specs::Operators::not_right))]
 pub(crate) fn not_right(
-    setting: &Setting,
-    scene: &Scene,
-    at: u32,
+    site: &Site,
     faults: &mut FaultList,
     x: &Operand,
 ) -> Result<Option<RightValue>, NoMemory>
-    ensures { Answers result faults.old faults.new (not_right setting.now scene.now at x.now) }
+    ensures { Answers result faults.old faults.new (not_right site.now.setting.now site.now.scene.now site.now.at x.now) }
 {
-    let Some(value) = number_of(setting, scene, at, faults, x)? else {
+    let Some(value) = number_of(site, faults, x)? else {
         return Ok(None);
     };
     Ok(Some(truth_value(TypedRight::Not(value.operand))))

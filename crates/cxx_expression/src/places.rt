@@ -10,7 +10,7 @@ use crate::copies::copy_field;
 use crate::faults::{FaultList, note};
 use crate::known::Known;
 use crate::look_up::{Looked, looked_up, member_record};
-use crate::scene::{Scene, Setting};
+use crate::site::Site;
 use crate::typed::{FieldPlace, FoundMember, LeafPlace, ObjectPlace, PlaceStep, Pointer, Reached};
 use crate::values::pointer_of;
 use cxx_hierarchy::{ClassId, FieldType, Hierarchy, Rule};
@@ -50,18 +50,17 @@ fn member_in(
 /// The data member that a name means in a class.
 #[tactic(auto, unfolding(crate::specs::Places::member_of))]
 fn member_of(
-    h: &Hierarchy,
+    site: &Site,
     known: &mut Known,
-    at: u32,
     faults: &mut FaultList,
     c: ClassId,
     x: &Spot,
 ) -> Result<Option<FoundMember>, NoMemory>
-    requires knows { Knows h.now known.old }
-    ensures answers { Answers result faults.old faults.new (member_of h.now at c x.now) }
-    ensures knows { OnOk result (Knows h.now known.new) }
+    requires knows { Knows site.now.h.now known.old }
+    ensures answers { Answers result faults.old faults.new (member_of site.now.h.now site.now.at c x.now) }
+    ensures knows { OnOk result (Knows site.now.h.now known.new) }
 {
-    match looked_up(h, known, c, x.name.as_slice())? {
+    match looked_up(site.h, known, c, x.name.as_slice())? {
         Looked::Missing => {
             note(faults, Rule::NoSuchMember, x.at)?;
             Ok(None)
@@ -70,9 +69,9 @@ fn member_of(
             note(faults, Rule::AmbiguousName, x.at)?;
             Ok(None)
         }
-        Looked::Member(s, number) => member_in(h, x.at, faults, s, number),
+        Looked::Member(s, number) => member_in(site.h, x.at, faults, s, number),
         Looked::Function(_, _) => {
-            note(faults, Rule::TypeMismatch, at)?;
+            note(faults, Rule::TypeMismatch, site.at)?;
             Ok(None)
         }
     }
@@ -125,21 +124,20 @@ fn object_of(
 /// One name of a place, in an object of a class.
 #[tactic(auto, unfolding(crate::specs::Places::step_of))]
 fn step_of(
-    h: &Hierarchy,
+    site: &Site,
     known: &mut Known,
-    at: u32,
     faults: &mut FaultList,
     c: ClassId,
     part: &PlacePart,
 ) -> Result<Option<PlaceStep>, NoMemory>
-    requires knows { Knows h.now known.old }
-    ensures answers { Answers result faults.old faults.new (step_of h.now at c part.now) }
-    ensures knows { OnOk result (Knows h.now known.new) }
+    requires knows { Knows site.now.h.now known.old }
+    ensures answers { Answers result faults.old faults.new (step_of site.now.h.now site.now.at c part.now) }
+    ensures knows { OnOk result (Knows site.now.h.now known.new) }
 {
-    let Some(found) = member_of(h, known, at, faults, c, &part.name)? else {
+    let Some(found) = member_of(site, known, faults, c, &part.name)? else {
         return Ok(None);
     };
-    let Some(index) = index_of(at, faults, found.count, part.index)? else {
+    let Some(index) = index_of(site.at, faults, found.count, part.index)? else {
         return Ok(None);
     };
     Ok(Some(PlaceStep {
@@ -189,23 +187,22 @@ fn further(reached: Reached, class: ClassId, step: PlaceStep) -> Result<Reached,
 /// What the names of a place reach in an object of a class.
 #[tactic(auto, unfolding(crate::specs::Places::steps_of))]
 fn steps_of(
-    h: &Hierarchy,
+    site: &Site,
     known: &mut Known,
-    at: u32,
     faults: &mut FaultList,
     class: ClassId,
     parts: &[PlacePart],
 ) -> Result<Option<Reached>, NoMemory>
-    requires knows { Knows h.now known.old }
-    ensures answers { Answers result faults.old faults.new (steps_of h.now at (begun class) parts.now) }
-    ensures knows { OnOk result (Knows h.now known.new) }
+    requires knows { Knows site.now.h.now known.old }
+    ensures answers { Answers result faults.old faults.new (steps_of site.now.h.now site.now.at (begun class) parts.now) }
+    ensures knows { OnOk result (Knows site.now.h.now known.new) }
 {
     let mut reached = begun(known.alloc, class);
     for part in parts {
-        let Some(inside) = object_of(at, faults, &reached.ty)? else {
+        let Some(inside) = object_of(site.at, faults, &reached.ty)? else {
             return Ok(None);
         };
-        let Some(step) = step_of(h, known, at, faults, inside, part)? else {
+        let Some(step) = step_of(site, known, faults, inside, part)? else {
             return Ok(None);
         };
         reached = further(reached, inside, step)?;
@@ -238,27 +235,24 @@ fn with_last(pointer: Pointer, reached: Reached) -> Option<FieldPlace>
 /// A place and its type.
 #[tactic(auto, unfolding(crate::specs::Places::place_of))]
 fn place_of(
-    h: &Hierarchy,
+    site: &Site,
     known: &mut Known,
-    setting: &Setting,
-    scene: &Scene,
-    at: u32,
     faults: &mut FaultList,
     text: &PlaceText,
 ) -> Result<Option<FieldPlace>, NoMemory>
-    requires knows { Knows h.now known.old }
-    ensures answers { Answers result faults.old faults.new (place_of h.now setting.now scene.now at text.now) }
-    ensures knows { OnOk result (Knows h.now known.new) }
+    requires knows { Knows site.now.h.now known.old }
+    ensures answers { Answers result faults.old faults.new (place_of site.now.h.now site.now.setting.now site.now.scene.now site.now.at text.now) }
+    ensures knows { OnOk result (Knows site.now.h.now known.new) }
 {
-    let Some(pointer) = pointer_of(setting, scene, at, faults, &text.pointer)? else {
+    let Some(pointer) = pointer_of(site, faults, &text.pointer)? else {
         return Ok(None);
     };
     let parts = text.parts.as_slice();
-    let Some(reached) = steps_of(h, known, at, faults, pointer.class, parts)? else {
+    let Some(reached) = steps_of(site, known, faults, pointer.class, parts)? else {
         return Ok(None);
     };
     let Some(place) = with_last(pointer, reached) else {
-        note(faults, Rule::TypeMismatch, at)?;
+        note(faults, Rule::TypeMismatch, site.at)?;
         return Ok(None);
     };
     Ok(Some(place))
@@ -267,26 +261,23 @@ fn place_of(
 /// A place of a number or a pointer; `at` is the place of the statement's first token. Faults: E9, E10, E19, E20, E22.
 #[tactic(auto, unfolding(crate::specs::Places::leaf_of))]
 pub fn leaf_of(
-    h: &Hierarchy,
+    site: &Site,
     known: &mut Known,
-    setting: &Setting,
-    scene: &Scene,
-    at: u32,
     faults: &mut FaultList,
     text: &PlaceText,
 ) -> Result<Option<LeafPlace>, NoMemory>
-    requires knows { Knows h.now known.old }
-    ensures answers { Answers result faults.old faults.new (leaf_of h.now setting.now scene.now at text.now) }
-    ensures knows { OnOk result (Knows h.now known.new) }
+    requires knows { Knows site.now.h.now known.old }
+    ensures answers { Answers result faults.old faults.new (leaf_of site.now.h.now site.now.setting.now site.now.scene.now site.now.at text.now) }
+    ensures knows { OnOk result (Knows site.now.h.now known.new) }
 {
-    let Some(found) = place_of(h, known, setting, scene, at, faults, text)? else {
+    let Some(found) = place_of(site, known, faults, text)? else {
         return Ok(None);
     };
     let FieldPlace { place, ty } = found;
     match ty {
         FieldType::Value(ty) => Ok(Some(LeafPlace { place, ty })),
         FieldType::Object(_) => {
-            note(faults, Rule::TypeMismatch, at)?;
+            note(faults, Rule::TypeMismatch, site.at)?;
             Ok(None)
         }
     }
@@ -295,26 +286,23 @@ pub fn leaf_of(
 /// A place of an object.
 #[tactic(auto, unfolding(crate::specs::Places::object_place_of))]
 pub(crate) fn object_place_of(
-    h: &Hierarchy,
+    site: &Site,
     known: &mut Known,
-    setting: &Setting,
-    scene: &Scene,
-    at: u32,
     faults: &mut FaultList,
     text: &PlaceText,
 ) -> Result<Option<ObjectPlace>, NoMemory>
-    requires knows { Knows h.now known.old }
-    ensures answers { Answers result faults.old faults.new (object_place_of h.now setting.now scene.now at text.now) }
-    ensures knows { OnOk result (Knows h.now known.new) }
+    requires knows { Knows site.now.h.now known.old }
+    ensures answers { Answers result faults.old faults.new (object_place_of site.now.h.now site.now.setting.now site.now.scene.now site.now.at text.now) }
+    ensures knows { OnOk result (Knows site.now.h.now known.new) }
 {
-    let Some(found) = place_of(h, known, setting, scene, at, faults, text)? else {
+    let Some(found) = place_of(site, known, faults, text)? else {
         return Ok(None);
     };
     let FieldPlace { place, ty } = found;
     match ty {
         FieldType::Object(class) => Ok(Some(ObjectPlace { place, class })),
         FieldType::Value(_) => {
-            note(faults, Rule::TypeMismatch, at)?;
+            note(faults, Rule::TypeMismatch, site.at)?;
             Ok(None)
         }
     }

@@ -11,10 +11,10 @@ use crate::classes::class_of;
 use crate::conversions::path_to;
 use crate::faults::{FaultList, note};
 use crate::known::Known;
-use crate::scene::{Scene, Setting};
+use crate::site::Site;
 use crate::typed::{CallValue, FoundFunction, Receiver};
 use crate::values::pointer_of;
-use cxx_hierarchy::{ClassId, Hierarchy, Rule, ValueType};
+use cxx_hierarchy::{ClassId, Rule, ValueType};
 use cxx_program::{ArgumentList, TypedCall};
 use cxx_syntax::{CallText, PointerText, Spot};
 use foundation::NoMemory;
@@ -22,25 +22,24 @@ use foundation::NoMemory;
 /// The function that a call names in a class.
 #[tactic(auto, unfolding(crate::specs::Calls::named_function))]
 fn named_function(
-    h: &Hierarchy,
+    site: &Site,
     known: &mut Known,
-    at: u32,
     faults: &mut FaultList,
     k: ClassId,
     call: &CallText,
 ) -> Result<Option<FoundFunction>, NoMemory>
-    requires knows { Knows h.now known.old }
-    ensures answers { Answers result faults.old faults.new (named_function h.now at k call.now) }
-    ensures knows { OnOk result (Knows h.now known.new) }
+    requires knows { Knows site.now.h.now known.old }
+    ensures answers { Answers result faults.old faults.new (named_function site.now.h.now site.now.at k call.now) }
+    ensures knows { OnOk result (Knows site.now.h.now known.new) }
 {
-    let Some(found) = function_of(h, known, at, faults, k, &call.name)? else {
+    let Some(found) = function_of(site, known, faults, k, &call.name)? else {
         return Ok(None);
     };
     if found.is_pure {
         note(faults, Rule::Abstract, call.name.at)?;
     }
     if call.arguments.len() != found.parameters.len() {
-        note(faults, Rule::TypeMismatch, at)?;
+        note(faults, Rule::TypeMismatch, site.at)?;
     }
     Ok(Some(found))
 }
@@ -48,23 +47,20 @@ fn named_function(
 /// The pointer of a call, and a class as a base of its class.
 #[tactic(auto, unfolding(crate::specs::Calls::receiver_of))]
 fn receiver_of(
-    h: &Hierarchy,
+    site: &Site,
     known: &mut Known,
-    setting: &Setting,
-    scene: &Scene,
-    at: u32,
     faults: &mut FaultList,
     k: ClassId,
     pointer: &PointerText,
 ) -> Result<Option<Receiver>, NoMemory>
-    requires knows { Knows h.now known.old }
-    ensures answers { Answers result faults.old faults.new (receiver_of h.now setting.now scene.now at k pointer.now) }
-    ensures knows { OnOk result (Knows h.now known.new) }
+    requires knows { Knows site.now.h.now known.old }
+    ensures answers { Answers result faults.old faults.new (receiver_of site.now.h.now site.now.setting.now site.now.scene.now site.now.at k pointer.now) }
+    ensures knows { OnOk result (Knows site.now.h.now known.new) }
 {
-    let Some(pointer) = pointer_of(setting, scene, at, faults, pointer)? else {
+    let Some(pointer) = pointer_of(site, faults, pointer)? else {
         return Ok(None);
     };
-    let Some(path) = path_to(h, known, at, faults, pointer.class, k)? else {
+    let Some(path) = path_to(site, known, faults, pointer.class, k)? else {
         return Ok(None);
     };
     Ok(Some(Receiver { pointer, path }))
@@ -105,27 +101,24 @@ fn qualified(receiver: Receiver, found: FoundFunction, arguments: ArgumentList) 
 /// A call of the function that a class means.
 #[tactic(auto, unfolding(crate::specs::Calls::qualified_call))]
 pub(crate) fn qualified_call(
-    h: &Hierarchy,
+    site: &Site,
     known: &mut Known,
-    setting: &Setting,
-    scene: &Scene,
-    at: u32,
     faults: &mut FaultList,
     call: &CallText,
     x: &Spot,
 ) -> Result<Option<CallValue>, NoMemory>
-    requires knows { Knows h.now known.old }
-    ensures answers { Answers result faults.old faults.new (qualified_call h.now setting.now scene.now at call.now x.now) }
-    ensures knows { OnOk result (Knows h.now known.new) }
+    requires knows { Knows site.now.h.now known.old }
+    ensures answers { Answers result faults.old faults.new (qualified_call site.now.h.now site.now.setting.now site.now.scene.now site.now.at call.now x.now) }
+    ensures knows { OnOk result (Knows site.now.h.now known.new) }
 {
-    let Some(k) = class_of(h, faults, x)? else {
+    let Some(k) = class_of(site.h, faults, x)? else {
         return Ok(None);
     };
-    let receiver = receiver_of(h, known, setting, scene, at, faults, k, &call.pointer)?;
-    let found = named_function(h, known, at, faults, k, call)?;
+    let receiver = receiver_of(site, known, faults, k, &call.pointer)?;
+    let found = named_function(site, known, faults, k, call)?;
     let parameters = parameters_of(&found);
     let operands = call.arguments.as_slice();
-    let list = arguments_of(h, known, setting, scene, at, faults, parameters, operands)?;
+    let list = arguments_of(site, known, faults, parameters, operands)?;
     let (Some(receiver), Some(found), Some(arguments)) = (receiver, found, list) else {
         return Ok(None);
     };

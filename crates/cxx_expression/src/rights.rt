@@ -15,7 +15,7 @@ use crate::faults::{FaultList, note};
 use crate::known::Known;
 use crate::operators::{binary_right, not_right};
 use crate::places::{leaf_of, object_place_of};
-use crate::scene::{Scene, Setting};
+use crate::site::Site;
 use crate::typed::{CallValue, RightValue};
 use crate::values::operand_of;
 use cxx_hierarchy::{ClassId, Hierarchy, ReturnType, Rule, ValueType};
@@ -28,15 +28,13 @@ use foundation::NoMemory;
 /// An operand.
 #[tactic(auto, unfolding(crate::specs::Rights::operand_right))]
 fn operand_right(
-    setting: &Setting,
-    scene: &Scene,
-    at: u32,
+    site: &Site,
     faults: &mut FaultList,
     operand: &Operand,
 ) -> Result<Option<RightValue>, NoMemory>
-    ensures { Answers result faults.old faults.new (operand_right setting.now scene.now at operand.now) }
+    ensures { Answers result faults.old faults.new (operand_right site.now.setting.now site.now.scene.now site.now.at operand.now) }
 {
-    let Some(value) = operand_of(setting, scene, at, faults, operand)? else {
+    let Some(value) = operand_of(site, faults, operand)? else {
         return Ok(None);
     };
     Ok(Some(RightValue {
@@ -49,19 +47,16 @@ fn operand_right(
 /// A place that is read.
 #[tactic(auto, unfolding(crate::specs::Rights::place_right))]
 fn place_right(
-    h: &Hierarchy,
+    site: &Site,
     known: &mut Known,
-    setting: &Setting,
-    scene: &Scene,
-    at: u32,
     faults: &mut FaultList,
     text: &PlaceText,
 ) -> Result<Option<RightValue>, NoMemory>
-    requires knows { Knows h.now known.old }
-    ensures answers { Answers result faults.old faults.new (place_right h.now setting.now scene.now at text.now) }
-    ensures knows { OnOk result (Knows h.now known.new) }
+    requires knows { Knows site.now.h.now known.old }
+    ensures answers { Answers result faults.old faults.new (place_right site.now.h.now site.now.setting.now site.now.scene.now site.now.at text.now) }
+    ensures knows { OnOk result (Knows site.now.h.now known.new) }
 {
-    let Some(leaf) = leaf_of(h, known, setting, scene, at, faults, text)? else {
+    let Some(leaf) = leaf_of(site, known, faults, text)? else {
         return Ok(None);
     };
     Ok(Some(RightValue {
@@ -74,19 +69,16 @@ fn place_right(
 /// The address of an object.
 #[tactic(auto, unfolding(crate::specs::Rights::address_right))]
 fn address_right(
-    h: &Hierarchy,
+    site: &Site,
     known: &mut Known,
-    setting: &Setting,
-    scene: &Scene,
-    at: u32,
     faults: &mut FaultList,
     text: &PlaceText,
 ) -> Result<Option<RightValue>, NoMemory>
-    requires knows { Knows h.now known.old }
-    ensures answers { Answers result faults.old faults.new (address_right h.now setting.now scene.now at text.now) }
-    ensures knows { OnOk result (Knows h.now known.new) }
+    requires knows { Knows site.now.h.now known.old }
+    ensures answers { Answers result faults.old faults.new (address_right site.now.h.now site.now.setting.now site.now.scene.now site.now.at text.now) }
+    ensures knows { OnOk result (Knows site.now.h.now known.new) }
 {
-    let Some(object) = object_place_of(h, known, setting, scene, at, faults, text)? else {
+    let Some(object) = object_place_of(site, known, faults, text)? else {
         return Ok(None);
     };
     Ok(Some(RightValue {
@@ -99,27 +91,23 @@ fn address_right(
 /// A call whose result is used.
 #[tactic(auto, unfolding(crate::specs::Rights::call_right))]
 fn call_right(
-    h: &Hierarchy,
-    o: &Overriders,
+    site: &Site,
     known: &mut Known,
-    setting: &Setting,
-    scene: &Scene,
-    at: u32,
     faults: &mut FaultList,
     text: &CallText,
 ) -> Result<Option<RightValue>, NoMemory>
-    requires made { AreOverriders h.now o.now }
-    requires knows { Knows h.now known.old }
-    ensures answers { Answers result faults.old faults.new (call_right h.now setting.now scene.now at text.now) }
-    ensures knows { OnOk result (Knows h.now known.new) }
+    requires made { AreOverriders site.now.h.now site.now.overriders.now }
+    requires knows { Knows site.now.h.now known.old }
+    ensures answers { Answers result faults.old faults.new (call_right site.now.h.now site.now.setting.now site.now.scene.now site.now.at text.now) }
+    ensures knows { OnOk result (Knows site.now.h.now known.new) }
 {
-    let Some(value) = call_of(h, o, known, setting, scene, at, faults, text)? else {
+    let Some(value) = call_of(site, known, faults, text)? else {
         return Ok(None);
     };
     let CallValue { call, returns } = value;
     match returns {
         ReturnType::Void => {
-            note(faults, Rule::TypeMismatch, at)?;
+            note(faults, Rule::TypeMismatch, site.at)?;
             Ok(None)
         }
         ReturnType::Value(ty) => Ok(Some(RightValue {
@@ -171,30 +159,26 @@ fn new_right(
 /// A right side and its type; `at` is the place of the statement's first token. Faults: those of the right side.
 #[tactic(auto, unfolding(crate::specs::Rights::right_of))]
 pub fn right_of(
-    h: &Hierarchy,
-    o: &Overriders,
+    site: &Site,
     known: &mut Known,
-    setting: &Setting,
-    scene: &Scene,
-    at: u32,
     faults: &mut FaultList,
     right: &Right,
 ) -> Result<Option<RightValue>, NoMemory>
-    requires made { AreOverriders h.now o.now }
-    requires knows { Knows h.now known.old }
-    ensures answers { Answers result faults.old faults.new (right_of h.now setting.now scene.now at right.now) }
-    ensures knows { OnOk result (Knows h.now known.new) }
+    requires made { AreOverriders site.now.h.now site.now.overriders.now }
+    requires knows { Knows site.now.h.now known.old }
+    ensures answers { Answers result faults.old faults.new (right_of site.now.h.now site.now.setting.now site.now.scene.now site.now.at right.now) }
+    ensures knows { OnOk result (Knows site.now.h.now known.new) }
 {
     match right {
-        Right::Operand(x) => operand_right(setting, scene, at, faults, x),
-        Right::Binary(x, op, y) => { binary_right(h, known, setting, scene, at, faults, x, *op, y) }
-        Right::Not(x) => not_right(setting, scene, at, faults, x),
-        Right::Place(text) => place_right(h, known, setting, scene, at, faults, text),
-        Right::Address(text) => address_right(h, known, setting, scene, at, faults, text),
-        Right::Call(text) => call_right(h, o, known, setting, scene, at, faults, text),
-        Right::New(x) => new_right(h, o, faults, x),
-        Right::Cast(text) => cast_right(h, known, setting, scene, at, faults, text),
-        Right::TypeEqual(x, name) => { type_right(h, known, setting, scene, at, faults, x, name) }
+        Right::Operand(x) => operand_right(site, faults, x),
+        Right::Binary(x, op, y) => { binary_right(site, known, faults, x, *op, y) }
+        Right::Not(x) => not_right(site, faults, x),
+        Right::Place(text) => place_right(site, known, faults, text),
+        Right::Address(text) => address_right(site, known, faults, text),
+        Right::Call(text) => call_right(site, known, faults, text),
+        Right::New(x) => new_right(site.h, site.overriders, faults, x),
+        Right::Cast(text) => cast_right(site, known, faults, text),
+        Right::TypeEqual(x, name) => { type_right(site, known, faults, x, name) }
     }
 }
 
@@ -202,25 +186,21 @@ pub fn right_of(
 /// right side and of its conversion.
 #[tactic(auto, unfolding(crate::specs::Rights::converted_right))]
 pub fn converted_right(
-    h: &Hierarchy,
-    o: &Overriders,
+    site: &Site,
     known: &mut Known,
-    setting: &Setting,
-    scene: &Scene,
-    at: u32,
     faults: &mut FaultList,
     ty: &ValueType<ClassId>,
     right: &Right,
 ) -> Result<Option<Converted>, NoMemory>
-    requires made { AreOverriders h.now o.now }
-    requires knows { Knows h.now known.old }
-    ensures answers { Answers result faults.old faults.new (converted_right h.now setting.now scene.now at ty.now right.now) }
-    ensures knows { OnOk result (Knows h.now known.new) }
+    requires made { AreOverriders site.now.h.now site.now.overriders.now }
+    requires knows { Knows site.now.h.now known.old }
+    ensures answers { Answers result faults.old faults.new (converted_right site.now.h.now site.now.setting.now site.now.scene.now site.now.at ty.now right.now) }
+    ensures knows { OnOk result (Knows site.now.h.now known.new) }
 {
-    let Some(value) = right_of(h, o, known, setting, scene, at, faults, right)? else {
+    let Some(value) = right_of(site, known, faults, right)? else {
         return Ok(None);
     };
-    let Some(conversion) = conversion_of(h, known, at, faults, &value.ty, value.is_null, ty)? else {
+    let Some(conversion) = conversion_of(site, known, faults, &value.ty, value.is_null, ty)? else {
         return Ok(None);
     };
     Ok(Some(Converted {

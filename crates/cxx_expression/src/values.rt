@@ -6,7 +6,8 @@ ghost use Rattle.cxx_expression.specs.Values.{variable_of, named_value, this_of,
 
 use crate::copies::copy_type;
 use crate::faults::{FaultList, note};
-use crate::scene::{Scene, Setting, last_of};
+use crate::scene::last_of;
+use crate::site::Site;
 use crate::typed::{Number, Pointer, Value};
 use cxx_hierarchy::{ClassId, Rule, Scalar, ValueType};
 use cxx_program::{TypedOperand, Variable};
@@ -22,17 +23,16 @@ const LARGEST: u64 = 9223372036854775807;
 /// The variable of a name, and its type. Faults: E22.
 #[tactic(auto, unfolding(crate::specs::Values::variable_of))]
 pub fn variable_of(
-    setting: &Setting,
-    scene: &Scene,
+    site: &Site,
     faults: &mut FaultList,
     x: &Spot,
 ) -> Result<Option<(Variable, ValueType<ClassId>)>, NoMemory>
-    ensures { Answers result faults.old faults.new (variable_of setting.now scene.now x.now) }
+    ensures { Answers result faults.old faults.new (variable_of site.now.setting.now site.now.scene.now x.now) }
 {
-    if let Some(entry) = last_of(scene.entries.as_slice(), x.name.as_slice()) {
+    if let Some(entry) = last_of(site.scene.entries.as_slice(), x.name.as_slice()) {
         return Ok(Some((Variable::Local(entry.number), copy_type(&entry.ty))));
     }
-    if let Some(entry) = last_of(setting.globals.as_slice(), x.name.as_slice()) {
+    if let Some(entry) = last_of(site.setting.globals.as_slice(), x.name.as_slice()) {
         return Ok(Some((Variable::Global(entry.number), copy_type(&entry.ty))));
     }
     note(faults, Rule::UnknownName, x.at)?;
@@ -41,15 +41,10 @@ pub fn variable_of(
 
 /// The value of the variable of a name.
 #[tactic(auto, unfolding(crate::specs::Values::named_value))]
-fn named_value(
-    setting: &Setting,
-    scene: &Scene,
-    faults: &mut FaultList,
-    x: &Spot,
-) -> Result<Option<Value>, NoMemory>
-    ensures { Answers result faults.old faults.new (named_value setting.now scene.now x.now) }
+fn named_value(site: &Site, faults: &mut FaultList, x: &Spot) -> Result<Option<Value>, NoMemory>
+    ensures { Answers result faults.old faults.new (named_value site.now.setting.now site.now.scene.now x.now) }
 {
-    let Some((variable, ty)) = variable_of(setting, scene, faults, x)? else {
+    let Some((variable, ty)) = variable_of(site, faults, x)? else {
         return Ok(None);
     };
     Ok(Some(Value {
@@ -125,17 +120,15 @@ pub fn constant_of(constant: &Constant) -> Value
 /// An operand and its type; `at` is the place of the statement's first token. Faults: E22, and E19 at `this` in `main`.
 #[tactic(auto, unfolding(crate::specs::Values::operand_of))]
 pub fn operand_of(
-    setting: &Setting,
-    scene: &Scene,
-    at: u32,
+    site: &Site,
     faults: &mut FaultList,
     operand: &Operand,
 ) -> Result<Option<Value>, NoMemory>
-    ensures { Answers result faults.old faults.new (operand_of setting.now scene.now at operand.now) }
+    ensures { Answers result faults.old faults.new (operand_of site.now.setting.now site.now.scene.now site.now.at operand.now) }
 {
     match operand {
-        Operand::Name(x) => named_value(setting, scene, faults, x),
-        Operand::This(_) => this_of(at, faults, setting.this_class),
+        Operand::Name(x) => named_value(site, faults, x),
+        Operand::This(_) => this_of(site.at, faults, site.setting.this_class),
         Operand::Constant(constant) => Ok(Some(constant_of(constant))),
     }
 }
@@ -143,17 +136,15 @@ pub fn operand_of(
 /// A variable or `this`, and its type.
 #[tactic(auto, unfolding(crate::specs::Values::pointer_value))]
 fn pointer_value(
-    setting: &Setting,
-    scene: &Scene,
-    at: u32,
+    site: &Site,
     faults: &mut FaultList,
     pointer: &PointerText,
 ) -> Result<Option<Value>, NoMemory>
-    ensures { Answers result faults.old faults.new (pointer_value setting.now scene.now at pointer.now) }
+    ensures { Answers result faults.old faults.new (pointer_value site.now.setting.now site.now.scene.now site.now.at pointer.now) }
 {
     match pointer {
-        PointerText::Name(x) => named_value(setting, scene, faults, x),
-        PointerText::This(_) => this_of(at, faults, setting.this_class),
+        PointerText::Name(x) => named_value(site, faults, x),
+        PointerText::This(_) => this_of(site.at, faults, site.setting.this_class),
     }
 }
 
@@ -181,18 +172,16 @@ fn as_pointer(
 /// A variable or `this`, which must be a pointer; `at` is the place of the statement's first token. Faults: E22, E19.
 #[tactic(auto, unfolding(crate::specs::Values::pointer_of))]
 pub fn pointer_of(
-    setting: &Setting,
-    scene: &Scene,
-    at: u32,
+    site: &Site,
     faults: &mut FaultList,
     pointer: &PointerText,
 ) -> Result<Option<Pointer>, NoMemory>
-    ensures { Answers result faults.old faults.new (pointer_of setting.now scene.now at pointer.now) }
+    ensures { Answers result faults.old faults.new (pointer_of site.now.setting.now site.now.scene.now site.now.at pointer.now) }
 {
-    let Some(value) = pointer_value(setting, scene, at, faults, pointer)? else {
+    let Some(value) = pointer_value(site, faults, pointer)? else {
         return Ok(None);
     };
-    as_pointer(at, faults, value.operand, &value.ty)
+    as_pointer(site.at, faults, value.operand, &value.ty)
 }
 
 /// A value that must be a number.
@@ -219,16 +208,14 @@ fn as_number(
 /// An operand that must be a number; `at` is the place of the statement's first token. Faults: E22, E19.
 #[tactic(auto, unfolding(crate::specs::Values::number_of))]
 pub fn number_of(
-    setting: &Setting,
-    scene: &Scene,
-    at: u32,
+    site: &Site,
     faults: &mut FaultList,
     operand: &Operand,
 ) -> Result<Option<Number>, NoMemory>
-    ensures { Answers result faults.old faults.new (number_of setting.now scene.now at operand.now) }
+    ensures { Answers result faults.old faults.new (number_of site.now.setting.now site.now.scene.now site.now.at operand.now) }
 {
-    let Some(value) = operand_of(setting, scene, at, faults, operand)? else {
+    let Some(value) = operand_of(site, faults, operand)? else {
         return Ok(None);
     };
-    as_number(at, faults, value.operand, &value.ty)
+    as_number(site.at, faults, value.operand, &value.ty)
 }

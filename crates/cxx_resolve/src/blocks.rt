@@ -7,17 +7,16 @@ ghost use Rattle.cxx_expression.specs.invariants.Known.{Knows};
 ghost use Rattle.cxx_resolve.specs.Stops.{Gives, Settles};
 ghost use Rattle.cxx_resolve.specs.Walks.{pushed, condition_of, finished, plain_walk, declare_walk, if_head, while_head, scoped, statement_meaning, block_meaning};
 
-use crate::declarations::declare_of;
+use crate::body_site::BodySite;
+use crate::declarations::{NewVariable, declare_of};
 use crate::draft::Draft;
 use crate::sizes::{block_size, statement_size};
 use crate::statements::plain_of;
-use cxx_expression::{Fault, Known, Number, Setting, number_of, settle};
-use cxx_hierarchy::{Hierarchy, LimitNo, Name, Stop, ValueType};
-use cxx_overrider::Overriders;
+use cxx_expression::{Fault, Known, Number, number_of, settle};
+use cxx_hierarchy::{LimitNo, Stop};
 use cxx_program::{TypedKind, TypedStatement};
-use cxx_syntax::{BodyTree, Operand, Right, Spot, Statement, StatementKind};
+use cxx_syntax::{BodyTree, Operand, Statement, StatementKind};
 use foundation::{NoMemory, Sequence};
-use std::alloc::Global;
 
 /// The most local declarations of a body.
 const MOST_LOCALS: u32 = 256;
@@ -46,126 +45,91 @@ fn finish(
 
 /// A statement that declares nothing and has no block in it.
 fn plain(
-    alloc: Global,
-    h: &Hierarchy,
-    o: &Overriders,
+    body: &BodySite,
     known: &mut Known,
-    setting: &Setting,
     one: &Statement,
     next: usize,
     draft: &mut Draft,
 ) -> Result<(), Stop>
-    requires made { AreOverriders h.now o.now }
-    requires knows { Knows h.now known.old }
-    ensures walks { Gives result draft.new (plain_walk h.now setting.now one.now.at one.now.kind one.now.line next draft.old) }
-    ensures knows { OnOk result (Knows h.now known.new) }
+    requires made { AreOverriders body.now.h.now body.now.overriders.now }
+    requires knows { Knows body.now.h.now known.old }
+    ensures walks { Gives result draft.new (plain_walk body.now.h.now body.now.setting.now one.now.at one.now.kind one.now.line next draft.old) }
+    ensures knows { OnOk result (Knows body.now.h.now known.new) }
 {
-    let mut faults = Sequence::new(alloc);
-    let scene = &draft.scene;
-    let typed = plain_of(h, o, known, setting, scene, one.at, &mut faults, &one.kind)?;
+    let mut faults = Sequence::new(body.alloc);
+    let site = body.site(&draft.scene, one.at);
+    let typed = plain_of(&site, known, &mut faults, &one.kind)?;
     finish(draft, faults.as_slice(), typed, one.line, next)
 }
 
 /// A declaration.
 #[tactic(auto, unfolding(crate::specs::Walks::declare_walk), using(crate::proofs::Walking::declared_line))]
 fn declaration(
-    alloc: Global,
-    h: &Hierarchy,
-    o: &Overriders,
+    body: &BodySite,
     known: &mut Known,
-    setting: &Setting,
-    at: u32,
-    ty: &ValueType<Name>,
-    ty_at: u32,
-    x: &Spot,
-    init: &Option<Right>,
-    line: u32,
+    one: &Statement,
+    variable: &NewVariable,
     next: usize,
     draft: &mut Draft,
 ) -> Result<(), Stop>
-    requires made { AreOverriders h.now o.now }
-    requires knows { Knows h.now known.old }
-    ensures walks { Gives result draft.new (declare_walk h.now setting.now at ty.now ty_at x.now init.now line next draft.old) }
-    ensures knows { OnOk result (Knows h.now known.new) }
+    requires made { AreOverriders body.now.h.now body.now.overriders.now }
+    requires knows { Knows body.now.h.now known.old }
+    ensures walks { Gives result draft.new (declare_walk body.now.h.now body.now.setting.now one.now.at variable.now.ty.now variable.now.ty_at variable.now.name.now variable.now.init.now one.now.line next draft.old) }
+    ensures knows { OnOk result (Knows body.now.h.now known.new) }
 {
     if draft.scene.declared >= MOST_LOCALS {
         return Err(Stop::Limit(LimitNo::L3));
     }
-    let mut faults = Sequence::new(alloc);
+    let mut faults = Sequence::new(body.alloc);
     let scene = &mut draft.scene;
-    let typed = declare_of(
-        alloc,
-        h,
-        o,
-        known,
-        setting,
-        scene,
-        at,
-        &mut faults,
-        ty,
-        ty_at,
-        x,
-        init,
-    )?;
-    finish(draft, faults.as_slice(), typed, line, next)
+    let typed = declare_of(body, known, scene, one.at, &mut faults, variable)?;
+    finish(draft, faults.as_slice(), typed, one.line, next)
 }
 
 /// A condition that must be a number.
-fn condition(
-    alloc: Global,
-    setting: &Setting,
-    at: u32,
-    x: &Operand,
-    draft: &Draft,
-) -> Result<Number, Stop>
-    ensures { Settles result (condition_of setting.now draft.now.scene at x.now) }
+fn condition(body: &BodySite, at: u32, x: &Operand, draft: &Draft) -> Result<Number, Stop>
+    ensures { Settles result (condition_of body.now.setting.now draft.now.scene at x.now) }
 {
-    let mut faults = Sequence::new(alloc);
-    let typed = number_of(setting, &draft.scene, at, &mut faults, x)?;
+    let mut faults = Sequence::new(body.alloc);
+    let site = body.site(&draft.scene, at);
+    let typed = number_of(&site, &mut faults, x)?;
     settle(faults.as_slice(), typed)
 }
 
 /// The condition of an `if`.
 #[tactic(auto, unfolding(crate::specs::Walks::head))]
 fn if_head(
-    alloc: Global,
-    setting: &Setting,
-    at: u32,
+    body: &BodySite,
+    one: &Statement,
     x: &Operand,
     other: usize,
     behind: usize,
-    line: u32,
     next: usize,
     draft: &mut Draft,
 ) -> Result<(), Stop>
-    ensures { Gives result draft.new (if_head other behind setting.now at x.now line next draft.old) }
+    ensures { Gives result draft.new (if_head other behind body.now.setting.now one.now.at x.now one.now.line next draft.old) }
 {
-    let value = condition(alloc, setting, at, x, draft)?;
-    push(
-        draft,
-        TypedKind::If(value.operand, other, behind),
-        line,
-        next,
-    )?;
+    let value = condition(body, one.at, x, draft)?;
+    let kind = TypedKind::If(value.operand, other, behind);
+    push(draft, kind, one.line, next)?;
     Ok(())
 }
 
 /// The condition of a `while`.
 #[tactic(auto, unfolding(crate::specs::Walks::head))]
 fn while_head(
-    alloc: Global,
-    setting: &Setting,
-    at: u32,
+    body: &BodySite,
+    one: &Statement,
     x: &Operand,
     behind: usize,
-    line: u32,
     next: usize,
     draft: &mut Draft,
 ) -> Result<(), Stop>
-    ensures { Gives result draft.new (while_head behind setting.now at x.now line next draft.old) }
+    ensures { Gives result draft.new (while_head behind body.now.setting.now one.now.at x.now one.now.line next draft.old) }
 {
-    let value = condition(alloc, setting, at, x, draft)?;
-    push(draft, TypedKind::While(value.operand, behind), line, next)?;
+    let value = condition(body, one.at, x, draft)?;
+    let kind = TypedKind::While(value.operand, behind);
+    push(draft, kind, one.line, next)?;
     Ok(())
 }
 
@@ -173,26 +137,23 @@ fn while_head(
 #[cycle(walk)]
 #[tactic(auto, unfolding(crate::specs::Walks::scoped))]
 fn scoped(
-    alloc: Global,
-    h: &Hierarchy,
-    o: &Overriders,
+    body: &BodySite,
     known: &mut Known,
-    setting: &Setting,
     block: &BodyTree,
     number: usize,
     follow: usize,
     draft: &mut Draft,
 ) -> Result<(), Stop>
-    requires made { AreOverriders h.now o.now }
-    requires knows { Knows h.now known.old }
+    requires made { AreOverriders body.now.h.now body.now.overriders.now }
+    requires knows { Knows body.now.h.now known.old }
     requires short { number + (block_meaning block.now).size < 2 ^ 64 }
-    ensures walks { Gives result draft.new (scoped (block_meaning block.now) h.now setting.now number follow draft.old) }
-    ensures knows { OnOk result (Knows h.now known.new) }
+    ensures walks { Gives result draft.new (scoped (block_meaning block.now) body.now.h.now body.now.setting.now number follow draft.old) }
+    ensures knows { OnOk result (Knows body.now.h.now known.new) }
 {
     let start = draft.scene.start;
     let count = draft.scene.entries.len();
     draft.scene.start = count;
-    statements(alloc, h, o, known, setting, block, number, follow, draft)?;
+    statements(body, known, block, number, follow, draft)?;
     draft.scene.entries.truncate(count);
     draft.scene.start = start;
     Ok(())
@@ -202,28 +163,25 @@ fn scoped(
 #[cycle(walk)]
 #[tactic(auto, unfolding(crate::specs::Walks::walk_all), using(crate::proofs::Walking::block_is))]
 pub(crate) fn statements(
-    alloc: Global,
-    h: &Hierarchy,
-    o: &Overriders,
+    body: &BodySite,
     known: &mut Known,
-    setting: &Setting,
     block: &BodyTree,
     number: usize,
     follow: usize,
     draft: &mut Draft,
 ) -> Result<(), Stop>
-    requires made { AreOverriders h.now o.now }
-    requires knows { Knows h.now known.old }
+    requires made { AreOverriders body.now.h.now body.now.overriders.now }
+    requires knows { Knows body.now.h.now known.old }
     requires short { number + (block_meaning block.now).size < 2 ^ 64 }
-    ensures walks { Gives result draft.new ((block_meaning block.now).walk h.now setting.now number follow draft.old) }
-    ensures knows { OnOk result (Knows h.now known.new) }
+    ensures walks { Gives result draft.new ((block_meaning block.now).walk body.now.h.now body.now.setting.now number follow draft.old) }
+    ensures knows { OnOk result (Knows body.now.h.now known.new) }
 {
     let list = block.statements.as_slice();
     let mut n = number;
     for (i, one) in list.iter().enumerate() {
         let behind = n + statement_size(one);
         let next = if i + 1 < list.len() { behind } else { follow };
-        statement(alloc, h, o, known, setting, one, n, next, draft)?;
+        statement(body, known, one, n, next, draft)?;
         n = behind;
     }
     Ok(())
@@ -233,63 +191,55 @@ pub(crate) fn statements(
 #[cycle(walk)]
 #[tactic(auto, using(crate::proofs::KindCases::statement_walked, crate::proofs::KindCases::statement_sized))]
 fn statement(
-    alloc: Global,
-    h: &Hierarchy,
-    o: &Overriders,
+    body: &BodySite,
     known: &mut Known,
-    setting: &Setting,
     one: &Statement,
     number: usize,
     next: usize,
     draft: &mut Draft,
 ) -> Result<(), Stop>
-    requires made { AreOverriders h.now o.now }
-    requires knows { Knows h.now known.old }
+    requires made { AreOverriders body.now.h.now body.now.overriders.now }
+    requires knows { Knows body.now.h.now known.old }
     requires short { number + (statement_meaning one.now).size < 2 ^ 64 }
-    ensures walks { Gives result draft.new ((statement_meaning one.now).walk h.now setting.now number next draft.old) }
-    ensures knows { OnOk result (Knows h.now known.new) }
+    ensures walks { Gives result draft.new ((statement_meaning one.now).walk body.now.h.now body.now.setting.now number next draft.old) }
+    ensures knows { OnOk result (Knows body.now.h.now known.new) }
 {
-    let (at, line) = (one.at, one.line);
     match &one.kind {
-        StatementKind::Declare(ty, ty_at, x, init) => declaration(
-            alloc, h, o, known, setting, at, ty, *ty_at, x, init, line, next, draft,
-        ),
-        StatementKind::Assign(..) => plain(alloc, h, o, known, setting, one, next, draft),
-        StatementKind::Write(..) => plain(alloc, h, o, known, setting, one, next, draft),
-        StatementKind::Copy(..) => plain(alloc, h, o, known, setting, one, next, draft),
-        StatementKind::Call(..) => plain(alloc, h, o, known, setting, one, next, draft),
-        StatementKind::Delete(..) => plain(alloc, h, o, known, setting, one, next, draft),
-        StatementKind::Return(..) => plain(alloc, h, o, known, setting, one, next, draft),
-        StatementKind::Print(..) => plain(alloc, h, o, known, setting, one, next, draft),
-        StatementKind::PrintType(..) => plain(alloc, h, o, known, setting, one, next, draft),
-        StatementKind::PrintView(..) => plain(alloc, h, o, known, setting, one, next, draft),
-        StatementKind::Dump(..) => plain(alloc, h, o, known, setting, one, next, draft),
+        StatementKind::Declare(ty, ty_at, name, init) => {
+            let variable = NewVariable {
+                ty,
+                ty_at: *ty_at,
+                name,
+                init,
+            };
+            declaration(body, known, one, &variable, next, draft)
+        }
+        StatementKind::Assign(..) => plain(body, known, one, next, draft),
+        StatementKind::Write(..) => plain(body, known, one, next, draft),
+        StatementKind::Copy(..) => plain(body, known, one, next, draft),
+        StatementKind::Call(..) => plain(body, known, one, next, draft),
+        StatementKind::Delete(..) => plain(body, known, one, next, draft),
+        StatementKind::Return(..) => plain(body, known, one, next, draft),
+        StatementKind::Print(..) => plain(body, known, one, next, draft),
+        StatementKind::PrintType(..) => plain(body, known, one, next, draft),
+        StatementKind::PrintView(..) => plain(body, known, one, next, draft),
+        StatementKind::Dump(..) => plain(body, known, one, next, draft),
         StatementKind::If(x, block, None) => {
             let behind = number + 1 + block_size(block);
-            if_head(alloc, setting, at, x, behind, behind, line, next, draft)?;
-            scoped(alloc, h, o, known, setting, block, number + 1, next, draft)
+            if_head(body, one, x, behind, behind, next, draft)?;
+            scoped(body, known, block, number + 1, next, draft)
         }
         StatementKind::If(x, block, Some(rest)) => {
             let other = number + 1 + block_size(block);
             let behind = other + block_size(rest);
-            if_head(alloc, setting, at, x, other, behind, line, next, draft)?;
-            scoped(alloc, h, o, known, setting, block, number + 1, next, draft)?;
-            scoped(alloc, h, o, known, setting, rest, other, next, draft)
+            if_head(body, one, x, other, behind, next, draft)?;
+            scoped(body, known, block, number + 1, next, draft)?;
+            scoped(body, known, rest, other, next, draft)
         }
         StatementKind::While(x, block) => {
             let behind = number + 1 + block_size(block);
-            while_head(alloc, setting, at, x, behind, line, next, draft)?;
-            scoped(
-                alloc,
-                h,
-                o,
-                known,
-                setting,
-                block,
-                number + 1,
-                number,
-                draft,
-            )
+            while_head(body, one, x, behind, next, draft)?;
+            scoped(body, known, block, number + 1, number, draft)
         }
     }
 }

@@ -14,6 +14,7 @@ ghost use Rattle.cxx_resolve.specs.Turns.{in_turn};
 ghost use Rattle.cxx_resolve.specs.Programs.{class_of_body, owner_of, function_in, params_in, returns_in, first_draft, typed_body, main_setting, main_of, body_in, body_of, IsShort, IsShortMain};
 
 use crate::blocks::statements;
+use crate::body_site::BodySite;
 use crate::draft::Draft;
 use crate::initializers::{class_at, inits_of};
 use crate::sizes::block_size;
@@ -106,25 +107,22 @@ fn first_draft(alloc: Global, params: &[Param<ClassId>]) -> Result<Draft, NoMemo
 /// The statements of a tree.
 #[tactic(auto, unfolding(crate::specs::Programs::typed_body))]
 fn typed_body(
-    alloc: Global,
-    h: &Hierarchy,
-    o: &Overriders,
+    body: &BodySite,
     known: &mut Known,
-    setting: &Setting,
     owner: Owner,
     params: &[Param<ClassId>],
     inits: TypedInitList,
     tree: &BodyTree,
 ) -> Result<TypedBody, Stop>
-    requires made { AreOverriders h.now o.now }
-    requires knows { Knows h.now known.old }
+    requires made { AreOverriders body.now.h.now body.now.overriders.now }
+    requires knows { Knows body.now.h.now known.old }
     requires short { IsShort (2 ^ 32) tree.now }
-    ensures body { Settles result (typed_body h.now setting.now owner params.now inits tree.now) }
-    ensures knows { OnOk result (Knows h.now known.new) }
+    ensures body { Settles result (typed_body body.now.h.now body.now.setting.now owner params.now inits tree.now) }
+    ensures knows { OnOk result (Knows body.now.h.now known.new) }
 {
-    let mut draft = first_draft(alloc, params)?;
+    let mut draft = first_draft(body.alloc, params)?;
     let follow = block_size(tree);
-    statements(alloc, h, o, known, setting, tree, 0, follow, &mut draft)?;
+    statements(body, known, tree, 0, follow, &mut draft)?;
     let Draft { scene, statements } = draft;
     Ok(TypedBody {
         owner,
@@ -160,9 +158,13 @@ fn body_in(
     let inits = inits_of(alloc, h, c, body.inits.as_slice())?;
     let owner = owner_of(c, body.owner);
     let params = params_in(function);
-    typed_body(
-        alloc, h, o, known, setting, owner, params, inits, &body.tree,
-    )
+    let site = BodySite {
+        alloc,
+        h,
+        overriders: o,
+        setting,
+    };
+    typed_body(&site, known, owner, params, inits, &body.tree)
 }
 
 /// The bodies of a list in turn, behind those that are there.
@@ -214,6 +216,12 @@ pub(crate) fn main_of(
     setting.this_class = None;
     setting.returns = Returns::Value(ValueType::Number(Scalar::Int));
     let inits = Sequence::new(alloc);
-    let body = typed_body(alloc, h, o, known, setting, Owner::Main, &[], inits, tree)?;
+    let site = BodySite {
+        alloc,
+        h,
+        overriders: o,
+        setting,
+    };
+    let body = typed_body(&site, known, Owner::Main, &[], inits, tree)?;
     Ok(Some(body))
 }

@@ -6,13 +6,21 @@ ghost use Rattle.cxx_expression.specs.Checked.{Answers};
 ghost use Rattle.cxx_expression.specs.invariants.Known.{Knows};
 ghost use Rattle.cxx_resolve.specs.Statements.{new_variable, first_value, declare_of, Declares};
 
-use cxx_expression::{FaultList, Known, Scene, Setting, converted_right, note, type_of};
+use crate::body_site::BodySite;
+use cxx_expression::{FaultList, Known, Scene, Site, converted_right, note, type_of};
 use cxx_hierarchy::{ClassId, Hierarchy, Name, Rule, ValueType};
-use cxx_overrider::Overriders;
 use cxx_program::TypedKind;
 use cxx_syntax::{Right, Spot};
 use foundation::NoMemory;
-use std::alloc::Global;
+
+/// A variable that is declared: its type and the place of that in bytes, its name, and its first value.
+#[derive(Drop)]
+pub struct NewVariable<'a> {
+    pub ty: &'a ValueType<Name>,
+    pub ty_at: u32,
+    pub name: &'a Spot,
+    pub init: &'a Option<Right>,
+}
 
 /// The type of a variable that is declared.
 #[tactic(auto, unfolding(crate::specs::Statements::new_variable))]
@@ -20,17 +28,16 @@ fn new_variable(
     h: &Hierarchy,
     scene: &Scene,
     faults: &mut FaultList,
-    ty: &ValueType<Name>,
-    ty_at: u32,
-    x: &Spot,
+    variable: &NewVariable,
 ) -> Result<Option<ValueType<ClassId>>, NoMemory>
-    ensures { Answers result faults.old faults.new (new_variable h.now scene.now ty.now ty_at x.now) }
+    ensures { Answers result faults.old faults.new (new_variable h.now scene.now variable.now.ty.now variable.now.ty_at variable.now.name.now) }
 {
-    let Some(ty) = type_of(h, faults, ty, ty_at)? else {
+    let name = variable.name;
+    let Some(ty) = type_of(h, faults, variable.ty, variable.ty_at)? else {
         return Ok(None);
     };
-    if scene.is_taken(x.name.as_slice()) {
-        note(faults, Rule::DuplicateMember, x.at)?;
+    if scene.is_taken(name.name.as_slice()) {
+        note(faults, Rule::DuplicateMember, name.at)?;
     }
     Ok(Some(ty))
 }
@@ -38,26 +45,22 @@ fn new_variable(
 /// The first value of a variable.
 #[tactic(auto, unfolding(crate::specs::Statements::first_value))]
 fn first_value(
-    h: &Hierarchy,
-    o: &Overriders,
+    site: &Site,
     known: &mut Known,
-    setting: &Setting,
-    scene: &Scene,
-    at: u32,
     faults: &mut FaultList,
     ty: &ValueType<ClassId>,
     number: usize,
     init: &Option<Right>,
 ) -> Result<Option<TypedKind>, NoMemory>
-    requires made { AreOverriders h.now o.now }
-    requires knows { Knows h.now known.old }
-    ensures answers { Answers result faults.old faults.new (first_value h.now setting.now scene.now at ty.now number init.now) }
-    ensures knows { OnOk result (Knows h.now known.new) }
+    requires made { AreOverriders site.now.h.now site.now.overriders.now }
+    requires knows { Knows site.now.h.now known.old }
+    ensures answers { Answers result faults.old faults.new (first_value site.now.h.now site.now.setting.now site.now.scene.now site.now.at ty.now number init.now) }
+    ensures knows { OnOk result (Knows site.now.h.now known.new) }
 {
     let Some(right) = init else {
         return Ok(Some(TypedKind::Declare(number, None)));
     };
-    let value = converted_right(h, o, known, setting, scene, at, faults, ty, right)?;
+    let value = converted_right(site, known, faults, ty, right)?;
     let Some(value) = value else {
         return Ok(None);
     };
@@ -67,29 +70,24 @@ fn first_value(
 /// A declaration. Its name is in scope in its own right side.
 #[tactic(auto, unfolding(crate::specs::Statements::declare_of))]
 pub(crate) fn declare_of(
-    alloc: Global,
-    h: &Hierarchy,
-    o: &Overriders,
+    body: &BodySite,
     known: &mut Known,
-    setting: &Setting,
     scene: &mut Scene,
     at: u32,
     faults: &mut FaultList,
-    ty: &ValueType<Name>,
-    ty_at: u32,
-    x: &Spot,
-    init: &Option<Right>,
+    variable: &NewVariable,
 ) -> Result<Option<TypedKind>, NoMemory>
-    requires made { AreOverriders h.now o.now }
-    requires knows { Knows h.now known.old }
+    requires made { AreOverriders body.now.h.now body.now.overriders.now }
+    requires knows { Knows body.now.h.now known.old }
     requires few { scene.old.declared < 256 }
-    ensures declares { Declares result scene.new faults.old faults.new (declare_of h.now setting.now scene.old at ty.now ty_at x.now init.now) }
-    ensures knows { OnOk result (Knows h.now known.new) }
+    ensures declares { Declares result scene.new faults.old faults.new (declare_of body.now.h.now body.now.setting.now scene.old at variable.now.ty.now variable.now.ty_at variable.now.name.now variable.now.init.now) }
+    ensures knows { OnOk result (Knows body.now.h.now known.new) }
 {
-    let Some(ty) = new_variable(h, scene, faults, ty, ty_at, x)? else {
+    let Some(ty) = new_variable(body.h, scene, faults, variable)? else {
         return Ok(None);
     };
     let number = scene.types.len();
-    scene.declare(alloc, &x.name, &ty)?;
-    first_value(h, o, known, setting, scene, at, faults, &ty, number, init)
+    scene.declare(body.alloc, &variable.name.name, &ty)?;
+    let site = body.site(scene, at);
+    first_value(&site, known, faults, &ty, number, variable.init)
 }

@@ -13,6 +13,7 @@
 
 mod blocks;
 mod bodies;
+mod body_site;
 mod declarations;
 pub mod draft;
 mod globals;

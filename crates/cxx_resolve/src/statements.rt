@@ -7,11 +7,10 @@ ghost use Rattle.cxx_expression.specs.invariants.Known.{Knows};
 ghost use Rattle.cxx_resolve.specs.Statements.{assign_of, write_of, copy_of, call_statement, delete_of, value_return, return_of, print_of, print_type_of, print_view_of, dump_of, plain_of};
 
 use cxx_expression::{
-    FaultList, Known, Returns, Scene, Setting, call_of, conversion_of, converted_operand, leaf_of,
-    note, operand_of, pointer_of, polymorphic_pointer, right_of, variable_of,
+    FaultList, Known, Returns, Site, call_of, conversion_of, converted_operand, leaf_of, note,
+    operand_of, pointer_of, polymorphic_pointer, right_of, variable_of,
 };
-use cxx_hierarchy::{ClassId, Hierarchy, Rule, ValueType};
-use cxx_overrider::Overriders;
+use cxx_hierarchy::{ClassId, Rule, ValueType};
 use cxx_program::{Argument, Converted, TypedKind};
 use cxx_syntax::{CallText, Operand, PlaceText, PointerText, Right, Spot, StatementKind};
 use foundation::NoMemory;
@@ -19,30 +18,26 @@ use foundation::NoMemory;
 /// An assignment to a variable.
 #[tactic(auto, unfolding(crate::specs::Statements::assign_of))]
 fn assign_of(
-    h: &Hierarchy,
-    o: &Overriders,
+    site: &Site,
     known: &mut Known,
-    setting: &Setting,
-    scene: &Scene,
-    at: u32,
     faults: &mut FaultList,
     x: &Spot,
     right: &Right,
 ) -> Result<Option<TypedKind>, NoMemory>
-    requires made { AreOverriders h.now o.now }
-    requires knows { Knows h.now known.old }
-    ensures answers { Answers result faults.old faults.new (assign_of h.now setting.now scene.now at x.now right.now) }
-    ensures knows { OnOk result (Knows h.now known.new) }
+    requires made { AreOverriders site.now.h.now site.now.overriders.now }
+    requires knows { Knows site.now.h.now known.old }
+    ensures answers { Answers result faults.old faults.new (assign_of site.now.h.now site.now.setting.now site.now.scene.now site.now.at x.now right.now) }
+    ensures knows { OnOk result (Knows site.now.h.now known.new) }
 {
-    let variable = variable_of(setting, scene, faults, x)?;
-    let value = right_of(h, o, known, setting, scene, at, faults, right)?;
+    let variable = variable_of(site, faults, x)?;
+    let value = right_of(site, known, faults, right)?;
     let Some((variable, ty)) = variable else {
         return Ok(None);
     };
     let Some(value) = value else {
         return Ok(None);
     };
-    let conversion = conversion_of(h, known, at, faults, &value.ty, value.is_null, &ty)?;
+    let conversion = conversion_of(site, known, faults, &value.ty, value.is_null, &ty)?;
     let Some(conversion) = conversion else {
         return Ok(None);
     };
@@ -53,25 +48,22 @@ fn assign_of(
 /// A value that is written to a member.
 #[tactic(auto, unfolding(crate::specs::Statements::write_of))]
 fn write_of(
-    h: &Hierarchy,
+    site: &Site,
     known: &mut Known,
-    setting: &Setting,
-    scene: &Scene,
-    at: u32,
     faults: &mut FaultList,
     place: &PlaceText,
     operand: &Operand,
 ) -> Result<Option<TypedKind>, NoMemory>
-    requires knows { Knows h.now known.old }
-    ensures answers { Answers result faults.old faults.new (write_of h.now setting.now scene.now at place.now operand.now) }
-    ensures knows { OnOk result (Knows h.now known.new) }
+    requires knows { Knows site.now.h.now known.old }
+    ensures answers { Answers result faults.old faults.new (write_of site.now.h.now site.now.setting.now site.now.scene.now site.now.at place.now operand.now) }
+    ensures knows { OnOk result (Knows site.now.h.now known.new) }
 {
-    let leaf = leaf_of(h, known, setting, scene, at, faults, place)?;
-    let value = operand_of(setting, scene, at, faults, operand)?;
+    let leaf = leaf_of(site, known, faults, place)?;
+    let value = operand_of(site, faults, operand)?;
     let (Some(leaf), Some(value)) = (leaf, value) else {
         return Ok(None);
     };
-    let conversion = conversion_of(h, known, at, faults, &value.ty, value.is_null, &leaf.ty)?;
+    let conversion = conversion_of(site, known, faults, &value.ty, value.is_null, &leaf.ty)?;
     let Some(conversion) = conversion else {
         return Ok(None);
     };
@@ -88,22 +80,20 @@ fn write_of(
 /// A copy of an object into another.
 #[tactic(auto, unfolding(crate::specs::Statements::copy_of))]
 fn copy_of(
-    setting: &Setting,
-    scene: &Scene,
-    at: u32,
+    site: &Site,
     faults: &mut FaultList,
     to: &PointerText,
     source: &PointerText,
 ) -> Result<Option<TypedKind>, NoMemory>
-    ensures { Answers result faults.old faults.new (copy_of setting.now scene.now at to.now source.now) }
+    ensures { Answers result faults.old faults.new (copy_of site.now.setting.now site.now.scene.now site.now.at to.now source.now) }
 {
-    let to = pointer_of(setting, scene, at, faults, to)?;
-    let source = pointer_of(setting, scene, at, faults, source)?;
+    let to = pointer_of(site, faults, to)?;
+    let source = pointer_of(site, faults, source)?;
     let (Some(to), Some(source)) = (to, source) else {
         return Ok(None);
     };
     if to.class.0 != source.class.0 {
-        note(faults, Rule::TypeMismatch, at)?;
+        note(faults, Rule::TypeMismatch, site.at)?;
         return Ok(None);
     }
     Ok(Some(TypedKind::Copy(to.operand, source.operand, to.class)))
@@ -112,21 +102,17 @@ fn copy_of(
 /// A call whose result is not used.
 #[tactic(auto, unfolding(crate::specs::Statements::call_statement))]
 fn call_statement(
-    h: &Hierarchy,
-    o: &Overriders,
+    site: &Site,
     known: &mut Known,
-    setting: &Setting,
-    scene: &Scene,
-    at: u32,
     faults: &mut FaultList,
     text: &CallText,
 ) -> Result<Option<TypedKind>, NoMemory>
-    requires made { AreOverriders h.now o.now }
-    requires knows { Knows h.now known.old }
-    ensures answers { Answers result faults.old faults.new (call_statement h.now setting.now scene.now at text.now) }
-    ensures knows { OnOk result (Knows h.now known.new) }
+    requires made { AreOverriders site.now.h.now site.now.overriders.now }
+    requires knows { Knows site.now.h.now known.old }
+    ensures answers { Answers result faults.old faults.new (call_statement site.now.h.now site.now.setting.now site.now.scene.now site.now.at text.now) }
+    ensures knows { OnOk result (Knows site.now.h.now known.new) }
 {
-    let Some(value) = call_of(h, o, known, setting, scene, at, faults, text)? else {
+    let Some(value) = call_of(site, known, faults, text)? else {
         return Ok(None);
     };
     Ok(Some(TypedKind::Call(value.call)))
@@ -135,15 +121,13 @@ fn call_statement(
 /// A `delete`.
 #[tactic(auto, unfolding(crate::specs::Statements::delete_of))]
 fn delete_of(
-    setting: &Setting,
-    scene: &Scene,
-    at: u32,
+    site: &Site,
     faults: &mut FaultList,
     pointer: &PointerText,
 ) -> Result<Option<TypedKind>, NoMemory>
-    ensures { Answers result faults.old faults.new (delete_of setting.now scene.now at pointer.now) }
+    ensures { Answers result faults.old faults.new (delete_of site.now.setting.now site.now.scene.now site.now.at pointer.now) }
 {
-    let Some(pointer) = pointer_of(setting, scene, at, faults, pointer)? else {
+    let Some(pointer) = pointer_of(site, faults, pointer)? else {
         return Ok(None);
     };
     Ok(Some(TypedKind::Delete(pointer.operand, pointer.class)))
@@ -152,20 +136,17 @@ fn delete_of(
 /// A `return` of a value.
 #[tactic(auto, unfolding(crate::specs::Statements::value_return))]
 fn value_return(
-    h: &Hierarchy,
+    site: &Site,
     known: &mut Known,
-    setting: &Setting,
-    scene: &Scene,
-    at: u32,
     faults: &mut FaultList,
     ty: &ValueType<ClassId>,
     operand: &Operand,
 ) -> Result<Option<TypedKind>, NoMemory>
-    requires knows { Knows h.now known.old }
-    ensures answers { Answers result faults.old faults.new (value_return h.now setting.now scene.now at ty.now operand.now) }
-    ensures knows { OnOk result (Knows h.now known.new) }
+    requires knows { Knows site.now.h.now known.old }
+    ensures answers { Answers result faults.old faults.new (value_return site.now.h.now site.now.setting.now site.now.scene.now site.now.at ty.now operand.now) }
+    ensures knows { OnOk result (Knows site.now.h.now known.new) }
 {
-    let value = converted_operand(h, known, setting, scene, at, faults, ty, operand)?;
+    let value = converted_operand(site, known, faults, ty, operand)?;
     let Some(value) = value else {
         return Ok(None);
     };
@@ -175,25 +156,20 @@ fn value_return(
 /// A `return`.
 #[tactic(auto, unfolding(crate::specs::Statements::return_of))]
 fn return_of(
-    h: &Hierarchy,
+    site: &Site,
     known: &mut Known,
-    setting: &Setting,
-    scene: &Scene,
-    at: u32,
     faults: &mut FaultList,
     operand: &Option<Operand>,
 ) -> Result<Option<TypedKind>, NoMemory>
-    requires knows { Knows h.now known.old }
-    ensures answers { Answers result faults.old faults.new (return_of h.now setting.now scene.now at operand.now) }
-    ensures knows { OnOk result (Knows h.now known.new) }
+    requires knows { Knows site.now.h.now known.old }
+    ensures answers { Answers result faults.old faults.new (return_of site.now.h.now site.now.setting.now site.now.scene.now site.now.at operand.now) }
+    ensures knows { OnOk result (Knows site.now.h.now known.new) }
 {
-    match (&setting.returns, operand) {
+    match (&site.setting.returns, operand) {
         (Returns::Nothing, None) => Ok(Some(TypedKind::Return(None))),
-        (Returns::Value(ty), Some(operand)) => {
-            value_return(h, known, setting, scene, at, faults, ty, operand)
-        }
+        (Returns::Value(ty), Some(operand)) => { value_return(site, known, faults, ty, operand) }
         (Returns::Nowhere, _) | (Returns::Nothing, Some(_)) | (Returns::Value(_), None) => {
-            note(faults, Rule::TypeMismatch, at)?;
+            note(faults, Rule::TypeMismatch, site.at)?;
             Ok(None)
         }
     }
@@ -202,15 +178,13 @@ fn return_of(
 /// A value that is printed.
 #[tactic(auto, unfolding(crate::specs::Statements::print_of))]
 fn print_of(
-    setting: &Setting,
-    scene: &Scene,
-    at: u32,
+    site: &Site,
     faults: &mut FaultList,
     operand: &Operand,
 ) -> Result<Option<TypedKind>, NoMemory>
-    ensures { Answers result faults.old faults.new (print_of setting.now scene.now at operand.now) }
+    ensures { Answers result faults.old faults.new (print_of site.now.setting.now site.now.scene.now site.now.at operand.now) }
 {
-    let Some(value) = operand_of(setting, scene, at, faults, operand)? else {
+    let Some(value) = operand_of(site, faults, operand)? else {
         return Ok(None);
     };
     Ok(Some(TypedKind::Print(value.operand)))
@@ -219,19 +193,16 @@ fn print_of(
 /// A `print` of a class's name.
 #[tactic(auto, unfolding(crate::specs::Statements::print_type_of))]
 fn print_type_of(
-    h: &Hierarchy,
+    site: &Site,
     known: &mut Known,
-    setting: &Setting,
-    scene: &Scene,
-    at: u32,
     faults: &mut FaultList,
     pointer: &PointerText,
 ) -> Result<Option<TypedKind>, NoMemory>
-    requires knows { Knows h.now known.old }
-    ensures answers { Answers result faults.old faults.new (print_type_of h.now setting.now scene.now at pointer.now) }
-    ensures knows { OnOk result (Knows h.now known.new) }
+    requires knows { Knows site.now.h.now known.old }
+    ensures answers { Answers result faults.old faults.new (print_type_of site.now.h.now site.now.setting.now site.now.scene.now site.now.at pointer.now) }
+    ensures knows { OnOk result (Knows site.now.h.now known.new) }
 {
-    let pointer = polymorphic_pointer(h, known, setting, scene, at, faults, pointer)?;
+    let pointer = polymorphic_pointer(site, known, faults, pointer)?;
     let Some(pointer) = pointer else {
         return Ok(None);
     };
@@ -241,19 +212,16 @@ fn print_type_of(
 /// A `print` of the place of a whole object.
 #[tactic(auto, unfolding(crate::specs::Statements::print_view_of))]
 fn print_view_of(
-    h: &Hierarchy,
+    site: &Site,
     known: &mut Known,
-    setting: &Setting,
-    scene: &Scene,
-    at: u32,
     faults: &mut FaultList,
     pointer: &PointerText,
 ) -> Result<Option<TypedKind>, NoMemory>
-    requires knows { Knows h.now known.old }
-    ensures answers { Answers result faults.old faults.new (print_view_of h.now setting.now scene.now at pointer.now) }
-    ensures knows { OnOk result (Knows h.now known.new) }
+    requires knows { Knows site.now.h.now known.old }
+    ensures answers { Answers result faults.old faults.new (print_view_of site.now.h.now site.now.setting.now site.now.scene.now site.now.at pointer.now) }
+    ensures knows { OnOk result (Knows site.now.h.now known.new) }
 {
-    let pointer = polymorphic_pointer(h, known, setting, scene, at, faults, pointer)?;
+    let pointer = polymorphic_pointer(site, known, faults, pointer)?;
     let Some(pointer) = pointer else {
         return Ok(None);
     };
@@ -263,15 +231,13 @@ fn print_view_of(
 /// A `dump`.
 #[tactic(auto, unfolding(crate::specs::Statements::dump_of))]
 fn dump_of(
-    setting: &Setting,
-    scene: &Scene,
-    at: u32,
+    site: &Site,
     faults: &mut FaultList,
     pointer: &PointerText,
 ) -> Result<Option<TypedKind>, NoMemory>
-    ensures { Answers result faults.old faults.new (dump_of setting.now scene.now at pointer.now) }
+    ensures { Answers result faults.old faults.new (dump_of site.now.setting.now site.now.scene.now site.now.at pointer.now) }
 {
-    let Some(pointer) = pointer_of(setting, scene, at, faults, pointer)? else {
+    let Some(pointer) = pointer_of(site, faults, pointer)? else {
         return Ok(None);
     };
     Ok(Some(TypedKind::Dump(pointer.operand, pointer.class)))
@@ -280,39 +246,29 @@ fn dump_of(
 /// A statement that declares nothing and has no block in it.
 #[tactic(auto, unfolding(crate::specs::Statements::plain_of))]
 pub(crate) fn plain_of(
-    h: &Hierarchy,
-    o: &Overriders,
+    site: &Site,
     known: &mut Known,
-    setting: &Setting,
-    scene: &Scene,
-    at: u32,
     faults: &mut FaultList,
     kind: &StatementKind,
 ) -> Result<Option<TypedKind>, NoMemory>
-    requires made { AreOverriders h.now o.now }
-    requires knows { Knows h.now known.old }
-    ensures answers { Answers result faults.old faults.new (plain_of h.now setting.now scene.now at kind.now) }
-    ensures knows { OnOk result (Knows h.now known.new) }
+    requires made { AreOverriders site.now.h.now site.now.overriders.now }
+    requires knows { Knows site.now.h.now known.old }
+    ensures answers { Answers result faults.old faults.new (plain_of site.now.h.now site.now.setting.now site.now.scene.now site.now.at kind.now) }
+    ensures knows { OnOk result (Knows site.now.h.now known.new) }
 {
     match kind {
-        StatementKind::Assign(x, right) => {
-            assign_of(h, o, known, setting, scene, at, faults, x, right)
-        }
-        StatementKind::Write(place, x) => {
-            write_of(h, known, setting, scene, at, faults, place, x)
-        }
-        StatementKind::Copy(to, source) => copy_of(setting, scene, at, faults, to, source),
-        StatementKind::Call(text) => {
-            call_statement(h, o, known, setting, scene, at, faults, text)
-        }
-        StatementKind::Delete(x) => delete_of(setting, scene, at, faults, x),
-        StatementKind::Return(x) => return_of(h, known, setting, scene, at, faults, x),
-        StatementKind::Print(x) => print_of(setting, scene, at, faults, x),
-        StatementKind::PrintType(x) => print_type_of(h, known, setting, scene, at, faults, x),
-        StatementKind::PrintView(x) => print_view_of(h, known, setting, scene, at, faults, x),
-        StatementKind::Dump(x) => dump_of(setting, scene, at, faults, x),
+        StatementKind::Assign(x, right) => { assign_of(site, known, faults, x, right) }
+        StatementKind::Write(place, x) => { write_of(site, known, faults, place, x) }
+        StatementKind::Copy(to, source) => copy_of(site, faults, to, source),
+        StatementKind::Call(text) => { call_statement(site, known, faults, text) }
+        StatementKind::Delete(x) => delete_of(site, faults, x),
+        StatementKind::Return(x) => return_of(site, known, faults, x),
+        StatementKind::Print(x) => print_of(site, faults, x),
+        StatementKind::PrintType(x) => print_type_of(site, known, faults, x),
+        StatementKind::PrintView(x) => print_view_of(site, known, faults, x),
+        StatementKind::Dump(x) => dump_of(site, faults, x),
         StatementKind::Declare(..) | StatementKind::If(..) | StatementKind::While(..) => {
-            note(faults, Rule::TypeMismatch, at)?;
+            note(faults, Rule::TypeMismatch, site.at)?;
             Ok(None)
         }
     }

@@ -25,8 +25,8 @@ statements-returns-in_err-statement-clause-walks t c =
     ] in
     let p = err_from_is_err_and c.from_residual.result c.from_residual.ensures.1 in
     rw (p.1, p.2) (subst (λ (answer : Result Draft Stop). Fails c.in_err-statement.field-0.0 answer)
-    (ap (λ (rest : List Statement). walk_all (map statement_meaning rest) c.args.h.now c.args.setting.now c.loop-i.n c.args.follow c.loop-i.draft) cut ∙ c.loop-i.invariant.walk)
-    (walk_stops c.args.h.now c.args.setting.now c.loop-i.n c.args.follow behind c.if-i-list.next s (drop (c.loop-i.i + 1) list) c.loop-i.draft c.in_err-statement.field-0.0
+    (ap (λ (rest : List Statement). walk_all (map statement_meaning rest) c.args.body.now.h.now c.args.body.now.setting.now c.loop-i.n c.args.follow c.loop-i.draft) cut ∙ c.loop-i.invariant.walk)
+    (walk_stops c.args.body.now.h.now c.args.body.now.setting.now c.loop-i.n c.args.follow behind c.if-i-list.next s (drop (c.loop-i.i + 1) list) c.loop-i.draft c.in_err-statement.field-0.0
     (ap (λ (k : ℕ). c.loop-i.n + k) c.statement_size.ensures) next c.in_err-statement.ensures.walks))
 
 pub statements-loop-i-preserved : goal.statements-loop-i-preserved
@@ -43,8 +43,8 @@ statements-loop-i-preserved t c =
     ] in
     record {
       size = more_size c.loop-i.n c.statement_size.result s (drop (c.loop-i.i + 1) list) c.statement_size.ensures ∙ ap (λ (rest : List Statement). c.loop-i.n + sizes (map statement_meaning rest)) cut ∙ c.loop-i.invariant.size;
-      walk = walk_more c.args.h.now c.args.setting.now c.loop-i.n c.args.follow behind c.if-i-list.next s (drop (c.loop-i.i + 1) list) c.loop-i.draft c.statement.new.draft
+      walk = walk_more c.args.body.now.h.now c.args.body.now.setting.now c.loop-i.n c.args.follow behind c.if-i-list.next s (drop (c.loop-i.i + 1) list) c.loop-i.draft c.statement.new.draft
           (ap (λ (k : ℕ). c.loop-i.n + k) c.statement_size.ensures) next c.in_ok-statement.ensures.walks
-          ∙ ap (λ (rest : List Statement). walk_all (map statement_meaning rest) c.args.h.now c.args.setting.now c.loop-i.n c.args.follow c.loop-i.draft) cut ∙ c.loop-i.invariant.walk;
+          ∙ ap (λ (rest : List Statement). walk_all (map statement_meaning rest) c.args.body.now.h.now c.args.body.now.setting.now c.loop-i.n c.args.follow c.loop-i.draft) cut ∙ c.loop-i.invariant.walk;
       knows = c.in_ok-statement.ensures.knows;
     }
