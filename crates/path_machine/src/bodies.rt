@@ -44,7 +44,7 @@ use foundation::NoMemory;
 use path_frames::{BodyFrame, Frame, Machine, PlanFrame, Target, set};
 use path_heap::Value;
 use path_model::refusal_is_least;
-use path_refusals::refusal;
+use path_refusals::{Moment, refusal};
 use path_rules::Undefined;
 use path_tables::Answers;
 
@@ -255,16 +255,12 @@ fn refused(
     let same = Conversion::Same;
     let scene = scene_of(machine, frame);
     let target = wanted_by(&frame.target, &same);
-    let rule = refusal(
-        run.alloc,
-        &run.world,
-        &machine.heap,
-        answers,
-        &scene,
-        &frame.found,
-        target,
-        kind,
-    )?;
+    let moment = Moment {
+        alloc: run.alloc,
+        world: run.world,
+        heap: &machine.heap,
+    };
+    let rule = refusal(&moment, answers, &scene, &frame.found, target, kind)?;
     Ok(rule)
 }
 

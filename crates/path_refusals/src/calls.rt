@@ -15,6 +15,7 @@ ghost use Rattle.path_values.specs.Worlds.{IsWorld};
 ghost use Rattle.path_views.specs.Views.{IsCallable};
 ghost use Rattle.path_refusals.specs.invariants.Pieces.{Stands, IsValueOf, IsFound, CanTake, way_asked, found_asked};
 
+use crate::moment::{Moment, Refusal};
 use crate::operands::arguments;
 use crate::pointers::arrow;
 use crate::rules::least;
@@ -22,31 +23,22 @@ use crate::views::{is_shared, view_of};
 use cxx_overrider::FunctionId;
 use cxx_program::TypedCall;
 use cxx_subobject::Subobject;
-use foundation::NoMemory;
-use path_heap::{Heap, Value};
+use path_heap::Value;
 use path_rules::Undefined;
 use path_tables::Answers;
-use path_values::{Scene, World, goes_to, to_base, value};
+use path_values::{Scene, goes_to, to_base, value};
 use path_views::is_pure;
-use std::alloc::Global;
 
 /// What a dispatched call on a part breaks: the final overrider is pure (ISO C++03 10.4 p6).
 ///
 /// Errors: want of memory.
-fn part_taken(
-    alloc: Global,
-    world: &World,
-    heap: &Heap,
-    answers: &mut Answers,
-    n: u32,
-    f: FunctionId,
-) -> Result<Option<Undefined>, NoMemory>
-    requires world { IsWorld world.now.h.now world.now.numbers.now world.now.overriders.now }
-    requires answers { AreAnswers world.now.h.now answers.old }
-    ensures answers { AreAnswers world.now.h.now answers.new }
-    ensures is { IfOk result (λ rule. (s : Objects) (p : ObjectPart) → HeapStands world.now.h.now heap.now s → Points world.now.h.now s.classes n p → HasBegun s p → IsCallable world.now.h.now p f → rule ≡ refused world.now.h.now s (Takes (Pointer p) f ∷ [])) }
+fn part_taken(moment: &Moment, answers: &mut Answers, n: u32, f: FunctionId) -> Refusal
+    requires world { IsWorld moment.now.world.h.now moment.now.world.numbers.now moment.now.world.overriders.now }
+    requires answers { AreAnswers moment.now.world.h.now answers.old }
+    ensures answers { AreAnswers moment.now.world.h.now answers.new }
+    ensures is { IfOk result (λ rule. (s : Objects) (p : ObjectPart) → HeapStands moment.now.world.h.now moment.now.heap.now s → Points moment.now.world.h.now s.classes n p → HasBegun s p → IsCallable moment.now.world.h.now p f → rule ≡ refused moment.now.world.h.now s (Takes (Pointer p) f ∷ [])) }
 {
-    if is_pure(alloc, world, heap, answers, n, f)? {
+    if is_pure(moment.alloc, &moment.world, moment.heap, answers, n, f)? {
         Ok(Some(Undefined::PureCall))
     } else {
         Ok(None)
@@ -57,18 +49,16 @@ fn part_taken(
 ///
 /// Errors: want of memory.
 fn taken(
-    alloc: Global,
-    world: &World,
-    heap: &Heap,
+    moment: &Moment,
     answers: &mut Answers,
     v: Value,
     f: FunctionId,
     is_dispatched: bool,
-) -> Result<Option<Undefined>, NoMemory>
-    requires world { IsWorld world.now.h.now world.now.numbers.now world.now.overriders.now }
-    requires answers { AreAnswers world.now.h.now answers.old }
-    ensures answers { AreAnswers world.now.h.now answers.new }
-    ensures is { IfOk result (λ rule. (s : Objects) (x : ValueOf) → HeapStands world.now.h.now heap.now s → Means world.now.h.now s.classes v x → CanTake world.now.h.now s f is_dispatched x → rule ≡ refused world.now.h.now s (takes is_dispatched x f)) }
+) -> Refusal
+    requires world { IsWorld moment.now.world.h.now moment.now.world.numbers.now moment.now.world.overriders.now }
+    requires answers { AreAnswers moment.now.world.h.now answers.old }
+    ensures answers { AreAnswers moment.now.world.h.now answers.new }
+    ensures is { IfOk result (λ rule. (s : Objects) (x : ValueOf) → HeapStands moment.now.world.h.now moment.now.heap.now s → Means moment.now.world.h.now s.classes v x → CanTake moment.now.world.h.now s f is_dispatched x → rule ≡ refused moment.now.world.h.now s (takes is_dispatched x f)) }
 {
     if !is_dispatched {
         return Ok(None);
@@ -77,7 +67,7 @@ fn taken(
         Value::Unset => Ok(None),
         Value::Number(_) => Ok(None),
         Value::Null => Ok(None),
-        Value::Pointer(n) => part_taken(alloc, world, heap, answers, n, f),
+        Value::Pointer(n) => part_taken(moment, answers, n, f),
     }
 }
 
@@ -104,32 +94,17 @@ fn is_view_needed(call: &TypedCall) -> bool
 /// What a call breaks from the subobject of the class before `::`, or of the pointer's, on.
 ///
 /// Errors: want of memory.
-fn found(
-    alloc: Global,
-    world: &World,
-    heap: &Heap,
-    answers: &mut Answers,
-    v: Value,
-    call: &TypedCall,
-) -> Result<Option<Undefined>, NoMemory>
-    requires world { IsWorld world.now.h.now world.now.numbers.now world.now.overriders.now }
-    requires answers { AreAnswers world.now.h.now answers.old }
-    ensures answers { AreAnswers world.now.h.now answers.new }
-    ensures is { IfOk result (λ rule. (s : Objects) (x : ValueOf) (through : ClassId) → IsValueOf world.now.h.now heap.now s v x through → names (is_unready s) x ≡ false → IsFound world.now.h.now through call.now → rule ≡ refused world.now.h.now s (found_asked call.now x)) }
+fn found(moment: &Moment, answers: &mut Answers, v: Value, call: &TypedCall) -> Refusal
+    requires world { IsWorld moment.now.world.h.now moment.now.world.numbers.now moment.now.world.overriders.now }
+    requires answers { AreAnswers moment.now.world.h.now answers.old }
+    ensures answers { AreAnswers moment.now.world.h.now answers.new }
+    ensures is { IfOk result (λ rule. (s : Objects) (x : ValueOf) (through : ClassId) → IsValueOf moment.now.world.h.now moment.now.heap.now s v x through → names (is_unready s) x ≡ false → IsFound moment.now.world.h.now through call.now → rule ≡ refused moment.now.world.h.now s (found_asked call.now x)) }
 {
-    match view_of(alloc, world, heap, answers, v, is_shared(&call.base))? {
+    match view_of(moment, answers, v, is_shared(&call.base))? {
         Some(rule) => Ok(Some(rule)),
         None => {
-            let receiver = to_base(world, heap, v, &call.base);
-            taken(
-                alloc,
-                world,
-                heap,
-                answers,
-                receiver,
-                call.function,
-                call.is_dispatched,
-            )
+            let receiver = to_base(&moment.world, moment.heap, v, &call.base);
+            taken(moment, answers, receiver, call.function, call.is_dispatched)
         }
     }
 }
@@ -137,24 +112,17 @@ fn found(
 /// What a call breaks behind the arrow of its pointer, but for its arguments.
 ///
 /// Errors: want of memory.
-fn way(
-    alloc: Global,
-    world: &World,
-    heap: &Heap,
-    answers: &mut Answers,
-    v: Value,
-    call: &TypedCall,
-) -> Result<Option<Undefined>, NoMemory>
-    requires world { IsWorld world.now.h.now world.now.numbers.now world.now.overriders.now }
-    requires answers { AreAnswers world.now.h.now answers.old }
-    ensures answers { AreAnswers world.now.h.now answers.new }
-    ensures is { IfOk result (λ rule. (s : Objects) (x : ValueOf) (through : ClassId) → IsValueOf world.now.h.now heap.now s v x call.now.class → names (is_unready s) x ≡ false → IsWay world.now.h.now call.now.class call.now.qualifier through → IsFound world.now.h.now through call.now → rule ≡ refused world.now.h.now s (way_asked call.now x)) }
+fn way(moment: &Moment, answers: &mut Answers, v: Value, call: &TypedCall) -> Refusal
+    requires world { IsWorld moment.now.world.h.now moment.now.world.numbers.now moment.now.world.overriders.now }
+    requires answers { AreAnswers moment.now.world.h.now answers.old }
+    ensures answers { AreAnswers moment.now.world.h.now answers.new }
+    ensures is { IfOk result (λ rule. (s : Objects) (x : ValueOf) (through : ClassId) → IsValueOf moment.now.world.h.now moment.now.heap.now s v x call.now.class → names (is_unready s) x ≡ false → IsWay moment.now.world.h.now call.now.class call.now.qualifier through → IsFound moment.now.world.h.now through call.now → rule ≡ refused moment.now.world.h.now s (way_asked call.now x)) }
 {
-    match view_of(alloc, world, heap, answers, v, is_view_needed(call))? {
+    match view_of(moment, answers, v, is_view_needed(call))? {
         Some(rule) => Ok(Some(rule)),
         None => {
-            let from = goes_to(world, heap, v, &call.qualifier);
-            found(alloc, world, heap, answers, from, call)
+            let from = goes_to(&moment.world, moment.heap, v, &call.qualifier);
+            found(moment, answers, from, call)
         }
     }
 }
@@ -162,22 +130,15 @@ fn way(
 /// What the pointer of a call breaks, and what is asked on the way from it.
 ///
 /// Errors: want of memory.
-fn pointer(
-    alloc: Global,
-    world: &World,
-    heap: &Heap,
-    answers: &mut Answers,
-    v: Value,
-    call: &TypedCall,
-) -> Result<Option<Undefined>, NoMemory>
-    requires world { IsWorld world.now.h.now world.now.numbers.now world.now.overriders.now }
-    requires answers { AreAnswers world.now.h.now answers.old }
-    ensures answers { AreAnswers world.now.h.now answers.new }
-    ensures is { IfOk result (λ rule. (s : Objects) (x : ValueOf) (through : ClassId) → IsValueOf world.now.h.now heap.now s v x call.now.class → IsWay world.now.h.now call.now.class call.now.qualifier through → IsFound world.now.h.now through call.now → rule ≡ refused world.now.h.now s (arrow x ++ way_asked call.now x)) }
+fn pointer(moment: &Moment, answers: &mut Answers, v: Value, call: &TypedCall) -> Refusal
+    requires world { IsWorld moment.now.world.h.now moment.now.world.numbers.now moment.now.world.overriders.now }
+    requires answers { AreAnswers moment.now.world.h.now answers.old }
+    ensures answers { AreAnswers moment.now.world.h.now answers.new }
+    ensures is { IfOk result (λ rule. (s : Objects) (x : ValueOf) (through : ClassId) → IsValueOf moment.now.world.h.now moment.now.heap.now s v x call.now.class → IsWay moment.now.world.h.now call.now.class call.now.qualifier through → IsFound moment.now.world.h.now through call.now → rule ≡ refused moment.now.world.h.now s (arrow x ++ way_asked call.now x)) }
 {
-    match arrow(heap, v) {
+    match arrow(moment.heap, v) {
         Some(rule) => Ok(Some(rule)),
-        None => way(alloc, world, heap, answers, v, call),
+        None => way(moment, answers, v, call),
     }
 }
 
@@ -185,27 +146,18 @@ fn pointer(
 ///
 /// Errors: want of memory.
 pub(crate) fn call(
-    alloc: Global,
-    world: &World,
-    heap: &Heap,
+    moment: &Moment,
     answers: &mut Answers,
     scene: &Scene,
     call: &TypedCall,
-) -> Result<Option<Undefined>, NoMemory>
-    requires world { IsWorld world.now.h.now world.now.numbers.now world.now.overriders.now }
-    requires answers { AreAnswers world.now.h.now answers.old }
-    ensures answers { AreAnswers world.now.h.now answers.new }
-    ensures is { IfOk result (λ rule. (e : Scope) (s : Sight) (f : Function ClassId) → Stands world.now.h.now heap.now scene.now.globals.now scene.now.this scene.now.locals.now e s → IsCall world.now.h.now e call.now f → rule ≡ refused world.now.h.now s.objects (call_uses s call.now)) }
+) -> Refusal
+    requires world { IsWorld moment.now.world.h.now moment.now.world.numbers.now moment.now.world.overriders.now }
+    requires answers { AreAnswers moment.now.world.h.now answers.old }
+    ensures answers { AreAnswers moment.now.world.h.now answers.new }
+    ensures is { IfOk result (λ rule. (e : Scope) (s : Sight) (f : Function ClassId) → Stands moment.now.world.h.now moment.now.heap.now scene.now.globals.now scene.now.this scene.now.locals.now e s → IsCall moment.now.world.h.now e call.now f → rule ≡ refused moment.now.world.h.now s.objects (call_uses s call.now)) }
 {
     let v = value(scene, &call.pointer);
-    let to = pointer(alloc, world, heap, answers, v, call)?;
-    let with = arguments(
-        alloc,
-        world,
-        heap,
-        answers,
-        scene,
-        call.arguments.as_slice(),
-    )?;
+    let to = pointer(moment, answers, v, call)?;
+    let with = arguments(moment, answers, scene, call.arguments.as_slice())?;
     Ok(least(to, with))
 }

@@ -12,37 +12,42 @@ ghost use Rattle.path_tables.specs.Asked.{AreAnswers};
 ghost use Rattle.path_values.specs.Worlds.{IsWorld};
 ghost use Rattle.path_refusals.specs.invariants.Pieces.{Refuses, SteadyRefuses, ReadyRefuses, IsReadyPart, CastRefuses};
 
+use crate::moment::{Moment, Refusal};
 use crate::pointers::guarded;
 use crate::views::{guard_view_of, is_shared, read_view};
 use cxx_hierarchy::ClassId;
 use cxx_program::{Conversion, TypedCast};
 use cxx_subobject::Subobject;
 use foundation::NoMemory;
-use path_heap::{Heap, Value};
+use path_heap::Value;
 use path_rules::Undefined;
 use path_tables::Answers;
-use path_values::World;
 use path_views::{cast, down};
-use std::alloc::Global;
 
 /// What a static downcast of a part that is ready breaks: it is that base of no subobject of the class (ISO C++03 5.2.9 p8).
 ///
 /// Errors: want of memory.
 fn part_down(
-    alloc: Global,
-    world: &World,
-    heap: &Heap,
+    moment: &Moment,
     answers: &mut Answers,
     n: u32,
     target: ClassId,
     i: &Subobject,
-) -> Result<Option<Undefined>, NoMemory>
-    requires world { IsWorld world.now.h.now world.now.numbers.now world.now.overriders.now }
-    requires answers { AreAnswers world.now.h.now answers.old }
-    ensures answers { AreAnswers world.now.h.now answers.new }
-    ensures is { IfOk result (ReadyRefuses world.now.h.now heap.now n (λ p. Downs (Pointer p) target i.now ∷ [])) }
+) -> Refusal
+    requires world { IsWorld moment.now.world.h.now moment.now.world.numbers.now moment.now.world.overriders.now }
+    requires answers { AreAnswers moment.now.world.h.now answers.old }
+    ensures answers { AreAnswers moment.now.world.h.now answers.new }
+    ensures is { IfOk result (ReadyRefuses moment.now.world.h.now moment.now.heap.now n (λ p. Downs (Pointer p) target i.now ∷ [])) }
 {
-    match down(alloc, world, heap, answers, n, target, i)? {
+    match down(
+        moment.alloc,
+        &moment.world,
+        moment.heap,
+        answers,
+        n,
+        target,
+        i,
+    )? {
         Value::Unset => Ok(Some(Undefined::BadDowncast)),
         Value::Number(_) => Ok(None),
         Value::Null => Ok(None),
@@ -54,24 +59,22 @@ fn part_down(
 ///
 /// Errors: want of memory.
 fn down_of(
-    alloc: Global,
-    world: &World,
-    heap: &Heap,
+    moment: &Moment,
     answers: &mut Answers,
     v: Value,
     target: ClassId,
     i: &Subobject,
-) -> Result<Option<Undefined>, NoMemory>
-    requires world { IsWorld world.now.h.now world.now.numbers.now world.now.overriders.now }
-    requires answers { AreAnswers world.now.h.now answers.old }
-    ensures answers { AreAnswers world.now.h.now answers.new }
-    ensures is { IfOk result (SteadyRefuses world.now.h.now heap.now v (λ x. Downs x target i.now ∷ [])) }
+) -> Refusal
+    requires world { IsWorld moment.now.world.h.now moment.now.world.numbers.now moment.now.world.overriders.now }
+    requires answers { AreAnswers moment.now.world.h.now answers.old }
+    ensures answers { AreAnswers moment.now.world.h.now answers.new }
+    ensures is { IfOk result (SteadyRefuses moment.now.world.h.now moment.now.heap.now v (λ x. Downs x target i.now ∷ [])) }
 {
     match v {
         Value::Unset => Ok(None),
         Value::Number(_) => Ok(None),
         Value::Null => Ok(None),
-        Value::Pointer(n) => part_down(alloc, world, heap, answers, n, target, i),
+        Value::Pointer(n) => part_down(moment, answers, n, target, i),
     }
 }
 
@@ -79,22 +82,20 @@ fn down_of(
 ///
 /// Errors: want of memory.
 fn down_cast(
-    alloc: Global,
-    world: &World,
-    heap: &Heap,
+    moment: &Moment,
     answers: &mut Answers,
     v: Value,
     target: ClassId,
     i: &Subobject,
-) -> Result<Option<Undefined>, NoMemory>
-    requires world { IsWorld world.now.h.now world.now.numbers.now world.now.overriders.now }
-    requires answers { AreAnswers world.now.h.now answers.old }
-    ensures answers { AreAnswers world.now.h.now answers.new }
-    ensures is { IfOk result (Refuses world.now.h.now heap.now v (λ x. Reads x ∷ (Guards x ∷ Downs x target i.now ∷ []))) }
+) -> Refusal
+    requires world { IsWorld moment.now.world.h.now moment.now.world.numbers.now moment.now.world.overriders.now }
+    requires answers { AreAnswers moment.now.world.h.now answers.old }
+    ensures answers { AreAnswers moment.now.world.h.now answers.new }
+    ensures is { IfOk result (Refuses moment.now.world.h.now moment.now.heap.now v (λ x. Reads x ∷ (Guards x ∷ Downs x target i.now ∷ []))) }
 {
-    match guarded(heap, v) {
+    match guarded(moment.heap, v) {
         Some(rule) => Ok(Some(rule)),
-        None => down_of(alloc, world, heap, answers, v, target, i),
+        None => down_of(moment, answers, v, target, i),
     }
 }
 
@@ -102,23 +103,21 @@ fn down_cast(
 ///
 /// Errors: want of memory.
 pub(crate) fn cast_rule(
-    alloc: Global,
-    world: &World,
-    heap: &Heap,
+    moment: &Moment,
     answers: &mut Answers,
     v: Value,
     how: &TypedCast,
-) -> Result<Option<Undefined>, NoMemory>
-    requires world { IsWorld world.now.h.now world.now.numbers.now world.now.overriders.now }
-    requires answers { AreAnswers world.now.h.now answers.old }
-    ensures answers { AreAnswers world.now.h.now answers.new }
-    ensures is { IfOk result (Refuses world.now.h.now heap.now v (cast_uses how.now)) }
+) -> Refusal
+    requires world { IsWorld moment.now.world.h.now moment.now.world.numbers.now moment.now.world.overriders.now }
+    requires answers { AreAnswers moment.now.world.h.now answers.old }
+    ensures answers { AreAnswers moment.now.world.h.now answers.new }
+    ensures is { IfOk result (Refuses moment.now.world.h.now moment.now.heap.now v (cast_uses how.now)) }
 {
     match how {
-        TypedCast::Same => Ok(guarded(heap, v)),
-        TypedCast::Up(i) => read_view(alloc, world, heap, answers, v, is_shared(i)),
-        TypedCast::Down(target, i) => down_cast(alloc, world, heap, answers, v, *target, i),
-        TypedCast::Dynamic(_) => read_view(alloc, world, heap, answers, v, true),
+        TypedCast::Same => Ok(guarded(moment.heap, v)),
+        TypedCast::Up(i) => read_view(moment, answers, v, is_shared(i)),
+        TypedCast::Down(target, i) => down_cast(moment, answers, v, *target, i),
+        TypedCast::Dynamic(_) => read_view(moment, answers, v, true),
     }
 }
 
@@ -126,23 +125,38 @@ pub(crate) fn cast_rule(
 ///
 /// Errors: want of memory.
 fn part_cast(
-    alloc: Global,
-    world: &World,
-    heap: &Heap,
+    moment: &Moment,
     answers: &mut Answers,
     n: u32,
     how: &TypedCast,
 ) -> Result<Value, NoMemory>
-    requires world { IsWorld world.now.h.now world.now.numbers.now world.now.overriders.now }
-    requires answers { AreAnswers world.now.h.now answers.old }
-    ensures answers { AreAnswers world.now.h.now answers.new }
-    ensures is { IfOk result (λ v. (s : Objects) (p : ObjectPart) (c d : ClassId) → IsReadyPart world.now.h.now heap.now s n p c → Casts world.now.h.now c how.now d → Means world.now.h.now s.classes v (cast_value world.now.h.now s how.now (Pointer p))) }
+    requires world { IsWorld moment.now.world.h.now moment.now.world.numbers.now moment.now.world.overriders.now }
+    requires answers { AreAnswers moment.now.world.h.now answers.old }
+    ensures answers { AreAnswers moment.now.world.h.now answers.new }
+    ensures is { IfOk result (λ v. (s : Objects) (p : ObjectPart) (c d : ClassId) → IsReadyPart moment.now.world.h.now moment.now.heap.now s n p c → Casts moment.now.world.h.now c how.now d → Means moment.now.world.h.now s.classes v (cast_value moment.now.world.h.now s how.now (Pointer p))) }
 {
     match how {
         TypedCast::Same => Ok(Value::Pointer(n)),
-        TypedCast::Up(i) => Ok(Value::Pointer(heap.base(world.numbers, world.h, n, i))),
-        TypedCast::Down(target, i) => down(alloc, world, heap, answers, n, *target, i),
-        TypedCast::Dynamic(target) => cast(alloc, world, heap, answers, n, *target),
+        TypedCast::Up(i) => Ok(Value::Pointer(
+            moment.heap.base(moment.world.numbers, moment.world.h, n, i),
+        )),
+        TypedCast::Down(target, i) => down(
+            moment.alloc,
+            &moment.world,
+            moment.heap,
+            answers,
+            n,
+            *target,
+            i,
+        ),
+        TypedCast::Dynamic(target) => cast(
+            moment.alloc,
+            &moment.world,
+            moment.heap,
+            answers,
+            n,
+            *target,
+        ),
     }
 }
 
@@ -150,26 +164,24 @@ fn part_cast(
 ///
 /// Errors: want of memory.
 fn part_cast_converted(
-    alloc: Global,
-    world: &World,
-    heap: &Heap,
+    moment: &Moment,
     answers: &mut Answers,
     n: u32,
     how: &TypedCast,
     c: &Conversion,
-) -> Result<Option<Undefined>, NoMemory>
-    requires world { IsWorld world.now.h.now world.now.numbers.now world.now.overriders.now }
-    requires answers { AreAnswers world.now.h.now answers.old }
-    ensures answers { AreAnswers world.now.h.now answers.new }
-    ensures is { IfOk result (λ rule. (s : Objects) (p : ObjectPart) (from to : ClassId) → IsReadyPart world.now.h.now heap.now s n p from → Casts world.now.h.now from how.now to → rule ≡ refused world.now.h.now s (convert (cast_value world.now.h.now s how.now (Pointer p)) c.now)) }
+) -> Refusal
+    requires world { IsWorld moment.now.world.h.now moment.now.world.numbers.now moment.now.world.overriders.now }
+    requires answers { AreAnswers moment.now.world.h.now answers.old }
+    ensures answers { AreAnswers moment.now.world.h.now answers.new }
+    ensures is { IfOk result (λ rule. (s : Objects) (p : ObjectPart) (from to : ClassId) → IsReadyPart moment.now.world.h.now moment.now.heap.now s n p from → Casts moment.now.world.h.now from how.now to → rule ≡ refused moment.now.world.h.now s (convert (cast_value moment.now.world.h.now s how.now (Pointer p)) c.now)) }
 {
     match c {
         Conversion::Number(_) => Ok(None),
         Conversion::Null => Ok(None),
         Conversion::Same => Ok(None),
         Conversion::Base(i) => {
-            let to = part_cast(alloc, world, heap, answers, n, how)?;
-            guard_view_of(alloc, world, heap, answers, to, is_shared(i))
+            let to = part_cast(moment, answers, n, how)?;
+            guard_view_of(moment, answers, to, is_shared(i))
         }
     }
 }
@@ -178,23 +190,21 @@ fn part_cast_converted(
 ///
 /// Errors: want of memory.
 pub(crate) fn cast_converted(
-    alloc: Global,
-    world: &World,
-    heap: &Heap,
+    moment: &Moment,
     answers: &mut Answers,
     v: Value,
     how: &TypedCast,
     c: &Conversion,
-) -> Result<Option<Undefined>, NoMemory>
-    requires world { IsWorld world.now.h.now world.now.numbers.now world.now.overriders.now }
-    requires answers { AreAnswers world.now.h.now answers.old }
-    ensures answers { AreAnswers world.now.h.now answers.new }
-    ensures is { IfOk result (CastRefuses world.now.h.now heap.now v how.now c.now) }
+) -> Refusal
+    requires world { IsWorld moment.now.world.h.now moment.now.world.numbers.now moment.now.world.overriders.now }
+    requires answers { AreAnswers moment.now.world.h.now answers.old }
+    ensures answers { AreAnswers moment.now.world.h.now answers.new }
+    ensures is { IfOk result (CastRefuses moment.now.world.h.now moment.now.heap.now v how.now c.now) }
 {
     match v {
         Value::Unset => Ok(None),
         Value::Number(_) => Ok(None),
         Value::Null => Ok(None),
-        Value::Pointer(n) => part_cast_converted(alloc, world, heap, answers, n, how, c),
+        Value::Pointer(n) => part_cast_converted(moment, answers, n, how, c),
     }
 }

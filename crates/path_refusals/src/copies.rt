@@ -18,15 +18,14 @@ ghost use Rattle.path_values.specs.Worlds.{IsWorld};
 ghost use Rattle.path_refusals.specs.invariants.Pieces.{TypedRefuses, OpenRefuses, IsReadyPart, Covers};
 
 use crate::deletes::is_complete;
+use crate::moment::{Moment, Refusal};
 use crate::pointers::{arrow, is_unready};
 use crate::views::view;
 use cxx_hierarchy::{ClassId, FieldType, Member};
-use foundation::NoMemory;
-use path_heap::{Heap, Value};
+use path_heap::Value;
 use path_rules::Undefined;
 use path_tables::Answers;
 use path_values::World;
-use std::alloc::Global;
 
 /// Whether a class has a virtual base: then it takes more numbers in full than as a base.
 pub(crate) fn has_virtual_base(world: &World, c: ClassId) -> bool
@@ -50,36 +49,31 @@ fn member_at(members: &[Member<ClassId>], i: usize) -> &Member<ClassId>
 
 /// Whether an element of class d is ready, and the class members in it.
 #[cycle(covers)]
-fn is_element_covered(world: &World, heap: &Heap, e: u32, d: ClassId) -> bool
-    requires world { IsWorld world.now.h.now world.now.numbers.now world.now.overriders.now }
-    ensures { (s : Objects) (p : ObjectPart) (k : ℕ) → HeapStands world.now.h.now heap.now s → Points world.now.h.now s.classes e p → Settled world.now.h.now p.object s.phases → class_of p.at ≡ Some d → d.0 < k → Covers world.now.h.now s result (Passes p ∷ asked_covers world.now.h.now k d p) }
+fn is_element_covered(moment: &Moment, e: u32, d: ClassId) -> bool
+    requires world { IsWorld moment.now.world.h.now moment.now.world.numbers.now moment.now.world.overriders.now }
+    ensures { (s : Objects) (p : ObjectPart) (k : ℕ) → HeapStands moment.now.world.h.now moment.now.heap.now s → Points moment.now.world.h.now s.classes e p → Settled moment.now.world.h.now p.object s.phases → class_of p.at ≡ Some d → d.0 < k → Covers moment.now.world.h.now s result (Passes p ∷ asked_covers moment.now.world.h.now k d p) }
 {
-    if is_unready(heap, e) {
+    if is_unready(moment.heap, e) {
         return false;
     }
-    is_covered(world, heap, e, d)
+    is_covered(moment, e, d)
 }
 
 /// Whether all elements of a member of a part that is ready are covered.
 #[cycle(covers)]
-fn is_member_covered(
-    world: &World,
-    heap: &Heap,
-    n: u32,
-    c: ClassId,
-    m: u32,
-    member: &Member<ClassId>,
-) -> bool
-    requires world { IsWorld world.now.h.now world.now.numbers.now world.now.overriders.now }
-    requires listed { slice_get (members_of world.now.h.now c) m ≡ Some member.now }
-    ensures { (s : Objects) (p : ObjectPart) (k : ℕ) → IsReadyPart world.now.h.now heap.now s n p c → c.0 ≤ k → Covers world.now.h.now s result (member_uses (asked_covers world.now.h.now k) p m (Some member.now)) }
+fn is_member_covered(moment: &Moment, n: u32, c: ClassId, m: u32, member: &Member<ClassId>) -> bool
+    requires world { IsWorld moment.now.world.h.now moment.now.world.numbers.now moment.now.world.overriders.now }
+    requires listed { slice_get (members_of moment.now.world.h.now c) m ≡ Some member.now }
+    ensures { (s : Objects) (p : ObjectPart) (k : ℕ) → IsReadyPart moment.now.world.h.now moment.now.heap.now s n p c → c.0 ≤ k → Covers moment.now.world.h.now s result (member_uses (asked_covers moment.now.world.h.now k) p m (Some member.now)) }
 {
     match &member.ty {
         FieldType::Value(_) => true,
         FieldType::Object(d) => {
             for i in 0..member.elements() {
-                let e = heap.element(world.numbers, world.h, n, m, i);
-                if !is_element_covered(world, heap, e, *d) {
+                let e = moment
+                    .heap
+                    .element(moment.world.numbers, moment.world.h, n, m, i);
+                if !is_element_covered(moment, e, *d) {
                     return false;
                 }
             }
@@ -91,20 +85,20 @@ fn is_member_covered(
 /// Whether the class members are ready that a part of class c has which is ready, and the class members in these. In what is
 /// complete all are.
 #[cycle(covers)]
-fn is_covered(world: &World, heap: &Heap, n: u32, c: ClassId) -> bool
-    requires world { IsWorld world.now.h.now world.now.numbers.now world.now.overriders.now }
-    ensures { (s : Objects) (p : ObjectPart) (k : ℕ) → IsReadyPart world.now.h.now heap.now s n p c → c.0 < k → Covers world.now.h.now s result (asked_covers world.now.h.now k c p) }
+fn is_covered(moment: &Moment, n: u32, c: ClassId) -> bool
+    requires world { IsWorld moment.now.world.h.now moment.now.world.numbers.now moment.now.world.overriders.now }
+    ensures { (s : Objects) (p : ObjectPart) (k : ℕ) → IsReadyPart moment.now.world.h.now moment.now.heap.now s n p c → c.0 < k → Covers moment.now.world.h.now s result (asked_covers moment.now.world.h.now k c p) }
 {
-    world.h.keeps();
-    if is_complete(heap.phase(n)) {
+    moment.world.h.keeps();
+    if is_complete(moment.heap.phase(n)) {
         return true;
     }
-    if c.0 >= world.h.len() {
+    if c.0 >= moment.world.h.len() {
         return true;
     }
-    let members = world.h.class(c).members.as_slice();
+    let members = moment.world.h.class(c).members.as_slice();
     for m in 0..members.len() {
-        if !is_member_covered(world, heap, n, c, m as u32, member_at(members, m)) {
+        if !is_member_covered(moment, n, c, m as u32, member_at(members, m)) {
             return false;
         }
     }
@@ -114,29 +108,21 @@ fn is_covered(world: &World, heap: &Heap, n: u32, c: ClassId) -> bool
 /// What a copy breaks behind the arrow of one of its pointers.
 ///
 /// Errors: want of memory.
-fn covered(
-    alloc: Global,
-    world: &World,
-    heap: &Heap,
-    answers: &mut Answers,
-    v: Value,
-    c: ClassId,
-    needed: bool,
-) -> Result<Option<Undefined>, NoMemory>
-    requires world { IsWorld world.now.h.now world.now.numbers.now world.now.overriders.now }
-    requires answers { AreAnswers world.now.h.now answers.old }
-    ensures answers { AreAnswers world.now.h.now answers.new }
-    ensures is { IfOk result (OpenRefuses world.now.h.now heap.now v c (λ x. views needed x ++ asked_covered world.now.h.now c x)) }
+fn covered(moment: &Moment, answers: &mut Answers, v: Value, c: ClassId, needed: bool) -> Refusal
+    requires world { IsWorld moment.now.world.h.now moment.now.world.numbers.now moment.now.world.overriders.now }
+    requires answers { AreAnswers moment.now.world.h.now answers.old }
+    ensures answers { AreAnswers moment.now.world.h.now answers.new }
+    ensures is { IfOk result (OpenRefuses moment.now.world.h.now moment.now.heap.now v c (λ x. views needed x ++ asked_covered moment.now.world.h.now c x)) }
 {
     match v {
         Value::Unset => Ok(None),
         Value::Number(_) => Ok(None),
         Value::Null => Ok(None),
         Value::Pointer(n) => {
-            if !is_covered(world, heap, n, c) {
+            if !is_covered(moment, n, c) {
                 return Ok(Some(Undefined::NotReady));
             }
-            view(alloc, world, heap, answers, n, needed)
+            view(moment, answers, n, needed)
         }
     }
 }
@@ -145,21 +131,19 @@ fn covered(
 ///
 /// Errors: want of memory.
 pub(crate) fn side(
-    alloc: Global,
-    world: &World,
-    heap: &Heap,
+    moment: &Moment,
     answers: &mut Answers,
     v: Value,
     c: ClassId,
     needed: bool,
-) -> Result<Option<Undefined>, NoMemory>
-    requires world { IsWorld world.now.h.now world.now.numbers.now world.now.overriders.now }
-    requires answers { AreAnswers world.now.h.now answers.old }
-    ensures answers { AreAnswers world.now.h.now answers.new }
-    ensures is { IfOk result (TypedRefuses world.now.h.now heap.now v c (λ x. arrow x ++ (views needed x ++ asked_covered world.now.h.now c x))) }
+) -> Refusal
+    requires world { IsWorld moment.now.world.h.now moment.now.world.numbers.now moment.now.world.overriders.now }
+    requires answers { AreAnswers moment.now.world.h.now answers.old }
+    ensures answers { AreAnswers moment.now.world.h.now answers.new }
+    ensures is { IfOk result (TypedRefuses moment.now.world.h.now moment.now.heap.now v c (λ x. arrow x ++ (views needed x ++ asked_covered moment.now.world.h.now c x))) }
 {
-    match arrow(heap, v) {
+    match arrow(moment.heap, v) {
         Some(rule) => Ok(Some(rule)),
-        None => covered(alloc, world, heap, answers, v, c, needed),
+        None => covered(moment, answers, v, c, needed),
     }
 }

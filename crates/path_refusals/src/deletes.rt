@@ -15,15 +15,14 @@ ghost use Rattle.path_tables.specs.Asked.{AreAnswers};
 ghost use Rattle.path_values.specs.Worlds.{IsWorld};
 ghost use Rattle.path_refusals.specs.invariants.Pieces.{Refuses, SteadyRefuses, PartRefuses, ReadyRefuses};
 
+use crate::moment::{Moment, Refusal};
 use crate::views::read_view;
 use cxx_hierarchy::ClassId;
 use cxx_overrider::FunctionId;
-use foundation::NoMemory;
 use path_heap::{Heap, Phase, Value};
 use path_rules::Undefined;
 use path_tables::Answers;
 use path_values::World;
-use std::alloc::Global;
 
 /// Whether a class has a virtual destructor (ISO C++03 10.3, 12.4 p7).
 fn has_virtual_destructor(world: &World, c: ClassId) -> bool
@@ -112,23 +111,16 @@ fn deleted_of(heap: &Heap, v: Value, is_virtual: bool) -> Option<Undefined>
 /// What `delete` breaks, of a value and the class that its type points to.
 ///
 /// Errors: want of memory.
-pub(crate) fn delete(
-    alloc: Global,
-    world: &World,
-    heap: &Heap,
-    answers: &mut Answers,
-    v: Value,
-    c: ClassId,
-) -> Result<Option<Undefined>, NoMemory>
-    requires world { IsWorld world.now.h.now world.now.numbers.now world.now.overriders.now }
-    requires answers { AreAnswers world.now.h.now answers.old }
-    ensures answers { AreAnswers world.now.h.now answers.new }
-    ensures is { IfOk result (Refuses world.now.h.now heap.now v (λ x. Reads x ∷ (Guards x ∷ (views (is_virtual world.now.h.now (destructor_of world.now.h.now c)) x ++ Deletes x (is_virtual world.now.h.now (destructor_of world.now.h.now c)) ∷ [])))) }
+pub(crate) fn delete(moment: &Moment, answers: &mut Answers, v: Value, c: ClassId) -> Refusal
+    requires world { IsWorld moment.now.world.h.now moment.now.world.numbers.now moment.now.world.overriders.now }
+    requires answers { AreAnswers moment.now.world.h.now answers.old }
+    ensures answers { AreAnswers moment.now.world.h.now answers.new }
+    ensures is { IfOk result (Refuses moment.now.world.h.now moment.now.heap.now v (λ x. Reads x ∷ (Guards x ∷ (views (is_virtual moment.now.world.h.now (destructor_of moment.now.world.h.now c)) x ++ Deletes x (is_virtual moment.now.world.h.now (destructor_of moment.now.world.h.now c)) ∷ [])))) }
 {
-    let is_virtual = has_virtual_destructor(world, c);
-    match read_view(alloc, world, heap, answers, v, is_virtual)? {
+    let is_virtual = has_virtual_destructor(&moment.world, c);
+    match read_view(moment, answers, v, is_virtual)? {
         Some(rule) => Ok(Some(rule)),
-        None => Ok(deleted_of(heap, v, is_virtual)),
+        None => Ok(deleted_of(moment.heap, v, is_virtual)),
     }
 }
 

@@ -13,6 +13,7 @@ pub mod calls;
 pub mod casts;
 pub mod copies;
 pub mod deletes;
+pub mod moment;
 pub mod operands;
 pub mod places;
 pub mod pointers;
@@ -22,4 +23,5 @@ pub mod rules;
 pub mod statements;
 pub mod views;
 
+pub use crate::moment::{Moment, Refusal};
 pub use crate::statements::refusal;

@@ -9,57 +9,52 @@ ghost use Rattle.path_tables.specs.Asked.{AreAnswers};
 ghost use Rattle.path_values.specs.Worlds.{IsWorld};
 ghost use Rattle.path_refusals.specs.invariants.Pieces.{SightRefuses};
 
+use crate::moment::{Moment, Refusal};
 use crate::pointers::reads;
 use crate::rules::least;
 use crate::views::read_converted;
 use cxx_hierarchy::Scalar;
 use cxx_program::{Argument, Arithmetic, TypedOperand};
-use foundation::NoMemory;
 use path_heap::Heap;
 use path_rules::Undefined;
 use path_tables::Answers;
-use path_values::{Scene, World, overflows, value};
-use std::alloc::Global;
+use path_values::{Scene, overflows, value};
 
 /// What an operand breaks that is read and converted.
 ///
 /// Errors: want of memory.
 pub(crate) fn argument(
-    alloc: Global,
-    world: &World,
-    heap: &Heap,
+    moment: &Moment,
     answers: &mut Answers,
     scene: &Scene,
     a: &Argument,
-) -> Result<Option<Undefined>, NoMemory>
-    requires world { IsWorld world.now.h.now world.now.numbers.now world.now.overriders.now }
-    requires answers { AreAnswers world.now.h.now answers.old }
-    ensures answers { AreAnswers world.now.h.now answers.new }
-    ensures is { IfOk result (SightRefuses world.now.h.now heap.now scene.now.globals.now scene.now.this scene.now.locals.now (λ s. argument_uses s a.now)) }
+) -> Refusal
+    requires world { IsWorld moment.now.world.h.now moment.now.world.numbers.now moment.now.world.overriders.now }
+    requires answers { AreAnswers moment.now.world.h.now answers.old }
+    ensures answers { AreAnswers moment.now.world.h.now answers.new }
+    ensures is { IfOk result (SightRefuses moment.now.world.h.now moment.now.heap.now scene.now.globals.now scene.now.this scene.now.locals.now (λ s. argument_uses s a.now)) }
 {
     let v = value(scene, &a.operand);
-    read_converted(alloc, world, heap, answers, v, &a.conversion)
+    read_converted(moment, answers, v, &a.conversion)
 }
 
 /// What two of them break.
 ///
 /// Errors: want of memory.
 pub(crate) fn two_arguments(
-    alloc: Global,
-    world: &World,
-    heap: &Heap,
+    moment: &Moment,
     answers: &mut Answers,
     scene: &Scene,
     a: &Argument,
     b: &Argument,
-) -> Result<Option<Undefined>, NoMemory>
-    requires world { IsWorld world.now.h.now world.now.numbers.now world.now.overriders.now }
-    requires answers { AreAnswers world.now.h.now answers.old }
-    ensures answers { AreAnswers world.now.h.now answers.new }
-    ensures is { IfOk result (SightRefuses world.now.h.now heap.now scene.now.globals.now scene.now.this scene.now.locals.now (λ s. argument_uses s a.now ++ argument_uses s b.now)) }
+) -> Refusal
+    requires world { IsWorld moment.now.world.h.now moment.now.world.numbers.now moment.now.world.overriders.now }
+    requires answers { AreAnswers moment.now.world.h.now answers.old }
+    ensures answers { AreAnswers moment.now.world.h.now answers.new }
+    ensures is { IfOk result (SightRefuses moment.now.world.h.now moment.now.heap.now scene.now.globals.now scene.now.this scene.now.locals.now (λ s. argument_uses s a.now ++ argument_uses s b.now)) }
 {
-    let left = argument(alloc, world, heap, answers, scene, a)?;
-    let right = argument(alloc, world, heap, answers, scene, b)?;
+    let left = argument(moment, answers, scene, a)?;
+    let right = argument(moment, answers, scene, b)?;
     Ok(least(left, right))
 }
 
@@ -67,21 +62,19 @@ pub(crate) fn two_arguments(
 ///
 /// Errors: want of memory.
 pub(crate) fn arguments(
-    alloc: Global,
-    world: &World,
-    heap: &Heap,
+    moment: &Moment,
     answers: &mut Answers,
     scene: &Scene,
     list: &[Argument],
-) -> Result<Option<Undefined>, NoMemory>
-    requires world { IsWorld world.now.h.now world.now.numbers.now world.now.overriders.now }
-    requires answers { AreAnswers world.now.h.now answers.old }
-    ensures answers { AreAnswers world.now.h.now answers.new }
-    ensures is { IfOk result (SightRefuses world.now.h.now heap.now scene.now.globals.now scene.now.this scene.now.locals.now (λ s. flat_map (argument_uses s) list.now)) }
+) -> Refusal
+    requires world { IsWorld moment.now.world.h.now moment.now.world.numbers.now moment.now.world.overriders.now }
+    requires answers { AreAnswers moment.now.world.h.now answers.old }
+    ensures answers { AreAnswers moment.now.world.h.now answers.new }
+    ensures is { IfOk result (SightRefuses moment.now.world.h.now moment.now.heap.now scene.now.globals.now scene.now.this scene.now.locals.now (λ s. flat_map (argument_uses s) list.now)) }
 {
     let mut first = None;
     for a in list {
-        first = least(first, argument(alloc, world, heap, answers, scene, a)?);
+        first = least(first, argument(moment, answers, scene, a)?);
     }
     Ok(first)
 }

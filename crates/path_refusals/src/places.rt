@@ -12,22 +12,21 @@ ghost use Rattle.path_tables.specs.Asked.{AreAnswers};
 ghost use Rattle.path_values.specs.Worlds.{IsWorld};
 ghost use Rattle.path_refusals.specs.invariants.Pieces.{IsReadyPart, TypedRefuses, OpenRefuses, way_uses, path_asked};
 
+use crate::moment::{Moment, Refusal};
 use crate::pointers::{arrow, is_unready};
 use crate::views::{is_shared, view};
 use cxx_program::{PassedMember, TypedPlace};
 use cxx_subobject::Subobject;
-use foundation::NoMemory;
-use path_heap::{Heap, Value};
+use path_heap::Value;
 use path_rules::Undefined;
 use path_tables::Answers;
-use path_values::{World, passed_number};
-use std::alloc::Global;
+use path_values::passed_number;
 
 /// What the class members on a path break, from a part that is ready: the first one that is not. Those behind a virtual base
 /// are ready.
-fn members(world: &World, heap: &Heap, n: u32, path: &[PassedMember]) -> Option<Undefined>
-    requires world { IsWorld world.now.h.now world.now.numbers.now world.now.overriders.now }
-    ensures { (s : Objects) (p : ObjectPart) (c : ClassId) (last : Subobject) → IsReadyPart world.now.h.now heap.now s n p c → IsPath world.now.h.now c path.now last → result ≡ refused world.now.h.now s (asked_members p path.now) }
+fn members(moment: &Moment, n: u32, path: &[PassedMember]) -> Option<Undefined>
+    requires world { IsWorld moment.now.world.h.now moment.now.world.numbers.now moment.now.world.overriders.now }
+    ensures { (s : Objects) (p : ObjectPart) (c : ClassId) (last : Subobject) → IsReadyPart moment.now.world.h.now moment.now.heap.now s n p c → IsPath moment.now.world.h.now c path.now last → result ≡ refused moment.now.world.h.now s (asked_members p path.now) }
 {
     match path {
         [] => None,
@@ -35,11 +34,11 @@ fn members(world: &World, heap: &Heap, n: u32, path: &[PassedMember]) -> Option<
             if is_shared(&x.base) {
                 return None;
             }
-            let next = passed_number(world, heap, n, x);
-            if is_unready(heap, next) {
+            let next = passed_number(&moment.world, moment.heap, n, x);
+            if is_unready(moment.heap, next) {
                 return Some(Undefined::NotReady);
             }
-            members(world, heap, next, rest)
+            members(moment, next, rest)
         }
     }
 }
@@ -57,26 +56,19 @@ fn first_base(place: &TypedPlace) -> &Subobject
 /// What a place breaks behind the arrow of its pointer.
 ///
 /// Errors: want of memory.
-fn path(
-    alloc: Global,
-    world: &World,
-    heap: &Heap,
-    answers: &mut Answers,
-    v: Value,
-    place: &TypedPlace,
-) -> Result<Option<Undefined>, NoMemory>
-    requires world { IsWorld world.now.h.now world.now.numbers.now world.now.overriders.now }
-    requires answers { AreAnswers world.now.h.now answers.old }
-    ensures answers { AreAnswers world.now.h.now answers.new }
-    ensures is { IsPath world.now.h.now place.now.class place.now.passed place.now.base → IfOk result (OpenRefuses world.now.h.now heap.now v place.now.class (path_asked place.now)) }
+fn path(moment: &Moment, answers: &mut Answers, v: Value, place: &TypedPlace) -> Refusal
+    requires world { IsWorld moment.now.world.h.now moment.now.world.numbers.now moment.now.world.overriders.now }
+    requires answers { AreAnswers moment.now.world.h.now answers.old }
+    ensures answers { AreAnswers moment.now.world.h.now answers.new }
+    ensures is { IsPath moment.now.world.h.now place.now.class place.now.passed place.now.base → IfOk result (OpenRefuses moment.now.world.h.now moment.now.heap.now v place.now.class (path_asked place.now)) }
 {
     match v {
         Value::Unset => Ok(None),
         Value::Number(_) => Ok(None),
         Value::Null => Ok(None),
-        Value::Pointer(n) => match members(world, heap, n, place.passed.as_slice()) {
+        Value::Pointer(n) => match members(moment, n, place.passed.as_slice()) {
             Some(rule) => Ok(Some(rule)),
-            None => view(alloc, world, heap, answers, n, is_shared(first_base(place))),
+            None => view(moment, answers, n, is_shared(first_base(place))),
         },
     }
 }
@@ -84,21 +76,14 @@ fn path(
 /// What a place breaks, by the value of its pointer.
 ///
 /// Errors: want of memory.
-pub(crate) fn place(
-    alloc: Global,
-    world: &World,
-    heap: &Heap,
-    answers: &mut Answers,
-    v: Value,
-    place: &TypedPlace,
-) -> Result<Option<Undefined>, NoMemory>
-    requires world { IsWorld world.now.h.now world.now.numbers.now world.now.overriders.now }
-    requires answers { AreAnswers world.now.h.now answers.old }
-    ensures answers { AreAnswers world.now.h.now answers.new }
-    ensures is { IsPath world.now.h.now place.now.class place.now.passed place.now.base → IfOk result (TypedRefuses world.now.h.now heap.now v place.now.class (way_uses place.now)) }
+pub(crate) fn place(moment: &Moment, answers: &mut Answers, v: Value, place: &TypedPlace) -> Refusal
+    requires world { IsWorld moment.now.world.h.now moment.now.world.numbers.now moment.now.world.overriders.now }
+    requires answers { AreAnswers moment.now.world.h.now answers.old }
+    ensures answers { AreAnswers moment.now.world.h.now answers.new }
+    ensures is { IsPath moment.now.world.h.now place.now.class place.now.passed place.now.base → IfOk result (TypedRefuses moment.now.world.h.now moment.now.heap.now v place.now.class (way_uses place.now)) }
 {
-    match arrow(heap, v) {
+    match arrow(moment.heap, v) {
         Some(rule) => Ok(Some(rule)),
-        None => path(alloc, world, heap, answers, v, place),
+        None => path(moment, answers, v, place),
     }
 }

@@ -9,44 +9,39 @@ ghost use Rattle.path_tables.specs.Asked.{AreAnswers};
 ghost use Rattle.path_values.specs.Worlds.{IsWorld};
 ghost use Rattle.path_values.specs.Scenes.{SceneStands};
 
+use crate::moment::{Moment, Refusal};
 use crate::views::{convert as convert_rule, read_converted};
 use cxx_program::{Argument, Conversion};
-use foundation::NoMemory;
-use path_heap::Heap;
-use path_rules::Undefined;
 use path_tables::Answers;
-use path_values::{Scene, World, convert, value};
-use std::alloc::Global;
+use path_values::{Scene, convert, value};
 
 /// What a `return` with a result breaks: the result becomes one of the function's type, then one of the declaration's that was
 /// found, then one of the variable's that takes it (ISO C++03 6.6.3).
 ///
 /// Errors: want of memory.
 pub(crate) fn result(
-    alloc: Global,
-    world: &World,
-    heap: &Heap,
+    moment: &Moment,
     answers: &mut Answers,
     scene: &Scene,
     a: &Argument,
     found: &Conversion,
     target: &Conversion,
-) -> Result<Option<Undefined>, NoMemory>
-    requires world { IsWorld world.now.h.now world.now.numbers.now world.now.overriders.now }
-    requires answers { AreAnswers world.now.h.now answers.old }
-    ensures answers { AreAnswers world.now.h.now answers.new }
-    ensures is { IfOk result (λ rule. (s : Sight) (w : Wanted) → SceneStands world.now.h.now heap.now scene.now.globals.now scene.now.this scene.now.locals.now s → AllSettled world.now.h.now s.objects → w.found ≡ found.now → w.target ≡ target.now → IsReturn world.now.h.now s w (Some a.now) → rule ≡ refused world.now.h.now s.objects (return_uses s w (Some a.now))) }
+) -> Refusal
+    requires world { IsWorld moment.now.world.h.now moment.now.world.numbers.now moment.now.world.overriders.now }
+    requires answers { AreAnswers moment.now.world.h.now answers.old }
+    ensures answers { AreAnswers moment.now.world.h.now answers.new }
+    ensures is { IfOk result (λ rule. (s : Sight) (w : Wanted) → SceneStands moment.now.world.h.now moment.now.heap.now scene.now.globals.now scene.now.this scene.now.locals.now s → AllSettled moment.now.world.h.now s.objects → w.found ≡ found.now → w.target ≡ target.now → IsReturn moment.now.world.h.now s w (Some a.now) → rule ≡ refused moment.now.world.h.now s.objects (return_uses s w (Some a.now))) }
 {
     let v = value(scene, &a.operand);
-    match read_converted(alloc, world, heap, answers, v, &a.conversion)? {
+    match read_converted(moment, answers, v, &a.conversion)? {
         Some(rule) => return Ok(Some(rule)),
         None => {}
     }
-    let own = convert(world, heap, v, &a.conversion);
-    match convert_rule(alloc, world, heap, answers, own, found)? {
+    let own = convert(&moment.world, moment.heap, v, &a.conversion);
+    match convert_rule(moment, answers, own, found)? {
         Some(rule) => return Ok(Some(rule)),
         None => {}
     }
-    let declared = convert(world, heap, own, found);
-    convert_rule(alloc, world, heap, answers, declared, target)
+    let declared = convert(&moment.world, moment.heap, own, found);
+    convert_rule(moment, answers, declared, target)
 }

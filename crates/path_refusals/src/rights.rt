@@ -18,40 +18,40 @@ ghost use Rattle.path_refusals.specs.invariants.Pieces.{Stands, IsValueOf, way_u
 
 use crate::calls::call;
 use crate::casts::{cast_converted, cast_rule};
+use crate::moment::{Moment, Refusal};
 use crate::operands::{calculation, read, two_arguments};
 use crate::places::place;
 use crate::views::{arrow_view, convert, read_converted};
 use cxx_program::{Conversion, TypedCast, TypedOperand, TypedPlace, TypedRight};
-use foundation::NoMemory;
-use path_heap::{Heap, Value};
-use path_rules::Undefined;
+use path_heap::Value;
 use path_tables::Answers;
-use path_values::{Scene, World, address_number, leaf_number, value};
-use std::alloc::Global;
+use path_values::{Scene, address_number, leaf_number, value};
 
 /// The value of the leaf to which a place leads that breaks no rule, by the value of its pointer.
-fn leaf_of(world: &World, heap: &Heap, v: Value, place: &TypedPlace) -> Value
-    requires world { IsWorld world.now.h.now world.now.numbers.now world.now.overriders.now }
-    ensures { (e : Scope) (s : Sight) (x : ValueOf) (t : ValueType ClassId) → IsValueOf world.now.h.now heap.now s.objects v x place.now.class → IsPlace world.now.h.now e place.now (ValueField t) → None ≡ refused world.now.h.now s.objects (way_uses place.now x) → Means world.now.h.now s.objects.classes result (leaf_value s place.now x) }
+fn leaf_of(moment: &Moment, v: Value, place: &TypedPlace) -> Value
+    requires world { IsWorld moment.now.world.h.now moment.now.world.numbers.now moment.now.world.overriders.now }
+    ensures { (e : Scope) (s : Sight) (x : ValueOf) (t : ValueType ClassId) → IsValueOf moment.now.world.h.now moment.now.heap.now s.objects v x place.now.class → IsPlace moment.now.world.h.now e place.now (ValueField t) → None ≡ refused moment.now.world.h.now s.objects (way_uses place.now x) → Means moment.now.world.h.now s.objects.classes result (leaf_value s place.now x) }
 {
     match v {
         Value::Unset => Value::Unset,
         Value::Number(_) => Value::Unset,
         Value::Null => Value::Unset,
-        Value::Pointer(n) => heap.leaf(leaf_number(world, heap, n, place)),
+        Value::Pointer(n) => moment
+            .heap
+            .leaf(leaf_number(&moment.world, moment.heap, n, place)),
     }
 }
 
 /// A pointer to the class member to which a place leads that breaks no rule, by the value of its pointer.
-fn address_of(world: &World, heap: &Heap, v: Value, place: &TypedPlace) -> Value
-    requires world { IsWorld world.now.h.now world.now.numbers.now world.now.overriders.now }
-    ensures { (e : Scope) (s : Sight) (x : ValueOf) (d : ClassId) → IsValueOf world.now.h.now heap.now s.objects v x place.now.class → IsPlace world.now.h.now e place.now (Object d) → None ≡ refused world.now.h.now s.objects (way_uses place.now x) → Means world.now.h.now s.objects.classes result (address_value place.now d x) }
+fn address_of(moment: &Moment, v: Value, place: &TypedPlace) -> Value
+    requires world { IsWorld moment.now.world.h.now moment.now.world.numbers.now moment.now.world.overriders.now }
+    ensures { (e : Scope) (s : Sight) (x : ValueOf) (d : ClassId) → IsValueOf moment.now.world.h.now moment.now.heap.now s.objects v x place.now.class → IsPlace moment.now.world.h.now e place.now (Object d) → None ≡ refused moment.now.world.h.now s.objects (way_uses place.now x) → Means moment.now.world.h.now s.objects.classes result (address_value place.now d x) }
 {
     match v {
         Value::Unset => Value::Unset,
         Value::Number(_) => Value::Unset,
         Value::Null => Value::Unset,
-        Value::Pointer(n) => Value::Pointer(address_number(world, heap, n, place)),
+        Value::Pointer(n) => Value::Pointer(address_number(&moment.world, moment.heap, n, place)),
     }
 }
 
@@ -59,25 +59,23 @@ fn address_of(world: &World, heap: &Heap, v: Value, place: &TypedPlace) -> Value
 ///
 /// Errors: want of memory.
 fn loaded(
-    alloc: Global,
-    world: &World,
-    heap: &Heap,
+    moment: &Moment,
     answers: &mut Answers,
     scene: &Scene,
     from: &TypedPlace,
     c: &Conversion,
-) -> Result<Option<Undefined>, NoMemory>
-    requires world { IsWorld world.now.h.now world.now.numbers.now world.now.overriders.now }
-    requires answers { AreAnswers world.now.h.now answers.old }
-    ensures answers { AreAnswers world.now.h.now answers.new }
-    ensures is { IfOk result (λ rule. (e : Scope) (s : Sight) (t : ValueType ClassId) → Stands world.now.h.now heap.now scene.now.globals.now scene.now.this scene.now.locals.now e s → IsPlace world.now.h.now e from.now (ValueField t) → rule ≡ refused world.now.h.now s.objects (right_uses world.now.h.now (is_clear world.now.h.now s.objects) s (Read from.now) c.now)) }
+) -> Refusal
+    requires world { IsWorld moment.now.world.h.now moment.now.world.numbers.now moment.now.world.overriders.now }
+    requires answers { AreAnswers moment.now.world.h.now answers.old }
+    ensures answers { AreAnswers moment.now.world.h.now answers.new }
+    ensures is { IfOk result (λ rule. (e : Scope) (s : Sight) (t : ValueType ClassId) → Stands moment.now.world.h.now moment.now.heap.now scene.now.globals.now scene.now.this scene.now.locals.now e s → IsPlace moment.now.world.h.now e from.now (ValueField t) → rule ≡ refused moment.now.world.h.now s.objects (right_uses moment.now.world.h.now (is_clear moment.now.world.h.now s.objects) s (Read from.now) c.now)) }
 {
     let v = value(scene, &from.pointer);
-    match place(alloc, world, heap, answers, v, from)? {
+    match place(moment, answers, v, from)? {
         Some(rule) => Ok(Some(rule)),
         None => {
-            let leaf = leaf_of(world, heap, v, from);
-            read_converted(alloc, world, heap, answers, leaf, c)
+            let leaf = leaf_of(moment, v, from);
+            read_converted(moment, answers, leaf, c)
         }
     }
 }
@@ -86,25 +84,23 @@ fn loaded(
 ///
 /// Errors: want of memory.
 fn addressed(
-    alloc: Global,
-    world: &World,
-    heap: &Heap,
+    moment: &Moment,
     answers: &mut Answers,
     scene: &Scene,
     of: &TypedPlace,
     c: &Conversion,
-) -> Result<Option<Undefined>, NoMemory>
-    requires world { IsWorld world.now.h.now world.now.numbers.now world.now.overriders.now }
-    requires answers { AreAnswers world.now.h.now answers.old }
-    ensures answers { AreAnswers world.now.h.now answers.new }
-    ensures is { IfOk result (λ rule. (e : Scope) (s : Sight) (d : ClassId) → Stands world.now.h.now heap.now scene.now.globals.now scene.now.this scene.now.locals.now e s → IsPlace world.now.h.now e of.now (Object d) → rule ≡ refused world.now.h.now s.objects (right_uses world.now.h.now (is_clear world.now.h.now s.objects) s (Address of.now d) c.now)) }
+) -> Refusal
+    requires world { IsWorld moment.now.world.h.now moment.now.world.numbers.now moment.now.world.overriders.now }
+    requires answers { AreAnswers moment.now.world.h.now answers.old }
+    ensures answers { AreAnswers moment.now.world.h.now answers.new }
+    ensures is { IfOk result (λ rule. (e : Scope) (s : Sight) (d : ClassId) → Stands moment.now.world.h.now moment.now.heap.now scene.now.globals.now scene.now.this scene.now.locals.now e s → IsPlace moment.now.world.h.now e of.now (Object d) → rule ≡ refused moment.now.world.h.now s.objects (right_uses moment.now.world.h.now (is_clear moment.now.world.h.now s.objects) s (Address of.now d) c.now)) }
 {
     let v = value(scene, &of.pointer);
-    match place(alloc, world, heap, answers, v, of)? {
+    match place(moment, answers, v, of)? {
         Some(rule) => Ok(Some(rule)),
         None => {
-            let to = address_of(world, heap, v, of);
-            convert(alloc, world, heap, answers, to, c)
+            let to = address_of(moment, v, of);
+            convert(moment, answers, to, c)
         }
     }
 }
@@ -113,24 +109,22 @@ fn addressed(
 ///
 /// Errors: want of memory.
 fn casted(
-    alloc: Global,
-    world: &World,
-    heap: &Heap,
+    moment: &Moment,
     answers: &mut Answers,
     scene: &Scene,
     how: &TypedCast,
     x: &TypedOperand,
     c: &Conversion,
-) -> Result<Option<Undefined>, NoMemory>
-    requires world { IsWorld world.now.h.now world.now.numbers.now world.now.overriders.now }
-    requires answers { AreAnswers world.now.h.now answers.old }
-    ensures answers { AreAnswers world.now.h.now answers.new }
-    ensures is { IfOk result (λ rule. (e : Scope) (s : Sight) (from to : ClassId) → Stands world.now.h.now heap.now scene.now.globals.now scene.now.this scene.now.locals.now e s → HasType e x.now (PointerType from) → Casts world.now.h.now from how.now to → rule ≡ refused world.now.h.now s.objects (right_uses world.now.h.now (is_clear world.now.h.now s.objects) s (Cast how.now x.now) c.now)) }
+) -> Refusal
+    requires world { IsWorld moment.now.world.h.now moment.now.world.numbers.now moment.now.world.overriders.now }
+    requires answers { AreAnswers moment.now.world.h.now answers.old }
+    ensures answers { AreAnswers moment.now.world.h.now answers.new }
+    ensures is { IfOk result (λ rule. (e : Scope) (s : Sight) (from to : ClassId) → Stands moment.now.world.h.now moment.now.heap.now scene.now.globals.now scene.now.this scene.now.locals.now e s → HasType e x.now (PointerType from) → Casts moment.now.world.h.now from how.now to → rule ≡ refused moment.now.world.h.now s.objects (right_uses moment.now.world.h.now (is_clear moment.now.world.h.now s.objects) s (Cast how.now x.now) c.now)) }
 {
     let v = value(scene, x);
-    match cast_rule(alloc, world, heap, answers, v, how)? {
+    match cast_rule(moment, answers, v, how)? {
         Some(rule) => Ok(Some(rule)),
-        None => cast_converted(alloc, world, heap, answers, v, how, c),
+        None => cast_converted(moment, answers, v, how, c),
     }
 }
 
@@ -138,35 +132,33 @@ fn casted(
 ///
 /// Errors: want of memory.
 pub(crate) fn right(
-    alloc: Global,
-    world: &World,
-    heap: &Heap,
+    moment: &Moment,
     answers: &mut Answers,
     scene: &Scene,
     right: &TypedRight,
     c: &Conversion,
-) -> Result<Option<Undefined>, NoMemory>
-    requires world { IsWorld world.now.h.now world.now.numbers.now world.now.overriders.now }
-    requires answers { AreAnswers world.now.h.now answers.old }
-    ensures answers { AreAnswers world.now.h.now answers.new }
-    ensures is { IfOk result (λ rule. (e : Scope) (s : Sight) (t : ValueType ClassId) → Stands world.now.h.now heap.now scene.now.globals.now scene.now.this scene.now.locals.now e s → HasRight world.now.h.now e right.now t → rule ≡ refused world.now.h.now s.objects (right_uses world.now.h.now (is_clear world.now.h.now s.objects) s right.now c.now)) }
+) -> Refusal
+    requires world { IsWorld moment.now.world.h.now moment.now.world.numbers.now moment.now.world.overriders.now }
+    requires answers { AreAnswers moment.now.world.h.now answers.old }
+    ensures answers { AreAnswers moment.now.world.h.now answers.new }
+    ensures is { IfOk result (λ rule. (e : Scope) (s : Sight) (t : ValueType ClassId) → Stands moment.now.world.h.now moment.now.heap.now scene.now.globals.now scene.now.this scene.now.locals.now e s → HasRight moment.now.world.h.now e right.now t → rule ≡ refused moment.now.world.h.now s.objects (right_uses moment.now.world.h.now (is_clear moment.now.world.h.now s.objects) s right.now c.now)) }
 {
     match right {
         TypedRight::Operand(x) => {
             let v = value(scene, x);
-            read_converted(alloc, world, heap, answers, v, c)
+            read_converted(moment, answers, v, c)
         }
-        TypedRight::Arithmetic(op, t, x, y) => Ok(calculation(heap, scene, *op, *t, x, y)),
-        TypedRight::SamePointer(_, a, b) => two_arguments(alloc, world, heap, answers, scene, a, b),
-        TypedRight::Not(x) => Ok(read(heap, scene, x)),
-        TypedRight::Read(from) => loaded(alloc, world, heap, answers, scene, from, c),
-        TypedRight::Address(of, _) => addressed(alloc, world, heap, answers, scene, of, c),
-        TypedRight::Call(to) => call(alloc, world, heap, answers, scene, to),
+        TypedRight::Arithmetic(op, t, x, y) => Ok(calculation(moment.heap, scene, *op, *t, x, y)),
+        TypedRight::SamePointer(_, a, b) => two_arguments(moment, answers, scene, a, b),
+        TypedRight::Not(x) => Ok(read(moment.heap, scene, x)),
+        TypedRight::Read(from) => loaded(moment, answers, scene, from, c),
+        TypedRight::Address(of, _) => addressed(moment, answers, scene, of, c),
+        TypedRight::Call(to) => call(moment, answers, scene, to),
         TypedRight::New(_) => Ok(None),
-        TypedRight::Cast(how, x) => casted(alloc, world, heap, answers, scene, how, x, c),
+        TypedRight::Cast(how, x) => casted(moment, answers, scene, how, x, c),
         TypedRight::TypeEqual(x, _) => {
             let v = value(scene, x);
-            arrow_view(alloc, world, heap, answers, v, true)
+            arrow_view(moment, answers, v, true)
         }
     }
 }

@@ -7,16 +7,14 @@ ghost use Rattle.path_tables.specs.Asked.{AreAnswers};
 ghost use Rattle.path_values.specs.Worlds.{IsWorld};
 ghost use Rattle.path_refusals.specs.invariants.Pieces.{Refuses, SteadyRefuses, PartRefuses, ReadyRefuses};
 
+use crate::moment::{Moment, Refusal};
 use crate::pointers::{arrow, is_unready, reads};
 use cxx_program::Conversion;
 use cxx_subobject::{Root, Subobject};
-use foundation::NoMemory;
-use path_heap::{Heap, Value};
+use path_heap::Value;
 use path_rules::Undefined;
 use path_tables::Answers;
-use path_values::World;
 use path_views::is_outside;
-use std::alloc::Global;
 
 /// Whether a subobject is a virtual base or lies behind one.
 pub(crate) fn is_shared(i: &Subobject) -> bool
@@ -31,23 +29,16 @@ pub(crate) fn is_shared(i: &Subobject) -> bool
 /// What a part breaks that is ready, where its view is needed: it lies outside of the view (ISO C++03 12.7).
 ///
 /// Errors: want of memory.
-pub(crate) fn view(
-    alloc: Global,
-    world: &World,
-    heap: &Heap,
-    answers: &mut Answers,
-    n: u32,
-    needed: bool,
-) -> Result<Option<Undefined>, NoMemory>
-    requires world { IsWorld world.now.h.now world.now.numbers.now world.now.overriders.now }
-    requires answers { AreAnswers world.now.h.now answers.old }
-    ensures answers { AreAnswers world.now.h.now answers.new }
-    ensures is { IfOk result (ReadyRefuses world.now.h.now heap.now n (λ p. views needed (Pointer p))) }
+pub(crate) fn view(moment: &Moment, answers: &mut Answers, n: u32, needed: bool) -> Refusal
+    requires world { IsWorld moment.now.world.h.now moment.now.world.numbers.now moment.now.world.overriders.now }
+    requires answers { AreAnswers moment.now.world.h.now answers.old }
+    ensures answers { AreAnswers moment.now.world.h.now answers.new }
+    ensures is { IfOk result (ReadyRefuses moment.now.world.h.now moment.now.heap.now n (λ p. views needed (Pointer p))) }
 {
     if !needed {
         return Ok(None);
     }
-    if is_outside(alloc, world, heap, answers, n)? {
+    if is_outside(moment.alloc, &moment.world, moment.heap, answers, n)? {
         Ok(Some(Undefined::OutsideView))
     } else {
         Ok(None)
@@ -57,116 +48,86 @@ pub(crate) fn view(
 /// The same of a value that is no pointer to a part that is not ready.
 ///
 /// Errors: want of memory.
-pub(crate) fn view_of(
-    alloc: Global,
-    world: &World,
-    heap: &Heap,
-    answers: &mut Answers,
-    v: Value,
-    needed: bool,
-) -> Result<Option<Undefined>, NoMemory>
-    requires world { IsWorld world.now.h.now world.now.numbers.now world.now.overriders.now }
-    requires answers { AreAnswers world.now.h.now answers.old }
-    ensures answers { AreAnswers world.now.h.now answers.new }
-    ensures is { IfOk result (SteadyRefuses world.now.h.now heap.now v (λ x. views needed x)) }
+pub(crate) fn view_of(moment: &Moment, answers: &mut Answers, v: Value, needed: bool) -> Refusal
+    requires world { IsWorld moment.now.world.h.now moment.now.world.numbers.now moment.now.world.overriders.now }
+    requires answers { AreAnswers moment.now.world.h.now answers.old }
+    ensures answers { AreAnswers moment.now.world.h.now answers.new }
+    ensures is { IfOk result (SteadyRefuses moment.now.world.h.now moment.now.heap.now v (λ x. views needed x)) }
 {
     match v {
         Value::Unset => Ok(None),
         Value::Number(_) => Ok(None),
         Value::Null => Ok(None),
-        Value::Pointer(n) => view(alloc, world, heap, answers, n, needed),
+        Value::Pointer(n) => view(moment, answers, n, needed),
     }
 }
 
 /// What a guarded use of a part breaks, where its view may be needed too.
 ///
 /// Errors: want of memory.
-pub(crate) fn guard_view(
-    alloc: Global,
-    world: &World,
-    heap: &Heap,
-    answers: &mut Answers,
-    n: u32,
-    needed: bool,
-) -> Result<Option<Undefined>, NoMemory>
-    requires world { IsWorld world.now.h.now world.now.numbers.now world.now.overriders.now }
-    requires answers { AreAnswers world.now.h.now answers.old }
-    ensures answers { AreAnswers world.now.h.now answers.new }
-    ensures is { IfOk result (PartRefuses world.now.h.now heap.now n (λ p. Guards (Pointer p) ∷ views needed (Pointer p))) }
+pub(crate) fn guard_view(moment: &Moment, answers: &mut Answers, n: u32, needed: bool) -> Refusal
+    requires world { IsWorld moment.now.world.h.now moment.now.world.numbers.now moment.now.world.overriders.now }
+    requires answers { AreAnswers moment.now.world.h.now answers.old }
+    ensures answers { AreAnswers moment.now.world.h.now answers.new }
+    ensures is { IfOk result (PartRefuses moment.now.world.h.now moment.now.heap.now n (λ p. Guards (Pointer p) ∷ views needed (Pointer p))) }
 {
-    if is_unready(heap, n) {
+    if is_unready(moment.heap, n) {
         return Ok(Some(Undefined::NotReady));
     }
-    view(alloc, world, heap, answers, n, needed)
+    view(moment, answers, n, needed)
 }
 
 /// The same of a value.
 ///
 /// Errors: want of memory.
 pub(crate) fn guard_view_of(
-    alloc: Global,
-    world: &World,
-    heap: &Heap,
+    moment: &Moment,
     answers: &mut Answers,
     v: Value,
     needed: bool,
-) -> Result<Option<Undefined>, NoMemory>
-    requires world { IsWorld world.now.h.now world.now.numbers.now world.now.overriders.now }
-    requires answers { AreAnswers world.now.h.now answers.old }
-    ensures answers { AreAnswers world.now.h.now answers.new }
-    ensures is { IfOk result (Refuses world.now.h.now heap.now v (λ x. Guards x ∷ views needed x)) }
+) -> Refusal
+    requires world { IsWorld moment.now.world.h.now moment.now.world.numbers.now moment.now.world.overriders.now }
+    requires answers { AreAnswers moment.now.world.h.now answers.old }
+    ensures answers { AreAnswers moment.now.world.h.now answers.new }
+    ensures is { IfOk result (Refuses moment.now.world.h.now moment.now.heap.now v (λ x. Guards x ∷ views needed x)) }
 {
     match v {
         Value::Unset => Ok(None),
         Value::Number(_) => Ok(None),
         Value::Null => Ok(None),
-        Value::Pointer(n) => guard_view(alloc, world, heap, answers, n, needed),
+        Value::Pointer(n) => guard_view(moment, answers, n, needed),
     }
 }
 
 /// The same of a value that is read.
 ///
 /// Errors: want of memory.
-pub(crate) fn read_view(
-    alloc: Global,
-    world: &World,
-    heap: &Heap,
-    answers: &mut Answers,
-    v: Value,
-    needed: bool,
-) -> Result<Option<Undefined>, NoMemory>
-    requires world { IsWorld world.now.h.now world.now.numbers.now world.now.overriders.now }
-    requires answers { AreAnswers world.now.h.now answers.old }
-    ensures answers { AreAnswers world.now.h.now answers.new }
-    ensures is { IfOk result (Refuses world.now.h.now heap.now v (λ x. Reads x ∷ (Guards x ∷ views needed x))) }
+pub(crate) fn read_view(moment: &Moment, answers: &mut Answers, v: Value, needed: bool) -> Refusal
+    requires world { IsWorld moment.now.world.h.now moment.now.world.numbers.now moment.now.world.overriders.now }
+    requires answers { AreAnswers moment.now.world.h.now answers.old }
+    ensures answers { AreAnswers moment.now.world.h.now answers.new }
+    ensures is { IfOk result (Refuses moment.now.world.h.now moment.now.heap.now v (λ x. Reads x ∷ (Guards x ∷ views needed x))) }
 {
-    match reads(heap, v) {
+    match reads(moment.heap, v) {
         Some(rule) => Ok(Some(rule)),
-        None => guard_view_of(alloc, world, heap, answers, v, needed),
+        None => guard_view_of(moment, answers, v, needed),
     }
 }
 
 /// What a conversion breaks (ISO C++03 4.10, 12.7 p2).
 ///
 /// Errors: want of memory.
-pub(crate) fn convert(
-    alloc: Global,
-    world: &World,
-    heap: &Heap,
-    answers: &mut Answers,
-    v: Value,
-    c: &Conversion,
-) -> Result<Option<Undefined>, NoMemory>
-    requires world { IsWorld world.now.h.now world.now.numbers.now world.now.overriders.now }
-    requires answers { AreAnswers world.now.h.now answers.old }
-    ensures answers { AreAnswers world.now.h.now answers.new }
-    ensures is { IfOk result (Refuses world.now.h.now heap.now v (λ x. convert x c.now)) }
+pub(crate) fn convert(moment: &Moment, answers: &mut Answers, v: Value, c: &Conversion) -> Refusal
+    requires world { IsWorld moment.now.world.h.now moment.now.world.numbers.now moment.now.world.overriders.now }
+    requires answers { AreAnswers moment.now.world.h.now answers.old }
+    ensures answers { AreAnswers moment.now.world.h.now answers.new }
+    ensures is { IfOk result (Refuses moment.now.world.h.now moment.now.heap.now v (λ x. convert x c.now)) }
 {
     match c {
         Conversion::Number(_) => Ok(None),
         Conversion::Null => Ok(None),
         Conversion::Same => Ok(None),
-        Conversion::Base(i) => guard_view_of(alloc, world, heap, answers, v, is_shared(i)),
+        Conversion::Base(i) => guard_view_of(moment, answers, v, is_shared(i)),
     }
 }
 
@@ -174,42 +135,33 @@ pub(crate) fn convert(
 ///
 /// Errors: want of memory.
 pub(crate) fn read_converted(
-    alloc: Global,
-    world: &World,
-    heap: &Heap,
+    moment: &Moment,
     answers: &mut Answers,
     v: Value,
     c: &Conversion,
-) -> Result<Option<Undefined>, NoMemory>
-    requires world { IsWorld world.now.h.now world.now.numbers.now world.now.overriders.now }
-    requires answers { AreAnswers world.now.h.now answers.old }
-    ensures answers { AreAnswers world.now.h.now answers.new }
-    ensures is { IfOk result (Refuses world.now.h.now heap.now v (λ x. Reads x ∷ convert x c.now)) }
+) -> Refusal
+    requires world { IsWorld moment.now.world.h.now moment.now.world.numbers.now moment.now.world.overriders.now }
+    requires answers { AreAnswers moment.now.world.h.now answers.old }
+    ensures answers { AreAnswers moment.now.world.h.now answers.new }
+    ensures is { IfOk result (Refuses moment.now.world.h.now moment.now.heap.now v (λ x. Reads x ∷ convert x c.now)) }
 {
-    match reads(heap, v) {
+    match reads(moment.heap, v) {
         Some(rule) => Ok(Some(rule)),
-        None => convert(alloc, world, heap, answers, v, c),
+        None => convert(moment, answers, v, c),
     }
 }
 
 /// What the pointer of `->`, `*` or `typeid` breaks, where its view may be needed.
 ///
 /// Errors: want of memory.
-pub(crate) fn arrow_view(
-    alloc: Global,
-    world: &World,
-    heap: &Heap,
-    answers: &mut Answers,
-    v: Value,
-    needed: bool,
-) -> Result<Option<Undefined>, NoMemory>
-    requires world { IsWorld world.now.h.now world.now.numbers.now world.now.overriders.now }
-    requires answers { AreAnswers world.now.h.now answers.old }
-    ensures answers { AreAnswers world.now.h.now answers.new }
-    ensures is { IfOk result (Refuses world.now.h.now heap.now v (λ x. arrow x ++ views needed x)) }
+pub(crate) fn arrow_view(moment: &Moment, answers: &mut Answers, v: Value, needed: bool) -> Refusal
+    requires world { IsWorld moment.now.world.h.now moment.now.world.numbers.now moment.now.world.overriders.now }
+    requires answers { AreAnswers moment.now.world.h.now answers.old }
+    ensures answers { AreAnswers moment.now.world.h.now answers.new }
+    ensures is { IfOk result (Refuses moment.now.world.h.now moment.now.heap.now v (λ x. arrow x ++ views needed x)) }
 {
-    match arrow(heap, v) {
+    match arrow(moment.heap, v) {
         Some(rule) => Ok(Some(rule)),
-        None => view_of(alloc, world, heap, answers, v, needed),
+        None => view_of(moment, answers, v, needed),
     }
 }

@@ -12,7 +12,7 @@ use Rattle.path_refusals.proofs.Calling.{arrow_way}
 use Rattle.path_refusals.proofs.calls.pointer.Goals as goal
 
 pub returns-in-Some-clause-is : goal.returns-in-Some-clause-is
-returns-in-Some-clause-is c = λ s x through a way found. stops c.args.world.now.h.now s (arrow x) (way_asked c.args.call.now x) c.in-Some.rule (arrow_way c.args.world.now.h.now s c.args.call.now x) (c.in-Some.ensures c.args.world.now.h.now s x a.heap_stands a.means)
+returns-in-Some-clause-is c = λ s x through a way found. stops c.args.moment.now.world.h.now s (arrow x) (way_asked c.args.call.now x) c.in-Some.rule (arrow_way c.args.moment.now.world.h.now s c.args.call.now x) (c.in-Some.ensures c.args.moment.now.world.h.now s x a.heap_stands a.means)
 
 pub returns-in-None-clause-is : goal.returns-in-None-clause-is
-returns-in-None-clause-is c = IfOk-weaker c.way.result (λ rule. (s : Objects) (x : Value) (through : ClassId) → IsValueOf c.args.world.now.h.now c.args.heap.now s c.args.v x c.args.call.now.class → names (is_unready s) x ≡ false → IsWay c.args.world.now.h.now c.args.call.now.class c.args.call.now.qualifier through → IsFound c.args.world.now.h.now through c.args.call.now → rule ≡ refused c.args.world.now.h.now s (way_asked c.args.call.now x)) (λ rule. (s : Objects) (x : Value) (through : ClassId) → IsValueOf c.args.world.now.h.now c.args.heap.now s c.args.v x c.args.call.now.class → IsWay c.args.world.now.h.now c.args.call.now.class c.args.call.now.qualifier through → IsFound c.args.world.now.h.now through c.args.call.now → rule ≡ refused c.args.world.now.h.now s (arrow x ++ way_asked c.args.call.now x)) (λ rule told s x through a way found. let e = c.in-None.ensures c.args.world.now.h.now s x a.heap_stands a.means in goes_on c.args.world.now.h.now s (arrow x) (way_asked c.args.call.now x) rule e (told s x through a (arrow_clear c.args.world.now.h.now s x e) way found)) c.way.ensures.is
+returns-in-None-clause-is c = IfOk-weaker c.way.result (λ rule. (s : Objects) (x : Value) (through : ClassId) → IsValueOf c.args.moment.now.world.h.now c.args.moment.now.heap.now s c.args.v x c.args.call.now.class → names (is_unready s) x ≡ false → IsWay c.args.moment.now.world.h.now c.args.call.now.class c.args.call.now.qualifier through → IsFound c.args.moment.now.world.h.now through c.args.call.now → rule ≡ refused c.args.moment.now.world.h.now s (way_asked c.args.call.now x)) (λ rule. (s : Objects) (x : Value) (through : ClassId) → IsValueOf c.args.moment.now.world.h.now c.args.moment.now.heap.now s c.args.v x c.args.call.now.class → IsWay c.args.moment.now.world.h.now c.args.call.now.class c.args.call.now.qualifier through → IsFound c.args.moment.now.world.h.now through c.args.call.now → rule ≡ refused c.args.moment.now.world.h.now s (arrow x ++ way_asked c.args.call.now x)) (λ rule told s x through a way found. let e = c.in-None.ensures c.args.moment.now.world.h.now s x a.heap_stands a.means in goes_on c.args.moment.now.world.h.now s (arrow x) (way_asked c.args.call.now x) rule e (told s x through a (arrow_clear c.args.moment.now.world.h.now s x e) way found)) c.way.ensures.is

@@ -13,14 +13,14 @@ use Rattle.path_refusals.proofs.Casting.{off_cast}
 use Rattle.path_refusals.proofs.casts.cast_converted.Goals as goal
 
 pub returns-in-Unset-clause-is : goal.returns-in-Unset-clause-is
-returns-in-Unset-clause-is c = λ s x from to a b e. unset_case c.args.world.now.h.now s.classes (λ x. None ≡ refused c.args.world.now.h.now s (convert (cast_value c.args.world.now.h.now s c.args.how.now x) c.args.c.now)) (off_cast c.args.world.now.h.now s c.args.how.now Unset c.args.c.now refl) c.args.v c.in-Unset.is x a.means
+returns-in-Unset-clause-is c = λ s x from to a b e. unset_case c.args.moment.now.world.h.now s.classes (λ x. None ≡ refused c.args.moment.now.world.h.now s (convert (cast_value c.args.moment.now.world.h.now s c.args.how.now x) c.args.c.now)) (off_cast c.args.moment.now.world.h.now s c.args.how.now Unset c.args.c.now refl) c.args.v c.in-Unset.is x a.means
 
 pub returns-in-Number-clause-is : goal.returns-in-Number-clause-is
-returns-in-Number-clause-is c = λ s x from to a b e. number_case c.args.world.now.h.now s.classes (λ x. None ≡ refused c.args.world.now.h.now s (convert (cast_value c.args.world.now.h.now s c.args.how.now x) c.args.c.now)) (λ z. off_cast c.args.world.now.h.now s c.args.how.now (Number z) c.args.c.now refl) c.args.v c.in-Number.field-0 c.in-Number.is x a.means
+returns-in-Number-clause-is c = λ s x from to a b e. number_case c.args.moment.now.world.h.now s.classes (λ x. None ≡ refused c.args.moment.now.world.h.now s (convert (cast_value c.args.moment.now.world.h.now s c.args.how.now x) c.args.c.now)) (λ z. off_cast c.args.moment.now.world.h.now s c.args.how.now (Number z) c.args.c.now refl) c.args.v c.in-Number.field-0 c.in-Number.is x a.means
 
 pub returns-in-Null-clause-is : goal.returns-in-Null-clause-is
-returns-in-Null-clause-is c = λ s x from to a b e. null_case c.args.world.now.h.now s.classes (λ x. None ≡ refused c.args.world.now.h.now s (convert (cast_value c.args.world.now.h.now s c.args.how.now x) c.args.c.now)) (off_cast c.args.world.now.h.now s c.args.how.now Null c.args.c.now refl) c.args.v c.in-Null.is x a.means
+returns-in-Null-clause-is c = λ s x from to a b e. null_case c.args.moment.now.world.h.now s.classes (λ x. None ≡ refused c.args.moment.now.world.h.now s (convert (cast_value c.args.moment.now.world.h.now s c.args.how.now x) c.args.c.now)) (off_cast c.args.moment.now.world.h.now s c.args.how.now Null c.args.c.now refl) c.args.v c.in-Null.is x a.means
 
 pub returns-in-Pointer-clause-is : goal.returns-in-Pointer-clause-is
-returns-in-Pointer-clause-is c = IfOk-weaker c.part_cast_converted.result (λ rule. (s : Objects) (p : ObjectPart) (from to : ClassId) → IsReadyPart c.args.world.now.h.now c.args.heap.now s c.in-Pointer.n p from → Casts c.args.world.now.h.now from c.args.how.now to → rule ≡ refused c.args.world.now.h.now s (convert (cast_value c.args.world.now.h.now s c.args.how.now (Pointer p)) c.args.c.now)) (CastRefuses c.args.world.now.h.now c.args.heap.now c.args.v c.args.how.now c.args.c.now) (λ rule told s x from to a b e. pointer_case c.args.world.now.h.now s.classes (λ x. IsValueOf c.args.world.now.h.now c.args.heap.now s c.args.v x from → names (is_unready s) x ≡ false → rule ≡ refused c.args.world.now.h.now s (convert (cast_value c.args.world.now.h.now s c.args.how.now x) c.args.c.now)) c.in-Pointer.n
-    (λ p q a e. told s p from to (ready_part c.args.world.now.h.now c.args.heap.now s c.args.v c.in-Pointer.n p from a q e) b) c.args.v c.in-Pointer.is x a.means a e) c.part_cast_converted.ensures.is
+returns-in-Pointer-clause-is c = IfOk-weaker c.part_cast_converted.result (λ rule. (s : Objects) (p : ObjectPart) (from to : ClassId) → IsReadyPart c.args.moment.now.world.h.now c.args.moment.now.heap.now s c.in-Pointer.n p from → Casts c.args.moment.now.world.h.now from c.args.how.now to → rule ≡ refused c.args.moment.now.world.h.now s (convert (cast_value c.args.moment.now.world.h.now s c.args.how.now (Pointer p)) c.args.c.now)) (CastRefuses c.args.moment.now.world.h.now c.args.moment.now.heap.now c.args.v c.args.how.now c.args.c.now) (λ rule told s x from to a b e. pointer_case c.args.moment.now.world.h.now s.classes (λ x. IsValueOf c.args.moment.now.world.h.now c.args.moment.now.heap.now s c.args.v x from → names (is_unready s) x ≡ false → rule ≡ refused c.args.moment.now.world.h.now s (convert (cast_value c.args.moment.now.world.h.now s c.args.how.now x) c.args.c.now)) c.in-Pointer.n
+    (λ p q a e. told s p from to (ready_part c.args.moment.now.world.h.now c.args.moment.now.heap.now s c.args.v c.in-Pointer.n p from a q e) b) c.args.v c.in-Pointer.is x a.means a e) c.part_cast_converted.ensures.is

@@ -7,10 +7,10 @@ use Rattle.path_refusals.proofs.Casting.{off_down}
 use Rattle.path_refusals.proofs.casts.down_of.Goals as goal
 
 pub returns-in-Unset-clause-is : goal.returns-in-Unset-clause-is
-returns-in-Unset-clause-is c = λ s x stands m e. unset_case c.args.world.now.h.now s.classes (λ x. names (is_unready s) x ≡ false → None ≡ refused c.args.world.now.h.now s (Downs x c.args.target c.args.i.now ∷ [])) (λ e. off_down c.args.world.now.h.now s Unset c.args.target c.args.i.now refl) c.args.v c.in-Unset.is x m e
+returns-in-Unset-clause-is c = λ s x stands m e. unset_case c.args.moment.now.world.h.now s.classes (λ x. names (is_unready s) x ≡ false → None ≡ refused c.args.moment.now.world.h.now s (Downs x c.args.target c.args.i.now ∷ [])) (λ e. off_down c.args.moment.now.world.h.now s Unset c.args.target c.args.i.now refl) c.args.v c.in-Unset.is x m e
 
 pub returns-in-Number-clause-is : goal.returns-in-Number-clause-is
-returns-in-Number-clause-is c = λ s x stands m e. number_case c.args.world.now.h.now s.classes (λ x. names (is_unready s) x ≡ false → None ≡ refused c.args.world.now.h.now s (Downs x c.args.target c.args.i.now ∷ [])) (λ z e. off_down c.args.world.now.h.now s (Number z) c.args.target c.args.i.now refl) c.args.v c.in-Number.field-0 c.in-Number.is x m e
+returns-in-Number-clause-is c = λ s x stands m e. number_case c.args.moment.now.world.h.now s.classes (λ x. names (is_unready s) x ≡ false → None ≡ refused c.args.moment.now.world.h.now s (Downs x c.args.target c.args.i.now ∷ [])) (λ z e. off_down c.args.moment.now.world.h.now s (Number z) c.args.target c.args.i.now refl) c.args.v c.in-Number.field-0 c.in-Number.is x m e
 
 pub returns-in-Null-clause-is : goal.returns-in-Null-clause-is
-returns-in-Null-clause-is c = λ s x stands m e. null_case c.args.world.now.h.now s.classes (λ x. names (is_unready s) x ≡ false → None ≡ refused c.args.world.now.h.now s (Downs x c.args.target c.args.i.now ∷ [])) (λ e. off_down c.args.world.now.h.now s Null c.args.target c.args.i.now refl) c.args.v c.in-Null.is x m e
+returns-in-Null-clause-is c = λ s x stands m e. null_case c.args.moment.now.world.h.now s.classes (λ x. names (is_unready s) x ≡ false → None ≡ refused c.args.moment.now.world.h.now s (Downs x c.args.target c.args.i.now ∷ [])) (λ e. off_down c.args.moment.now.world.h.now s Null c.args.target c.args.i.now refl) c.args.v c.in-Null.is x m e

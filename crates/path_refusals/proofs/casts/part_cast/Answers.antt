@@ -9,5 +9,5 @@ use Rattle.path_refusals.proofs.Casting.{up_valid}
 use Rattle.path_refusals.proofs.casts.part_cast.Goals as goal
 
 pub returns-in-Up-clause-is : goal.returns-in-Up-clause-is
-returns-in-Up-clause-is c = λ s p from to a b. subst (λ (k : TypedCast). Means c.args.world.now.h.now s.classes (PointerCode c.base.result) (cast_value c.args.world.now.h.now s k (Pointer p))) (sym c.in-Up.is)
-    (c.base.ensures s p from a.heap_stands a.points (begun_of s p a.ready) a.of_class (up_valid c.args.world.now.h.now from to c.args.how.now c.in-Up.i c.in-Up.is b))
+returns-in-Up-clause-is c = λ s p from to a b. subst (λ (k : TypedCast). Means c.args.moment.now.world.h.now s.classes (PointerCode c.base.result) (cast_value c.args.moment.now.world.h.now s k (Pointer p))) (sym c.in-Up.is)
+    (c.base.ensures s p from a.heap_stands a.points (begun_of s p a.ready) a.of_class (up_valid c.args.moment.now.world.h.now from to c.args.how.now c.in-Up.i c.in-Up.is b))

@@ -16,8 +16,8 @@ decreases-is_covered l = 3 * l.c.0 + 1
 
 -- the elements that are left are refused as all are
 abbrev pub invariant-is_member_covered-loop-i : goal.invariant-is_member_covered-loop-i
-invariant-is_member_covered-loop-i l = (s : Objects) (p : ObjectPart) (k : ℕ) → IsReadyPart l.world.h.now l.heap s l.n p l.fn.c → l.fn.c.0 ≤ k → LeftSame l.world.h.now s (element_asked l.world.h.now k p l.m l.d) l.i-end l.i
+invariant-is_member_covered-loop-i l = (s : Objects) (p : ObjectPart) (k : ℕ) → IsReadyPart l.moment.world.h.now l.moment.heap.now s l.n p l.fn.c → l.fn.c.0 ≤ k → LeftSame l.moment.world.h.now s (element_asked l.moment.world.h.now k p l.m l.d) l.i-end l.i
 
 -- the members that are left are refused as all are
 abbrev pub invariant-is_covered-loop-m : goal.invariant-is_covered-loop-m
-invariant-is_covered-loop-m l = (s : Objects) (p : ObjectPart) (k : ℕ) → IsReadyPart l.world.h.now l.heap s l.n p l.c → l.c.0 ≤ k → LeftSame l.world.h.now s (member_asked l.world.h.now k p l.c) (length l.members) l.m
+invariant-is_covered-loop-m l = (s : Objects) (p : ObjectPart) (k : ℕ) → IsReadyPart l.moment.world.h.now l.moment.heap.now s l.n p l.c → l.c.0 ≤ k → LeftSame l.moment.world.h.now s (member_asked l.moment.world.h.now k p l.c) (length l.members) l.m

@@ -7,7 +7,7 @@ use Rattle.path_refusals.proofs.Reading.{unready_first, ready_then}
 use Rattle.path_refusals.proofs.views.guard_view.Goals as goal
 
 pub returns-then-is_unready-clause-is : goal.returns-then-is_unready-clause-is
-returns-then-is_unready-clause-is c = λ s p stands q. unready_first c.args.world.now.h.now s p c.args.needed (c.is_unready.ensures c.args.world.now.h.now s p stands q ∙ c.if-is_unready.true)
+returns-then-is_unready-clause-is c = λ s p stands q. unready_first c.args.moment.now.world.h.now s p c.args.needed (c.is_unready.ensures c.args.moment.now.world.h.now s p stands q ∙ c.if-is_unready.true)
 
 pub returns-clause-is : goal.returns-clause-is
-returns-clause-is c = IfOk-weaker c.view.result (ReadyRefuses c.args.world.now.h.now c.args.heap.now c.args.n (λ p. views c.args.needed (Pointer p))) (PartRefuses c.args.world.now.h.now c.args.heap.now c.args.n (λ p. Guards (Pointer p) ∷ views c.args.needed (Pointer p))) (λ rule told s p stands q. let e = c.is_unready.ensures c.args.world.now.h.now s p stands q ∙ c.if-is_unready.false in ready_then c.args.world.now.h.now s p (views c.args.needed (Pointer p)) rule e (told s p stands q e)) c.view.ensures.is
+returns-clause-is c = IfOk-weaker c.view.result (ReadyRefuses c.args.moment.now.world.h.now c.args.moment.now.heap.now c.args.n (λ p. views c.args.needed (Pointer p))) (PartRefuses c.args.moment.now.world.h.now c.args.moment.now.heap.now c.args.n (λ p. Guards (Pointer p) ∷ views c.args.needed (Pointer p))) (λ rule told s p stands q. let e = c.is_unready.ensures c.args.moment.now.world.h.now s p stands q ∙ c.if-is_unready.false in ready_then c.args.moment.now.world.h.now s p (views c.args.needed (Pointer p)) rule e (told s p stands q e)) c.view.ensures.is

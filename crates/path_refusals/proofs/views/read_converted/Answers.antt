@@ -8,7 +8,7 @@ use Rattle.path_refusals.proofs.Reading.{read_first}
 use Rattle.path_refusals.proofs.views.read_converted.Goals as goal
 
 pub returns-in-Some-clause-is : goal.returns-in-Some-clause-is
-returns-in-Some-clause-is c = λ s x stands m. stops c.args.world.now.h.now s (Reads x ∷ []) (convert x c.args.c.now) c.in-Some.rule (read_first c.args.world.now.h.now s x (convert x c.args.c.now) (convert_off c.args.world.now.h.now s x c.args.c.now) (convert_late c.args.world.now.h.now s x c.args.c.now)) (c.in-Some.ensures c.args.world.now.h.now s x stands m)
+returns-in-Some-clause-is c = λ s x stands m. stops c.args.moment.now.world.h.now s (Reads x ∷ []) (convert x c.args.c.now) c.in-Some.rule (read_first c.args.moment.now.world.h.now s x (convert x c.args.c.now) (convert_off c.args.moment.now.world.h.now s x c.args.c.now) (convert_late c.args.moment.now.world.h.now s x c.args.c.now)) (c.in-Some.ensures c.args.moment.now.world.h.now s x stands m)
 
 pub returns-in-None-clause-is : goal.returns-in-None-clause-is
-returns-in-None-clause-is c = IfOk-weaker c.convert.result (Refuses c.args.world.now.h.now c.args.heap.now c.args.v (λ x. convert x c.args.c.now)) (Refuses c.args.world.now.h.now c.args.heap.now c.args.v (λ x. Reads x ∷ convert x c.args.c.now)) (λ rule told s x stands m. goes_on c.args.world.now.h.now s (Reads x ∷ []) (convert x c.args.c.now) rule (c.in-None.ensures c.args.world.now.h.now s x stands m) (told s x stands m)) c.convert.ensures.is
+returns-in-None-clause-is c = IfOk-weaker c.convert.result (Refuses c.args.moment.now.world.h.now c.args.moment.now.heap.now c.args.v (λ x. convert x c.args.c.now)) (Refuses c.args.moment.now.world.h.now c.args.moment.now.heap.now c.args.v (λ x. Reads x ∷ convert x c.args.c.now)) (λ rule told s x stands m. goes_on c.args.moment.now.world.h.now s (Reads x ∷ []) (convert x c.args.c.now) rule (c.in-None.ensures c.args.moment.now.world.h.now s x stands m) (told s x stands m)) c.convert.ensures.is

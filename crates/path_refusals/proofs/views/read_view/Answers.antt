@@ -7,7 +7,7 @@ use Rattle.path_refusals.proofs.Reading.{read_guard}
 use Rattle.path_refusals.proofs.views.read_view.Goals as goal
 
 pub returns-in-Some-clause-is : goal.returns-in-Some-clause-is
-returns-in-Some-clause-is c = λ s x stands m. stops c.args.world.now.h.now s (Reads x ∷ []) (Guards x ∷ views c.args.needed x) c.in-Some.rule (read_guard c.args.world.now.h.now s x c.args.needed) (c.in-Some.ensures c.args.world.now.h.now s x stands m)
+returns-in-Some-clause-is c = λ s x stands m. stops c.args.moment.now.world.h.now s (Reads x ∷ []) (Guards x ∷ views c.args.needed x) c.in-Some.rule (read_guard c.args.moment.now.world.h.now s x c.args.needed) (c.in-Some.ensures c.args.moment.now.world.h.now s x stands m)
 
 pub returns-in-None-clause-is : goal.returns-in-None-clause-is
-returns-in-None-clause-is c = IfOk-weaker c.guard_view_of.result (Refuses c.args.world.now.h.now c.args.heap.now c.args.v (λ x. Guards x ∷ views c.args.needed x)) (Refuses c.args.world.now.h.now c.args.heap.now c.args.v (λ x. Reads x ∷ (Guards x ∷ views c.args.needed x))) (λ rule told s x stands m. goes_on c.args.world.now.h.now s (Reads x ∷ []) (Guards x ∷ views c.args.needed x) rule (c.in-None.ensures c.args.world.now.h.now s x stands m) (told s x stands m)) c.guard_view_of.ensures.is
+returns-in-None-clause-is c = IfOk-weaker c.guard_view_of.result (Refuses c.args.moment.now.world.h.now c.args.moment.now.heap.now c.args.v (λ x. Guards x ∷ views c.args.needed x)) (Refuses c.args.moment.now.world.h.now c.args.moment.now.heap.now c.args.v (λ x. Reads x ∷ (Guards x ∷ views c.args.needed x))) (λ rule told s x stands m. goes_on c.args.moment.now.world.h.now s (Reads x ∷ []) (Guards x ∷ views c.args.needed x) rule (c.in-None.ensures c.args.moment.now.world.h.now s x stands m) (told s x stands m)) c.guard_view_of.ensures.is
