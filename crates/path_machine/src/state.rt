@@ -1,11 +1,11 @@
 //! The machine of a run.
 
-ghost use Rattle.std.specs.Prelude.{◌≡◌, true, None, IfOk};
+ghost use Rattle.std.specs.Prelude.{◌≡◌, ◌<◌, true, None, IfOk};
 ghost use Rattle.path_model.specs.States.{is_body};
 ghost use Rattle.path_machine.specs.invariants.Steps.{size_in};
 ghost use Rattle.path_machine.specs.invariants.Setups.{IsSetup};
-ghost use Rattle.path_machine.specs.invariants.Ends.{IsFinished};
-ghost use Rattle.path_machine.specs.Turns.{taken_by, budget_of, ended_with, IsInRun, TurnAgrees};
+ghost use Rattle.path_machine.specs.invariants.Ends.{IsFinished, HasMoved};
+ghost use Rattle.path_machine.specs.Turns.{taken_by, budget_of, ended_with, IsAtStep, IsInRun, TurnAgrees};
 
 use crate::moving::move_on;
 use crate::next::Next;
@@ -17,8 +17,8 @@ use path_frames::Machine;
 use path_model::{Turn, plans_fit, runs_are_typed, runs_go_on, statements_are_settled};
 use path_tables::Answers;
 
-/// A machine that runs a program: the state that it is in, what was answered of views so far, how many steps it took, how many it
-/// may take, and the answer that ended the run.
+/// A machine that runs a program: the state that it is in, what was answered of views so far, how many steps it took, how
+/// many it may take, and the answer that ended the run.
 #[derive(Drop)]
 pub struct PathState {
     pub(crate) machine: Machine,
@@ -69,9 +69,6 @@ impl PathState {
         ensures stands { IfOk result (λ turn. IsInRun run.now.world.h.now (size_in run.now.sizes.now) run.now.program.now self.new (ended_with self.new)) }
         ensures agrees { IfOk result (λ turn. TurnAgrees run.now.world.h.now (size_in run.now.sizes.now) run.now.program.now self.old self.new outs.old outs.new (ended_with self.old) turn) }
     {
-        runs_are_typed();
-        plans_fit();
-        statements_are_settled();
         runs_go_on();
         match self.end {
             Some(turn) => return Ok(turn),
@@ -80,7 +77,7 @@ impl PathState {
         if self.taken >= self.budget {
             return Ok(self.finish(Turn::OutOfSteps));
         }
-        match move_on(run, &mut self.machine, &mut self.answers, outs)? {
+        match self.move_on(run, outs)? {
             Next::Goes => {
                 self.taken += 1;
                 Ok(Turn::Went)
@@ -93,6 +90,24 @@ impl PathState {
             Next::Limited(limit) => Ok(self.finish(Turn::Limit(limit))),
             Next::Wrong => unreachable!(),
         }
+    }
+
+    /// The step of the frame on top, which is not counted yet.
+    ///
+    /// Errors: want of memory. The machine is then of no use.
+    fn move_on(&mut self, run: &Run, outs: &mut Telling) -> Result<Next, NoMemory>
+        requires setup { IsSetup run.now.world.h.now run.now.world.numbers.now run.now.world.overriders.now run.now.program.now run.now.index.now }
+        requires main { is_body run.now.program.now.main ≡ true }
+        requires at { IsAtStep run.now.world.h.now (size_in run.now.sizes.now) run.now.program.now self.old }
+        requires room { self.old.taken < self.old.budget }
+        ensures { IfOk result (λ next. HasMoved run.now.world.h.now (size_in run.now.sizes.now) run.now.program.now self.old self.new outs.old outs.new next) }
+    {
+        runs_are_typed();
+        plans_fit();
+        statements_are_settled();
+        runs_go_on();
+        let next = move_on(run, &mut self.machine, &mut self.answers, outs)?;
+        Ok(next)
     }
 
     /// The run has ended with this answer.
