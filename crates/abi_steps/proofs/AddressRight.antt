@@ -15,11 +15,10 @@ use Rattle.cxx_program.specs.declared.statement.TypedRight.TheVariants.{Address}
 use Rattle.cxx_program.specs.declared.statement.TypedStatement.{TypedStatement}
 use Rattle.cxx_program.specs.Typed.{Scope, Converts, IsPlace, an_address, IsConverted, a_right}
 use Rattle.path_rules.specs.declared.Undefined.{Undefined}
-use Rattle.path_model.specs.Values.{Value, Pointer, Sight, value, converted, inner_part}
+use Rattle.path_model.specs.Values.{Value, Pointer, value, converted, inner_part}
 use Rattle.path_model.specs.Places.{end_part, last_passed, address_value}
 use Rattle.path_model.specs.Uses.{convert}
 use Rattle.path_model.specs.Order.{first_broken, sorted, asked_place}
-use Rattle.path_model.specs.States.{sight}
 use Rattle.path_model.specs.Runs.{Moves}
 use Rattle.path_model.specs.TypedStates.{IsPartMade}
 use Rattle.path_model.proofs.Sorted.{broken_append}
@@ -37,7 +36,7 @@ use Rattle.abi_stands.specs.Worlds.{classes_in, places_in, fixed}
 use Rattle.abi_stands.proofs.Objects.{objects_laid}
 use Rattle.abi_steps.specs.Registers.{body_on}
 use Rattle.abi_steps.proofs.Registers.{leads_grouped, variables_kept}
-use Rattle.abi_steps.proofs.Scenes.{Scene, here, scope, block}
+use Rattle.abi_steps.proofs.Scenes.{Scene, here, scope, block, sight_with}
 use Rattle.abi_steps.proofs.Finish.{to_next}
 use Rattle.abi_steps.proofs.Rights.{Taking, DoesRight, took, free_of, free_in}
 use Rattle.abi_steps.proofs.Places.{IsAimed, leads_place, end_object}
@@ -55,11 +54,8 @@ taken_typed h e place d c target (a_right _ _ _ (an_address _ _ is) to) = record
 module _ {statement : TypedStatement} (scene : Scene statement) (locals : List Value) (variable : Variable) (place : TypedPlace) (d : ClassId) (c : Conversion) (take : Taking scene locals variable (record { right = Address place d; conversion = c })) where
   open scene use {w, at, s, f, below, body, b}
 
-  abbrev see : Sight
-  see = sight s (body_on f locals f.next)
-
   abbrev v : Value
-  v = value see place.pointer
+  v = value (sight_with scene locals) place.pointer
 
   -- the member, as a part
   record IsMember (a : IsAimed scene v place) : Type 0 where

@@ -14,7 +14,6 @@ use Rattle.path_rules.specs.declared.Undefined.TheVariants.{Dangling}
 use Rattle.path_model.specs.Values.{Value, Unset, Number, Null, Pointer, Objects, Sight, value, converted, argument_value}
 use Rattle.path_model.specs.Uses.{Use, Reads, argument_uses}
 use Rattle.path_model.specs.Rules.{is_broken, is_unset}
-use Rattle.path_model.specs.States.{sight}
 use Rattle.path_model.specs.TypedStates.{IsValue}
 use Rattle.path_model.proofs.TypedValues.{IsTypedSight, operand_typed}
 use Rattle.byte_memory.specs.Cells.{byte_of}
@@ -26,11 +25,11 @@ use Rattle.abi_ops.specs.Operands.{operand_class, operand_register, ops_of, conv
 use Rattle.abi_stands.specs.Worlds.{World, IsWorld, classes_in, fixed}
 use Rattle.abi_stands.specs.Words.{heap_of, register_of}
 use Rattle.abi_stands.specs.Columns.{ColumnsStand}
-use Rattle.abi_steps.specs.Registers.{at_registers, Wrote, body_on}
+use Rattle.abi_steps.specs.Registers.{at_registers, Wrote}
 use Rattle.abi_steps.proofs.Tests.{unbroken}
 use Rattle.abi_steps.proofs.Useds.{class_of_type}
 use Rattle.abi_steps.proofs.Conversions.{IsSure, leads_converted, leads_null}
-use Rattle.abi_steps.proofs.Scenes.{Scene, here, scope, block}
+use Rattle.abi_steps.proofs.Scenes.{Scene, here, scope, block, sight_with}
 use Rattle.abi_steps.proofs.Finish.{Reaches}
 use Rattle.abi_steps.proofs.Rights.{sure}
 
@@ -65,17 +64,14 @@ module _ (w : World) (s : Objects) (b : Running) (world : IsWorld w) (columns : 
 module _ {statement : TypedStatement} (scene : Scene statement) (locals : List Value) where
   open scene use {w, at, s, f, below, body, b}
 
-  abbrev see : Sight
-  see = sight s (body_on f locals f.next)
-
   -- where its tests passed, among those of other uses
-  pub leads_argument : {ops : List Op} (us : List Use) (a : Argument) (t : ValueType ClassId) (to from : ℕ) (old : List (Option ℕ)) → IsTypedSight (classes_in w) (scope scene) see → IsArgument (classes_in w) (scope scene) a t
-      → ((u : Use) → Has (argument_uses see a) u → Has us u) → ((r : Undefined) → is_broken (classes_in w) s.objects us r ≡ false) → byte_of old (operand_register from a.operand) ≡ register_of w (here scene) (value see a.operand) → to < length old
-      → ((new : List (Option ℕ)) → Wrote to old new → byte_of new to ≡ register_of w (here scene) (argument_value see a) → Leads (fixed w) ops (at_registers b new) (Reaches scene))
+  pub leads_argument : {ops : List Op} (us : List Use) (a : Argument) (t : ValueType ClassId) (to from : ℕ) (old : List (Option ℕ)) → IsTypedSight (classes_in w) (scope scene) (sight_with scene locals) → IsArgument (classes_in w) (scope scene) a t
+      → ((u : Use) → Has (argument_uses (sight_with scene locals) a) u → Has us u) → ((r : Undefined) → is_broken (classes_in w) s.objects us r ≡ false) → byte_of old (operand_register from a.operand) ≡ register_of w (here scene) (value (sight_with scene locals) a.operand) → to < length old
+      → ((new : List (Option ℕ)) → Wrote to old new → byte_of new to ≡ register_of w (here scene) (argument_value (sight_with scene locals) a) → Leads (fixed w) ops (at_registers b new) (Reaches scene))
       → Leads (fixed w) (ops_of (argument_ops (block scene) a to from) ++ ops) (at_registers b old) (Reaches scene)
   leads_argument us a t to from old sees typed within none word inside rest =
       let h = classes_in w in
-      let v = value see a.operand in
+      let v = value (sight_with scene locals) a.operand in
       let open_there = unbroken (fixed w) b (Reaches scene) h s.objects us (Reads v) Dangling (none Dangling) (within (Reads v) (inl refl)) in
-      leads_argument_sure w s.objects b scene.world scene.begins.stands.columns (Reaches scene) (scope scene) see a t to from old (λ u has. operand_typed h (scope scene) see sees a.operand u has) typed
+      leads_argument_sure w s.objects b scene.world scene.begins.stands.columns (Reaches scene) (scope scene) (sight_with scene locals) a t to from old (λ u has. operand_typed h (scope scene) (sight_with scene locals) sees a.operand u has) typed
       (sure scene v a.conversion us none (λ q there. within q (inr there)) open_there) word inside rest

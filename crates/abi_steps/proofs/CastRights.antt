@@ -21,12 +21,11 @@ use Rattle.cxx_program.specs.declared.statement.TypedStatement.{TypedStatement}
 use Rattle.cxx_program.specs.Typed.{Scope, Converts, HasType, Casts, cast_same, cast_up, cast_down, cast_dynamic, a_cast, IsConverted, a_right}
 use Rattle.path_rules.specs.declared.Undefined.{Undefined}
 use Rattle.path_rules.specs.declared.Undefined.TheVariants.{Dangling}
-use Rattle.path_model.specs.Values.{Value, Unset, Number, Null, Pointer, Objects, Sight, value}
+use Rattle.path_model.specs.Values.{Value, Unset, Number, Null, Pointer, Objects, value}
 use Rattle.path_model.specs.Uses.{Reads, convert, cast_uses, cast_value, value_or, view_cast, derived_of, view_of}
 use Rattle.path_model.specs.Rules.{is_broken, names}
 use Rattle.path_model.specs.Order.{first_broken, sorted}
 use Rattle.path_model.specs.Outs.{class_or_first}
-use Rattle.path_model.specs.States.{sight}
 use Rattle.path_model.specs.TypedStates.{IsValue}
 use Rattle.path_model.proofs.Sorted.{broken_append}
 use Rattle.path_model.proofs.TypedRights.{cast_typed}
@@ -49,7 +48,7 @@ use Rattle.abi_steps.proofs.Operands.{leads_operand}
 use Rattle.abi_steps.proofs.Tests.{leads_checks, unbroken}
 use Rattle.abi_steps.proofs.Useds.{operand_class_is}
 use Rattle.abi_steps.proofs.RunningParts.{running_parts}
-use Rattle.abi_steps.proofs.Scenes.{Scene, top, here, scope, block}
+use Rattle.abi_steps.proofs.Scenes.{Scene, top, here, scope, block, sight_with}
 use Rattle.abi_steps.proofs.Finish.{Reaches, to_next, refused}
 use Rattle.abi_steps.proofs.Rights.{Taking, free_of, free_in}
 use Rattle.abi_steps.proofs.CheckedTaken.{leads_checked}
@@ -98,11 +97,8 @@ cast_open h s (Dynamic target) (Pointer p) fine = by_view (view_of h s p)
 module _ {statement : TypedStatement} (scene : Scene statement) (locals : List Value) (variable : Variable) (cast : TypedCast) (x : TypedOperand) (c : Conversion) (take : Taking scene locals variable (record { right = Cast cast x; conversion = c })) where
   open scene use {w, at, s, f, below, body, b}
 
-  abbrev see : Sight
-  see = sight s (body_on f locals f.next)
-
   abbrev v : Value
-  v = value see x
+  v = value (sight_with scene locals) x
 
   abbrev from : ℕ
   from = operand_register (free (block scene) 0) x
@@ -114,7 +110,7 @@ module _ {statement : TypedStatement} (scene : Scene statement) (locals : List V
   the_cast = casted_typed (classes_in w) (scope scene) cast x c take.target take.typed
 
   pub cast_reads : IsValue (classes_in w) s.objects.classes v (PointerType (the_cast).from)
-  cast_reads = operand_typed (classes_in w) (scope scene) see take.sees x (PointerType (the_cast).from) (the_cast).has
+  cast_reads = operand_typed (classes_in w) (scope scene) (sight_with scene locals) take.sees x (PointerType (the_cast).from) (the_cast).has
 
   -- what was cast is tested for its conversion, converted and taken
   pub cast_taken : (last : List (Option ℕ)) → ((r : Undefined) → is_broken (classes_in w) s.objects (cast_uses cast v) r ≡ false) → Has (cast_uses cast v) (Reads v) → first_broken (classes_in w) s.objects (sorted (cast_uses cast v)) ≡ None → HasVariables w (here scene) (body_on f locals f.next) last → byte_of last (free (block scene) 1) ≡ register_of w (here scene) given

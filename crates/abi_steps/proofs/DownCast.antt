@@ -15,11 +15,10 @@ use Rattle.cxx_program.specs.declared.statement.TypedRight.TheVariants.{Cast}
 use Rattle.cxx_program.specs.declared.statement.TypedStatement.{TypedStatement}
 use Rattle.cxx_program.specs.Typed.{IsProperBase, Casts, cast_down}
 use Rattle.path_rules.specs.declared.Undefined.TheVariants.{Unset as UnsetUse, BadDowncast}
-use Rattle.path_model.specs.Values.{Value, Unset, Number, Null, Pointer, Sight, value}
+use Rattle.path_model.specs.Values.{Value, Unset, Number, Null, Pointer, value}
 use Rattle.path_model.specs.Uses.{Use, Reads, Guards, Downs, cast_uses, derived_of, down_value, value_or}
 use Rattle.path_model.specs.Rules.{is_broken, is_unset, is_nowhere, names}
 use Rattle.path_model.specs.Outs.{class_or_first}
-use Rattle.path_model.specs.States.{sight}
 use Rattle.path_model.specs.TypedStates.{IsValue}
 use Rattle.byte_memory.specs.Cells.{byte_of}
 use Rattle.byte_code.specs.declared.op.Op.{Op}
@@ -44,7 +43,7 @@ use Rattle.abi_steps.specs.Tests.{Along, nothing, tested}
 use Rattle.abi_steps.proofs.Registers.{set_here, wrote_set, variables_kept}
 use Rattle.abi_steps.proofs.Tests.{along_append, unbroken}
 use Rattle.abi_steps.proofs.Useds.{operand_class_is, guarded, along_reads}
-use Rattle.abi_steps.proofs.Scenes.{Scene, here, scope, block}
+use Rattle.abi_steps.proofs.Scenes.{Scene, here, scope, block, sight_with}
 use Rattle.abi_steps.proofs.Finish.{Reaches}
 use Rattle.abi_steps.proofs.Rights.{Taking, DoesRight, free_of, free_in}
 use Rattle.abi_steps.proofs.CastRights.{the_cast, cast_reads, cast_taken, leads_cast_front}
@@ -61,11 +60,8 @@ down_typed h c _ target i (cast_down _ _ _ proper root known) = record { proper 
 module _ {statement : TypedStatement} (scene : Scene statement) (locals : List Value) (variable : Variable) (target : ClassId) (i : Subobject) (x : TypedOperand) (c : Conversion) (take : Taking scene locals variable (record { right = Cast (Down target i) x; conversion = c })) where
   open scene use {w, at, s, f, below, body, b}
 
-  abbrev see : Sight
-  see = sight s (body_on f locals f.next)
-
   abbrev v : Value
-  v = value see x
+  v = value (sight_with scene locals) x
 
   abbrev from : ℕ
   from = operand_register (free (block scene) 0) x
@@ -92,8 +88,8 @@ module _ {statement : TypedStatement} (scene : Scene statement) (locals : List V
       let typed = cast_reads scene locals variable (Down target i) x c take in
       subst (λ (q : ClassId). Along (fixed w) (at_registers b new) (Reaches scene) h s.objects uses uses (reads (scope scene) r x ++ (GuardsWord from 0 q.0 ∷ DownsWord from back target.0 ∷ []))) (sym class_at_is)
       (along_append (fixed w) (at_registers b new) (Reaches scene) h s.objects uses (Reads v ∷ []) (Guards v ∷ Downs v target i ∷ []) (reads (scope scene) r x) (GuardsWord from 0 class.0 ∷ DownsWord from back target.0 ∷ [])
-      (along_reads w see (at_registers b new) (Reaches scene) scene.world scene.begins.stands.columns uses (scope scene) r x (PointerType class) take.sees (the_cast scene locals variable (Down target i) x c take).has has)
-      (tested (Guards v) (GuardsWord from 0 class.0) (guarded w see (at_registers b new) (Reaches scene) scene.world scene.begins.stands.columns uses from v class typed has)
+      (along_reads w (sight_with scene locals) (at_registers b new) (Reaches scene) scene.world scene.begins.stands.columns uses (scope scene) r x (PointerType class) take.sees (the_cast scene locals variable (Down target i) x c take).has has)
+      (tested (Guards v) (GuardsWord from 0 class.0) (guarded w (sight_with scene locals) (at_registers b new) (Reaches scene) scene.world scene.begins.stands.columns uses from v class typed has)
       (tested (Downs v target i) (DownsWord from back target.0) (downed w s.objects (at_registers b new) (Reaches scene) scene.world scene.begins.stands.columns target class i (down).proper.valid (down).root (down).proper.class uses from v scene.next.seen (inr (inl refl)) typed has) nothing)))
 
   -- the subobject that the rule finds

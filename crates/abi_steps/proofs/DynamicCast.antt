@@ -18,11 +18,10 @@ use Rattle.cxx_program.specs.Typed.{HasType, Casts, cast_dynamic}
 use Rattle.path_plan.specs.Places.{part}
 use Rattle.path_rules.specs.declared.Undefined.{Undefined}
 use Rattle.path_rules.specs.declared.Undefined.TheVariants.{Unset as UnsetUse}
-use Rattle.path_model.specs.Values.{Value, Unset, Number, Null, Pointer, Objects, Sight, value}
+use Rattle.path_model.specs.Values.{Value, Unset, Number, Null, Pointer, Objects, value}
 use Rattle.path_model.specs.Uses.{Use, Reads, Guards, Views, cast_uses, cast_value, value_or, view_cast, view_of}
 use Rattle.path_model.specs.Rules.{is_broken, is_unset}
 use Rattle.path_model.specs.Outs.{class_or_first}
-use Rattle.path_model.specs.States.{sight}
 use Rattle.path_model.specs.TypedStates.{IsValue}
 use Rattle.abi_primary.specs.Kinds.{IsDynamic}
 use Rattle.byte_memory.specs.Cells.{byte_of}
@@ -48,7 +47,7 @@ use Rattle.abi_steps.specs.Tests.{Along, nothing, tested}
 use Rattle.abi_steps.proofs.Registers.{leads_grouped, set_here, wrote_set, variables_kept}
 use Rattle.abi_steps.proofs.Tests.{along_append, unbroken}
 use Rattle.abi_steps.proofs.Useds.{operand_class_is, guarded, viewed, open_read, along_reads}
-use Rattle.abi_steps.proofs.Scenes.{Scene, here, scope, block}
+use Rattle.abi_steps.proofs.Scenes.{Scene, here, scope, block, sight_with}
 use Rattle.abi_steps.proofs.Finish.{Reaches, to_next}
 use Rattle.abi_steps.proofs.Rights.{Taking, DoesRight, tells, free_of, free_in}
 use Rattle.abi_steps.proofs.SeenPointers.{polymorphic_dynamic, seen_under, seen_part}
@@ -63,11 +62,8 @@ cast_given h s target p at seen within = ap (view_cast h target p) seen ∙ ap (
 module _ {statement : TypedStatement} (scene : Scene statement) (locals : List Value) (variable : Variable) (target : ClassId) (x : TypedOperand) (c : Conversion) (take : Taking scene locals variable (record { right = Cast (Dynamic target) x; conversion = c })) where
   open scene use {w, at, s, f, below, body, b}
 
-  abbrev see : Sight
-  see = sight s (body_on f locals f.next)
-
   abbrev v : Value
-  v = value see x
+  v = value (sight_with scene locals) x
 
   abbrev from : ℕ
   from = operand_register (free (block scene) 0) x
@@ -95,10 +91,10 @@ module _ {statement : TypedStatement} (scene : Scene statement) (locals : List V
       let typed = cast_reads scene locals variable (Dynamic target) x c take in
       subst (λ (q : ClassId). Along (fixed w) (at_registers b new) (Reaches scene) h s.objects uses uses (reads (scope scene) r x ++ (GuardsWord from 0 q.0 ∷ ViewsWord from 0 q.0 ∷ []))) (sym (class_at_is k.from k.has))
       (along_append (fixed w) (at_registers b new) (Reaches scene) h s.objects uses (Reads v ∷ []) (Guards v ∷ Views v ∷ []) (reads (scope scene) r x) (GuardsWord from 0 k.from.0 ∷ ViewsWord from 0 k.from.0 ∷ [])
-      (along_reads w see (at_registers b new) (Reaches scene) scene.world scene.begins.stands.columns uses (scope scene) r x (PointerType k.from) take.sees k.has has)
-      (tested (Guards v) (GuardsWord from 0 k.from.0) (guarded w see (at_registers b new) (Reaches scene) scene.world scene.begins.stands.columns uses from v k.from typed has)
-      (tested (Views v) (ViewsWord from 0 k.from.0) (viewed w see (at_registers b new) (Reaches scene) scene.world scene.begins.stands.columns uses from v k.from (tells scene new)
-      (open_read w see (at_registers b new) (Reaches scene) scene.world scene.begins.stands.columns uses v (inl refl)) (inr (inl refl)) cast_dynamic_class typed has) nothing)))
+      (along_reads w (sight_with scene locals) (at_registers b new) (Reaches scene) scene.world scene.begins.stands.columns uses (scope scene) r x (PointerType k.from) take.sees k.has has)
+      (tested (Guards v) (GuardsWord from 0 k.from.0) (guarded w (sight_with scene locals) (at_registers b new) (Reaches scene) scene.world scene.begins.stands.columns uses from v k.from typed has)
+      (tested (Views v) (ViewsWord from 0 k.from.0) (viewed w (sight_with scene locals) (at_registers b new) (Reaches scene) scene.world scene.begins.stands.columns uses from v k.from (tells scene new)
+      (open_read w (sight_with scene locals) (at_registers b new) (Reaches scene) scene.world scene.begins.stands.columns uses v (inl refl)) (inr (inl refl)) cast_dynamic_class typed has) nothing)))
 
   -- the answer as a word
   answer_word : (g : Heap) (p : ObjectPart) (place : Option Subobject → Option ℕ) (o : Option Subobject) (answer : Option ℕ) → place None ≡ None → ((t : Subobject) → place (Some t) ≡ Some (address (classes_in w) (places_in w) g (part p.object p.owner t))) → answer ≡ place o → Some (or_null answer) ≡ register_of w g (value_or p Null o)

@@ -18,10 +18,9 @@ use Rattle.cxx_program.specs.declared.statement.TypedRight.TheVariants.{Arithmet
 use Rattle.cxx_program.specs.declared.statement.TypedStatement.{TypedStatement}
 use Rattle.cxx_program.specs.Typed.{Scope, Converts, HasType, a_calculation, a_negation, IsConverted, a_right, calculated_type}
 use Rattle.path_rules.specs.declared.Undefined.TheVariants.{Unset as UnsetUse}
-use Rattle.path_model.specs.Values.{Value, Unset, Number, Null, Pointer, Sight, value, converted}
+use Rattle.path_model.specs.Values.{Value, Unset, Number, Null, Pointer, value, converted}
 use Rattle.path_model.specs.Uses.{Use, Reads, Overflows}
 use Rattle.path_model.specs.Rules.{is_unset}
-use Rattle.path_model.specs.States.{sight}
 use Rattle.path_model.specs.Effects.{arithmetic_value}
 use Rattle.path_model.specs.Runs.{Moves}
 use Rattle.path_model.specs.TypedStates.{IsValue}
@@ -49,7 +48,7 @@ use Rattle.abi_steps.proofs.Operands.{leads_operand, operand_kept}
 use Rattle.abi_steps.proofs.Tests.{leads_checks, along_append, unbroken}
 use Rattle.abi_steps.specs.Tests.{nothing, tested}
 use Rattle.abi_steps.proofs.Useds.{along_reads, calculated as tested_calculation}
-use Rattle.abi_steps.proofs.Scenes.{Scene, here, scope, block, free_apart}
+use Rattle.abi_steps.proofs.Scenes.{Scene, here, scope, block, free_apart, sight_with}
 use Rattle.abi_steps.proofs.Finish.{Reaches, to_next, refused}
 use Rattle.abi_steps.proofs.Moves.{move_in}
 use Rattle.abi_steps.proofs.Conversions.{IsSure}
@@ -109,9 +108,6 @@ negation_typed h e p c target (a_right _ _ _ (a_negation _ t x) to) = record { t
 module _ {statement : TypedStatement} (scene : Scene statement) (locals : List Value) (variable : Variable) where
   open scene use {w, at, s, f, below, body, b}
 
-  abbrev see : Sight
-  see = sight s (body_on f locals f.next)
-
   -- a number is no pointer that a conversion would move
   number_sure : (z : ℤ) (c : Conversion) → IsSure w s.objects b (Number z) c
   number_sure z c p k i is = absurd (cc)
@@ -121,10 +117,10 @@ module _ {statement : TypedStatement} (scene : Scene statement) (locals : List V
     sum = record { right = Arithmetic op t p q; conversion = c }
 
     abbrev x : Value
-    x = value see p
+    x = value (sight_with scene locals) p
 
     abbrev y : Value
-    y = value see q
+    y = value (sight_with scene locals) q
 
     abbrev uses : List Use
     uses = Reads x ∷ Reads y ∷ Overflows op t x y ∷ []
@@ -158,8 +154,8 @@ module _ {statement : TypedStatement} (scene : Scene statement) (locals : List V
         let k = calculation_typed h e op t p q c take.target take.typed in
         let first = free (block scene) 0 in
         let second = free (block scene) 1 in
-        let x_typed = operand_typed h e see take.sees p (NumberType k.left) k.has_left in
-        let y_typed = operand_typed h e see take.sees q (NumberType k.right) k.has_right in
+        let x_typed = operand_typed h e (sight_with scene locals) take.sees p (NumberType k.left) k.has_left in
+        let y_typed = operand_typed h e (sight_with scene locals) take.sees q (NumberType k.right) k.has_right in
         leads_grouped (fixed w) (operand_ops first p) (operand_ops second q) _
         (leads_operand (fixed w) w (here scene) s (body_on f locals f.next) e b p (NumberType k.left) first old take.sees scene.begins.stands.globals variables k.has_left (free_in scene locals old 0 (omega arith) variables)
         (λ mid read. let kept = variables_kept w (here scene) (body_on f locals f.next) first old mid (free_of scene locals 0 take.count) variables read.wrote in
@@ -168,10 +164,10 @@ module _ {statement : TypedStatement} (scene : Scene statement) (locals : List V
         let l = operand_kept w (here scene) s (body_on f locals f.next) e p (NumberType k.left) first second old mid new take.sees k.has_left (free_of scene locals 1 take.count) (free_apart scene 0 1 (λ z. omega arith)) read read'.wrote in
         leads_checks (fixed w) (at_registers b new) (Reaches scene) h s.objects uses (right_used (block scene) (Arithmetic op t p q) c)
         (along_append (fixed w) (at_registers b new) (Reaches scene) h s.objects uses (Reads x ∷ []) (Reads y ∷ Overflows op t x y ∷ []) (reads e first p) (reads e second q ++ (OverflowsWords (arith_kind op) (width_of t) left right ∷ []))
-        (along_reads w see (at_registers b new) (Reaches scene) scene.world scene.begins.stands.columns uses e first p (NumberType k.left) take.sees k.has_left l)
+        (along_reads w (sight_with scene locals) (at_registers b new) (Reaches scene) scene.world scene.begins.stands.columns uses e first p (NumberType k.left) take.sees k.has_left l)
         (along_append (fixed w) (at_registers b new) (Reaches scene) h s.objects uses (Reads y ∷ []) (Overflows op t x y ∷ []) (reads e second q) (OverflowsWords (arith_kind op) (width_of t) left right ∷ [])
-        (along_reads w see (at_registers b new) (Reaches scene) scene.world scene.begins.stands.columns uses e second q (NumberType k.right) take.sees k.has_right read'.word)
-        (tested (Overflows op t x y) (OverflowsWords (arith_kind op) (width_of t) left right) (tested_calculation w see (at_registers b new) (Reaches scene) scene.world scene.begins.stands.columns uses op t k.left k.right left right x y k.wide x_typed y_typed l read'.word) nothing)))
+        (along_reads w (sight_with scene locals) (at_registers b new) (Reaches scene) scene.world scene.begins.stands.columns uses e second q (NumberType k.right) take.sees k.has_right read'.word)
+        (tested (Overflows op t x y) (OverflowsWords (arith_kind op) (width_of t) left right) (tested_calculation w (sight_with scene locals) (at_registers b new) (Reaches scene) scene.world scene.begins.stands.columns uses op t k.left k.right left right x y k.wide x_typed y_typed l read'.word) nothing)))
         (λ fine none. calculates new k.left k.right k.wide k.converts
         (set_number h s.objects.classes x k.left x_typed (unbroken (fixed w) b (Reaches scene) h s.objects uses (Reads x) UnsetUse (none UnsetUse) (inl refl)))
         (set_number h s.objects.classes y k.right y_typed (unbroken (fixed w) b (Reaches scene) h s.objects uses (Reads y) UnsetUse (none UnsetUse) (inr (inl refl))))
@@ -180,7 +176,7 @@ module _ {statement : TypedStatement} (scene : Scene statement) (locals : List V
 
   module _ (p : TypedOperand) (c : Conversion) (take : Taking scene locals variable (record { right = Not p; conversion = c })) where
     abbrev turned : Value
-    turned = value see p
+    turned = value (sight_with scene locals) p
 
     abbrev reading : List Use
     reading = Reads turned ∷ []
@@ -213,11 +209,11 @@ module _ {statement : TypedStatement} (scene : Scene statement) (locals : List V
         let e = scope scene in
         let k = negation_typed h e p c take.target take.typed in
         let first = free (block scene) 0 in
-        let typed = operand_typed h e see take.sees p (NumberType k.type) k.has in
+        let typed = operand_typed h e (sight_with scene locals) take.sees p (NumberType k.type) k.has in
         leads_operand (fixed w) w (here scene) s (body_on f locals f.next) e b p (NumberType k.type) first old take.sees scene.begins.stands.globals variables k.has (free_in scene locals old 0 (omega arith) variables)
         (λ new read. let kept = variables_kept w (here scene) (body_on f locals f.next) first old new (free_of scene locals 0 take.count) variables read.wrote in
         leads_checks (fixed w) (at_registers b new) (Reaches scene) h s.objects reading (reads e first p)
-        (along_reads w see (at_registers b new) (Reaches scene) scene.world scene.begins.stands.columns reading e first p (NumberType k.type) take.sees k.has read.word)
+        (along_reads w (sight_with scene locals) (at_registers b new) (Reaches scene) scene.world scene.begins.stands.columns reading e first p (NumberType k.type) take.sees k.has read.word)
         (λ fine none. negates new k.type k.converts (set_number h s.objects.classes turned k.type typed (unbroken (fixed w) b (Reaches scene) h s.objects reading (Reads turned) UnsetUse (none UnsetUse) (inl refl))) read.word
         (λ same. operand_apart w s (body_on f locals f.next) e p (NumberType k.type) first (free (block scene) 1) take.sees k.has (free_of scene locals 1 take.count) (free_apart scene 0 1 (λ z. omega arith)) (sym same)) kept (take.fine fine))
         (λ rule broken. refused scene rule (at_registers b new) refl (take.refused rule broken)))

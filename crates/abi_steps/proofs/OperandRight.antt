@@ -20,9 +20,8 @@ use Rattle.byte_memory.specs.Cells.{byte_of}
 use Rattle.abi_stands.specs.Words.{register_of}
 use Rattle.abi_stands.specs.Frames.{HasVariables}
 use Rattle.abi_steps.proofs.Moves.{move_in}
-use Rattle.path_model.specs.Values.{Value, Null, Sight, value, converted}
+use Rattle.path_model.specs.Values.{Value, Null, value, converted}
 use Rattle.path_model.specs.Uses.{Use, Reads, argument_uses}
-use Rattle.path_model.specs.States.{sight}
 use Rattle.path_model.proofs.TypedRanges.{zero_in_range}
 use Rattle.path_model.proofs.TypedValues.{operand_typed}
 use Rattle.byte_code.specs.declared.op.Op.TheVariants.{Jump}
@@ -36,7 +35,7 @@ use Rattle.abi_steps.proofs.Operands.{leads_operand}
 use Rattle.abi_steps.proofs.Tests.{leads_checks, unbroken}
 use Rattle.abi_steps.proofs.Useds.{along_argument, class_of_type}
 use Rattle.abi_steps.proofs.Conversions.{leads_null}
-use Rattle.abi_steps.proofs.Scenes.{Scene, here, scope, block}
+use Rattle.abi_steps.proofs.Scenes.{Scene, here, scope, block, sight_with}
 use Rattle.abi_steps.proofs.Finish.{Reaches, to_next, refused}
 use Rattle.abi_steps.proofs.Taken.{leads_given}
 use Rattle.abi_steps.proofs.Rights.{Taking, DoesRight, took, tells, sure, free_of, free_in, leads_taken}
@@ -57,22 +56,19 @@ argument_type h e _ _ (a_null d) = (NumberType Int, of_number (pos 0) Int (zero_
 module _ {statement : TypedStatement} (scene : Scene statement) (locals : List Value) (variable : Variable) (p : TypedOperand) (c : Conversion) (take : Taking scene locals variable (record { right = Operand p; conversion = c })) where
   open scene use {w, at, s, f, below, body, b}
 
-  abbrev see : Sight
-  see = sight s (body_on f locals f.next)
-
   abbrev uses : List Use
-  uses = argument_uses see (argument p c)
+  uses = argument_uses (sight_with scene locals) (argument p c)
 
   -- behind the tests
-  ends : (a : Argument) (target : ValueType ClassId) → target ≡ take.target → IsArgument (classes_in w) (scope scene) a target → (new : List (Option ℕ)) → byte_of new (operand_register (free (block scene) 0) a.operand) ≡ register_of w (here scene) (value see a.operand)
-      → HasVariables w (here scene) (body_on f locals f.next) new → ((r : Undefined) → is_broken (classes_in w) s.objects (argument_uses see a) r ≡ false) → move_in w s ≡ Moves (took scene locals variable (converted (value see a.operand) a.conversion)) []
+  ends : (a : Argument) (target : ValueType ClassId) → target ≡ take.target → IsArgument (classes_in w) (scope scene) a target → (new : List (Option ℕ)) → byte_of new (operand_register (free (block scene) 0) a.operand) ≡ register_of w (here scene) (value (sight_with scene locals) a.operand)
+      → HasVariables w (here scene) (body_on f locals f.next) new → ((r : Undefined) → is_broken (classes_in w) s.objects (argument_uses (sight_with scene locals) a) r ≡ false) → move_in w s ≡ Moves (took scene locals variable (converted (value (sight_with scene locals) a.operand) a.conversion)) []
       → Leads (fixed w) (ops_of (taken_ops (block scene) variable (operand_class (scope scene) a.operand) a.conversion (free (block scene) 2) (operand_register (free (block scene) 0) a.operand)) ++ (Jump (to_next scene statement.next) ∷ [])) (at_registers b new) (Reaches scene)
   ends _ _ same (a_value a t u has to) new word variables none moves =
-      let v = value see a.operand in
-      let open_there = unbroken (fixed w) b (Reaches scene) (classes_in w) s.objects (argument_uses see a) (Reads v) Dangling (none Dangling) (inl refl) in
+      let v = value (sight_with scene locals) a.operand in
+      let open_there = unbroken (fixed w) b (Reaches scene) (classes_in w) s.objects (argument_uses (sight_with scene locals) a) (Reads v) Dangling (none Dangling) (inl refl) in
       subst (λ (k : Option ClassId). Leads (fixed w) (ops_of (taken_ops (block scene) variable k a.conversion (free (block scene) 2) (operand_register (free (block scene) 0) a.operand)) ++ (Jump (to_next scene statement.next) ∷ [])) (at_registers b new) (Reaches scene)) (sym (class_of_type (scope scene) a.operand t has))
       (leads_taken scene locals variable (record { right = Operand p; conversion = c }) take v t a.conversion 2 (operand_register (free (block scene) 0) a.operand) new (omega arith) (subst (λ (y : ValueType ClassId). Converts (classes_in w) t a.conversion y) same to)
-      (sure scene v a.conversion (argument_uses see a) none (λ u there. inr there) open_there) (operand_typed (classes_in w) (scope scene) see take.sees a.operand t has) word variables moves)
+      (sure scene v a.conversion (argument_uses (sight_with scene locals) a) none (λ u there. inr there) open_there) (operand_typed (classes_in w) (scope scene) (sight_with scene locals) take.sees a.operand t has) word variables moves)
   ends _ _ same (a_null d) new word variables none moves =
       let to = free (block scene) 2 in
       leads_null w s.objects b scene.world scene.begins.stands.columns (Reaches scene) to (free (block scene) 0) new word (free_in scene locals new 2 (omega arith) variables)
@@ -87,6 +83,6 @@ module _ {statement : TypedStatement} (scene : Scene statement) (locals : List V
       let r = free (block scene) 0 in
       leads_operand (fixed w) w (here scene) s (body_on f locals f.next) e b p t.0 r old take.sees scene.begins.stands.globals variables t.1 (free_in scene locals old 0 (omega arith) variables)
       (λ new read. leads_checks (fixed w) (at_registers b new) (Reaches scene) h s.objects uses (argument_used (block scene) (argument p c) r)
-      (along_argument w see (at_registers b new) (Reaches scene) scene.world scene.begins.stands.columns uses (block scene) r (argument p c) take.target take.sees (tells scene new) (λ u there. there) a read.word)
+      (along_argument w (sight_with scene locals) (at_registers b new) (Reaches scene) scene.world scene.begins.stands.columns uses (block scene) r (argument p c) take.target take.sees (tells scene new) (λ u there. there) a read.word)
       (λ fine none. ends (argument p c) take.target refl a new read.word (variables_kept w (here scene) (body_on f locals f.next) r old new (free_of scene locals 0 take.count) variables read.wrote) none (take.fine fine))
       (λ rule broken. refused scene rule (at_registers b new) refl (take.refused rule broken)))

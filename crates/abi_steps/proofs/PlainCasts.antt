@@ -12,10 +12,9 @@ use Rattle.cxx_program.specs.declared.statement.TypedCast.TheVariants.{Same as S
 use Rattle.cxx_program.specs.declared.statement.TypedRight.TheVariants.{Cast}
 use Rattle.cxx_program.specs.declared.statement.TypedStatement.{TypedStatement}
 use Rattle.cxx_program.specs.Typed.{HasType, IsProperBase, Casts, cast_up}
-use Rattle.path_model.specs.Values.{Value, Sight, value}
+use Rattle.path_model.specs.Values.{Value, value}
 use Rattle.path_model.specs.Uses.{Reads, Guards, Views, views, is_shared, cast_uses}
 use Rattle.path_model.specs.Outs.{class_or_first}
-use Rattle.path_model.specs.States.{sight}
 use Rattle.byte_memory.specs.Cells.{byte_of}
 use Rattle.byte_code.specs.declared.op.Op.{Op}
 use Rattle.byte_code.specs.declared.op.Op.TheVariants.{Jump}
@@ -35,7 +34,7 @@ use Rattle.abi_steps.proofs.Tests.{along_append}
 use Rattle.abi_steps.proofs.Useds.{shared_dynamic, operand_class_is, guarded, open_read, along_reads, along_views}
 use Rattle.abi_steps.proofs.Bases.{seen_from}
 use Rattle.abi_steps.proofs.Conversions.{leads_pointer}
-use Rattle.abi_steps.proofs.Scenes.{Scene, here, scope, block}
+use Rattle.abi_steps.proofs.Scenes.{Scene, here, scope, block, sight_with}
 use Rattle.abi_steps.proofs.Finish.{Reaches, to_next}
 use Rattle.abi_steps.proofs.Rights.{Taking, DoesRight, tells, free_of, free_in}
 use Rattle.abi_steps.proofs.SeenPointers.{seen_part, seen_under}
@@ -44,11 +43,8 @@ use Rattle.abi_steps.proofs.CastRights.{the_cast, cast_reads, cast_taken, leads_
 module _ {statement : TypedStatement} (scene : Scene statement) (locals : List Value) (variable : Variable) (x : TypedOperand) (c : Conversion) where
   open scene use {w, at, s, f, below, body, b}
 
-  abbrev see : Sight
-  see = sight s (body_on f locals f.next)
-
   abbrev v : Value
-  v = value see x
+  v = value (sight_with scene locals) x
 
   abbrev from : ℕ
   from = operand_register (free (block scene) 0) x
@@ -69,8 +65,8 @@ module _ {statement : TypedStatement} (scene : Scene statement) (locals : List V
         let typed = cast_reads scene locals variable SameClass x c take in
         subst (λ (q : ClassId). Along (fixed w) (at_registers b new) (Reaches scene) h s.objects us us (reads (scope scene) r x ++ (GuardsWord from 0 q.0 ∷ []))) (sym (class_at_is k.from k.has))
         (along_append (fixed w) (at_registers b new) (Reaches scene) h s.objects us (Reads v ∷ []) (Guards v ∷ []) (reads (scope scene) r x) (GuardsWord from 0 k.from.0 ∷ [])
-        (along_reads w see (at_registers b new) (Reaches scene) scene.world scene.begins.stands.columns us (scope scene) r x (PointerType k.from) take.sees k.has has)
-        (tested (Guards v) (GuardsWord from 0 k.from.0) (guarded w see (at_registers b new) (Reaches scene) scene.world scene.begins.stands.columns us from v k.from typed has) nothing))
+        (along_reads w (sight_with scene locals) (at_registers b new) (Reaches scene) scene.world scene.begins.stands.columns us (scope scene) r x (PointerType k.from) take.sees k.has has)
+        (tested (Guards v) (GuardsWord from 0 k.from.0) (guarded w (sight_with scene locals) (at_registers b new) (Reaches scene) scene.world scene.begins.stands.columns us from v k.from typed has) nothing))
 
     pub same_cast_does : DoesRight scene locals variable (record { right = Cast SameClass x; conversion = c })
     same_cast_does old variables =
@@ -99,10 +95,10 @@ module _ {statement : TypedStatement} (scene : Scene statement) (locals : List V
         let typed = cast_reads scene locals variable (Up i) x c take in
         subst (λ (q : ClassId). Along (fixed w) (at_registers b new) (Reaches scene) h s.objects us us (reads (scope scene) r x ++ (GuardsWord from 0 q.0 ∷ views_if (is_shared i) from 0 q))) (sym (class_at_is k.from k.has))
         (along_append (fixed w) (at_registers b new) (Reaches scene) h s.objects us (Reads v ∷ []) (Guards v ∷ views (is_shared i) v) (reads (scope scene) r x) (GuardsWord from 0 k.from.0 ∷ views_if (is_shared i) from 0 k.from)
-        (along_reads w see (at_registers b new) (Reaches scene) scene.world scene.begins.stands.columns us (scope scene) r x (PointerType k.from) take.sees k.has has)
-        (tested (Guards v) (GuardsWord from 0 k.from.0) (guarded w see (at_registers b new) (Reaches scene) scene.world scene.begins.stands.columns us from v k.from typed has)
-        (along_views w see (at_registers b new) (Reaches scene) scene.world scene.begins.stands.columns us (is_shared i) from v k.from (tells scene new)
-        (open_read w see (at_registers b new) (Reaches scene) scene.world scene.begins.stands.columns us v (inl refl)) (inr (inl refl)) (shared_dynamic h k.from i up_proper.valid) typed has)))
+        (along_reads w (sight_with scene locals) (at_registers b new) (Reaches scene) scene.world scene.begins.stands.columns us (scope scene) r x (PointerType k.from) take.sees k.has has)
+        (tested (Guards v) (GuardsWord from 0 k.from.0) (guarded w (sight_with scene locals) (at_registers b new) (Reaches scene) scene.world scene.begins.stands.columns us from v k.from typed has)
+        (along_views w (sight_with scene locals) (at_registers b new) (Reaches scene) scene.world scene.begins.stands.columns us (is_shared i) from v k.from (tells scene new)
+        (open_read w (sight_with scene locals) (at_registers b new) (Reaches scene) scene.world scene.begins.stands.columns us v (inl refl)) (inr (inl refl)) (shared_dynamic h k.from i up_proper.valid) typed has)))
 
     pub up_cast_does : DoesRight scene locals variable (record { right = Cast (Up i) x; conversion = c })
     up_cast_does old variables =

@@ -15,10 +15,9 @@ use Rattle.cxx_program.specs.declared.statement.TypedRight.TheVariants.{SamePoin
 use Rattle.cxx_program.specs.declared.statement.TypedStatement.{TypedStatement}
 use Rattle.cxx_program.specs.Typed.{Scope, Converts, IsArgument, IsConverted, a_comparison, a_right}
 use Rattle.path_rules.specs.declared.Undefined.TheVariants.{Unset as UnsetUse}
-use Rattle.path_model.specs.Values.{Value, Unset, Number, Null, Pointer, Sight, value, converted, argument_value}
+use Rattle.path_model.specs.Values.{Value, Unset, Number, Null, Pointer, value, converted, argument_value}
 use Rattle.path_model.specs.Uses.{Use, Reads, argument_uses}
 use Rattle.path_model.specs.Rules.{is_unset}
-use Rattle.path_model.specs.States.{sight}
 use Rattle.path_model.specs.Effects.{is_same_pointer, truth}
 use Rattle.path_model.specs.Runs.{Moves}
 use Rattle.path_model.specs.TypedStates.{IsValue}
@@ -52,7 +51,7 @@ use Rattle.abi_steps.proofs.Operands.{leads_operand, operand_kept, operand_apart
 use Rattle.abi_steps.proofs.Tests.{leads_checks, along_append, unbroken}
 use Rattle.abi_steps.proofs.Useds.{along_argument}
 use Rattle.abi_steps.proofs.Moves.{move_in}
-use Rattle.abi_steps.proofs.Scenes.{Scene, here, scope, block, free_apart}
+use Rattle.abi_steps.proofs.Scenes.{Scene, here, scope, block, free_apart, sight_with}
 use Rattle.abi_steps.proofs.Finish.{Reaches, to_next, refused}
 use Rattle.abi_steps.proofs.Rights.{Taking, DoesRight, took, tells, free_of, free_in, leads_taken}
 use Rattle.abi_steps.proofs.OperandRight.{argument_type}
@@ -134,17 +133,14 @@ pointers_typed h e differ p q c target (a_right _ _ _ (a_comparison _ _ _ k x y)
 module _ {statement : TypedStatement} (scene : Scene statement) (locals : List Value) (variable : Variable) (differ : Bool) (p q : Argument) (c : Conversion) (take : Taking scene locals variable (record { right = SamePointer differ p q; conversion = c })) where
   open scene use {w, at, s, f, below, body, b}
 
-  abbrev see : Sight
-  see = sight s (body_on f locals f.next)
-
   abbrev x : Value
-  x = argument_value see p
+  x = argument_value (sight_with scene locals) p
 
   abbrev y : Value
-  y = argument_value see q
+  y = argument_value (sight_with scene locals) q
 
   abbrev uses : List Use
-  uses = argument_uses see p ++ argument_uses see q
+  uses = argument_uses (sight_with scene locals) p ++ argument_uses (sight_with scene locals) q
 
   abbrev holds : Bool
   holds = if differ then not (is_same_pointer x y) else is_same_pointer x y
@@ -183,8 +179,8 @@ module _ {statement : TypedStatement} (scene : Scene statement) (locals : List V
       let third = free (block scene) 2 in
       let t = argument_type h e p (PointerType k.class) k.left in
       let u = argument_type h e q (PointerType k.class) k.right in
-      let among_left = λ (a : Use) (there : Has (argument_uses see p) a). has_left (argument_uses see p) (argument_uses see q) a there in
-      let among_right = λ (a : Use) (there : Has (argument_uses see q) a). has_right (argument_uses see p) (argument_uses see q) a there in
+      let among_left = λ (a : Use) (there : Has (argument_uses (sight_with scene locals) p) a). has_left (argument_uses (sight_with scene locals) p) (argument_uses (sight_with scene locals) q) a there in
+      let among_right = λ (a : Use) (there : Has (argument_uses (sight_with scene locals) q) a). has_right (argument_uses (sight_with scene locals) p) (argument_uses (sight_with scene locals) q) a there in
       let laid = objects_laid w s.objects b.memory.regions b.objects b.heap scene.world scene.begins.stands.columns.objects in
       leads_grouped (fixed w) (argument_front p first) (argument_front q second) _
       (leads_operand (fixed w) w g s on e b p.operand t.0 first old take.sees scene.begins.stands.globals variables t.1 (free_in scene locals old 0 (omega arith) variables)
@@ -193,14 +189,14 @@ module _ {statement : TypedStatement} (scene : Scene statement) (locals : List V
       (λ new read'. let still = variables_kept w g on second mid new (free_of scene locals 1 take.count) kept read'.wrote in
       let word = operand_kept w g s on e p.operand t.0 first second old mid new take.sees t.1 (free_of scene locals 1 take.count) (free_apart scene 0 1 (λ z. omega arith)) read read'.wrote in
       leads_checks (fixed w) (at_registers b new) (Reaches scene) h s.objects uses (right_used (block scene) (SamePointer differ p q) c)
-      (along_append (fixed w) (at_registers b new) (Reaches scene) h s.objects uses (argument_uses see p) (argument_uses see q) (argument_used (block scene) p first) (argument_used (block scene) q second)
-      (along_argument w see (at_registers b new) (Reaches scene) scene.world scene.begins.stands.columns uses (block scene) first p (PointerType k.class) take.sees (tells scene new) among_left k.left word)
-      (along_argument w see (at_registers b new) (Reaches scene) scene.world scene.begins.stands.columns uses (block scene) second q (PointerType k.class) take.sees (tells scene new) among_right k.right read'.word))
+      (along_append (fixed w) (at_registers b new) (Reaches scene) h s.objects uses (argument_uses (sight_with scene locals) p) (argument_uses (sight_with scene locals) q) (argument_used (block scene) p first) (argument_used (block scene) q second)
+      (along_argument w (sight_with scene locals) (at_registers b new) (Reaches scene) scene.world scene.begins.stands.columns uses (block scene) first p (PointerType k.class) take.sees (tells scene new) among_left k.left word)
+      (along_argument w (sight_with scene locals) (at_registers b new) (Reaches scene) scene.world scene.begins.stands.columns uses (block scene) second q (PointerType k.class) take.sees (tells scene new) among_right k.right read'.word))
       (λ fine none.
-      let set = unbroken (fixed w) b (Reaches scene) h s.objects uses (Reads (value see p.operand)) UnsetUse (none UnsetUse) (among_left (Reads (value see p.operand)) (inl refl)) in
-      let set' = unbroken (fixed w) b (Reaches scene) h s.objects uses (Reads (value see q.operand)) UnsetUse (none UnsetUse) (among_right (Reads (value see q.operand)) (inl refl)) in
-      let words = pointer_words w g x y k.class laid (argument_typed h e see take.sees p (PointerType k.class) k.left) (argument_typed h e see take.sees q (PointerType k.class) k.right)
-      (argument_set h e see p (PointerType k.class) k.left set) (argument_set h e see q (PointerType k.class) k.right set') in
+      let set = unbroken (fixed w) b (Reaches scene) h s.objects uses (Reads (value (sight_with scene locals) p.operand)) UnsetUse (none UnsetUse) (among_left (Reads (value (sight_with scene locals) p.operand)) (inl refl)) in
+      let set' = unbroken (fixed w) b (Reaches scene) h s.objects uses (Reads (value (sight_with scene locals) q.operand)) UnsetUse (none UnsetUse) (among_right (Reads (value (sight_with scene locals) q.operand)) (inl refl)) in
+      let words = pointer_words w g x y k.class laid (argument_typed h e (sight_with scene locals) take.sees p (PointerType k.class) k.left) (argument_typed h e (sight_with scene locals) take.sees q (PointerType k.class) k.right)
+      (argument_set h e (sight_with scene locals) p (PointerType k.class) k.left set) (argument_set h e (sight_with scene locals) q (PointerType k.class) k.right set') in
       leads_grouped (fixed w) (ops_of (argument_ops (block scene) p third first)) (ops_of (argument_ops (block scene) q (free (block scene) 3) second) ++ compared) jump
       (leads_argument scene locals uses p (PointerType k.class) third first new take.sees k.left among_left none word (free_in scene locals new 2 (omega arith) still)
       (λ one wrote is. let after = variables_kept w g on third new one (free_of scene locals 2 take.count) still wrote in

@@ -18,12 +18,11 @@ use Rattle.cxx_program.specs.declared.statement.TypedStatement.{TypedStatement}
 use Rattle.cxx_program.specs.Typed.{Scope, Converts, to_number, to_same, to_base, IsPlace, a_read, IsConverted, a_right}
 use Rattle.path_rules.specs.declared.Undefined.{Undefined}
 use Rattle.path_rules.specs.declared.Undefined.TheVariants.{Dangling, Unset as UnsetUse}
-use Rattle.path_model.specs.Values.{Value, Unset, Number, Null, Pointer, Objects, Sight, value, converted}
+use Rattle.path_model.specs.Values.{Value, Unset, Number, Null, Pointer, Objects, value, converted}
 use Rattle.path_model.specs.Places.{leaf_value, leaf_at}
 use Rattle.path_model.specs.Uses.{Use, Reads, Guards, convert, is_shared, views}
 use Rattle.path_model.specs.Rules.{is_unset, is_broken}
 use Rattle.path_model.specs.Order.{first_broken, sorted, asked_place, leaf_order}
-use Rattle.path_model.specs.States.{sight}
 use Rattle.path_model.specs.Runs.{Moves}
 use Rattle.path_model.specs.TypedStates.{IsValue}
 use Rattle.path_model.proofs.Sorted.{broken_append}
@@ -63,7 +62,7 @@ use Rattle.abi_steps.proofs.Registers.{leads_grouped, leads_regrouped, set_here,
 use Rattle.abi_steps.proofs.Tests.{leads_checks, unbroken}
 use Rattle.abi_steps.proofs.Useds.{pointer_read, along_convert, open_read}
 use Rattle.abi_steps.proofs.Conversions.{IsSure}
-use Rattle.abi_steps.proofs.Scenes.{Scene, here, scope, block}
+use Rattle.abi_steps.proofs.Scenes.{Scene, here, scope, block, sight_with}
 use Rattle.abi_steps.proofs.Finish.{Reaches, to_next, refused}
 use Rattle.abi_steps.proofs.Rights.{Taking, DoesRight, took, tells, sure, free_of, free_in, leads_taken}
 use Rattle.abi_steps.proofs.Places.{IsAimed, leads_place, IsLeaf, leaf_of}
@@ -109,11 +108,8 @@ read_typed h e place c target (a_right _ t _ (a_read _ _ is) to) = record { type
 module _ {statement : TypedStatement} (scene : Scene statement) (locals : List Value) (variable : Variable) (place : TypedPlace) (c : Conversion) (take : Taking scene locals variable (record { right = Read place; conversion = c })) where
   open scene use {w, at, s, f, below, body, b}
 
-  abbrev see : Sight
-  see = sight s (body_on f locals f.next)
-
   abbrev v : Value
-  v = value see place.pointer
+  v = value (sight_with scene locals) place.pointer
 
   abbrev reading : Converted
   reading = record { right = Read place; conversion = c }
@@ -123,9 +119,9 @@ module _ {statement : TypedStatement} (scene : Scene statement) (locals : List V
       Along (fixed w) (at_registers b new) (Reaches scene) (classes_in w) s.objects (loaded_uses t lv c) (loaded_uses t lv c) (loaded_used t c r)
   loaded_tests new (NumberType t) target lv r to typed has = nothing
   loaded_tests new (PointerType d) target lv r to typed has =
-      tested (Reads lv) (ReadsPointer r) (pointer_read w see (at_registers b new) (Reaches scene) scene.world scene.begins.stands.columns (Reads lv ∷ convert lv c) r lv d typed has)
-      (along_convert w see (at_registers b new) (Reaches scene) scene.world scene.begins.stands.columns (Reads lv ∷ convert lv c) r lv (PointerType d) target c (tells scene new)
-      (open_read w see (at_registers b new) (Reaches scene) scene.world scene.begins.stands.columns (Reads lv ∷ convert lv c) lv (inl refl)) (λ u there. inr there) to typed has)
+      tested (Reads lv) (ReadsPointer r) (pointer_read w (sight_with scene locals) (at_registers b new) (Reaches scene) scene.world scene.begins.stands.columns (Reads lv ∷ convert lv c) r lv d typed has)
+      (along_convert w (sight_with scene locals) (at_registers b new) (Reaches scene) scene.world scene.begins.stands.columns (Reads lv ∷ convert lv c) r lv (PointerType d) target c (tells scene new)
+      (open_read w (sight_with scene locals) (at_registers b new) (Reaches scene) scene.world scene.begins.stands.columns (Reads lv ∷ convert lv c) lv (inl refl)) (λ u there. inr there) to typed has)
 
   loaded_sure : (t : ValueType ClassId) (lv : Value) → IsValue (classes_in w) s.objects.classes lv t → ((r : Undefined) → is_broken (classes_in w) s.objects (loaded_uses t lv c) r ≡ false) → IsSure w s.objects b lv c
   loaded_sure (NumberType t) Unset typed none = λ p k i is. absurd (cc)
@@ -150,8 +146,8 @@ module _ {statement : TypedStatement} (scene : Scene statement) (locals : List V
       there : ℕ
       there = leaf_address (classes_in w) (places_in w) (here scene) (leaf_at a.part place)
 
-      value_is : leaf_value see place v ≡ lv
-      value_is = ap (leaf_value see place) a.is
+      value_is : leaf_value (sight_with scene locals) place v ≡ lv
+      value_is = ap (leaf_value (sight_with scene locals) place) a.is
 
       typed : IsValue (classes_in w) s.objects.classes lv t
       typed = take.sees.leaves (leaf_at a.part place) t leaf.made
@@ -166,8 +162,8 @@ module _ {statement : TypedStatement} (scene : Scene statement) (locals : List V
       bytes_at : (o : Option ℕ) → number_from b.memory.byte there (size_of_value t) ≡ o → number_from b.memory.byte (moved there 0) (value_width t).bytes ≡ o
       bytes_at o e = ap (λ (n : ℕ). number_from b.memory.byte n (value_width t).bytes) same ∙ ap (λ (n : ℕ). number_from b.memory.byte there n) (value_bytes t) ∙ e
 
-      after_place : (o : Option Undefined) → first_broken (classes_in w) s.objects (leaf_order lv c) ≡ o → first_broken (classes_in w) s.objects (sorted (asked_place v place) ++ leaf_order (leaf_value see place v) c) ≡ o
-      after_place o e = broken_append (classes_in w) s.objects (sorted (asked_place v place)) (leaf_order (leaf_value see place v) c) ∙ ap (λ (q : Option Undefined). option_or q (first_broken (classes_in w) s.objects (leaf_order (leaf_value see place v) c))) fine
+      after_place : (o : Option Undefined) → first_broken (classes_in w) s.objects (leaf_order lv c) ≡ o → first_broken (classes_in w) s.objects (sorted (asked_place v place) ++ leaf_order (leaf_value (sight_with scene locals) place v) c) ≡ o
+      after_place o e = broken_append (classes_in w) s.objects (sorted (asked_place v place)) (leaf_order (leaf_value (sight_with scene locals) place v) c) ∙ ap (λ (q : Option Undefined). option_or q (first_broken (classes_in w) s.objects (leaf_order (leaf_value (sight_with scene locals) place v) c))) fine
           ∙ ap (λ (u : Value). first_broken (classes_in w) s.objects (leaf_order u c)) value_is ∙ e
 
       some_address : there ≡ 0 → ⊥
@@ -210,7 +206,7 @@ module _ {statement : TypedStatement} (scene : Scene statement) (locals : List V
       let loaded = free (block scene) 2 in
       let front = load_ops (block scene) place loaded at_register in
       leads_aimed scene locals place old take.sees take.count k.place_typed.pointer k.place_typed.path variables
-      (λ rule broken. take.refused rule (broken_append h s.objects (sorted (asked_place v place)) (leaf_order (leaf_value see place v) c) ∙ rw broken refl))
+      (λ rule broken. take.refused rule (broken_append h s.objects (sorted (asked_place v place)) (leaf_order (leaf_value (sight_with scene locals) place v) c) ∙ rw broken refl))
       (λ new a fine kept has.
       let leaf = leaf_of scene e v place k.type a k.place_typed in
       leads_grouped (fixed w) front (check_ops (loaded_used (place_type w.setup place) c loaded) ++ ops_of (taken_ops (block scene) variable (pointed (place_type w.setup place)) c (free (block scene) 3) loaded)) jump

@@ -5,7 +5,7 @@ use Rattle.cxx_hierarchy.specs.Classes.{Classes}
 use Rattle.cxx_program.specs.declared.program.TypedBody.{TypedBody}
 use Rattle.cxx_program.specs.declared.statement.TypedStatement.{TypedStatement}
 use Rattle.cxx_program.specs.Typed.{Types, Scope, scope_of, IsTyped, IsTypedBody}
-use Rattle.path_model.specs.Values.{Value}
+use Rattle.path_model.specs.Values.{Value, Sight}
 use Rattle.path_model.specs.States.{State, Running as Body, Frame as PathFrame, body_of, sight}
 use Rattle.path_model.specs.TypedStates.{AreValues}
 use Rattle.path_model.proofs.TypedValues.{IsTypedSight}
@@ -22,6 +22,7 @@ use Rattle.abi_stands.specs.Worlds.{World, IsWorld, classes_in}
 use Rattle.abi_stands.specs.Words.{heap_of}
 use Rattle.abi_stands.specs.Frames.{Numbers, HasVariables}
 use Rattle.abi_stands.proofs.Objects.{objects_laid}
+use Rattle.abi_steps.specs.Registers.{body_on}
 use Rattle.abi_steps.specs.Statements.{IsNext, BeginsAt}
 use Rattle.abi_steps.proofs.Registers.{IsFree}
 use Rattle.abi_steps.proofs.After.{HasTop, top_of}
@@ -51,6 +52,10 @@ module _ {statement : TypedStatement} (scene : Scene statement) where
 
   abbrev pub here : Heap
   here = heap_of s.objects.classes b.memory.regions
+
+  -- what the statement sees where these values stand in its variables
+  abbrev pub sight_with : List Value → Sight
+  sight_with locals = sight s (body_on f locals f.next)
 
   abbrev pub scope : Scope
   scope = scope_of (classes_in w) w.setup.program.globals body

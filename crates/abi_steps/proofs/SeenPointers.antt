@@ -10,11 +10,10 @@ use Rattle.cxx_program.specs.declared.statement.TypedStatement.{TypedStatement}
 use Rattle.cxx_program.specs.Typed.{HasType, IsPolymorphic}
 use Rattle.path_rules.specs.declared.Undefined.{Undefined}
 use Rattle.path_rules.specs.declared.Undefined.TheVariants.{Dangling, NotReady, OutsideView}
-use Rattle.path_model.specs.Values.{Value, Pointer, Sight, value}
+use Rattle.path_model.specs.Values.{Value, Pointer, value}
 use Rattle.path_model.specs.Uses.{Use, Reads, Guards, Views, arrow}
 use Rattle.path_model.specs.Rules.{is_broken, is_unready, is_outside, names}
 use Rattle.path_model.specs.Order.{first_broken, sorted}
-use Rattle.path_model.specs.States.{sight}
 use Rattle.path_model.specs.Runs.{IsRefused}
 use Rattle.path_model.specs.TypedStates.{IsPartMade}
 use Rattle.path_model.proofs.Sorted.{by_sort}
@@ -41,7 +40,7 @@ use Rattle.abi_steps.proofs.Useds.{viewed, open_read, along_arrow}
 use Rattle.abi_steps.proofs.Seen.{in_sight}
 use Rattle.abi_steps.proofs.Bases.{IsUnder, under}
 use Rattle.abi_steps.proofs.Moves.{move_in}
-use Rattle.abi_steps.proofs.Scenes.{Scene, top, here, scope, block}
+use Rattle.abi_steps.proofs.Scenes.{Scene, top, here, scope, block, sight_with}
 use Rattle.abi_steps.proofs.Finish.{Reaches, refused}
 use Rattle.abi_steps.proofs.Rights.{tells, free_of, free_in}
 
@@ -66,11 +65,8 @@ seen_under scene v c k p is =
 module _ {statement : TypedStatement} (scene : Scene statement) (locals : List Value) (x : TypedOperand) (c : ClassId) where
   open scene use {w, at, s, f, below, body, b}
 
-  abbrev see : Sight
-  see = sight s (body_on f locals f.next)
-
   abbrev v : Value
-  v = value see x
+  v = value (sight_with scene locals) x
 
   abbrev from : ℕ
   from = operand_register (free (block scene) 0) x
@@ -95,7 +91,7 @@ module _ {statement : TypedStatement} (scene : Scene statement) (locals : List V
   followed_uses = arrow v ++ Views v ∷ []
 
   -- `typeid(*p)`
-  pub leads_seen : {ops : List Op} (old : List (Option ℕ)) → IsTypedSight (classes_in w) (scope scene) see → length locals ≡ length body.locals → HasType (scope scene) x (PointerType c) → IsDynamic (classes_in w) c → HasVariables w (here scene) (body_on f locals f.next) old
+  pub leads_seen : {ops : List Op} (old : List (Option ℕ)) → IsTypedSight (classes_in w) (scope scene) (sight_with scene locals) → length locals ≡ length body.locals → HasType (scope scene) x (PointerType c) → IsDynamic (classes_in w) c → HasVariables w (here scene) (body_on f locals f.next) old
       → ((rule : Undefined) → first_broken (classes_in w) s.objects (sorted followed_uses) ≡ Some rule → move_in w s ≡ IsRefused rule statement.line)
       → ((new : List (Option ℕ)) → IsSeen scene v c → first_broken (classes_in w) s.objects (sorted followed_uses) ≡ None → HasVariables w (here scene) (body_on f locals f.next) new → byte_of new from ≡ register_of w (here scene) v → Leads (fixed w) ops (at_registers b new) (Reaches scene))
       → Leads (fixed w) (operand_ops (free (block scene) 0) x ++ (check_ops (arrow_used (scope scene) (free (block scene) 0) x c ++ (ViewsWord from 0 c.0 ∷ [])) ++ ops)) (at_registers b old) (Reaches scene)
@@ -104,13 +100,13 @@ module _ {statement : TypedStatement} (scene : Scene statement) (locals : List V
       let e = scope scene in
       let r = free (block scene) 0 in
       let us = followed_uses in
-      let typed = operand_typed h e see sees x (PointerType c) has in
+      let typed = operand_typed h e (sight_with scene locals) sees x (PointerType c) has in
       leads_operand (fixed w) w (here scene) s (body_on f locals f.next) e b x (PointerType c) r old sees scene.begins.stands.globals variables has (free_in scene locals old 0 (omega arith) variables)
       (λ new read. leads_checks (fixed w) (at_registers b new) (Reaches scene) h s.objects us (arrow_used e r x c ++ (ViewsWord from 0 c.0 ∷ []))
       (along_append (fixed w) (at_registers b new) (Reaches scene) h s.objects us (arrow v) (Views v ∷ []) (arrow_used e r x c) (ViewsWord from 0 c.0 ∷ [])
-      (along_arrow w see (at_registers b new) (Reaches scene) scene.world scene.begins.stands.columns us e r x c sees has read.word)
-      (tested (Views v) (ViewsWord from 0 c.0) (viewed w see (at_registers b new) (Reaches scene) scene.world scene.begins.stands.columns us from v c (tells scene new)
-      (open_read w see (at_registers b new) (Reaches scene) scene.world scene.begins.stands.columns us v (inl refl)) (inr (inr (inl refl))) dynamic typed read.word) nothing))
+      (along_arrow w (sight_with scene locals) (at_registers b new) (Reaches scene) scene.world scene.begins.stands.columns us e r x c sees has read.word)
+      (tested (Views v) (ViewsWord from 0 c.0) (viewed w (sight_with scene locals) (at_registers b new) (Reaches scene) scene.world scene.begins.stands.columns us from v c (tells scene new)
+      (open_read w (sight_with scene locals) (at_registers b new) (Reaches scene) scene.world scene.begins.stands.columns us v (inl refl)) (inr (inr (inl refl))) dynamic typed read.word) nothing))
       (λ fine none.
       let k = followed h s.objects us ((by_sort h s.objects us).same ∙ fine) v (inl refl) (inr (inl refl)) c typed in
       goes new (seen_part us k.part k.is k.made dynamic none (inl refl) (inr (inr (inl refl))) (inr (inr (inr (inl refl))))) fine

@@ -20,7 +20,7 @@ use Rattle.path_rules.specs.declared.Undefined.{Undefined}
 use Rattle.path_rules.specs.declared.Undefined.TheVariants.{Unset as UnsetUse}
 use Rattle.path_model.specs.declared.outs.Out.{Out}
 use Rattle.path_model.specs.declared.outs.Out.TheVariants.{TypeName as TypeNameOut, Pointer as PointerOut}
-use Rattle.path_model.specs.Values.{Value, Unset, Number, Null, Pointer, Sight, value, converted}
+use Rattle.path_model.specs.Values.{Value, Unset, Number, Null, Pointer, value, converted}
 use Rattle.path_model.specs.Uses.{Use, Reads, Guards, Views}
 use Rattle.path_model.specs.Rules.{is_unset, is_broken}
 use Rattle.path_model.specs.Outs.{location_of, class_or_first}
@@ -71,7 +71,7 @@ use Rattle.abi_steps.proofs.Useds.{operand_class_is, guarded, viewed, open_read,
 use Rattle.abi_steps.proofs.Told.{part_lies}
 use Rattle.abi_steps.proofs.After.{state_on}
 use Rattle.abi_steps.proofs.Moves.{move_in, move_fine, move_refused}
-use Rattle.abi_steps.proofs.Scenes.{Scene, top, here, scope, block, sees, variables, kind_typed, locals_count, is_free, free_apart}
+use Rattle.abi_steps.proofs.Scenes.{Scene, top, here, scope, block, sees, variables, kind_typed, locals_count, is_free, free_apart, sight_with}
 use Rattle.abi_steps.proofs.Finish.{Reaches, to_next, ended, refused, finished}
 use Rattle.abi_steps.proofs.Rights.{Taking, DoesRight, took, tells, free_of, free_in, leads_taken}
 use Rattle.abi_steps.proofs.SeenPointers.{polymorphic_dynamic, IsSeen, seen_part, leads_seen}
@@ -184,11 +184,8 @@ module _ (x : TypedOperand) (c : ClassId) (line next : ℕ) (scene : Scene (reco
 module _ {statement : TypedStatement} (scene : Scene statement) (locals : List Value) (variable : Variable) (x : TypedOperand) (d : ClassId) (c : Conversion) (take : Taking scene locals variable (record { right = TypeEqual x d; conversion = c })) where
   open scene use {w, at, s, f, below, body, b}
 
-  abbrev see : Sight
-  see = sight s (body_on f locals f.next)
-
   abbrev v : Value
-  v = value see x
+  v = value (sight_with scene locals) x
 
   compares : (class : ClassId) (new : List (Option ℕ)) → IsDynamic (classes_in w) class → Converts (classes_in w) (NumberType TheBool) c take.target → IsSeen scene v class → HasVariables w (here scene) (body_on f locals f.next) new → byte_of new (operand_register (free (block scene) 0) x) ≡ register_of w (here scene) v
       → move_in w s ≡ Moves (took scene locals variable (converted (type_equal (classes_in w) s.objects d v) c)) []
