@@ -1,5 +1,6 @@
 -- The members that are objects of an object, and the places in them.
 use Rattle.std.proofs.Common.{◌≡◌, ◌∙◌, ℕ, zero, suc, ◌+◌, ◌*◌, ◌<◌, ◌≤◌, inl, inr, ⊎_elim, false, ◌&&◌, Option, Some, None, List, [], ◌∷◌, map, length, refl, ap, subst, arith}
+use Rattle.std.specs.Prelude.{Contains}
 use Rattle.std.specs.List.{slice_get, flat_map, range_with_len}
 use Rattle.std.proofs.lemmas.Option.{slice_get_past}
 use Rattle.foundation.proofs.Members.{Has, from_flat_map, from_map, has_cases}
@@ -163,6 +164,17 @@ member_below h rows keeps sound c b s known valid class m = by_there (slice_get 
     by_there None there =
         let ends = ends_below h rows sound c (Inherit s ∷ []) (Object b) known (to_subobject c b s valid class) in
         let none : l.member b m ≡ 0 = no_member h rows sound b inside m there in omega arith
+
+-- the class of a subobject that a list has, all of which are subobjects of an object, is one of the hierarchy
+pub listed_known : (h : Classes) → IsHierarchy h → (c b : ClassId) (s : Subobject) (items listed : List Subobject) → c.0 < length h → items ≡ listed → ((part : Subobject) → Contains listed part → IsSubobject h c part) → Contains items s → class_of s ≡ Some b → b.0 < length h
+listed_known h keeps c b s items listed known same valid has class =
+    class_inside h keeps c b s known (valid s (subst (λ (xs : List Subobject). Contains xs s) same has)) class
+
+-- and a member of it lies in the first megabyte
+pub listed_below : (h : Classes) (rows : List ClassLayout) → IsHierarchy h → IsSoundLayout h rows → (c b : ClassId) (s : Subobject) (items listed : List Subobject) → c.0 < length h → items ≡ listed → ((part : Subobject) → Contains listed part → IsSubobject h c part) → Contains items s → class_of s ≡ Some b → (m : ℕ) →
+    (places_of h rows).place c s + (places_of h rows).member b m < 1048576
+listed_below h rows keeps sound c b s items listed known same valid has class =
+    member_below h rows keeps sound c b s known (valid s (subst (λ (xs : List Subobject). Contains xs s) same has)) class
 
 -- which subobjects are heads
 

@@ -64,8 +64,8 @@ layout-requires g t c =
     let known : c.args.c.0 < length h = c.requires.known in
     let all : length rows ≡ length h = sound.full.one_each in omega arith
 
-pub push_elements-requires-clause-elements : goal.push_elements-requires-clause-elements
-push_elements-requires-clause-elements g t c =
+pub push_elements-requires : goal.push_elements-requires
+push_elements-requires g t c =
     let h = c.args.h.now in
     let rows = g.L.SoundLayout.rows c.args.layout.now in
     let l = places_of h rows in
@@ -75,25 +75,17 @@ push_elements-requires-clause-elements g t c =
     let d = c.in-Object.d in
     let of = placed_at h l c.args.c c.as_slice-x-items.result.now c.in_ok-members.members.items c.loop-x.x-index x c.as_slice-x-items.ensures.value c.in_ok-members.ensures c.loop-x-test.true c.x-item.is in
     let size : l.size d ≡ c.layout.result.now.size = ap size_in c.layout.ensures in
-    λ i lt.
-    let below = object_below h rows sound c.args.c x member d c.requires.known of c.member_of-member.ensures c.in-Object.is i lt in
-    subst (λ (s : ℕ). x.place + i * s < 2 ^ 31) size (omega arith)
-
-pub push_elements-requires-clause-inside : goal.push_elements-requires-clause-inside
-push_elements-requires-clause-inside g t c =
-    let h = c.args.h.now in
-    let rows = g.L.SoundLayout.rows c.args.layout.now in
-    let l = places_of h rows in
-    let sound = g.met.L.SoundLayout.sound c.args.layout.now h c.requires.layout in
-    let x = c.x-item.result in
-    let d = c.in-Object.d in
-    let of = placed_at h l c.args.c c.as_slice-x-items.result.now c.in_ok-members.members.items c.loop-x.x-index x c.as_slice-x-items.ensures.value c.in_ok-members.ensures c.loop-x-test.true c.x-item.is in
-    let lower : d.0 < c.args.c.0 = placed_lower h c.keeps.ensures l c.args.c x c.member_of-member.result.now d of c.member_of-member.ensures c.in-Object.is in
+    let lower : d.0 < c.args.c.0 = placed_lower h c.keeps.ensures l c.args.c x member d of c.member_of-member.ensures c.in-Object.is in
     let known : c.args.c.0 < length h = c.requires.known in
     let inside : c.deref.result.now ≡ rows_within h l (d.0 + 1) d = c.deref.ensures.value ∙ c.in_ok-inside-in-Object.ensures (d.0 + 1) (omega arith) in
-    λ row at.
-    let below = row_below h rows sound (d.0 + 1) d row (omega arith) (subst (λ (all : List LeafRow). Has all row) inside (has_from_contains c.deref.result.now row at)) in
-    omega arith
+    record {
+      elements = λ i lt.
+          let below = object_below h rows sound c.args.c x member d known of c.member_of-member.ensures c.in-Object.is i lt in
+          subst (λ (s : ℕ). x.place + i * s < 2 ^ 31) size (omega arith);
+      inside = λ row at.
+          let below = row_below h rows sound (d.0 + 1) d row (omega arith) (subst (λ (all : List LeafRow). Has all row) inside (has_from_contains c.deref.result.now row at)) in
+          omega arith;
+    }
 
 pub loop-x-preserved : goal.loop-x-preserved
 loop-x-preserved g t c = λ n le.

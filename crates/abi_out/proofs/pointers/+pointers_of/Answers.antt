@@ -34,8 +34,8 @@ layout-requires g t c =
     let known : c.args.c.0 < length h = c.requires.known in
     let all : length rows ≡ length h = sound.full.one_each in omega arith
 
-pub push_elements-requires-clause-elements : goal.push_elements-requires-clause-elements
-push_elements-requires-clause-elements g t c =
+pub push_elements-requires : goal.push_elements-requires
+push_elements-requires g t c =
     let h = c.args.h.now in
     let rows = g.L.SoundLayout.rows c.args.layout.now in
     let l = places_of h rows in
@@ -43,24 +43,17 @@ push_elements-requires-clause-elements g t c =
     let x = get_or c.as_slice-x-items.result.now c.loop-x.x-index no_objects in
     let has = item_has c.as_slice-x-items.result.now (member_objects h l c.args.c) c.loop-x.x-index no_objects (c.as_slice-x-items.ensures.value ∙ c.in_ok-objects.ensures) c.loop-x-test.true in
     let size : l.size x.class ≡ c.layout.result.now.size = ap size_in c.layout.ensures in
-    λ i lt.
-    let below = element_below h rows sound c.args.c x c.requires.known has i lt in
-    subst (λ (s : ℕ). x.place + i * s < 2 ^ 31) size (omega arith)
-
-pub push_elements-requires-clause-inside : goal.push_elements-requires-clause-inside
-push_elements-requires-clause-inside g t c =
-    let h = c.args.h.now in
-    let rows = g.L.SoundLayout.rows c.args.layout.now in
-    let l = places_of h rows in
-    let sound = g.met.L.SoundLayout.sound c.args.layout.now h c.requires.layout in
-    let x = get_or c.as_slice-x-items.result.now c.loop-x.x-index no_objects in
-    let has = item_has c.as_slice-x-items.result.now (member_objects h l c.args.c) c.loop-x.x-index no_objects (c.as_slice-x-items.ensures.value ∙ c.in_ok-objects.ensures) c.loop-x-test.true in
     let lower : x.class.0 < c.args.c.0 = objects_lower h c.keeps.ensures l c.args.c x has in
     let known : c.args.c.0 < length h = c.requires.known in
     let inside : c.deref.result.now ≡ pointers_within h l (x.class.0 + 1) x.class = c.deref.ensures.value ∙ c.in_ok-inside.ensures (x.class.0 + 1) (omega arith) in
-    λ p at.
-    let below = pointer_below h rows sound (x.class.0 + 1) x.class p (omega arith) (subst (λ (ps : List TablePointer). Has ps p) inside (has_from_contains c.deref.result.now p at)) in
-    omega arith
+    record {
+      elements = λ i lt.
+          let below = element_below h rows sound c.args.c x known has i lt in
+          subst (λ (s : ℕ). x.place + i * s < 2 ^ 31) size (omega arith);
+      inside = λ p at.
+          let below = pointer_below h rows sound (x.class.0 + 1) x.class p (omega arith) (subst (λ (ps : List TablePointer). Has ps p) inside (has_from_contains c.deref.result.now p at)) in
+          omega arith;
+    }
 
 pub loop-x-preserved : goal.loop-x-preserved
 loop-x-preserved g t c =
