@@ -15,6 +15,9 @@ returns-then-is_in c =
     let part = get_or parts i no_part in
     always (repeated parts c.loop-part.table i part c.loop-part-test.true (any_default parts i no_part part c.loop-part-test.true) c.loop-part.invariant (sym c.is_in.ensures ∙ c.if-is_in.true))
 
+pub returns-then-falls : goal.returns-then-falls
+returns-then-falls c = never (c.falls.ensures c.if-falls.true)
+
 pub loop-part-preserved : goal.loop-part-preserved
 loop-part-preserved c =
     let parts = c.args.parts.now in
