@@ -26,7 +26,8 @@ use Rattle.abi_stands.proofs.Objects.{object_has_region}
 use Rattle.abi_print.specs.LayoutTexts.{name_of}
 use Rattle.abi_print.specs.TableTexts.{function_text}
 use Rattle.abi_out.specs.Fields.{NamesPart, part_text}
-use Rattle.abi_out.specs.OutTexts.{line_text, out_text, text_of, is_traced as is_traced_out, printed as printed_outs, shown as shown_outs}
+use Rattle.path_model.specs.Outs.{is_traced as is_traced_out}
+use Rattle.abi_out.specs.OutTexts.{line_text, out_text, text_of, printed as printed_outs, shown as shown_outs}
 use Rattle.abi_lines.specs.RawDumps.{address_text}
 use Rattle.abi_lines.specs.RawTexts.{HasText, IsKnown, function_at, function_in, is_traced, printed, raw_line, raw_text, raw_texts, shown}
 use Rattle.abi_lines.specs.Reads.{AreShownOf, HasTypedLeaves, IsToldOf}

@@ -6,6 +6,7 @@ use Rattle.cxx_hierarchy.specs.Classes.{Classes}
 use Rattle.cxx_subobject.specs.declared.locations.Location.{Location}
 use Rattle.path_model.specs.declared.outs.Out.{Out}
 use Rattle.path_model.specs.declared.outs.Out.TheVariants.{Number, Pointer, TypeName, Dump, Call, Built, Ending}
+use Rattle.path_model.specs.Outs.{is_traced}
 use Rattle.abi_sound.specs.Places.{Places}
 use Rattle.abi_print.specs.LayoutTexts.{name_of}
 use Rattle.abi_print.specs.TableTexts.{function_text}
@@ -44,16 +45,6 @@ line_text h l (Ending c at) = codes "ending " ++ name_of h c ++ codes " " ++ par
 -- the text of what is told: a line, or the lines of a dump
 abbrev pub out_text : Classes → Places → Out → List ℕ
 out_text h l out = line_text h l out ++ 10 ∷ []
-
--- calls, and the ends of constructions and begins of destructions, are told in a trace alone
-abbrev pub is_traced : Out → Bool
-is_traced (Number z) = false
-is_traced (Pointer at) = false
-is_traced (TypeName c) = false
-is_traced (Dump n c leaves) = false
-is_traced (Call f at) = true
-is_traced (Built c at) = true
-is_traced (Ending c at) = true
 
 -- what is told without a trace too
 abbrev pub printed : List Out → List Out

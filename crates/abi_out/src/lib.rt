@@ -6,8 +6,8 @@
 //! place (`specs/Dumps.antt`). A place is that of the location by the layout's rows, whatever sound layout it is.
 //!
 //! The layer above may rely on: `append_out` puts that text at the end of a text, and leaves it as it was in want of memory.
-//! It asks that locations name parts that are there, and by the law `outs_are_told` those of a run do. What is told in a trace
-//! alone has a definition here (`is_traced`), by which a run without a trace has the text of the rest (`shown`).
+//! It asks that locations name parts that are there, and by the law `outs_are_told` those of a run do. A run without a
+//! trace has the text of what is not told in a trace alone (`shown`).
 #![tactic(auto)]
 
 pub mod dump;

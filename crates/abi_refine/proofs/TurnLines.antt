@@ -16,7 +16,8 @@ use Rattle.byte_machine.specs.Running.{Fixed}
 use Rattle.byte_machine.specs.Turn.{State as Bytes}
 use Rattle.abi_ops.specs.Routines.{has_body}
 use Rattle.abi_ops.specs.Setups.{Setup, places}
-use Rattle.abi_out.specs.OutTexts.{IsTold, is_traced, shown as shown_outs, text_of}
+use Rattle.path_model.specs.Outs.{is_traced}
+use Rattle.abi_out.specs.OutTexts.{IsTold, shown as shown_outs, text_of}
 use Rattle.abi_slots.specs.declared.code_numbers.CodeRow.{CodeRow}
 use Rattle.abi_stands.specs.Worlds.{World, IsWorld, classes_in, places_in}
 use Rattle.abi_stands.specs.Agrees.{ReadAs}

@@ -18,7 +18,8 @@ use Rattle.path_model.specs.States.{State}
 use Rattle.path_model.specs.Runs.{Done, IsLimited, IsOver, IsRefused, IsRunning, IsWrong, LimitMet, Move, Moves, OutOfSteps, Ran, behind, is_taken, move, outs_at, outs_in, ran_by, run_from, run_of, state_at, state_behind}
 use Rattle.path_model.proofs.RunLaws.{run_on, runs_alike}
 use Rattle.abi_sound.specs.Places.{Places}
-use Rattle.abi_out.specs.OutTexts.{is_traced, out_text, printed, text_of}
+use Rattle.path_model.specs.Outs.{is_traced}
+use Rattle.abi_out.specs.OutTexts.{out_text, printed, text_of}
 use Rattle.abi_told.specs.Layouts.{HasNoPlace}
 use Rattle.abi_told.specs.Told.{passes, text_at, text_limit, told, told_by}
 use Rattle.abi_told.proofs.Ends.{run_front}

@@ -18,7 +18,8 @@ use Rattle.path_model.specs.Effects.{value_out, part_out, part_at, view_out, cla
 use Rattle.path_model.specs.TypedStates.{IsLeafMade, IsPartMade, IsValue}
 use Rattle.path_model.proofs.TypedViews.{AreRunningParts, view_valid}
 use Rattle.abi_out.specs.Fields.{NamesPart}
-use Rattle.abi_out.specs.OutTexts.{IsTold, is_traced}
+use Rattle.path_model.specs.Outs.{is_traced}
+use Rattle.abi_out.specs.OutTexts.{IsTold}
 use Rattle.abi_out.proofs.RunDumps.{told_dump, told_part}
 use Rattle.abi_told.proofs.Leaves.{leaf_made}
 

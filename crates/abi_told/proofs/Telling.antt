@@ -50,7 +50,8 @@ use Rattle.path_model.proofs.TypedPlans.{inside_made}
 use Rattle.path_model.proofs.TypedStatements.{kind_sound}
 use Rattle.path_model.proofs.TypedSteps.{state_sound}
 use Rattle.path_model.proofs.TypedValues.{IsTypedSight, operand_typed}
-use Rattle.abi_out.specs.OutTexts.{IsTold, is_traced}
+use Rattle.path_model.specs.Outs.{is_traced}
+use Rattle.abi_out.specs.OutTexts.{IsTold}
 use Rattle.abi_told.proofs.Outs.{AreKnown, IfTold, dump_names, part_names, type_names, value_names, view_names}
 
 -- what is told as a call is one of a function that has a body

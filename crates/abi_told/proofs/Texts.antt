@@ -7,7 +7,8 @@ use Rattle.foundation.proofs.Truth.{split}
 use Rattle.cxx_hierarchy.specs.Classes.{Classes}
 use Rattle.path_model.specs.declared.outs.Out.{Out}
 use Rattle.abi_sound.specs.Places.{Places}
-use Rattle.abi_out.specs.OutTexts.{is_traced, out_text, printed, shown, text_of}
+use Rattle.path_model.specs.Outs.{is_traced}
+use Rattle.abi_out.specs.OutTexts.{out_text, printed, shown, text_of}
 
 -- nothing told, nothing shown
 pub text_none : (h : Classes) (l : Places) (trace : Bool) → text_of h l (shown trace []) ≡ []

@@ -20,6 +20,7 @@ use Rattle.path_values.specs.Scenes.{SceneStands}
 use Rattle.path_values.specs.Given.{IsSeen}
 use Rattle.path_effects.specs.invariants.Arguments.{AreRead}
 use Rattle.path_effects.proofs.Clear.{clear_among}
+use Rattle.path_values.specs.declared.scene.Scene.{Scene}
 
 type_at : (h : Classes) (e : Scope) (list : List Argument) (types : Types) (i : ℕ) (a : Argument) → AllZip (IsArgument h e) list types → slice_get list i ≡ Some a → (t : ValueType ClassId) × IsArgument h e a t
 type_at h e [] types i a each at = absurd (let f : None ≡ Some a = at in cc)
@@ -34,15 +35,15 @@ means_more h cs s [] (b ∷ done) v a each m = absurd each
 means_more h cs s (w ∷ values) [] v a each m = absurd each
 means_more h cs s (w ∷ values) (b ∷ done) v a each m = (each.0, means_more h cs s values done v a each.1 m)
 
-pub one_more_read : (h : Classes) (heap : Heap) (globals : List ValueCode) (this : ValueCode) (locals : List ValueCode) (list : List Argument) (values new : List ValueCode) (i : ℕ) (v : ValueCode) (a : Argument) → i < length list → a ≡ get_or list i a → new ≡ values ++ v ∷ []
-    → ((e : Scope) (s : Sight) (t : ValueType ClassId) → SceneStands h heap globals this locals s → IsSeen h e s → IsArgument h e a t → refused h s.objects (argument_uses s a) ≡ None → Means h s.objects.classes v (argument_value s a))
-    → AreRead h heap globals this locals list (take i list) values → AreRead h heap globals this locals list (take (i + 1) list) new
-one_more_read h heap globals this locals list values new i v a lt is grown told before e s types scene seen each clear =
+pub one_more_read : (h : Classes) (heap : Heap) (scene : Scene) (list : List Argument) (values new : List ValueCode) (i : ℕ) (v : ValueCode) (a : Argument) → i < length list → a ≡ get_or list i a → new ≡ values ++ v ∷ []
+    → ((e : Scope) (s : Sight) (t : ValueType ClassId) → SceneStands h heap scene s → IsSeen h e s → IsArgument h e a t → refused h s.objects (argument_uses s a) ≡ None → Means h s.objects.classes v (argument_value s a))
+    → AreRead h heap scene list (take i list) values → AreRead h heap scene list (take (i + 1) list) new
+one_more_read h heap scene list values new i v a lt is grown told before e s types stands seen each clear =
     let at : slice_get list i ≡ Some a = slice_get-get_or list i a lt ∙ ap (λ (x : Argument). Some x) (sym is) in
     let t = type_at h e list types i a each at in
     let one : refused h s.objects (argument_uses s a) ≡ None = clear_among h s.objects (flat_map (argument_uses s) list) (argument_uses s a) clear (λ u has. has_flat_map (argument_uses s) list a u (has_at list i a at) has) in
-    let m = told e s t.0 scene seen t.1 one in
+    let m = told e s t.0 stands seen t.1 one in
     let step : take (i + 1) list ≡ take i list ++ a ∷ [] = take_more list i a lt ∙ ap (λ (x : Argument). take i list ++ x ∷ []) (sym is) in
     subst (λ (xs : List ValueCode). AllZip (Means h s.objects.classes) xs (map (argument_value s) (take (i + 1) list))) (sym grown)
     (subst (λ (xs : List Argument). AllZip (Means h s.objects.classes) (values ++ v ∷ []) (map (argument_value s) xs)) (sym step)
-    (means_more h s.objects.classes s values (take i list) v a (before e s types scene seen each clear) m))
+    (means_more h s.objects.classes s values (take i list) v a (before e s types stands seen each clear) m))

@@ -21,8 +21,8 @@ use std::alloc::Global;
 
 /// The value of an operand, converted.
 pub fn argument_value(world: &World, heap: &Heap, scene: &Scene, a: &Argument) -> Value
-    requires world { IsWorld world.now.h.now world.now.numbers.now world.now.overriders.now }
-    ensures { (e : Scope) (s : Sight) (t : ValueType ClassId) → SceneStands world.now.h.now heap.now scene.now.globals.now scene.now.this scene.now.locals.now s → IsSeen world.now.h.now e s → IsArgument world.now.h.now e a.now t → refused world.now.h.now s.objects (argument_uses s a.now) ≡ None → Means world.now.h.now s.objects.classes result (argument_value s a.now) }
+    requires world { IsWorld world.now }
+    ensures { (e : Scope) (s : Sight) (t : ValueType ClassId) → SceneStands world.now.h.now heap.now scene.now s → IsSeen world.now.h.now e s → IsArgument world.now.h.now e a.now t → refused world.now.h.now s.objects (argument_uses s a.now) ≡ None → Means world.now.h.now s.objects.classes result (argument_value s a.now) }
 {
     convert(world, heap, value(scene, &a.operand), &a.conversion)
 }
@@ -37,8 +37,8 @@ pub fn argument_values(
     scene: &Scene,
     list: &[Argument],
 ) -> Result<Vec<Value>, NoMemory>
-    requires world { IsWorld world.now.h.now world.now.numbers.now world.now.overriders.now }
-    ensures { IfOk result (λ values. (e : Scope) (s : Sight) (types : Types) → SceneStands world.now.h.now heap.now scene.now.globals.now scene.now.this scene.now.locals.now s → IsSeen world.now.h.now e s → AllZip (IsArgument world.now.h.now e) list.now types → refused world.now.h.now s.objects (flat_map (argument_uses s) list.now) ≡ None → AllZip (Means world.now.h.now s.objects.classes) values.items (map (argument_value s) list.now)) }
+    requires world { IsWorld world.now }
+    ensures { IfOk result (λ values. (e : Scope) (s : Sight) (types : Types) → SceneStands world.now.h.now heap.now scene.now s → IsSeen world.now.h.now e s → AllZip (IsArgument world.now.h.now e) list.now types → refused world.now.h.now s.objects (flat_map (argument_uses s) list.now) ≡ None → AllZip (Means world.now.h.now s.objects.classes) values.items (map (argument_value s) list.now)) }
 {
     let mut values = Vec::new(alloc);
     for a in list {

@@ -35,10 +35,10 @@ pub fn call(
     scene: &Scene,
     call: &TypedCall,
 ) -> Result<Option<Found>, NoMemory>
-    requires world { IsWorld world.now.h.now world.now.numbers.now world.now.overriders.now }
+    requires world { IsWorld world.now }
     requires answers { AreAnswers world.now.h.now answers.old }
     ensures answers { AreAnswers world.now.h.now answers.new }
-    ensures is { IfOk result (λ found. (e : Scope) (s : Sight) (f : Function ClassId) (p : ObjectPart) → SceneStands world.now.h.now heap.now scene.now.globals.now scene.now.this scene.now.locals.now s → IsSeen world.now.h.now e s → IsCall world.now.h.now e call.now f → refused world.now.h.now s.objects (call_uses s call.now) ≡ None → receiver s call.now ≡ Pointer p → IsRun world.now.h.now s.objects.classes found (runs world.now.h.now s.objects call.now p)) }
+    ensures is { IfOk result (λ found. (e : Scope) (s : Sight) (f : Function ClassId) (p : ObjectPart) → SceneStands world.now.h.now heap.now scene.now s → IsSeen world.now.h.now e s → IsCall world.now.h.now e call.now f → refused world.now.h.now s.objects (call_uses s call.now) ≡ None → receiver s call.now ≡ Pointer p → IsRun world.now.h.now s.objects.classes found (runs world.now.h.now s.objects call.now p)) }
 {
     match receiver(world, heap, scene, call) {
         Value::Pointer(n) => {

@@ -34,7 +34,7 @@ fn down_value(
     target: ClassId,
     i: &Subobject,
 ) -> Result<Value, NoMemory>
-    requires world { IsWorld world.now.h.now world.now.numbers.now world.now.overriders.now }
+    requires world { IsWorld world.now }
     requires answers { AreAnswers world.now.h.now answers.old }
     ensures answers { AreAnswers world.now.h.now answers.new }
     ensures is { IfOk result (λ value. (s : Objects) (w : ValueOf) → HeapStands world.now.h.now heap.now s → Means world.now.h.now s.classes v w → IsBegun s w → Means world.now.h.now s.classes value (down_value world.now.h.now s target i.now w)) }
@@ -55,7 +55,7 @@ fn dynamic_value(
     v: Value,
     target: ClassId,
 ) -> Result<Value, NoMemory>
-    requires world { IsWorld world.now.h.now world.now.numbers.now world.now.overriders.now }
+    requires world { IsWorld world.now }
     requires answers { AreAnswers world.now.h.now answers.old }
     ensures answers { AreAnswers world.now.h.now answers.new }
     ensures is { IfOk result (λ value. (s : Objects) (w : ValueOf) → HeapStands world.now.h.now heap.now s → Means world.now.h.now s.classes v w → IsBegun s w → Means world.now.h.now s.classes value (dynamic_value world.now.h.now s target w)) }
@@ -79,10 +79,10 @@ pub(crate) fn cast_value(
     cast: &TypedCast,
     x: &TypedOperand,
 ) -> Result<Value, NoMemory>
-    requires world { IsWorld world.now.h.now world.now.numbers.now world.now.overriders.now }
+    requires world { IsWorld world.now }
     requires answers { AreAnswers world.now.h.now answers.old }
     ensures answers { AreAnswers world.now.h.now answers.new }
-    ensures is { IfOk result (λ v. (e : Scope) (s : Sight) (c d : ClassId) → SceneStands world.now.h.now heap.now scene.now.globals.now scene.now.this scene.now.locals.now s → IsSeen world.now.h.now e s → HasType e x.now (PointerType c) → Casts world.now.h.now c cast.now d → refused world.now.h.now s.objects (cast_uses cast.now (value s x.now)) ≡ None → Means world.now.h.now s.objects.classes v (cast_value world.now.h.now s.objects cast.now (value s x.now))) }
+    ensures is { IfOk result (λ v. (e : Scope) (s : Sight) (c d : ClassId) → SceneStands world.now.h.now heap.now scene.now s → IsSeen world.now.h.now e s → HasType e x.now (PointerType c) → Casts world.now.h.now c cast.now d → refused world.now.h.now s.objects (cast_uses cast.now (value s x.now)) ≡ None → Means world.now.h.now s.objects.classes v (cast_value world.now.h.now s.objects cast.now (value s x.now))) }
 {
     let v = value(scene, x);
     match cast {

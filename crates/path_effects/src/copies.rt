@@ -32,8 +32,8 @@ pub fn copy(
     from: &TypedOperand,
     c: ClassId,
 ) -> Result<(), NoMemory>
-    requires world { IsWorld world.now.h.now world.now.numbers.now world.now.overriders.now }
-    ensures copied { OnOk result ((e : Scope) (s : Sight) (w : Wanted) (p q : ObjectPart) → SceneStands world.now.h.now heap.old scene.now.globals.now scene.now.this scene.now.locals.now s → IsSeen world.now.h.now e s → IsTyped world.now.h.now e (Copy to.now from.now c) → refusal world.now.h.now s w (Copy to.now from.now c) ≡ None → value s to.now ≡ Pointer p → value s from.now ≡ Pointer q → HeapStands world.now.h.now heap.new (copied world.now.h.now c p q s.objects)) }
+    requires world { IsWorld world.now }
+    ensures copied { OnOk result ((e : Scope) (s : Sight) (w : Wanted) (p q : ObjectPart) → SceneStands world.now.h.now heap.old scene.now s → IsSeen world.now.h.now e s → IsTyped world.now.h.now e (Copy to.now from.now c) → refusal world.now.h.now s w (Copy to.now from.now c) ≡ None → value s to.now ≡ Pointer p → value s from.now ≡ Pointer q → HeapStands world.now.h.now heap.new (copied world.now.h.now c p q s.objects)) }
     ensures kept { OnErr result (heap.new ≡ heap.old) }
 {
     let Value::Pointer(target) = value(scene, to) else {

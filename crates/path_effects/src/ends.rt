@@ -18,7 +18,7 @@ use path_values::{Scene, value};
 
 /// The whole of the heap object that `delete` of an operand ends; none where it is null.
 pub fn deleted(heap: &Heap, scene: &Scene, x: &TypedOperand) -> Option<Part>
-    ensures { (h : Classes) (e : Scope) (s : Sight) (w : Wanted) (c : ClassId) → SceneStands h heap.now scene.now.globals.now scene.now.this scene.now.locals.now s → IsSeen h e s → IsTyped h e (Delete x.now c) → refusal h s w (Delete x.now c) ≡ None → Ends h s.objects.classes result (value s x.now) }
+    ensures { (h : Classes) (e : Scope) (s : Sight) (w : Wanted) (c : ClassId) → SceneStands h heap.now scene.now s → IsSeen h e s → IsTyped h e (Delete x.now c) → refusal h s w (Delete x.now c) ≡ None → Ends h s.objects.classes result (value s x.now) }
 {
     match value(scene, x) {
         Value::Pointer(n) => Some(whole_at(heap.heap_object(n), heap.object_class(n))),

@@ -33,7 +33,7 @@ pub fn value_told(
     heap: &Heap,
     v: Value,
 ) -> Result<Option<Out>, NoMemory>
-    requires world { IsWorld world.now.h.now world.now.numbers.now world.now.overriders.now }
+    requires world { IsWorld world.now }
     ensures { IfOk result (λ out. (s : Objects) (w : ValueOf) → HeapStands world.now.h.now heap.now s → Means world.now.h.now s.classes v w → out ≡ value_out s w) }
 {
     match v {
@@ -51,7 +51,7 @@ fn part_told(
     heap: &Heap,
     n: Option<u32>,
 ) -> Result<Option<Out>, NoMemory>
-    requires world { IsWorld world.now.h.now world.now.numbers.now world.now.overriders.now }
+    requires world { IsWorld world.now }
     ensures { IfOk result (λ out. (s : Objects) (p : ObjectPart) (x : Option Subobject) → HeapStands world.now.h.now heap.now s → PointsView world.now.h.now s.classes p n x → out ≡ part_out s (part_at p x)) }
 {
     match n {
@@ -69,7 +69,7 @@ pub fn view_told(
     heap: &Heap,
     v: Value,
 ) -> Result<Option<Out>, NoMemory>
-    requires world { IsWorld world.now.h.now world.now.numbers.now world.now.overriders.now }
+    requires world { IsWorld world.now }
     ensures { IfOk result (λ out. (s : Objects) (w : ValueOf) → HeapStands world.now.h.now heap.now s → Means world.now.h.now s.classes v w → refused world.now.h.now s (Reads w ∷ Guards w ∷ Views w ∷ []) ≡ None → out ≡ view_out world.now.h.now s w) }
 {
     match v {
@@ -108,7 +108,7 @@ pub fn dump_told(
     heap: &Heap,
     v: Value,
 ) -> Result<Option<Out>, NoMemory>
-    requires world { IsWorld world.now.h.now world.now.numbers.now world.now.overriders.now }
+    requires world { IsWorld world.now }
     ensures { IfOk result (λ out. (s : Objects) (w : ValueOf) → HeapStands world.now.h.now heap.now s → Means world.now.h.now s.classes v w → out ≡ dump_out world.now.h.now s w) }
 {
     match v {
@@ -121,7 +121,7 @@ pub fn dump_told(
 ///
 /// Errors: want of memory.
 pub fn call_told(alloc: Global, world: &World, heap: &Heap, found: Found) -> Result<Out, NoMemory>
-    requires world { IsWorld world.now.h.now world.now.numbers.now world.now.overriders.now }
+    requires world { IsWorld world.now }
     ensures { IfOk result (λ out. (s : Objects) (p : ObjectPart) → HeapStands world.now.h.now heap.now s → Points world.now.h.now s.classes found.this p → out ≡ Call found.function (location_of s p)) }
 {
     Ok(Out::Call(found.function, location(alloc, world, heap, found.this)?))
@@ -131,7 +131,7 @@ pub fn call_told(alloc: Global, world: &World, heap: &Heap, found: Found) -> Res
 ///
 /// Errors: want of memory.
 pub fn built_told(alloc: Global, world: &World, heap: &Heap, part: Part) -> Result<Out, NoMemory>
-    requires world { IsWorld world.now.h.now world.now.numbers.now world.now.overriders.now }
+    requires world { IsWorld world.now }
     ensures { IfOk result (λ out. (s : Objects) (p : ObjectPart) → HeapStands world.now.h.now heap.now s → IsPart world.now.h.now s.classes part p → out ≡ Built (class_of_part p) (location_of s p)) }
 {
     Ok(Out::Built(part.class, location(alloc, world, heap, part.number)?))
@@ -141,7 +141,7 @@ pub fn built_told(alloc: Global, world: &World, heap: &Heap, part: Part) -> Resu
 ///
 /// Errors: want of memory.
 pub fn ending_told(alloc: Global, world: &World, heap: &Heap, part: Part) -> Result<Out, NoMemory>
-    requires world { IsWorld world.now.h.now world.now.numbers.now world.now.overriders.now }
+    requires world { IsWorld world.now }
     ensures { IfOk result (λ out. (s : Objects) (p : ObjectPart) → HeapStands world.now.h.now heap.now s → IsPart world.now.h.now s.classes part p → out ≡ Ending (class_of_part p) (location_of s p)) }
 {
     Ok(Out::Ending(part.class, location(alloc, world, heap, part.number)?))

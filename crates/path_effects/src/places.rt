@@ -24,8 +24,8 @@ use path_values::{Scene, World, address_number, leaf_number, value};
 
 /// The value of the leaf that a place is.
 pub(crate) fn leaf_value(world: &World, heap: &Heap, scene: &Scene, place: &TypedPlace) -> Value
-    requires world { IsWorld world.now.h.now world.now.numbers.now world.now.overriders.now }
-    ensures { (e : Scope) (s : Sight) (t : ValueType ClassId) → SceneStands world.now.h.now heap.now scene.now.globals.now scene.now.this scene.now.locals.now s → IsSeen world.now.h.now e s → IsPlace world.now.h.now e place.now (ValueField t) → refused world.now.h.now s.objects (place_uses s place.now) ≡ None → Means world.now.h.now s.objects.classes result (leaf_value s place.now (value s place.now.pointer)) }
+    requires world { IsWorld world.now }
+    ensures { (e : Scope) (s : Sight) (t : ValueType ClassId) → SceneStands world.now.h.now heap.now scene.now s → IsSeen world.now.h.now e s → IsPlace world.now.h.now e place.now (ValueField t) → refused world.now.h.now s.objects (place_uses s place.now) ≡ None → Means world.now.h.now s.objects.classes result (leaf_value s place.now (value s place.now.pointer)) }
 {
     match value(scene, &place.pointer) {
         Value::Pointer(n) => heap.leaf(leaf_number(world, heap, n, place)),
@@ -35,8 +35,8 @@ pub(crate) fn leaf_value(world: &World, heap: &Heap, scene: &Scene, place: &Type
 
 /// A pointer to the class member that a place is.
 pub(crate) fn address_value(world: &World, heap: &Heap, scene: &Scene, place: &TypedPlace) -> Value
-    requires world { IsWorld world.now.h.now world.now.numbers.now world.now.overriders.now }
-    ensures { (e : Scope) (s : Sight) (d : ClassId) → SceneStands world.now.h.now heap.now scene.now.globals.now scene.now.this scene.now.locals.now s → IsSeen world.now.h.now e s → IsPlace world.now.h.now e place.now (Object d) → refused world.now.h.now s.objects (place_uses s place.now) ≡ None → Means world.now.h.now s.objects.classes result (address_value place.now d (value s place.now.pointer)) }
+    requires world { IsWorld world.now }
+    ensures { (e : Scope) (s : Sight) (d : ClassId) → SceneStands world.now.h.now heap.now scene.now s → IsSeen world.now.h.now e s → IsPlace world.now.h.now e place.now (Object d) → refused world.now.h.now s.objects (place_uses s place.now) ≡ None → Means world.now.h.now s.objects.classes result (address_value place.now d (value s place.now.pointer)) }
 {
     match value(scene, &place.pointer) {
         Value::Pointer(n) => Value::Pointer(address_number(world, heap, n, place)),
@@ -46,8 +46,8 @@ pub(crate) fn address_value(world: &World, heap: &Heap, scene: &Scene, place: &T
 
 /// Gives the leaf that a place is the value of an argument (ISO C++03 5.17).
 pub fn write(world: &World, heap: &mut Heap, scene: &Scene, place: &TypedPlace, x: &Argument)
-    requires world { IsWorld world.now.h.now world.now.numbers.now world.now.overriders.now }
-    ensures { (e : Scope) (s : Sight) (w : Wanted) (p : ObjectPart) → SceneStands world.now.h.now heap.old scene.now.globals.now scene.now.this scene.now.locals.now s → IsSeen world.now.h.now e s → IsTyped world.now.h.now e (Write place.now x.now) → refusal world.now.h.now s w (Write place.now x.now) ≡ None
+    requires world { IsWorld world.now }
+    ensures { (e : Scope) (s : Sight) (w : Wanted) (p : ObjectPart) → SceneStands world.now.h.now heap.old scene.now s → IsSeen world.now.h.now e s → IsTyped world.now.h.now e (Write place.now x.now) → refusal world.now.h.now s w (Write place.now x.now) ≡ None
         → value s place.now.pointer ≡ Pointer p → HeapStands world.now.h.now heap.new (leaf_set s.objects (leaf_at p place.now) (argument_value s x.now)) }
 {
     if let Value::Pointer(n) = value(scene, &place.pointer) {

@@ -49,7 +49,7 @@ pub fn found_conversion(
     own: FunctionId,
     found: FunctionId,
 ) -> Result<Conversion, NoMemory>
-    requires world { IsWorld world.now.h.now world.now.numbers.now world.now.overriders.now }
+    requires world { IsWorld world.now }
     requires answers { AreAnswers world.now.h.now answers.old }
     ensures answers { AreAnswers world.now.h.now answers.new }
     ensures is { IfOk result (λ conversion. conversion ≡ result_conversion world.now.h.now (return_of world.now.h.now own) (return_of world.now.h.now found)) }

@@ -43,8 +43,8 @@ fn compared(
     a: &Argument,
     b: &Argument,
 ) -> Value
-    requires world { IsWorld world.now.h.now world.now.numbers.now world.now.overriders.now }
-    ensures { (e : Scope) (s : Sight) (c : ClassId) → SceneStands world.now.h.now heap.now scene.now.globals.now scene.now.this scene.now.locals.now s → IsSeen world.now.h.now e s → IsArgument world.now.h.now e a.now (PointerType c) → IsArgument world.now.h.now e b.now (PointerType c) → refused world.now.h.now s.objects (argument_uses s a.now ++ argument_uses s b.now) ≡ None
+    requires world { IsWorld world.now }
+    ensures { (e : Scope) (s : Sight) (c : ClassId) → SceneStands world.now.h.now heap.now scene.now s → IsSeen world.now.h.now e s → IsArgument world.now.h.now e a.now (PointerType c) → IsArgument world.now.h.now e b.now (PointerType c) → refused world.now.h.now s.objects (argument_uses s a.now ++ argument_uses s b.now) ≡ None
         → Means world.now.h.now s.objects.classes result (truth (if differ then not (is_same_pointer (argument_value s a.now) (argument_value s b.now)) else is_same_pointer (argument_value s a.now) (argument_value s b.now))) }
 {
     let one = argument_value(world, heap, scene, a);
@@ -61,10 +61,10 @@ fn side_value(
     scene: &Scene,
     right: &TypedRight,
 ) -> Result<Value, NoMemory>
-    requires world { IsWorld world.now.h.now world.now.numbers.now world.now.overriders.now }
+    requires world { IsWorld world.now }
     requires answers { AreAnswers world.now.h.now answers.old }
     ensures answers { AreAnswers world.now.h.now answers.new }
-    ensures is { IfOk result (λ v. (e : Scope) (s : Sight) (t : ValueType ClassId) (c : Conversion) → SceneStands world.now.h.now heap.now scene.now.globals.now scene.now.this scene.now.locals.now s → IsSeen world.now.h.now e s → HasRight world.now.h.now e right.now t → refused world.now.h.now s.objects (right_uses world.now.h.now (is_clear world.now.h.now s.objects) s right.now c) ≡ None → Means world.now.h.now s.objects.classes v (right_value world.now.h.now s right.now)) }
+    ensures is { IfOk result (λ v. (e : Scope) (s : Sight) (t : ValueType ClassId) (c : Conversion) → SceneStands world.now.h.now heap.now scene.now s → IsSeen world.now.h.now e s → HasRight world.now.h.now e right.now t → refused world.now.h.now s.objects (right_uses world.now.h.now (is_clear world.now.h.now s.objects) s right.now c) ≡ None → Means world.now.h.now s.objects.classes v (right_value world.now.h.now s right.now)) }
 {
     match right {
         TypedRight::Operand(x) => Ok(value(scene, x)),
@@ -93,10 +93,10 @@ pub fn right_value(
     scene: &Scene,
     x: &Converted,
 ) -> Result<Value, NoMemory>
-    requires world { IsWorld world.now.h.now world.now.numbers.now world.now.overriders.now }
+    requires world { IsWorld world.now }
     requires answers { AreAnswers world.now.h.now answers.old }
     ensures answers { AreAnswers world.now.h.now answers.new }
-    ensures is { IfOk result (λ v. (e : Scope) (s : Sight) (t : ValueType ClassId) → SceneStands world.now.h.now heap.now scene.now.globals.now scene.now.this scene.now.locals.now s → IsSeen world.now.h.now e s → IsConverted world.now.h.now e x.now t → refused world.now.h.now s.objects (right_uses world.now.h.now (is_clear world.now.h.now s.objects) s x.now.right x.now.conversion) ≡ None → Means world.now.h.now s.objects.classes v (converted (right_value world.now.h.now s x.now.right) x.now.conversion)) }
+    ensures is { IfOk result (λ v. (e : Scope) (s : Sight) (t : ValueType ClassId) → SceneStands world.now.h.now heap.now scene.now s → IsSeen world.now.h.now e s → IsConverted world.now.h.now e x.now t → refused world.now.h.now s.objects (right_uses world.now.h.now (is_clear world.now.h.now s.objects) s x.now.right x.now.conversion) ≡ None → Means world.now.h.now s.objects.classes v (converted (right_value world.now.h.now s x.now.right) x.now.conversion)) }
 {
     let v = side_value(alloc, world, heap, answers, scene, &x.right)?;
     Ok(convert(world, heap, v, &x.conversion))

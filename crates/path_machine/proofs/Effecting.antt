@@ -40,14 +40,15 @@ use Rattle.path_machine.specs.invariants.Setups.{is_plain}
 use Rattle.path_machine.specs.invariants.Steps.{IsTaken, StepAgrees, MoveAgrees, CanGive}
 use Rattle.path_machine.specs.declared.telling.Telling.{Telling}
 use Rattle.path_machine.proofs.Tellings.{nothing_more}
+use Rattle.path_values.specs.declared.scene.Scene.{Scene}
 
--- what the statement of a frame sees, over lists that are the machine's and the frame's
-pub scene_by : (h : Classes) (sizes : ClassId → ℕ) (program : TypedProgram) (machine : Machine) (frame : BodyFrame) (s : State) (f : Running) (below : List Frame) → IsTaken h sizes program machine frame s f below → (globals locals : List ValueCode) → globals ≡ machine.globals.items → locals ≡ frame.locals.items →
-    SceneStands h machine.heap globals frame.this locals (sight s f)
-scene_by h sizes program machine frame s f below t globals locals e1 e2 = record {
+-- what the statement of a frame sees, over a scene that is the machine's and the frame's
+pub scene_by : (h : Classes) (sizes : ClassId → ℕ) (program : TypedProgram) (machine : Machine) (frame : BodyFrame) (s : State) (f : Running) (below : List Frame) → IsTaken h sizes program machine frame s f below → (scene : Scene) → scene.globals.now ≡ machine.globals.items → scene.this ≡ frame.this → scene.locals.now ≡ frame.locals.items →
+    SceneStands h machine.heap scene (sight s f)
+scene_by h sizes program machine frame s f below t scene e1 this e2 = record {
   heap_stands = t.machine_stands.heap_stands;
   globals_mean = subst (λ xs. AllZip (Means h s.objects.classes) xs s.globals) (sym e1) t.machine_stands.globals_mean;
-  this_means = t.body_stands.this_means;
+  this_means = subst (λ v. Means h s.objects.classes v f.this) (sym this) t.body_stands.this_means;
   locals_mean = subst (λ xs. AllZip (Means h s.objects.classes) xs f.locals) (sym e2) t.body_stands.locals_mean;
 }
 

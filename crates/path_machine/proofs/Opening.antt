@@ -39,6 +39,7 @@ use Rattle.path_machine.specs.declared.telling.Telling.{Telling}
 use Rattle.path_machine.specs.Tellings.{TellsMore}
 use Rattle.path_machine.specs.invariants.Setups.{IsCalling}
 use Rattle.path_machine.specs.invariants.Openings.{Opens, goes_wrong, opens_body}
+use Rattle.path_values.specs.declared.scene.Scene.{Scene}
 
 -- the arguments
 
@@ -53,12 +54,12 @@ arguments_clear h s call clear =
     clear_front h s.objects arguments last (clear_back h s.objects third (arguments ++ last) (clear_back h s.objects second (third ++ (arguments ++ last)) (clear_back h s.objects first (second ++ (third ++ (arguments ++ last))) clear)))
 
 -- what is told of the values of a list of arguments, where the list is the call's
-pub arguments_mean : (h : Classes) (heap : Heap) (globals : List ValueCode) (this : ValueCode) (locals : List ValueCode) (call : TypedCall) (list : List Argument) (values : List ValueCode) → list ≡ call.arguments
-    → ((e : Scope) (s : Sight) (types : Types) → SceneStands h heap globals this locals s → IsSeen h e s → AllZip (IsArgument h e) list types → refused h s.objects (flat_map (argument_uses s) list) ≡ None → AllZip (Means h s.objects.classes) values (map (argument_value s) list))
-    → (e : Scope) (s : Sight) → SceneStands h heap globals this locals s → IsCalling h e s call → AllZip (Means h s.objects.classes) values (map (argument_value s) call.arguments)
-arguments_mean h heap globals this locals call list values is told e s scene a =
+pub arguments_mean : (h : Classes) (heap : Heap) (scene : Scene) (call : TypedCall) (list : List Argument) (values : List ValueCode) → list ≡ call.arguments
+    → ((e : Scope) (s : Sight) (types : Types) → SceneStands h heap scene s → IsSeen h e s → AllZip (IsArgument h e) list types → refused h s.objects (flat_map (argument_uses s) list) ≡ None → AllZip (Means h s.objects.classes) values (map (argument_value s) list))
+    → (e : Scope) (s : Sight) → SceneStands h heap scene s → IsCalling h e s call → AllZip (Means h s.objects.classes) values (map (argument_value s) call.arguments)
+arguments_mean h heap scene call list values is told e s stands a =
     subst (λ xs. AllZip (Means h s.objects.classes) values (map (argument_value s) xs)) is
-    (told e s (parameter_types a.function) scene a.seen (subst (λ xs. AllZip (IsArgument h e) xs (parameter_types a.function)) (sym is) a.typed.arguments)
+    (told e s (parameter_types a.function) stands a.seen (subst (λ xs. AllZip (IsArgument h e) xs (parameter_types a.function)) (sym is) a.typed.arguments)
     (subst (λ xs. refused h s.objects (flat_map (argument_uses s) xs) ≡ None) (sym is) (arguments_clear h s call a.clear)))
 
 pub unset_mean : (h : Classes) (classes : List ClassId) (n : ℕ) → AllZip (Means h classes) (replicate n UnsetCode) (replicate n Unset)

@@ -9,17 +9,17 @@ ghost use Rattle.cxx_program.specs.Typed.{Scope};
 ghost use Rattle.path_machine.specs.declared.telling.Telling.{Telling};
 ghost use Rattle.path_model.specs.Values.{value};
 ghost use Rattle.path_model.specs.Rules.{returns_value, refusal};
-ghost use Rattle.path_model.specs.States.{Running, Frame as FrameOf, InBody, State, at_statement, sight, wanted, body_of, target_conversion, with_frames};
+ghost use Rattle.path_model.specs.States.{Running, Frame as FrameOf, InBody, State, sight, wanted, body_of, target_conversion, with_frames};
 ghost use Rattle.path_model.specs.Effects.{effect, branched, block_at, declared};
 ghost use Rattle.path_model.specs.Steps.{before_kind, body_step, closed, constructor_closed, function_closed, statement_step};
-ghost use Rattle.path_model.specs.Runs.{move_by, limit_of, demand_of, converted_demand, body_limit};
+ghost use Rattle.path_model.specs.Runs.{move_by, demand_of, converted_demand, body_limit};
 ghost use Rattle.path_values.specs.Given.{IsGiven};
 ghost use Rattle.path_tables.specs.Asked.{AreAnswers};
 ghost use Rattle.path_frames.specs.declared.machine.Machine.{Machine as MachineOf};
 ghost use Rattle.path_frames.specs.Frames.{target_of};
 ghost use Rattle.path_frames.specs.Machines.{MachineStands};
 ghost use Rattle.cxx_program.specs.declared.operand.Conversion.TheVariants.{Same as ToSame};
-ghost use Rattle.path_machine.specs.invariants.Steps.{size_in, IsTaken, IsClear, StepAgrees, MoveAgrees};
+ghost use Rattle.path_machine.specs.invariants.Steps.{size_in, IsTaken, IsClear, StepAgrees, gone_on, limit_at, IsTakenIn, MoveAgreesIn};
 ghost use Rattle.path_machine.specs.invariants.Plans.{plan_in};
 ghost use Rattle.path_machine.specs.invariants.Setups.{IsSetup, IsDeclaring, IsBelowNext, IsBodyNext};
 
@@ -65,7 +65,7 @@ fn choose(
     other: usize,
     behind: usize,
 ) -> Result<Next, NoMemory>
-    ensures { IfOk result (λ done. (h : Classes) (sizes : ClassId → ℕ) (program : TypedProgram) (s : State) (f : Running) (below : List FrameOf) (outs : Telling) → IsTaken h sizes program machine.old frame s f below → StepAgrees h sizes program (branched (with_frames s (InBody (at_statement f next) ∷ below)) (value (sight s f) x.now) (block_at after other next) (block_at other behind next)) machine.new outs outs done) }
+    ensures { IfOk result (λ done. (h : Classes) (sizes : ClassId → ℕ) (program : TypedProgram) (s : State) (f : Running) (below : List FrameOf) (outs : Telling) → IsTaken h sizes program machine.old frame s f below → StepAgrees h sizes program (branched (gone_on s f next below) (value (sight s f) x.now) (block_at after other next) (block_at other behind next)) machine.new outs outs done) }
 {
     let v = operand(machine, &frame, x);
     let yes = block_at(after, other, next);
@@ -84,7 +84,7 @@ fn repeat(
     behind: usize,
     n: usize,
 ) -> Result<Next, NoMemory>
-    ensures { IfOk result (λ done. (h : Classes) (sizes : ClassId → ℕ) (program : TypedProgram) (s : State) (f : Running) (below : List FrameOf) (outs : Telling) → IsTaken h sizes program machine.old frame s f below → StepAgrees h sizes program (branched (with_frames s (InBody (at_statement f next) ∷ below)) (value (sight s f) x.now) (block_at after behind n) next) machine.new outs outs done) }
+    ensures { IfOk result (λ done. (h : Classes) (sizes : ClassId → ℕ) (program : TypedProgram) (s : State) (f : Running) (below : List FrameOf) (outs : Telling) → IsTaken h sizes program machine.old frame s f below → StepAgrees h sizes program (branched (gone_on s f next below) (value (sight s f) x.now) (block_at after behind n) next) machine.new outs outs done) }
 {
     let v = operand(machine, &frame, x);
     let yes = block_at(after, behind, n);
@@ -103,15 +103,12 @@ fn declare(
     n: usize,
     x: &Option<Converted>,
 ) -> Result<Next, NoMemory>
-    requires setup { IsSetup run.now.world.h.now run.now.world.numbers.now run.now.world.overriders.now run.now.program.now run.now.index.now }
+    requires setup { IsSetup run.now }
     requires answers { AreAnswers run.now.world.h.now answers.old }
     ensures answers { AreAnswers run.now.world.h.now answers.new }
     ensures agrees { IfOk result (λ done. (e : Scope) (s : State) (f : Running) (below : List FrameOf) →
-        let h = run.now.world.h.now in
-        let program = run.now.program.now in
-        let sizes = size_in run.now.sizes.now in
-        IsTaken h sizes program machine.old frame s f below → IsDeclaring h e (sight s f) x.now →
-        MoveAgrees h sizes program (move_by (declared h program (sight s f) (with_frames s (InBody (at_statement f next) ∷ below)) n x.now) (limit_of sizes (with_frames s (InBody f ∷ below)) (converted_demand x.now))) machine.new outs.old outs.new done) }
+        IsTakenIn run.now machine.old frame s f below → IsDeclaring run.now.world.h.now e (sight s f) x.now →
+        MoveAgreesIn run.now (move_by (declared run.now.world.h.now run.now.program.now (sight s f) (gone_on s f next below) n x.now) (limit_at run.now s f below (converted_demand x.now))) machine.new outs.old outs.new done) }
 {
     match x {
         None => {
@@ -144,15 +141,12 @@ fn effect(
     after: usize,
     statement: &TypedStatement,
 ) -> Result<Next, NoMemory>
-    requires setup { IsSetup run.now.world.h.now run.now.world.numbers.now run.now.world.overriders.now run.now.program.now run.now.index.now }
+    requires setup { IsSetup run.now }
     requires answers { AreAnswers run.now.world.h.now answers.old }
     ensures answers { AreAnswers run.now.world.h.now answers.new }
     ensures agrees { IfOk result (λ done. (e : Scope) (s : State) (f : Running) (below : List FrameOf) →
-        let h = run.now.world.h.now in
-        let program = run.now.program.now in
-        let sizes = size_in run.now.sizes.now in
-        IsTaken h sizes program machine.old frame s f below → IsClear h e s f statement.now.kind → after ≡ f.next + 1 →
-        MoveAgrees h sizes program (move_by (effect h program (with_frames s (InBody f ∷ below)) f below f.next statement.now) (limit_of sizes (with_frames s (InBody f ∷ below)) (demand_of (sight s f) statement.now.kind))) machine.new outs.old outs.new done) }
+        IsTakenIn run.now machine.old frame s f below → IsClear run.now.world.h.now e s f statement.now.kind → after ≡ f.next + 1 →
+        MoveAgreesIn run.now (move_by (effect run.now.world.h.now run.now.program.now (with_frames s (InBody f ∷ below)) f below f.next statement.now) (limit_at run.now s f below (demand_of (sight s f) statement.now.kind))) machine.new outs.old outs.new done) }
 {
     let next = statement.next;
     let n = frame.next;
@@ -245,12 +239,11 @@ fn refused(
     frame: &BodyFrame,
     kind: &TypedKind,
 ) -> Result<Option<Undefined>, NoMemory>
-    requires setup { IsSetup run.now.world.h.now run.now.world.numbers.now run.now.world.overriders.now run.now.program.now run.now.index.now }
+    requires setup { IsSetup run.now }
     requires answers { AreAnswers run.now.world.h.now answers.old }
     ensures answers { AreAnswers run.now.world.h.now answers.new }
     ensures is { IfOk result (λ rule. (e : Scope) (s : State) (f : Running) (below : List FrameOf) →
-        let h = run.now.world.h.now in
-        IsTaken h (size_in run.now.sizes.now) run.now.program.now machine.now frame.now s f below → IsGiven h e (sight s f) (wanted f) kind.now → rule ≡ refusal h (sight s f) (wanted f) kind.now) }
+        IsTakenIn run.now machine.now frame.now s f below → IsGiven run.now.world.h.now e (sight s f) (wanted f) kind.now → rule ≡ refusal run.now.world.h.now (sight s f) (wanted f) kind.now) }
 {
     let same = Conversion::Same;
     let scene = scene_of(machine, frame);
@@ -274,15 +267,12 @@ fn statement_step(
     after: usize,
     statement: &TypedStatement,
 ) -> Result<Next, NoMemory>
-    requires setup { IsSetup run.now.world.h.now run.now.world.numbers.now run.now.world.overriders.now run.now.program.now run.now.index.now }
+    requires setup { IsSetup run.now }
     requires answers { AreAnswers run.now.world.h.now answers.old }
     ensures answers { AreAnswers run.now.world.h.now answers.new }
     ensures agrees { IfOk result (λ done. (e : Scope) (s : State) (f : Running) (below : List FrameOf) →
-        let h = run.now.world.h.now in
-        let program = run.now.program.now in
-        let sizes = size_in run.now.sizes.now in
-        IsTaken h sizes program machine.old frame s f below → IsGiven h e (sight s f) (wanted f) statement.now.kind → after ≡ f.next + 1 →
-        MoveAgrees h sizes program (move_by (statement_step h program s f below f.next statement.now) (limit_of sizes (with_frames s (InBody f ∷ below)) (demand_of (sight s f) statement.now.kind))) machine.new outs.old outs.new done) }
+        IsTakenIn run.now machine.old frame s f below → IsGiven run.now.world.h.now e (sight s f) (wanted f) statement.now.kind → after ≡ f.next + 1 →
+        MoveAgreesIn run.now (move_by (statement_step run.now.world.h.now run.now.program.now s f below f.next statement.now) (limit_at run.now s f below (demand_of (sight s f) statement.now.kind))) machine.new outs.old outs.new done) }
 {
     match refused(run, machine, answers, &frame, &statement.kind)? {
         Some(rule) => Ok(Next::Refuses(rule, statement.line)),
@@ -337,7 +327,7 @@ fn plan_in(frame: Option<Frame>) -> Option<PlanFrame>
 
 /// The closing step of a constructor's body is the event behind it.
 fn close_constructor(run: &Run, machine: &mut Machine, outs: &mut Telling) -> Result<Next, NoMemory>
-    requires setup { IsSetup run.now.world.h.now run.now.world.numbers.now run.now.world.overriders.now run.now.program.now run.now.index.now }
+    requires setup { IsSetup run.now }
     ensures { IfOk result (λ done. (sizes : ClassId → ℕ) (s : State) (below : List FrameOf) →
         let h = run.now.world.h.now in
         let program = run.now.program.now in
@@ -361,7 +351,7 @@ fn close(
     owner: Owner,
     line: u32,
 ) -> Result<Next, NoMemory>
-    requires setup { IsSetup run.now.world.h.now run.now.world.numbers.now run.now.world.overriders.now run.now.program.now run.now.index.now }
+    requires setup { IsSetup run.now }
     ensures { IfOk result (λ done. (sizes : ClassId → ℕ) (s : State) (below : List FrameOf) →
         let h = run.now.world.h.now in
         let program = run.now.program.now in
@@ -396,15 +386,13 @@ pub(crate) fn body_step(
     outs: &mut Telling,
     frame: BodyFrame,
 ) -> Result<Next, NoMemory>
-    requires setup { IsSetup run.now.world.h.now run.now.world.numbers.now run.now.world.overriders.now run.now.program.now run.now.index.now }
+    requires setup { IsSetup run.now }
     requires answers { AreAnswers run.now.world.h.now answers.old }
     ensures answers { AreAnswers run.now.world.h.now answers.new }
     ensures agrees { IfOk result (λ done. (s : State) (f : Running) (below : List FrameOf) →
-        let h = run.now.world.h.now in
         let program = run.now.program.now in
-        let sizes = size_in run.now.sizes.now in
-        IsTaken h sizes program machine.old frame s f below → s.frames ≡ InBody f ∷ below → IsBodyNext h program s f below →
-        MoveAgrees h sizes program (move_by (body_step h program s f below (body_of program f.owner)) (body_limit sizes s f (body_of program f.owner))) machine.new outs.old outs.new done) }
+        IsTakenIn run.now machine.old frame s f below → s.frames ≡ InBody f ∷ below → IsBodyNext run.now.world.h.now program s f below →
+        MoveAgreesIn run.now (move_by (body_step run.now.world.h.now program s f below (body_of program f.owner)) (body_limit (size_in run.now.sizes.now) s f (body_of program f.owner))) machine.new outs.old outs.new done) }
 {
     match run.index.body(run.program, frame.owner) {
         None => Ok(Next::Wrong),

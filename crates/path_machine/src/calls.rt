@@ -5,15 +5,15 @@ ghost use Rattle.path_machine.specs.declared.telling.Telling.{Telling};
 ghost use Rattle.cxx_hierarchy.specs.declared.records.ClassId.{ClassId};
 ghost use Rattle.cxx_program.specs.Typed.{Scope};
 ghost use Rattle.path_model.specs.Values.{value};
-ghost use Rattle.path_model.specs.States.{Running, Frame as FrameOf, InBody, State, at_statement, sight, with_frames};
+ghost use Rattle.path_model.specs.States.{Running, Frame as FrameOf, InBody, State, sight, with_frames};
 ghost use Rattle.path_model.specs.Effects.{called, new_made, deleted, object_ended};
-ghost use Rattle.path_model.specs.Runs.{move_by, limit_of, call_limit, open_count, delete_demand, asks_call, asks_object};
+ghost use Rattle.path_model.specs.Runs.{move_by, call_limit, open_count, delete_demand, asks_call, asks_object};
 ghost use Rattle.path_plan.specs.Whole.{whole_part};
 ghost use Rattle.path_heap.specs.Points.{IsPart};
 ghost use Rattle.path_tables.specs.Asked.{AreAnswers};
 ghost use Rattle.path_frames.specs.Frames.{target_of};
 ghost use Rattle.path_frames.specs.Machines.{MachineStands};
-ghost use Rattle.path_machine.specs.invariants.Steps.{size_in, IsTaken, MoveAgrees};
+ghost use Rattle.path_machine.specs.invariants.Steps.{size_in, IsTaken, MoveAgrees, gone_on, limit_at, IsTakenIn, MoveAgreesIn};
 ghost use Rattle.path_machine.specs.invariants.Setups.{IsSetup, IsCalling, IsDeleting};
 ghost use Rattle.path_machine.specs.invariants.Openings.{planned};
 
@@ -58,16 +58,12 @@ pub(crate) fn call_body(
     call: &TypedCall,
     target: Option<Target>,
 ) -> Result<Next, NoMemory>
-    requires setup { IsSetup run.now.world.h.now run.now.world.numbers.now run.now.world.overriders.now run.now.program.now run.now.index.now }
+    requires setup { IsSetup run.now }
     requires answers { AreAnswers run.now.world.h.now answers.old }
     ensures answers { AreAnswers run.now.world.h.now answers.new }
     ensures agrees { IfOk result (λ taken. (e : Scope) (s : State) (f : Running) (below : List FrameOf) →
-        let h = run.now.world.h.now in
-        let program = run.now.program.now in
-        let sizes = size_in run.now.sizes.now in
-        let on = with_frames s (InBody (at_statement f next) ∷ below) in
-        IsTaken h sizes program machine.old frame s f below → IsCalling h e (sight s f) call.now →
-        MoveAgrees h sizes program (move_by (called h program (sight s f) on call.now (target_of target)) (limit_of sizes (with_frames s (InBody f ∷ below)) asks_call)) machine.new outs.old outs.new taken) }
+        IsTakenIn run.now machine.old frame s f below → IsCalling run.now.world.h.now e (sight s f) call.now →
+        MoveAgreesIn run.now (move_by (called run.now.world.h.now run.now.program.now (sight s f) (gone_on s f next below) call.now (target_of target)) (limit_at run.now s f below asks_call)) machine.new outs.old outs.new taken) }
 {
     if frame.depth >= MOST_OPEN {
         return Ok(Next::Limited(LimitNo::L10));
@@ -104,14 +100,10 @@ pub(crate) fn new_object(
     class: ClassId,
     target: Option<Target>,
 ) -> Result<Next, NoMemory>
-    requires setup { IsSetup run.now.world.h.now run.now.world.numbers.now run.now.world.overriders.now run.now.program.now run.now.index.now }
+    requires setup { IsSetup run.now }
     ensures { IfOk result (λ taken. (s : State) (f : Running) (below : List FrameOf) (outs : Telling) →
-        let h = run.now.world.h.now in
-        let program = run.now.program.now in
-        let sizes = size_in run.now.sizes.now in
-        let on = with_frames s (InBody (at_statement f next) ∷ below) in
-        IsTaken h sizes program machine.old frame s f below → class.0 < length h →
-        MoveAgrees h sizes program (move_by (new_made h program on class (target_of target)) (limit_of sizes (with_frames s (InBody f ∷ below)) (asks_object class))) machine.new outs outs taken) }
+        IsTakenIn run.now machine.old frame s f below → class.0 < length run.now.world.h.now →
+        MoveAgreesIn run.now (move_by (new_made run.now.world.h.now run.now.program.now (gone_on s f next below) class (target_of target)) (limit_at run.now s f below (asks_object class))) machine.new outs outs taken) }
 {
     if class.0 >= run.world.h.len() {
         return Ok(Next::Wrong);
@@ -140,14 +132,10 @@ pub(crate) fn delete_object(
     next: usize,
     pointer: &TypedOperand,
 ) -> Result<Next, NoMemory>
-    requires setup { IsSetup run.now.world.h.now run.now.world.numbers.now run.now.world.overriders.now run.now.program.now run.now.index.now }
+    requires setup { IsSetup run.now }
     ensures { IfOk result (λ taken. (e : Scope) (c : ClassId) (s : State) (f : Running) (below : List FrameOf) (outs : Telling) →
-        let h = run.now.world.h.now in
-        let program = run.now.program.now in
-        let sizes = size_in run.now.sizes.now in
-        let on = with_frames s (InBody (at_statement f next) ∷ below) in
-        IsTaken h sizes program machine.old frame s f below → IsDeleting h e (sight s f) pointer.now c →
-        MoveAgrees h sizes program (move_by (deleted h program on (value (sight s f) pointer.now)) (limit_of sizes (with_frames s (InBody f ∷ below)) (delete_demand (value (sight s f) pointer.now)))) machine.new outs outs taken) }
+        IsTakenIn run.now machine.old frame s f below → IsDeleting run.now.world.h.now e (sight s f) pointer.now c →
+        MoveAgreesIn run.now (move_by (deleted run.now.world.h.now run.now.program.now (gone_on s f next below) (value (sight s f) pointer.now)) (limit_at run.now s f below (delete_demand (value (sight s f) pointer.now)))) machine.new outs outs taken) }
 {
     let scene = scene_of(machine, &frame);
     match deleted(&machine.heap, &scene, pointer) {
@@ -169,13 +157,12 @@ fn end_object(
     next: usize,
     whole: Part,
 ) -> Result<Next, NoMemory>
-    requires setup { IsSetup run.now.world.h.now run.now.world.numbers.now run.now.world.overriders.now run.now.program.now run.now.index.now }
+    requires setup { IsSetup run.now }
     ensures { IfOk result (λ taken. (sizes : ClassId → ℕ) (s : State) (f : Running) (below : List FrameOf) (outs : Telling) (k : ℕ) (c : ClassId) →
         let h = run.now.world.h.now in
         let program = run.now.program.now in
-        let on = with_frames s (InBody (at_statement f next) ∷ below) in
         IsTaken h sizes program machine.old frame s f below → slice_get s.objects.classes k ≡ Some c → IsPart h s.objects.classes whole (whole_part k c) →
-        MoveAgrees h sizes program (move_by (object_ended h program on k (Some c)) (call_limit (with_frames s (InBody f ∷ below)))) machine.new outs outs taken) }
+        MoveAgrees h sizes program (move_by (object_ended h program (gone_on s f next below) k (Some c)) (call_limit (with_frames s (InBody f ∷ below)))) machine.new outs outs taken) }
 {
     if frame.depth >= MOST_OPEN {
         return Ok(Next::Limited(LimitNo::L10));
@@ -197,7 +184,7 @@ fn begin_plan(
     target: Option<Target>,
     depth: u32,
 ) -> Result<(), NoMemory>
-    requires setup { IsSetup run.now.world.h.now run.now.world.numbers.now run.now.world.overriders.now run.now.program.now run.now.index.now }
+    requires setup { IsSetup run.now }
     ensures { IfOk result (λ _. (sizes : ClassId → ℕ) (s : State) (k : ℕ) (c : ClassId) →
         let h = run.now.world.h.now in
         let program = run.now.program.now in

@@ -1,16 +1,16 @@
 //! What a statement that no rule refuses does to the machine.
 
-ghost use Rattle.std.specs.Prelude.{◌≡◌, ◌∷◌, [], ◌++◌, ℕ, List, Option, Some, IfOk};
+ghost use Rattle.std.specs.Prelude.{ℕ, List, Option, Some, IfOk};
 ghost use Rattle.cxx_hierarchy.specs.declared.records.ClassId.{ClassId};
 ghost use Rattle.cxx_hierarchy.specs.Classes.{Classes};
 ghost use Rattle.cxx_program.specs.declared.program.TypedProgram.{TypedProgram};
 ghost use Rattle.path_machine.specs.declared.telling.Telling.{Telling};
 ghost use Rattle.path_model.specs.Values.{Value as ValueOf};
-ghost use Rattle.path_model.specs.States.{Running, Frame as FrameOf, InBody, State, at_statement, with_frames};
+ghost use Rattle.path_model.specs.States.{Running, Frame as FrameOf, State};
 ghost use Rattle.path_model.specs.Effects.{branched, telling};
 ghost use Rattle.path_heap.specs.Stands.{Means};
 ghost use Rattle.path_frames.specs.Machines.{MachineStands};
-ghost use Rattle.path_machine.specs.invariants.Steps.{IsTaken, StepAgrees};
+ghost use Rattle.path_machine.specs.invariants.Steps.{IsTaken, StepAgrees, gone_on};
 
 use crate::next::Next;
 use crate::telling::Telling;
@@ -22,7 +22,7 @@ use path_values::is_zero;
 
 /// Puts the frame back, with control at a statement.
 pub(crate) fn go_on(machine: &mut Machine, frame: BodyFrame, next: usize) -> Result<(), NoMemory>
-    ensures { IfOk result (λ _. (h : Classes) (sizes : ClassId → ℕ) (program : TypedProgram) (s : State) (f : Running) (below : List FrameOf) → IsTaken h sizes program machine.old frame s f below → MachineStands h sizes program machine.new (with_frames s (InBody (at_statement f next) ∷ below))) }
+    ensures { IfOk result (λ _. (h : Classes) (sizes : ClassId → ℕ) (program : TypedProgram) (s : State) (f : Running) (below : List FrameOf) → IsTaken h sizes program machine.old frame s f below → MachineStands h sizes program machine.new (gone_on s f next below)) }
 {
     let mut frame = frame;
     frame.next = next;
@@ -38,7 +38,7 @@ pub(crate) fn branch(
     yes: usize,
     no: usize,
 ) -> Result<Next, NoMemory>
-    ensures { IfOk result (λ next. (h : Classes) (sizes : ClassId → ℕ) (program : TypedProgram) (s : State) (f : Running) (below : List FrameOf) (n : ℕ) (v : ValueOf) (outs : Telling) → IsTaken h sizes program machine.old frame s f below → Means h s.objects.classes condition v → StepAgrees h sizes program (branched (with_frames s (InBody (at_statement f n) ∷ below)) v yes no) machine.new outs outs next) }
+    ensures { IfOk result (λ next. (h : Classes) (sizes : ClassId → ℕ) (program : TypedProgram) (s : State) (f : Running) (below : List FrameOf) (n : ℕ) (v : ValueOf) (outs : Telling) → IsTaken h sizes program machine.old frame s f below → Means h s.objects.classes condition v → StepAgrees h sizes program (branched (gone_on s f n below) v yes no) machine.new outs outs next) }
 {
     let at = if is_zero(condition) { no } else { yes };
     go_on(machine, frame, at)?;
@@ -53,7 +53,7 @@ pub(crate) fn tell(
     next: usize,
     out: Option<Out>,
 ) -> Result<Next, NoMemory>
-    ensures { IfOk result (λ taken. (h : Classes) (sizes : ClassId → ℕ) (program : TypedProgram) (s : State) (f : Running) (below : List FrameOf) → IsTaken h sizes program machine.old frame s f below → StepAgrees h sizes program (telling (with_frames s (InBody (at_statement f next) ∷ below)) out) machine.new outs.old outs.new taken) }
+    ensures { IfOk result (λ taken. (h : Classes) (sizes : ClassId → ℕ) (program : TypedProgram) (s : State) (f : Running) (below : List FrameOf) → IsTaken h sizes program machine.old frame s f below → StepAgrees h sizes program (telling (gone_on s f next below) out) machine.new outs.old outs.new taken) }
 {
     match out {
         Some(out) => {

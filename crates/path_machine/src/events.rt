@@ -26,7 +26,7 @@ use path_values::{constant, convert};
 
 /// The value that the initializer of a member gives (ISO C++03 12.6.2).
 fn initial_value(run: &Run, machine: &Machine, part: Part, member: u32) -> Value
-    requires setup { IsSetup run.now.world.h.now run.now.world.numbers.now run.now.world.overriders.now run.now.program.now run.now.index.now }
+    requires setup { IsSetup run.now }
     ensures { (sizes : ClassId → ℕ) (s : State) → MachineStands run.now.world.h.now sizes run.now.program.now machine.now s → Means run.now.world.h.now s.objects.classes result (init_value (init_of run.now.program.now part.class member)) }
 {
     match run.index.initializer(run.program, part.class, member) {
@@ -42,7 +42,7 @@ fn initial_value(run: &Run, machine: &Machine, part: Part, member: u32) -> Value
 
 /// An initializer sets a member of a part (ISO C++03 12.6.2).
 fn initialize(run: &Run, machine: &mut Machine, part: Part, member: u32)
-    requires setup { IsSetup run.now.world.h.now run.now.world.numbers.now run.now.world.overriders.now run.now.program.now run.now.index.now }
+    requires setup { IsSetup run.now }
     ensures { Happens run.now.world.h.now run.now.program.now machine.old machine.new (InitCode part member) }
 {
     let value = initial_value(run, machine, part, member);
@@ -55,7 +55,7 @@ fn initialize(run: &Run, machine: &mut Machine, part: Part, member: u32)
 /// Does an event to the heap: a part takes a phase, or an initializer sets a member. A body changes nothing before it is
 /// entered.
 fn happen(run: &Run, machine: &mut Machine, event: PlanEvent)
-    requires setup { IsSetup run.now.world.h.now run.now.world.numbers.now run.now.world.overriders.now run.now.program.now run.now.index.now }
+    requires setup { IsSetup run.now }
     ensures { Happens run.now.world.h.now run.now.program.now machine.old machine.new event }
 {
     match event {
@@ -79,7 +79,7 @@ fn tell_event(
     outs: &mut Telling,
     event: PlanEvent,
 ) -> Result<(), NoMemory>
-    requires setup { IsSetup run.now.world.h.now run.now.world.numbers.now run.now.world.overriders.now run.now.program.now run.now.index.now }
+    requires setup { IsSetup run.now }
     ensures { IfOk result (λ _. Tells run.now.world.h.now run.now.program.now machine.now event outs.old outs.new) }
 {
     if !outs.trace {
@@ -147,7 +147,7 @@ fn enter_body(
     frame: PlanFrame,
     part: Part,
 ) -> Result<Next, NoMemory>
-    requires setup { IsSetup run.now.world.h.now run.now.world.numbers.now run.now.world.overriders.now run.now.program.now run.now.index.now }
+    requires setup { IsSetup run.now }
     ensures { IfOk result (Enters run.now.world.h.now run.now.program.now machine.old machine.new frame part) }
 {
     let mut frame = frame;
@@ -180,7 +180,7 @@ fn enter_body(
 ///
 /// Errors: want of memory.
 fn resume(run: &Run, machine: &mut Machine, frame: PlanFrame) -> Result<Next, NoMemory>
-    requires setup { IsSetup run.now.world.h.now run.now.world.numbers.now run.now.world.overriders.now run.now.program.now run.now.index.now }
+    requires setup { IsSetup run.now }
     ensures { IfOk result (Resumes run.now.world.h.now run.now.program.now machine.old machine.new frame) }
 {
     match frame.plan.upcoming() {
@@ -215,7 +215,7 @@ pub(crate) fn event_step(
     outs: &mut Telling,
     frame: PlanFrame,
 ) -> Result<Next, NoMemory>
-    requires setup { IsSetup run.now.world.h.now run.now.world.numbers.now run.now.world.overriders.now run.now.program.now run.now.index.now }
+    requires setup { IsSetup run.now }
     ensures { IfOk result (λ next. (sizes : ClassId → ℕ) (s : State) (f : Planned) (below : List FrameOf) → IsPlanTaken run.now.world.h.now sizes run.now.program.now machine.old frame s f below → IsPlanNext run.now.world.h.now s f frame.whole.class → StepAgrees run.now.world.h.now sizes run.now.program.now (event_step run.now.program.now s f below f.events) machine.new outs.old outs.new next) }
 {
     let mut frame = frame;

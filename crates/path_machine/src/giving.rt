@@ -1,6 +1,6 @@
 //! How a result comes to the variable that waits for it.
 
-ghost use Rattle.std.specs.Prelude.{◌≡◌, ℕ};
+ghost use Rattle.std.specs.Prelude.{ℕ};
 ghost use Rattle.cxx_hierarchy.specs.declared.records.ClassId.{ClassId};
 ghost use Rattle.cxx_program.specs.declared.program.TypedProgram.{TypedProgram};
 ghost use Rattle.path_model.specs.Values.{Value as ValueOf};
@@ -18,7 +18,7 @@ use path_values::{World, convert};
 
 /// A value comes to the variable that waits for it, converted to its type; where none waits it is dropped.
 pub(crate) fn give(world: &World, machine: &mut Machine, value: Value, target: &Option<Target>)
-    requires world { IsWorld world.now.h.now world.now.numbers.now world.now.overriders.now }
+    requires world { IsWorld world.now }
     ensures { (sizes : ClassId → ℕ) (program : TypedProgram) (s : State) (v : ValueOf) → MachineStands world.now.h.now sizes program machine.old s → Means world.now.h.now s.objects.classes value v → CanGive world.now.h.now s v (target_of target.now) → MachineStands world.now.h.now sizes program machine.new (given s v (target_of target.now)) }
 {
     if let Some(target) = target {

@@ -51,8 +51,8 @@ fn called_locals(
     call: &TypedCall,
     count: usize,
 ) -> Result<Vec<Value>, NoMemory>
-    requires world { IsWorld run.now.world.h.now run.now.world.numbers.now run.now.world.overriders.now }
-    ensures { IfOk result (λ locals. (e : Scope) (s : Sight) → SceneStands run.now.world.h.now heap.now scene.now.globals.now scene.now.this scene.now.locals.now s → IsCalling run.now.world.h.now e s call.now → AllZip (Means run.now.world.h.now s.objects.classes) locals.items (map (argument_value s) call.now.arguments ++ replicate (count - length (map (argument_value s) call.now.arguments)) Unset)) }
+    requires world { IsWorld run.now.world }
+    ensures { IfOk result (λ locals. (e : Scope) (s : Sight) → SceneStands run.now.world.h.now heap.now scene.now s → IsCalling run.now.world.h.now e s call.now → AllZip (Means run.now.world.h.now s.objects.classes) locals.items (map (argument_value s) call.now.arguments ++ replicate (count - length (map (argument_value s) call.now.arguments)) Unset)) }
 {
     let values = argument_values(
         run.alloc,
@@ -69,7 +69,7 @@ fn called_locals(
 ///
 /// Errors: want of memory.
 fn tell_call(run: &Run, heap: &Heap, outs: &mut Telling, found: Found) -> Result<(), NoMemory>
-    requires world { IsWorld run.now.world.h.now run.now.world.numbers.now run.now.world.overriders.now }
+    requires world { IsWorld run.now.world }
     ensures { IfOk result (λ _. (s : Objects) (p : ObjectPart) → HeapStands run.now.world.h.now heap.now s → Points run.now.world.h.now s.classes found.this p → TellsMore outs.old outs.new (Call found.function (location_of s p) ∷ [])) }
 {
     if !outs.trace {
@@ -92,11 +92,11 @@ pub(crate) fn open_call(
     target: Option<Target>,
     depth: u32,
 ) -> Result<Option<BodyFrame>, NoMemory>
-    requires setup { IsSetup run.now.world.h.now run.now.world.numbers.now run.now.world.overriders.now run.now.program.now run.now.index.now }
+    requires setup { IsSetup run.now }
     requires answers { AreAnswers run.now.world.h.now answers.old }
     ensures answers { AreAnswers run.now.world.h.now answers.new }
     ensures depth { IfOk result (λ opened. IfSome opened (λ frame. frame.depth ≡ depth)) }
-    ensures opens { IfOk result (λ opened. (e : Scope) (s : State) (f : Running) (frames : List FrameOf) → SceneStands run.now.world.h.now heap.now scene.now.globals.now scene.now.this scene.now.locals.now (sight s f) → IsCalling run.now.world.h.now e (sight s f) call.now
+    ensures opens { IfOk result (λ opened. (e : Scope) (s : State) (f : Running) (frames : List FrameOf) → SceneStands run.now.world.h.now heap.now scene.now (sight s f) → IsCalling run.now.world.h.now e (sight s f) call.now
         → Opens run.now.world.h.now s frames outs.old outs.new opened (called run.now.world.h.now run.now.program.now (sight s f) (with_frames s frames) call.now (target_of target))) }
 {
     let Some(found) = path_effects::call(run.alloc, &run.world, heap, answers, scene, call)? else {

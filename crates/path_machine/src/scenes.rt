@@ -13,7 +13,7 @@ use path_values::Scene;
 
 /// The globals, and `this` and the locals of a frame.
 pub(crate) fn scene_of<'a>(machine: &'a Machine, frame: &'a BodyFrame) -> Scene<'a>
-    ensures { (h : Classes) (sizes : ClassId → ℕ) (program : TypedProgram) (s : State) (f : Running) (below : List FrameOf) → IsTaken h sizes program machine.now frame.now s f below → SceneStands h machine.now.heap result.globals.now result.this result.locals.now (sight s f) }
+    ensures { (h : Classes) (sizes : ClassId → ℕ) (program : TypedProgram) (s : State) (f : Running) (below : List FrameOf) → IsTaken h sizes program machine.now frame.now s f below → SceneStands h machine.now.heap result (sight s f) }
 {
     Scene {
         globals: machine.globals.as_slice(),

@@ -33,7 +33,7 @@ impl PathState {
     ///
     /// Errors: want of memory.
     pub fn new(run: &Run, budget: u32) -> Result<PathState, NoMemory>
-        requires setup { IsSetup run.now.world.h.now run.now.world.numbers.now run.now.world.overriders.now run.now.program.now run.now.index.now }
+        requires setup { IsSetup run.now }
         requires main { is_body run.now.program.now.main ≡ true }
         ensures start { IfOk result (λ state. IsInRun run.now.world.h.now (size_in run.now.sizes.now) run.now.program.now state None) }
         ensures none { IfOk result (λ state. taken_by state ≡ 0) }
@@ -63,7 +63,7 @@ impl PathState {
     ///
     /// Errors: want of memory. The machine is then of no use.
     pub fn step(&mut self, run: &Run, outs: &mut Telling) -> Result<Turn, NoMemory>
-        requires setup { IsSetup run.now.world.h.now run.now.world.numbers.now run.now.world.overriders.now run.now.program.now run.now.index.now }
+        requires setup { IsSetup run.now }
         requires main { is_body run.now.program.now.main ≡ true }
         requires stands { IsInRun run.now.world.h.now (size_in run.now.sizes.now) run.now.program.now self.old (ended_with self.old) }
         ensures stands { IfOk result (λ turn. IsInRun run.now.world.h.now (size_in run.now.sizes.now) run.now.program.now self.new (ended_with self.new)) }
@@ -96,7 +96,7 @@ impl PathState {
     ///
     /// Errors: want of memory. The machine is then of no use.
     fn move_on(&mut self, run: &Run, outs: &mut Telling) -> Result<Next, NoMemory>
-        requires setup { IsSetup run.now.world.h.now run.now.world.numbers.now run.now.world.overriders.now run.now.program.now run.now.index.now }
+        requires setup { IsSetup run.now }
         requires main { is_body run.now.program.now.main ≡ true }
         requires at { IsAtStep run.now.world.h.now (size_in run.now.sizes.now) run.now.program.now self.old }
         requires room { self.old.taken < self.old.budget }

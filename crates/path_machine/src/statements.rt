@@ -1,6 +1,6 @@
 //! Statements that no rule refuses, kind by kind.
 
-ghost use Rattle.std.specs.Prelude.{◌≡◌, ◌∷◌, ℕ, Some, List, IfOk};
+ghost use Rattle.std.specs.Prelude.{◌≡◌, ℕ, Some, List, IfOk};
 ghost use Rattle.cxx_hierarchy.specs.declared.records.ClassId.{ClassId};
 ghost use Rattle.cxx_hierarchy.specs.declared.records.ValueType.{ValueType};
 ghost use Rattle.cxx_hierarchy.specs.declared.records.ReturnType.TheVariants.{Value as ValueReturn};
@@ -10,11 +10,11 @@ ghost use Rattle.cxx_program.specs.declared.statement.TypedKind.TheVariants.{Wri
 ghost use Rattle.cxx_program.specs.Typed.{Scope, IsArgument};
 ghost use Rattle.path_machine.specs.declared.telling.Telling.{Telling};
 ghost use Rattle.path_model.specs.Values.{value, argument_value};
-ghost use Rattle.path_model.specs.States.{Running, Frame as FrameOf, InBody, State, at_statement, sight, with_frames};
+ghost use Rattle.path_model.specs.States.{Running, Frame as FrameOf, State, sight, with_frames};
 ghost use Rattle.path_model.specs.Effects.{written, copied_at, returned, returned_value, result_given, telling, value_out, type_out, view_out, dump_out};
 ghost use Rattle.path_heap.specs.Stands.{Means};
 ghost use Rattle.path_frames.specs.Machines.{MachineStands};
-ghost use Rattle.path_machine.specs.invariants.Steps.{size_in, IsTaken, IsClear, StepAgrees};
+ghost use Rattle.path_machine.specs.invariants.Steps.{size_in, IsTaken, IsClear, gone_on, IsTakenIn, StepAgreesIn};
 ghost use Rattle.path_machine.specs.invariants.Setups.{IsSetup};
 ghost use Rattle.path_machine.specs.declared.next.Next.TheVariants.{Goes as GoesCode};
 
@@ -43,13 +43,10 @@ pub(crate) fn write_place(
     place: &TypedPlace,
     x: &Argument,
 ) -> Result<Next, NoMemory>
-    requires setup { IsSetup run.now.world.h.now run.now.world.numbers.now run.now.world.overriders.now run.now.program.now run.now.index.now }
+    requires setup { IsSetup run.now }
     ensures { IfOk result (λ done. (e : Scope) (s : State) (f : Running) (below : List FrameOf) (outs : Telling) →
-        let h = run.now.world.h.now in
-        let program = run.now.program.now in
-        let sizes = size_in run.now.sizes.now in
-        IsTaken h sizes program machine.old frame s f below → IsClear h e s f (Write place.now x.now) →
-        StepAgrees h sizes program (written (with_frames s (InBody (at_statement f next) ∷ below)) place.now (argument_value (sight s f) x.now) (value (sight s f) place.now.pointer)) machine.new outs outs done) }
+        IsTakenIn run.now machine.old frame s f below → IsClear run.now.world.h.now e s f (Write place.now x.now) →
+        StepAgreesIn run.now (written (gone_on s f next below) place.now (argument_value (sight s f) x.now) (value (sight s f) place.now.pointer)) machine.new outs outs done) }
 {
     let scene = Scene {
         globals: machine.globals.as_slice(),
@@ -73,13 +70,10 @@ pub(crate) fn copy_object(
     from: &TypedOperand,
     class: ClassId,
 ) -> Result<Next, NoMemory>
-    requires setup { IsSetup run.now.world.h.now run.now.world.numbers.now run.now.world.overriders.now run.now.program.now run.now.index.now }
+    requires setup { IsSetup run.now }
     ensures { IfOk result (λ done. (e : Scope) (s : State) (f : Running) (below : List FrameOf) (outs : Telling) →
-        let h = run.now.world.h.now in
-        let program = run.now.program.now in
-        let sizes = size_in run.now.sizes.now in
-        IsTaken h sizes program machine.old frame s f below → IsClear h e s f (Copy to.now from.now class) →
-        StepAgrees h sizes program (copied_at h (with_frames s (InBody (at_statement f next) ∷ below)) class (value (sight s f) to.now) (value (sight s f) from.now)) machine.new outs outs done) }
+        IsTakenIn run.now machine.old frame s f below → IsClear run.now.world.h.now e s f (Copy to.now from.now class) →
+        StepAgreesIn run.now (copied_at run.now.world.h.now (gone_on s f next below) class (value (sight s f) to.now) (value (sight s f) from.now)) machine.new outs outs done) }
 {
     let scene = Scene {
         globals: machine.globals.as_slice(),
@@ -101,13 +95,11 @@ pub(crate) fn copy_object(
 
 /// A result comes to the variable that waits for it.
 fn give_result(run: &Run, machine: &mut Machine, frame: &BodyFrame, a: &Argument)
-    requires setup { IsSetup run.now.world.h.now run.now.world.numbers.now run.now.world.overriders.now run.now.program.now run.now.index.now }
+    requires setup { IsSetup run.now }
     ensures { (e : Scope) (s : State) (f : Running) (below : List FrameOf) (t : ValueType ClassId) →
         let h = run.now.world.h.now in
-        let program = run.now.program.now in
-        let sizes = size_in run.now.sizes.now in
-        IsTaken h sizes program machine.old frame.now s f below → IsClear h e s f (Return (Some a.now)) → e.returns ≡ Some (ValueReturn t) → IsArgument h e a.now t →
-        MachineStands h sizes program machine.new (result_given (with_frames s below) f.found f.target (Some (argument_value (sight s f) a.now))) }
+        IsTakenIn run.now machine.old frame.now s f below → IsClear h e s f (Return (Some a.now)) → e.returns ≡ Some (ValueReturn t) → IsArgument h e a.now t →
+        MachineStands h (size_in run.now.sizes.now) run.now.program.now machine.new (result_given (with_frames s below) f.found f.target (Some (argument_value (sight s f) a.now))) }
 {
     let scene = scene_of(machine, frame);
     let result = argument_value(&run.world, &machine.heap, &scene, a);
@@ -122,13 +114,10 @@ pub(crate) fn leave(
     frame: BodyFrame,
     x: &Option<Argument>,
 ) -> Next
-    requires setup { IsSetup run.now.world.h.now run.now.world.numbers.now run.now.world.overriders.now run.now.program.now run.now.index.now }
+    requires setup { IsSetup run.now }
     ensures { (e : Scope) (s : State) (f : Running) (below : List FrameOf) (n : ℕ) (outs : Telling) →
-        let h = run.now.world.h.now in
-        let program = run.now.program.now in
-        let sizes = size_in run.now.sizes.now in
-        IsTaken h sizes program machine.old frame s f below → IsClear h e s f (Return x.now) →
-        StepAgrees h sizes program (returned (with_frames s (InBody (at_statement f n) ∷ below)) f below (returned_value (sight s f) x.now)) machine.new outs outs result }
+        IsTakenIn run.now machine.old frame s f below → IsClear run.now.world.h.now e s f (Return x.now) →
+        StepAgreesIn run.now (returned (gone_on s f n below) f below (returned_value (sight s f) x.now)) machine.new outs outs result }
 {
     match frame.owner {
         Owner::Main => Next::Ends,
@@ -139,13 +128,10 @@ pub(crate) fn leave(
 
 /// A `return` of a function: the frame below takes the result, if there is one.
 fn leave_function(run: &Run, machine: &mut Machine, frame: &BodyFrame, x: &Option<Argument>) -> Next
-    requires setup { IsSetup run.now.world.h.now run.now.world.numbers.now run.now.world.overriders.now run.now.program.now run.now.index.now }
+    requires setup { IsSetup run.now }
     ensures { (e : Scope) (s : State) (f : Running) (below : List FrameOf) →
-        let h = run.now.world.h.now in
-        let program = run.now.program.now in
-        let sizes = size_in run.now.sizes.now in
-        IsTaken h sizes program machine.old frame.now s f below → IsClear h e s f (Return x.now) →
-        (result ≡ GoesCode) × MachineStands h sizes program machine.new (result_given (with_frames s below) f.found f.target (returned_value (sight s f) x.now)) }
+        IsTakenIn run.now machine.old frame.now s f below → IsClear run.now.world.h.now e s f (Return x.now) →
+        (result ≡ GoesCode) × MachineStands run.now.world.h.now (size_in run.now.sizes.now) run.now.program.now machine.new (result_given (with_frames s below) f.found f.target (returned_value (sight s f) x.now)) }
 {
     match x {
         Some(a) => give_result(run, machine, frame, a),
@@ -173,13 +159,10 @@ pub(crate) fn print_value(
     next: usize,
     x: &TypedOperand,
 ) -> Result<Next, NoMemory>
-    requires setup { IsSetup run.now.world.h.now run.now.world.numbers.now run.now.world.overriders.now run.now.program.now run.now.index.now }
+    requires setup { IsSetup run.now }
     ensures { IfOk result (λ done. (s : State) (f : Running) (below : List FrameOf) →
-        let h = run.now.world.h.now in
-        let program = run.now.program.now in
-        let sizes = size_in run.now.sizes.now in
-        IsTaken h sizes program machine.old frame s f below →
-        StepAgrees h sizes program (telling (with_frames s (InBody (at_statement f next) ∷ below)) (value_out s.objects (value (sight s f) x.now))) machine.new outs.old outs.new done) }
+        IsTakenIn run.now machine.old frame s f below →
+        StepAgreesIn run.now (telling (gone_on s f next below) (value_out s.objects (value (sight s f) x.now))) machine.new outs.old outs.new done) }
 {
     let v = operand(machine, &frame, x);
     let out = value_told(run.alloc, &run.world, &machine.heap, v)?;
@@ -197,13 +180,10 @@ pub(crate) fn print_type(
     next: usize,
     x: &TypedOperand,
 ) -> Result<Next, NoMemory>
-    requires setup { IsSetup run.now.world.h.now run.now.world.numbers.now run.now.world.overriders.now run.now.program.now run.now.index.now }
+    requires setup { IsSetup run.now }
     ensures { IfOk result (λ done. (e : Scope) (c : ClassId) (s : State) (f : Running) (below : List FrameOf) →
-        let h = run.now.world.h.now in
-        let program = run.now.program.now in
-        let sizes = size_in run.now.sizes.now in
-        IsTaken h sizes program machine.old frame s f below → IsClear h e s f (PrintType x.now c) →
-        StepAgrees h sizes program (telling (with_frames s (InBody (at_statement f next) ∷ below)) (type_out h s.objects (value (sight s f) x.now))) machine.new outs.old outs.new done) }
+        IsTakenIn run.now machine.old frame s f below → IsClear run.now.world.h.now e s f (PrintType x.now c) →
+        StepAgreesIn run.now (telling (gone_on s f next below) (type_out run.now.world.h.now s.objects (value (sight s f) x.now))) machine.new outs.old outs.new done) }
 {
     let v = operand(machine, &frame, x);
     let out = type_told(&machine.heap, v);
@@ -221,13 +201,10 @@ pub(crate) fn print_view(
     next: usize,
     x: &TypedOperand,
 ) -> Result<Next, NoMemory>
-    requires setup { IsSetup run.now.world.h.now run.now.world.numbers.now run.now.world.overriders.now run.now.program.now run.now.index.now }
+    requires setup { IsSetup run.now }
     ensures { IfOk result (λ done. (e : Scope) (c : ClassId) (s : State) (f : Running) (below : List FrameOf) →
-        let h = run.now.world.h.now in
-        let program = run.now.program.now in
-        let sizes = size_in run.now.sizes.now in
-        IsTaken h sizes program machine.old frame s f below → IsClear h e s f (PrintView x.now c) →
-        StepAgrees h sizes program (telling (with_frames s (InBody (at_statement f next) ∷ below)) (view_out h s.objects (value (sight s f) x.now))) machine.new outs.old outs.new done) }
+        IsTakenIn run.now machine.old frame s f below → IsClear run.now.world.h.now e s f (PrintView x.now c) →
+        StepAgreesIn run.now (telling (gone_on s f next below) (view_out run.now.world.h.now s.objects (value (sight s f) x.now))) machine.new outs.old outs.new done) }
 {
     let v = operand(machine, &frame, x);
     let out = view_told(run.alloc, &run.world, &machine.heap, v)?;
@@ -245,13 +222,10 @@ pub(crate) fn print_dump(
     next: usize,
     x: &TypedOperand,
 ) -> Result<Next, NoMemory>
-    requires setup { IsSetup run.now.world.h.now run.now.world.numbers.now run.now.world.overriders.now run.now.program.now run.now.index.now }
+    requires setup { IsSetup run.now }
     ensures { IfOk result (λ done. (s : State) (f : Running) (below : List FrameOf) →
-        let h = run.now.world.h.now in
-        let program = run.now.program.now in
-        let sizes = size_in run.now.sizes.now in
-        IsTaken h sizes program machine.old frame s f below →
-        StepAgrees h sizes program (telling (with_frames s (InBody (at_statement f next) ∷ below)) (dump_out h s.objects (value (sight s f) x.now))) machine.new outs.old outs.new done) }
+        IsTakenIn run.now machine.old frame s f below →
+        StepAgreesIn run.now (telling (gone_on s f next below) (dump_out run.now.world.h.now s.objects (value (sight s f) x.now))) machine.new outs.old outs.new done) }
 {
     let v = operand(machine, &frame, x);
     let out = dump_told(run.alloc, &run.world, &machine.heap, v)?;

@@ -1,15 +1,15 @@
 //! A variable that takes a right side.
 
-ghost use Rattle.std.specs.Prelude.{◌≡◌, ◌∷◌, [], true, List, IfOk};
+ghost use Rattle.std.specs.Prelude.{◌≡◌, [], true, List, IfOk};
 ghost use Rattle.cxx_program.specs.Typed.{Scope};
 ghost use Rattle.path_machine.specs.declared.telling.Telling.{Telling};
 ghost use Rattle.path_model.specs.Values.{converted};
-ghost use Rattle.path_model.specs.States.{Running, Frame as FrameOf, InBody, State, assigned, at_statement, sight, with_frames};
+ghost use Rattle.path_model.specs.States.{Running, Frame as FrameOf, State, assigned, sight};
 ghost use Rattle.path_model.specs.Effects.{Goes, right_value, taken, taker};
-ghost use Rattle.path_model.specs.Runs.{move_by, limit_of, right_demand};
+ghost use Rattle.path_model.specs.Runs.{move_by, right_demand};
 ghost use Rattle.path_tables.specs.Asked.{AreAnswers};
 ghost use Rattle.path_frames.specs.Frames.{target_of};
-ghost use Rattle.path_machine.specs.invariants.Steps.{size_in, IsTaken, StepAgrees, MoveAgrees};
+ghost use Rattle.path_machine.specs.invariants.Steps.{gone_on, limit_at, IsTakenIn, StepAgreesIn, MoveAgreesIn};
 ghost use Rattle.path_machine.specs.invariants.Setups.{IsSetup, IsTaking, is_plain};
 
 use crate::calls::{call_body, new_object};
@@ -60,15 +60,12 @@ fn take_value(
     variable: Variable,
     x: &Converted,
 ) -> Result<Next, NoMemory>
-    requires setup { IsSetup run.now.world.h.now run.now.world.numbers.now run.now.world.overriders.now run.now.program.now run.now.index.now }
+    requires setup { IsSetup run.now }
     requires answers { AreAnswers run.now.world.h.now answers.old }
     ensures answers { AreAnswers run.now.world.h.now answers.new }
     ensures agrees { IfOk result (λ taken. (e : Scope) (s : State) (f : Running) (below : List FrameOf) (outs : Telling) →
-        let h = run.now.world.h.now in
-        let program = run.now.program.now in
-        let sizes = size_in run.now.sizes.now in
-        IsTaken h sizes program machine.old frame s f below → IsTaking h e (sight s f) x.now → is_plain x.now.right ≡ true →
-        StepAgrees h sizes program (Goes (assigned (with_frames s (InBody (at_statement f next) ∷ below)) variable (converted (right_value h (sight s f) x.now.right) x.now.conversion)) []) machine.new outs outs taken) }
+        IsTakenIn run.now machine.old frame s f below → IsTaking run.now.world.h.now e (sight s f) x.now → is_plain x.now.right ≡ true →
+        StepAgreesIn run.now (Goes (assigned (gone_on s f next below) variable (converted (right_value run.now.world.h.now (sight s f) x.now.right) x.now.conversion)) []) machine.new outs outs taken) }
 {
     let scene = scene_of(machine, &frame);
     let value = right_value(run.alloc, &run.world, &machine.heap, answers, &scene, x)?;
@@ -90,15 +87,12 @@ pub(crate) fn take(
     variable: Variable,
     x: &Converted,
 ) -> Result<Next, NoMemory>
-    requires setup { IsSetup run.now.world.h.now run.now.world.numbers.now run.now.world.overriders.now run.now.program.now run.now.index.now }
+    requires setup { IsSetup run.now }
     requires answers { AreAnswers run.now.world.h.now answers.old }
     ensures answers { AreAnswers run.now.world.h.now answers.new }
     ensures agrees { IfOk result (λ done. (e : Scope) (s : State) (f : Running) (below : List FrameOf) →
-        let h = run.now.world.h.now in
-        let program = run.now.program.now in
-        let sizes = size_in run.now.sizes.now in
-        IsTaken h sizes program machine.old frame s f below → IsTaking h e (sight s f) x.now →
-        MoveAgrees h sizes program (move_by (taken h program (sight s f) (with_frames s (InBody (at_statement f next) ∷ below)) variable x.now.right x.now.conversion) (limit_of sizes (with_frames s (InBody f ∷ below)) (right_demand x.now.right))) machine.new outs.old outs.new done) }
+        IsTakenIn run.now machine.old frame s f below → IsTaking run.now.world.h.now e (sight s f) x.now →
+        MoveAgreesIn run.now (move_by (taken run.now.world.h.now run.now.program.now (sight s f) (gone_on s f next below) variable x.now.right x.now.conversion) (limit_at run.now s f below (right_demand x.now.right))) machine.new outs.old outs.new done) }
 {
     match &x.right {
         TypedRight::Call(call) => {

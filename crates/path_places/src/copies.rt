@@ -50,7 +50,7 @@ pub fn copy(
     to: u32,
     from: u32,
 ) -> Result<(), NoMemory>
-    requires { IsWorld world.now.h.now world.now.numbers.now world.now.overriders.now }
+    requires { IsWorld world.now }
     ensures copied { OnOk result ((s : Objects) (p q : ObjectPart) → HeapStands world.now.h.now heap.old s → Points world.now.h.now s.classes to p → Points world.now.h.now s.classes from q → HasBegun s p → HasBegun s q → class_of p.at ≡ Some c → class_of q.at ≡ Some c → HeapStands world.now.h.now heap.new (copied world.now.h.now c p q s)) }
     ensures kept { OnErr result (heap.new ≡ heap.old) }
 {

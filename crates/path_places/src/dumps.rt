@@ -71,7 +71,7 @@ fn dump_leaf(
     index: u32,
     k: u32,
 ) -> Result<DumpLeaf, NoMemory>
-    requires { IsWorld site.now.world.now.h.now site.now.world.now.numbers.now site.now.world.now.overriders.now }
+    requires { IsWorld site.now.world.now }
     ensures { IfOk result (DumpsLeaf (seen site.now.world.now.h.now site.now.heap.now site.now.object site.now.class) place.now.hops.now place.now.base.now member index k) }
 {
     let value = shown(alloc, site.world, site.heap, site.heap.leaf(k))?;
@@ -96,7 +96,7 @@ fn dump_values(
     count: u32,
     out: &mut Vec<DumpLeaf>,
 ) -> Result<(), NoMemory>
-    requires { IsWorld site.now.world.now.h.now site.now.world.now.numbers.now site.now.world.now.overriders.now }
+    requires { IsWorld site.now.world.now }
     ensures { OnOk result (DumpsValues (seen site.now.world.now.h.now site.now.heap.now site.now.object site.now.class) place.now.hops.now place.now.base.now m k count count out.old.items out.new.items) }
 {
     for i in 0..count {
@@ -117,7 +117,7 @@ fn dump_elements(
     count: u32,
     out: &mut Vec<DumpLeaf>,
 ) -> Result<(), NoMemory>
-    requires world { IsWorld site.now.world.now.h.now site.now.world.now.numbers.now site.now.world.now.overriders.now }
+    requires world { IsWorld site.now.world.now }
     requires known { d.0 < length site.now.world.now.h.now }
     ensures { OnOk result (DumpsElements (seen site.now.world.now.h.now site.now.heap.now site.now.object site.now.class) place.now.hops.now place.now.base.now m d k count count out.old.items out.new.items) }
 {
@@ -142,7 +142,7 @@ fn dump_member(
     k: u32,
     out: &mut Vec<DumpLeaf>,
 ) -> Result<(), NoMemory>
-    requires world { IsWorld site.now.world.now.h.now site.now.world.now.numbers.now site.now.world.now.overriders.now }
+    requires world { IsWorld site.now.world.now }
     requires known { c.0 < length site.now.world.now.h.now }
     requires below { (d : ClassId) → member.now.ty ≡ Object d → d.0 < c.0 }
     ensures { OnOk result (DumpsMember (seen site.now.world.now.h.now site.now.heap.now site.now.object site.now.class) place.now.hops.now place.now.base.now c m member.now k out.old.items out.new.items) }
@@ -165,7 +165,7 @@ fn dump_own(
     k: u32,
     out: &mut Vec<DumpLeaf>,
 ) -> Result<(), NoMemory>
-    requires world { IsWorld site.now.world.now.h.now site.now.world.now.numbers.now site.now.world.now.overriders.now }
+    requires world { IsWorld site.now.world.now }
     requires known { c.0 < length site.now.world.now.h.now }
     ensures { OnOk result (DumpsOwn (seen site.now.world.now.h.now site.now.heap.now site.now.object site.now.class) place.now.hops.now place.now.base.now c k out.old.items out.new.items) }
 {
@@ -188,7 +188,7 @@ fn dump_whole(
     k: u32,
     out: &mut Vec<DumpLeaf>,
 ) -> Result<(), NoMemory>
-    requires world { IsWorld site.now.world.now.h.now site.now.world.now.numbers.now site.now.world.now.overriders.now }
+    requires world { IsWorld site.now.world.now }
     requires known { c.0 < length site.now.world.now.h.now }
     ensures { OnOk result (DumpsWhole (seen site.now.world.now.h.now site.now.heap.now site.now.object site.now.class) hops.now c k out.old.items out.new.items) }
 {
@@ -207,7 +207,7 @@ fn dump_whole(
 ///
 /// Errors: want of memory, also for the heap object behind which no number of 32 bits is left.
 pub fn dump(alloc: Global, world: &World, heap: &Heap, n: u32) -> Result<Out, NoMemory>
-    requires { IsWorld world.now.h.now world.now.numbers.now world.now.overriders.now }
+    requires { IsWorld world.now }
     ensures { IfOk result (λ told. (s : Objects) (p : ObjectPart) → HeapStands world.now.h.now heap.now s → Points world.now.h.now s.classes n p → Some told ≡ object_out world.now.h.now s p.object (slice_get s.classes p.object)) }
 {
     let object = heap.object(n);

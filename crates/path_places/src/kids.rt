@@ -55,7 +55,7 @@ fn item_of(n: u32, size: u32, count: u32) -> Option<(u32, u32)>
 
 /// How far a number stands behind a direct base's, where the base holds it and is not virtual.
 fn base_rest(world: &World, c: ClassId, i: usize, base: &Base<ClassId>, n: u32) -> Option<u32>
-    requires world { IsWorld world.now.h.now world.now.numbers.now world.now.overriders.now }
+    requires world { IsWorld world.now }
     requires known { c.0 < length world.now.h.now }
     requires listed { slice_get (bases_of world.now.h.now c) i ≡ Some base.now }
     ensures { IsBaseRest world.now.h.now c n i base.now result }
@@ -73,7 +73,7 @@ fn base_rest(world: &World, c: ClassId, i: usize, base: &Base<ClassId>, n: u32) 
 
 /// The direct base that holds a number and is not virtual.
 fn base_kid(world: &World, c: ClassId, n: u32) -> Option<Kid>
-    requires world { IsWorld world.now.h.now world.now.numbers.now world.now.overriders.now }
+    requires world { IsWorld world.now }
     requires known { c.0 < length world.now.h.now }
     ensures { IsBaseFound world.now.h.now c n result }
 {
@@ -95,7 +95,7 @@ fn base_kid(world: &World, c: ClassId, n: u32) -> Option<Kid>
 
 /// The element of a member that holds a number, where it is an object.
 fn member_rest(world: &World, c: ClassId, m: usize, member: &Member<ClassId>, n: u32) -> Option<Kid>
-    requires world { IsWorld world.now.h.now world.now.numbers.now world.now.overriders.now }
+    requires world { IsWorld world.now }
     requires known { c.0 < length world.now.h.now }
     requires listed { slice_get (members_of world.now.h.now c) m ≡ Some member.now }
     requires few { m < 4294967296 }
@@ -123,7 +123,7 @@ fn member_rest(world: &World, c: ClassId, m: usize, member: &Member<ClassId>, n:
 
 /// The element of a member that holds a number.
 fn member_kid(world: &World, c: ClassId, n: u32) -> Option<Kid>
-    requires world { IsWorld world.now.h.now world.now.numbers.now world.now.overriders.now }
+    requires world { IsWorld world.now }
     requires known { c.0 < length world.now.h.now }
     ensures { IsMemberFound world.now.h.now c n result }
 {
@@ -140,7 +140,7 @@ fn member_kid(world: &World, c: ClassId, n: u32) -> Option<Kid>
 
 /// How far a number stands behind a virtual base's, where the class is one that holds it.
 fn shared_rest(world: &World, c: ClassId, v: ClassId, n: u32) -> Option<u32>
-    requires world { IsWorld world.now.h.now world.now.numbers.now world.now.overriders.now }
+    requires world { IsWorld world.now }
     requires known { c.0 < length world.now.h.now }
     requires below { v.0 < length world.now.h.now }
     ensures { IsSharedRest world.now.h.now c n v result }
@@ -154,7 +154,7 @@ fn shared_rest(world: &World, c: ClassId, v: ClassId, n: u32) -> Option<u32>
 
 /// The virtual base that holds a number, in a complete object.
 fn shared_kid(world: &World, c: ClassId, n: u32) -> Option<Kid>
-    requires world { IsWorld world.now.h.now world.now.numbers.now world.now.overriders.now }
+    requires world { IsWorld world.now }
     requires known { c.0 < length world.now.h.now }
     ensures { IsSharedFound world.now.h.now c n result }
 {
@@ -180,7 +180,7 @@ fn shared_kid(world: &World, c: ClassId, n: u32) -> Option<Kid>
 
 /// The direct part that holds a number behind that of a part of class c; only a complete object holds its virtual bases.
 pub(crate) fn kid_of(world: &World, c: ClassId, is_full: bool, n: u32) -> Option<Kid>
-    requires { IsWorld world.now.h.now world.now.numbers.now world.now.overriders.now }
+    requires { IsWorld world.now }
     ensures { IsKidFound world.now.h.now c is_full n result }
 {
     world.h.keeps();

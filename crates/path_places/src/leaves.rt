@@ -51,7 +51,7 @@ fn push_elements(
     count: u32,
     leaves: &mut Vec<u32>,
 ) -> Result<(), NoMemory>
-    requires world { IsWorld world.now.h.now world.now.numbers.now world.now.overriders.now }
+    requires world { IsWorld world.now }
     requires known { class.0 < length world.now.h.now }
     ensures { OnOk result (ListsElements world.now.h.now class k count count leaves.old.items leaves.new.items) }
 {
@@ -73,7 +73,7 @@ fn push_member(
     k: u32,
     leaves: &mut Vec<u32>,
 ) -> Result<(), NoMemory>
-    requires world { IsWorld world.now.h.now world.now.numbers.now world.now.overriders.now }
+    requires world { IsWorld world.now }
     requires known { c.0 < length world.now.h.now }
     requires below { (d : ClassId) → member.now.ty ≡ Object d → d.0 < c.0 }
     ensures { OnOk result (ListsMember world.now.h.now c member.now k leaves.old.items leaves.new.items) }
@@ -93,7 +93,7 @@ fn push_own(
     k: u32,
     leaves: &mut Vec<u32>,
 ) -> Result<(), NoMemory>
-    requires world { IsWorld world.now.h.now world.now.numbers.now world.now.overriders.now }
+    requires world { IsWorld world.now }
     requires known { c.0 < length world.now.h.now }
     ensures { OnOk result (ListsOwn world.now.h.now c k leaves.old.items leaves.new.items) }
 {
@@ -115,7 +115,7 @@ fn push_whole(
     k: u32,
     leaves: &mut Vec<u32>,
 ) -> Result<(), NoMemory>
-    requires world { IsWorld world.now.h.now world.now.numbers.now world.now.overriders.now }
+    requires world { IsWorld world.now }
     requires known { c.0 < length world.now.h.now }
     ensures { OnOk result (ListsWhole world.now.h.now c k leaves.old.items leaves.new.items) }
 {
@@ -140,7 +140,7 @@ pub fn leaf_numbers(
     n: u32,
     c: ClassId,
 ) -> Result<Vec<u32>, NoMemory>
-    requires { IsWorld world.now.h.now world.now.numbers.now world.now.overriders.now }
+    requires { IsWorld world.now }
     ensures { IfOk result (λ leaves. (s : Objects) (p : ObjectPart) → HeapStands world.now.h.now heap.now s → Points world.now.h.now s.classes n p → HasBegun s p → class_of p.at ≡ Some c → AllZip (PointsLeaf world.now.h.now s.classes) leaves.items (leaves_of world.now.h.now c p)) }
 {
     let mut leaves = Vec::new(alloc);

@@ -64,7 +64,7 @@ fn walk(
     n: u32,
     hops: &mut Vec<Hop>,
 ) -> Result<(), NoMemory>
-    requires { IsWorld world.now.h.now world.now.numbers.now world.now.overriders.now }
+    requires { IsWorld world.now }
     ensures { OnOk result (Walks world.now.h.now spot n hops.old.items hops.new.items) }
 {
     let Some(kid) = kid_of(world, spot.class, spot.is_full, n) else {
@@ -105,7 +105,7 @@ fn walk(
 ///
 /// Errors: want of memory, also for the heap object behind which no number of 32 bits is left.
 pub fn location(alloc: Global, world: &World, heap: &Heap, n: u32) -> Result<Location, NoMemory>
-    requires { IsWorld world.now.h.now world.now.numbers.now world.now.overriders.now }
+    requires { IsWorld world.now }
     ensures { IfOk result (λ location. (s : Objects) (p : ObjectPart) → HeapStands world.now.h.now heap.now s → Points world.now.h.now s.classes n p → location ≡ location_of s p) }
 {
     let object = heap.object(n);
@@ -128,7 +128,7 @@ pub fn location(alloc: Global, world: &World, heap: &Heap, n: u32) -> Result<Loc
 ///
 /// Errors: want of memory.
 pub fn shown(alloc: Global, world: &World, heap: &Heap, value: Value) -> Result<Shown, NoMemory>
-    requires { IsWorld world.now.h.now world.now.numbers.now world.now.overriders.now }
+    requires { IsWorld world.now }
     ensures { IfOk result (λ told. (s : Objects) (v : ValueOf) → HeapStands world.now.h.now heap.now s → Means world.now.h.now s.classes value v → told ≡ shown s v) }
 {
     match value {

@@ -38,6 +38,7 @@ use Rattle.path_refusals.specs.invariants.Pieces.{Stands, IsValueOf, way_uses}
 use Rattle.path_refusals.proofs.Refused.{clear_rank, goes_on}
 use Rattle.path_refusals.proofs.Reading.{begun_of, arrow_clear, full_none}
 use Rattle.path_refusals.proofs.Paths.{inner_begun}
+use Rattle.path_values.specs.declared.scene.Scene.{Scene}
 
 -- the class of a type, where it is a pointer
 abbrev pub class_in : ValueType ClassId → ClassId
@@ -52,10 +53,10 @@ of_value h s (Pointer p) (NumberType t) a = absurd a
 of_value h s (Pointer p) (PointerType c) a = (a.of_class, (a.class, a.made))
 
 -- the value of a typed operand
-pub operand_value : (h : Classes) (heap : Heap) (globals : List ValueCode) (this : ValueCode) (locals : List ValueCode) (e : Scope) (s : Sight) → Stands h heap globals this locals e s → (x : TypedOperand) (c : ClassId) → HasType e x (PointerType c)
+pub operand_value : (h : Classes) (heap : Heap) (scene : Scene) (e : Scope) (s : Sight) → Stands h heap scene e s → (x : TypedOperand) (c : ClassId) → HasType e x (PointerType c)
     → (v : ValueCode) → Means h s.objects.classes v (value s x) → IsValueOf h heap s.objects v (value s x) c
-operand_value h heap globals this locals e s a x c has v m = record {
-  heap_stands = a.scene.heap_stands;
+operand_value h heap scene e s a x c has v m = record {
+  heap_stands = a.stands.heap_stands;
   means = m;
   settled = a.seen.settled;
   of_class = of_value h s.objects (value s x) (PointerType c) (operand_typed h e s (sight_typed h e s a.seen) x (PointerType c) has);

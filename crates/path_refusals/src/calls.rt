@@ -33,7 +33,7 @@ use path_views::is_pure;
 ///
 /// Errors: want of memory.
 fn part_taken(moment: &Moment, answers: &mut Answers, n: u32, f: FunctionId) -> Refusal
-    requires world { IsWorld moment.now.world.h.now moment.now.world.numbers.now moment.now.world.overriders.now }
+    requires world { IsWorld moment.now.world }
     requires answers { AreAnswers moment.now.world.h.now answers.old }
     ensures answers { AreAnswers moment.now.world.h.now answers.new }
     ensures is { IfOk result (λ rule. (s : Objects) (p : ObjectPart) → HeapStands moment.now.world.h.now moment.now.heap.now s → Points moment.now.world.h.now s.classes n p → HasBegun s p → IsCallable moment.now.world.h.now p f → rule ≡ refused moment.now.world.h.now s (Takes (Pointer p) f ∷ [])) }
@@ -55,7 +55,7 @@ fn taken(
     f: FunctionId,
     is_dispatched: bool,
 ) -> Refusal
-    requires world { IsWorld moment.now.world.h.now moment.now.world.numbers.now moment.now.world.overriders.now }
+    requires world { IsWorld moment.now.world }
     requires answers { AreAnswers moment.now.world.h.now answers.old }
     ensures answers { AreAnswers moment.now.world.h.now answers.new }
     ensures is { IfOk result (λ rule. (s : Objects) (x : ValueOf) → HeapStands moment.now.world.h.now moment.now.heap.now s → Means moment.now.world.h.now s.classes v x → CanTake moment.now.world.h.now s f is_dispatched x → rule ≡ refused moment.now.world.h.now s (takes is_dispatched x f)) }
@@ -95,7 +95,7 @@ fn is_view_needed(call: &TypedCall) -> bool
 ///
 /// Errors: want of memory.
 fn found(moment: &Moment, answers: &mut Answers, v: Value, call: &TypedCall) -> Refusal
-    requires world { IsWorld moment.now.world.h.now moment.now.world.numbers.now moment.now.world.overriders.now }
+    requires world { IsWorld moment.now.world }
     requires answers { AreAnswers moment.now.world.h.now answers.old }
     ensures answers { AreAnswers moment.now.world.h.now answers.new }
     ensures is { IfOk result (λ rule. (s : Objects) (x : ValueOf) (through : ClassId) → IsValueOf moment.now.world.h.now moment.now.heap.now s v x through → names (is_unready s) x ≡ false → IsFound moment.now.world.h.now through call.now → rule ≡ refused moment.now.world.h.now s (found_asked call.now x)) }
@@ -113,7 +113,7 @@ fn found(moment: &Moment, answers: &mut Answers, v: Value, call: &TypedCall) -> 
 ///
 /// Errors: want of memory.
 fn way(moment: &Moment, answers: &mut Answers, v: Value, call: &TypedCall) -> Refusal
-    requires world { IsWorld moment.now.world.h.now moment.now.world.numbers.now moment.now.world.overriders.now }
+    requires world { IsWorld moment.now.world }
     requires answers { AreAnswers moment.now.world.h.now answers.old }
     ensures answers { AreAnswers moment.now.world.h.now answers.new }
     ensures is { IfOk result (λ rule. (s : Objects) (x : ValueOf) (through : ClassId) → IsValueOf moment.now.world.h.now moment.now.heap.now s v x call.now.class → names (is_unready s) x ≡ false → IsWay moment.now.world.h.now call.now.class call.now.qualifier through → IsFound moment.now.world.h.now through call.now → rule ≡ refused moment.now.world.h.now s (way_asked call.now x)) }
@@ -131,7 +131,7 @@ fn way(moment: &Moment, answers: &mut Answers, v: Value, call: &TypedCall) -> Re
 ///
 /// Errors: want of memory.
 fn pointer(moment: &Moment, answers: &mut Answers, v: Value, call: &TypedCall) -> Refusal
-    requires world { IsWorld moment.now.world.h.now moment.now.world.numbers.now moment.now.world.overriders.now }
+    requires world { IsWorld moment.now.world }
     requires answers { AreAnswers moment.now.world.h.now answers.old }
     ensures answers { AreAnswers moment.now.world.h.now answers.new }
     ensures is { IfOk result (λ rule. (s : Objects) (x : ValueOf) (through : ClassId) → IsValueOf moment.now.world.h.now moment.now.heap.now s v x call.now.class → IsWay moment.now.world.h.now call.now.class call.now.qualifier through → IsFound moment.now.world.h.now through call.now → rule ≡ refused moment.now.world.h.now s (arrow x ++ way_asked call.now x)) }
@@ -151,10 +151,10 @@ pub(crate) fn call(
     scene: &Scene,
     call: &TypedCall,
 ) -> Refusal
-    requires world { IsWorld moment.now.world.h.now moment.now.world.numbers.now moment.now.world.overriders.now }
+    requires world { IsWorld moment.now.world }
     requires answers { AreAnswers moment.now.world.h.now answers.old }
     ensures answers { AreAnswers moment.now.world.h.now answers.new }
-    ensures is { IfOk result (λ rule. (e : Scope) (s : Sight) (f : Function ClassId) → Stands moment.now.world.h.now moment.now.heap.now scene.now.globals.now scene.now.this scene.now.locals.now e s → IsCall moment.now.world.h.now e call.now f → rule ≡ refused moment.now.world.h.now s.objects (call_uses s call.now)) }
+    ensures is { IfOk result (λ rule. (e : Scope) (s : Sight) (f : Function ClassId) → Stands moment.now.world.h.now moment.now.heap.now scene.now e s → IsCall moment.now.world.h.now e call.now f → rule ≡ refused moment.now.world.h.now s.objects (call_uses s call.now)) }
 {
     let v = value(scene, &call.pointer);
     let to = pointer(moment, answers, v, call)?;

@@ -34,7 +34,7 @@ fn part_down(
     target: ClassId,
     i: &Subobject,
 ) -> Refusal
-    requires world { IsWorld moment.now.world.h.now moment.now.world.numbers.now moment.now.world.overriders.now }
+    requires world { IsWorld moment.now.world }
     requires answers { AreAnswers moment.now.world.h.now answers.old }
     ensures answers { AreAnswers moment.now.world.h.now answers.new }
     ensures is { IfOk result (ReadyRefuses moment.now.world.h.now moment.now.heap.now n (λ p. Downs (Pointer p) target i.now ∷ [])) }
@@ -65,7 +65,7 @@ fn down_of(
     target: ClassId,
     i: &Subobject,
 ) -> Refusal
-    requires world { IsWorld moment.now.world.h.now moment.now.world.numbers.now moment.now.world.overriders.now }
+    requires world { IsWorld moment.now.world }
     requires answers { AreAnswers moment.now.world.h.now answers.old }
     ensures answers { AreAnswers moment.now.world.h.now answers.new }
     ensures is { IfOk result (SteadyRefuses moment.now.world.h.now moment.now.heap.now v (λ x. Downs x target i.now ∷ [])) }
@@ -88,7 +88,7 @@ fn down_cast(
     target: ClassId,
     i: &Subobject,
 ) -> Refusal
-    requires world { IsWorld moment.now.world.h.now moment.now.world.numbers.now moment.now.world.overriders.now }
+    requires world { IsWorld moment.now.world }
     requires answers { AreAnswers moment.now.world.h.now answers.old }
     ensures answers { AreAnswers moment.now.world.h.now answers.new }
     ensures is { IfOk result (Refuses moment.now.world.h.now moment.now.heap.now v (λ x. Reads x ∷ (Guards x ∷ Downs x target i.now ∷ []))) }
@@ -108,7 +108,7 @@ pub(crate) fn cast_rule(
     v: Value,
     how: &TypedCast,
 ) -> Refusal
-    requires world { IsWorld moment.now.world.h.now moment.now.world.numbers.now moment.now.world.overriders.now }
+    requires world { IsWorld moment.now.world }
     requires answers { AreAnswers moment.now.world.h.now answers.old }
     ensures answers { AreAnswers moment.now.world.h.now answers.new }
     ensures is { IfOk result (Refuses moment.now.world.h.now moment.now.heap.now v (cast_uses how.now)) }
@@ -130,7 +130,7 @@ fn part_cast(
     n: u32,
     how: &TypedCast,
 ) -> Result<Value, NoMemory>
-    requires world { IsWorld moment.now.world.h.now moment.now.world.numbers.now moment.now.world.overriders.now }
+    requires world { IsWorld moment.now.world }
     requires answers { AreAnswers moment.now.world.h.now answers.old }
     ensures answers { AreAnswers moment.now.world.h.now answers.new }
     ensures is { IfOk result (λ v. (s : Objects) (p : ObjectPart) (c d : ClassId) → IsReadyPart moment.now.world.h.now moment.now.heap.now s n p c → Casts moment.now.world.h.now c how.now d → Means moment.now.world.h.now s.classes v (cast_value moment.now.world.h.now s how.now (Pointer p))) }
@@ -170,7 +170,7 @@ fn part_cast_converted(
     how: &TypedCast,
     c: &Conversion,
 ) -> Refusal
-    requires world { IsWorld moment.now.world.h.now moment.now.world.numbers.now moment.now.world.overriders.now }
+    requires world { IsWorld moment.now.world }
     requires answers { AreAnswers moment.now.world.h.now answers.old }
     ensures answers { AreAnswers moment.now.world.h.now answers.new }
     ensures is { IfOk result (λ rule. (s : Objects) (p : ObjectPart) (from to : ClassId) → IsReadyPart moment.now.world.h.now moment.now.heap.now s n p from → Casts moment.now.world.h.now from how.now to → rule ≡ refused moment.now.world.h.now s (convert (cast_value moment.now.world.h.now s how.now (Pointer p)) c.now)) }
@@ -196,7 +196,7 @@ pub(crate) fn cast_converted(
     how: &TypedCast,
     c: &Conversion,
 ) -> Refusal
-    requires world { IsWorld moment.now.world.h.now moment.now.world.numbers.now moment.now.world.overriders.now }
+    requires world { IsWorld moment.now.world }
     requires answers { AreAnswers moment.now.world.h.now answers.old }
     ensures answers { AreAnswers moment.now.world.h.now answers.new }
     ensures is { IfOk result (CastRefuses moment.now.world.h.now moment.now.heap.now v how.now c.now) }

@@ -29,7 +29,7 @@ use path_values::World;
 
 /// Whether a class has a virtual base: then it takes more numbers in full than as a base.
 pub(crate) fn has_virtual_base(world: &World, c: ClassId) -> bool
-    requires world { IsWorld world.now.h.now world.now.numbers.now world.now.overriders.now }
+    requires world { IsWorld world.now }
     ensures { result ≡ has_virtual_base world.now.h.now c }
 {
     world.h.keeps();
@@ -50,7 +50,7 @@ fn member_at(members: &[Member<ClassId>], i: usize) -> &Member<ClassId>
 /// Whether an element of class d is ready, and the class members in it.
 #[cycle(covers)]
 fn is_element_covered(moment: &Moment, e: u32, d: ClassId) -> bool
-    requires world { IsWorld moment.now.world.h.now moment.now.world.numbers.now moment.now.world.overriders.now }
+    requires world { IsWorld moment.now.world }
     ensures { (s : Objects) (p : ObjectPart) (k : ℕ) → HeapStands moment.now.world.h.now moment.now.heap.now s → Points moment.now.world.h.now s.classes e p → Settled moment.now.world.h.now p.object s.phases → class_of p.at ≡ Some d → d.0 < k → Covers moment.now.world.h.now s result (Passes p ∷ asked_covers moment.now.world.h.now k d p) }
 {
     if is_unready(moment.heap, e) {
@@ -62,7 +62,7 @@ fn is_element_covered(moment: &Moment, e: u32, d: ClassId) -> bool
 /// Whether all elements of a member of a part that is ready are covered.
 #[cycle(covers)]
 fn is_member_covered(moment: &Moment, n: u32, c: ClassId, m: u32, member: &Member<ClassId>) -> bool
-    requires world { IsWorld moment.now.world.h.now moment.now.world.numbers.now moment.now.world.overriders.now }
+    requires world { IsWorld moment.now.world }
     requires listed { slice_get (members_of moment.now.world.h.now c) m ≡ Some member.now }
     ensures { (s : Objects) (p : ObjectPart) (k : ℕ) → IsReadyPart moment.now.world.h.now moment.now.heap.now s n p c → c.0 ≤ k → Covers moment.now.world.h.now s result (member_uses (asked_covers moment.now.world.h.now k) p m (Some member.now)) }
 {
@@ -86,7 +86,7 @@ fn is_member_covered(moment: &Moment, n: u32, c: ClassId, m: u32, member: &Membe
 /// complete all are.
 #[cycle(covers)]
 fn is_covered(moment: &Moment, n: u32, c: ClassId) -> bool
-    requires world { IsWorld moment.now.world.h.now moment.now.world.numbers.now moment.now.world.overriders.now }
+    requires world { IsWorld moment.now.world }
     ensures { (s : Objects) (p : ObjectPart) (k : ℕ) → IsReadyPart moment.now.world.h.now moment.now.heap.now s n p c → c.0 < k → Covers moment.now.world.h.now s result (asked_covers moment.now.world.h.now k c p) }
 {
     moment.world.h.keeps();
@@ -109,7 +109,7 @@ fn is_covered(moment: &Moment, n: u32, c: ClassId) -> bool
 ///
 /// Errors: want of memory.
 fn covered(moment: &Moment, answers: &mut Answers, v: Value, c: ClassId, needed: bool) -> Refusal
-    requires world { IsWorld moment.now.world.h.now moment.now.world.numbers.now moment.now.world.overriders.now }
+    requires world { IsWorld moment.now.world }
     requires answers { AreAnswers moment.now.world.h.now answers.old }
     ensures answers { AreAnswers moment.now.world.h.now answers.new }
     ensures is { IfOk result (OpenRefuses moment.now.world.h.now moment.now.heap.now v c (λ x. views needed x ++ asked_covered moment.now.world.h.now c x)) }
@@ -137,7 +137,7 @@ pub(crate) fn side(
     c: ClassId,
     needed: bool,
 ) -> Refusal
-    requires world { IsWorld moment.now.world.h.now moment.now.world.numbers.now moment.now.world.overriders.now }
+    requires world { IsWorld moment.now.world }
     requires answers { AreAnswers moment.now.world.h.now answers.old }
     ensures answers { AreAnswers moment.now.world.h.now answers.new }
     ensures is { IfOk result (TypedRefuses moment.now.world.h.now moment.now.heap.now v c (λ x. arrow x ++ (views needed x ++ asked_covered moment.now.world.h.now c x))) }

@@ -26,7 +26,7 @@ use path_values::World;
 
 /// Whether a class has a virtual destructor (ISO C++03 10.3, 12.4 p7).
 fn has_virtual_destructor(world: &World, c: ClassId) -> bool
-    requires world { IsWorld world.now.h.now world.now.numbers.now world.now.overriders.now }
+    requires world { IsWorld world.now }
     ensures { result ≡ is_virtual world.now.h.now (destructor_of world.now.h.now c) }
 {
     world.h.keeps();
@@ -112,7 +112,7 @@ fn deleted_of(heap: &Heap, v: Value, is_virtual: bool) -> Option<Undefined>
 ///
 /// Errors: want of memory.
 pub(crate) fn delete(moment: &Moment, answers: &mut Answers, v: Value, c: ClassId) -> Refusal
-    requires world { IsWorld moment.now.world.h.now moment.now.world.numbers.now moment.now.world.overriders.now }
+    requires world { IsWorld moment.now.world }
     requires answers { AreAnswers moment.now.world.h.now answers.old }
     ensures answers { AreAnswers moment.now.world.h.now answers.new }
     ensures is { IfOk result (Refuses moment.now.world.h.now moment.now.heap.now v (λ x. Reads x ∷ (Guards x ∷ (views (is_virtual moment.now.world.h.now (destructor_of moment.now.world.h.now c)) x ++ Deletes x (is_virtual moment.now.world.h.now (destructor_of moment.now.world.h.now c)) ∷ [])))) }

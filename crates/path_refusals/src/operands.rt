@@ -29,10 +29,10 @@ pub(crate) fn argument(
     scene: &Scene,
     a: &Argument,
 ) -> Refusal
-    requires world { IsWorld moment.now.world.h.now moment.now.world.numbers.now moment.now.world.overriders.now }
+    requires world { IsWorld moment.now.world }
     requires answers { AreAnswers moment.now.world.h.now answers.old }
     ensures answers { AreAnswers moment.now.world.h.now answers.new }
-    ensures is { IfOk result (SightRefuses moment.now.world.h.now moment.now.heap.now scene.now.globals.now scene.now.this scene.now.locals.now (λ s. argument_uses s a.now)) }
+    ensures is { IfOk result (SightRefuses moment.now.world.h.now moment.now.heap.now scene.now (λ s. argument_uses s a.now)) }
 {
     let v = value(scene, &a.operand);
     read_converted(moment, answers, v, &a.conversion)
@@ -48,10 +48,10 @@ pub(crate) fn two_arguments(
     a: &Argument,
     b: &Argument,
 ) -> Refusal
-    requires world { IsWorld moment.now.world.h.now moment.now.world.numbers.now moment.now.world.overriders.now }
+    requires world { IsWorld moment.now.world }
     requires answers { AreAnswers moment.now.world.h.now answers.old }
     ensures answers { AreAnswers moment.now.world.h.now answers.new }
-    ensures is { IfOk result (SightRefuses moment.now.world.h.now moment.now.heap.now scene.now.globals.now scene.now.this scene.now.locals.now (λ s. argument_uses s a.now ++ argument_uses s b.now)) }
+    ensures is { IfOk result (SightRefuses moment.now.world.h.now moment.now.heap.now scene.now (λ s. argument_uses s a.now ++ argument_uses s b.now)) }
 {
     let left = argument(moment, answers, scene, a)?;
     let right = argument(moment, answers, scene, b)?;
@@ -67,10 +67,10 @@ pub(crate) fn arguments(
     scene: &Scene,
     list: &[Argument],
 ) -> Refusal
-    requires world { IsWorld moment.now.world.h.now moment.now.world.numbers.now moment.now.world.overriders.now }
+    requires world { IsWorld moment.now.world }
     requires answers { AreAnswers moment.now.world.h.now answers.old }
     ensures answers { AreAnswers moment.now.world.h.now answers.new }
-    ensures is { IfOk result (SightRefuses moment.now.world.h.now moment.now.heap.now scene.now.globals.now scene.now.this scene.now.locals.now (λ s. flat_map (argument_uses s) list.now)) }
+    ensures is { IfOk result (SightRefuses moment.now.world.h.now moment.now.heap.now scene.now (λ s. flat_map (argument_uses s) list.now)) }
 {
     let mut first = None;
     for a in list {
@@ -81,7 +81,7 @@ pub(crate) fn arguments(
 
 /// What an operand breaks that is read.
 pub(crate) fn read(heap: &Heap, scene: &Scene, x: &TypedOperand) -> Option<Undefined>
-    ensures { (h : Classes) → SightRefuses h heap.now scene.now.globals.now scene.now.this scene.now.locals.now (λ s. Reads (value s x.now) ∷ []) result }
+    ensures { (h : Classes) → SightRefuses h heap.now scene.now (λ s. Reads (value s x.now) ∷ []) result }
 {
     reads(heap, value(scene, x))
 }
@@ -95,7 +95,7 @@ pub(crate) fn calculation(
     x: &TypedOperand,
     y: &TypedOperand,
 ) -> Option<Undefined>
-    ensures { (h : Classes) → SightRefuses h heap.now scene.now.globals.now scene.now.this scene.now.locals.now (λ s. Reads (value s x.now) ∷ Reads (value s y.now) ∷ Overflows op t (value s x.now) (value s y.now) ∷ []) result }
+    ensures { (h : Classes) → SightRefuses h heap.now scene.now (λ s. Reads (value s x.now) ∷ Reads (value s y.now) ∷ Overflows op t (value s x.now) (value s y.now) ∷ []) result }
 {
     let a = value(scene, x);
     let b = value(scene, y);

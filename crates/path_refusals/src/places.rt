@@ -25,7 +25,7 @@ use path_values::passed_number;
 /// What the class members on a path break, from a part that is ready: the first one that is not. Those behind a virtual base
 /// are ready.
 fn members(moment: &Moment, n: u32, path: &[PassedMember]) -> Option<Undefined>
-    requires world { IsWorld moment.now.world.h.now moment.now.world.numbers.now moment.now.world.overriders.now }
+    requires world { IsWorld moment.now.world }
     ensures { (s : Objects) (p : ObjectPart) (c : ClassId) (last : Subobject) → IsReadyPart moment.now.world.h.now moment.now.heap.now s n p c → IsPath moment.now.world.h.now c path.now last → result ≡ refused moment.now.world.h.now s (asked_members p path.now) }
 {
     match path {
@@ -57,7 +57,7 @@ fn first_base(place: &TypedPlace) -> &Subobject
 ///
 /// Errors: want of memory.
 fn path(moment: &Moment, answers: &mut Answers, v: Value, place: &TypedPlace) -> Refusal
-    requires world { IsWorld moment.now.world.h.now moment.now.world.numbers.now moment.now.world.overriders.now }
+    requires world { IsWorld moment.now.world }
     requires answers { AreAnswers moment.now.world.h.now answers.old }
     ensures answers { AreAnswers moment.now.world.h.now answers.new }
     ensures is { IsPath moment.now.world.h.now place.now.class place.now.passed place.now.base → IfOk result (OpenRefuses moment.now.world.h.now moment.now.heap.now v place.now.class (path_asked place.now)) }
@@ -77,7 +77,7 @@ fn path(moment: &Moment, answers: &mut Answers, v: Value, place: &TypedPlace) ->
 ///
 /// Errors: want of memory.
 pub(crate) fn place(moment: &Moment, answers: &mut Answers, v: Value, place: &TypedPlace) -> Refusal
-    requires world { IsWorld moment.now.world.h.now moment.now.world.numbers.now moment.now.world.overriders.now }
+    requires world { IsWorld moment.now.world }
     requires answers { AreAnswers moment.now.world.h.now answers.old }
     ensures answers { AreAnswers moment.now.world.h.now answers.new }
     ensures is { IsPath moment.now.world.h.now place.now.class place.now.passed place.now.base → IfOk result (TypedRefuses moment.now.world.h.now moment.now.heap.now v place.now.class (way_uses place.now)) }

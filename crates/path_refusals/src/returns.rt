@@ -27,10 +27,10 @@ pub(crate) fn result(
     found: &Conversion,
     target: &Conversion,
 ) -> Refusal
-    requires world { IsWorld moment.now.world.h.now moment.now.world.numbers.now moment.now.world.overriders.now }
+    requires world { IsWorld moment.now.world }
     requires answers { AreAnswers moment.now.world.h.now answers.old }
     ensures answers { AreAnswers moment.now.world.h.now answers.new }
-    ensures is { IfOk result (λ rule. (s : Sight) (w : Wanted) → SceneStands moment.now.world.h.now moment.now.heap.now scene.now.globals.now scene.now.this scene.now.locals.now s → AllSettled moment.now.world.h.now s.objects → w.found ≡ found.now → w.target ≡ target.now → IsReturn moment.now.world.h.now s w (Some a.now) → rule ≡ refused moment.now.world.h.now s.objects (return_uses s w (Some a.now))) }
+    ensures is { IfOk result (λ rule. (s : Sight) (w : Wanted) → SceneStands moment.now.world.h.now moment.now.heap.now scene.now s → AllSettled moment.now.world.h.now s.objects → w.found ≡ found.now → w.target ≡ target.now → IsReturn moment.now.world.h.now s w (Some a.now) → rule ≡ refused moment.now.world.h.now s.objects (return_uses s w (Some a.now))) }
 {
     let v = value(scene, &a.operand);
     match read_converted(moment, answers, v, &a.conversion)? {

@@ -29,7 +29,7 @@ use path_values::{Scene, address_number, leaf_number, value};
 
 /// The value of the leaf to which a place leads that breaks no rule, by the value of its pointer.
 fn leaf_of(moment: &Moment, v: Value, place: &TypedPlace) -> Value
-    requires world { IsWorld moment.now.world.h.now moment.now.world.numbers.now moment.now.world.overriders.now }
+    requires world { IsWorld moment.now.world }
     ensures { (e : Scope) (s : Sight) (x : ValueOf) (t : ValueType ClassId) → IsValueOf moment.now.world.h.now moment.now.heap.now s.objects v x place.now.class → IsPlace moment.now.world.h.now e place.now (ValueField t) → None ≡ refused moment.now.world.h.now s.objects (way_uses place.now x) → Means moment.now.world.h.now s.objects.classes result (leaf_value s place.now x) }
 {
     match v {
@@ -44,7 +44,7 @@ fn leaf_of(moment: &Moment, v: Value, place: &TypedPlace) -> Value
 
 /// A pointer to the class member to which a place leads that breaks no rule, by the value of its pointer.
 fn address_of(moment: &Moment, v: Value, place: &TypedPlace) -> Value
-    requires world { IsWorld moment.now.world.h.now moment.now.world.numbers.now moment.now.world.overriders.now }
+    requires world { IsWorld moment.now.world }
     ensures { (e : Scope) (s : Sight) (x : ValueOf) (d : ClassId) → IsValueOf moment.now.world.h.now moment.now.heap.now s.objects v x place.now.class → IsPlace moment.now.world.h.now e place.now (Object d) → None ≡ refused moment.now.world.h.now s.objects (way_uses place.now x) → Means moment.now.world.h.now s.objects.classes result (address_value place.now d x) }
 {
     match v {
@@ -65,10 +65,10 @@ fn loaded(
     from: &TypedPlace,
     c: &Conversion,
 ) -> Refusal
-    requires world { IsWorld moment.now.world.h.now moment.now.world.numbers.now moment.now.world.overriders.now }
+    requires world { IsWorld moment.now.world }
     requires answers { AreAnswers moment.now.world.h.now answers.old }
     ensures answers { AreAnswers moment.now.world.h.now answers.new }
-    ensures is { IfOk result (λ rule. (e : Scope) (s : Sight) (t : ValueType ClassId) → Stands moment.now.world.h.now moment.now.heap.now scene.now.globals.now scene.now.this scene.now.locals.now e s → IsPlace moment.now.world.h.now e from.now (ValueField t) → rule ≡ refused moment.now.world.h.now s.objects (right_uses moment.now.world.h.now (is_clear moment.now.world.h.now s.objects) s (Read from.now) c.now)) }
+    ensures is { IfOk result (λ rule. (e : Scope) (s : Sight) (t : ValueType ClassId) → Stands moment.now.world.h.now moment.now.heap.now scene.now e s → IsPlace moment.now.world.h.now e from.now (ValueField t) → rule ≡ refused moment.now.world.h.now s.objects (right_uses moment.now.world.h.now (is_clear moment.now.world.h.now s.objects) s (Read from.now) c.now)) }
 {
     let v = value(scene, &from.pointer);
     match place(moment, answers, v, from)? {
@@ -90,10 +90,10 @@ fn addressed(
     of: &TypedPlace,
     c: &Conversion,
 ) -> Refusal
-    requires world { IsWorld moment.now.world.h.now moment.now.world.numbers.now moment.now.world.overriders.now }
+    requires world { IsWorld moment.now.world }
     requires answers { AreAnswers moment.now.world.h.now answers.old }
     ensures answers { AreAnswers moment.now.world.h.now answers.new }
-    ensures is { IfOk result (λ rule. (e : Scope) (s : Sight) (d : ClassId) → Stands moment.now.world.h.now moment.now.heap.now scene.now.globals.now scene.now.this scene.now.locals.now e s → IsPlace moment.now.world.h.now e of.now (Object d) → rule ≡ refused moment.now.world.h.now s.objects (right_uses moment.now.world.h.now (is_clear moment.now.world.h.now s.objects) s (Address of.now d) c.now)) }
+    ensures is { IfOk result (λ rule. (e : Scope) (s : Sight) (d : ClassId) → Stands moment.now.world.h.now moment.now.heap.now scene.now e s → IsPlace moment.now.world.h.now e of.now (Object d) → rule ≡ refused moment.now.world.h.now s.objects (right_uses moment.now.world.h.now (is_clear moment.now.world.h.now s.objects) s (Address of.now d) c.now)) }
 {
     let v = value(scene, &of.pointer);
     match place(moment, answers, v, of)? {
@@ -116,10 +116,10 @@ fn casted(
     x: &TypedOperand,
     c: &Conversion,
 ) -> Refusal
-    requires world { IsWorld moment.now.world.h.now moment.now.world.numbers.now moment.now.world.overriders.now }
+    requires world { IsWorld moment.now.world }
     requires answers { AreAnswers moment.now.world.h.now answers.old }
     ensures answers { AreAnswers moment.now.world.h.now answers.new }
-    ensures is { IfOk result (λ rule. (e : Scope) (s : Sight) (from to : ClassId) → Stands moment.now.world.h.now moment.now.heap.now scene.now.globals.now scene.now.this scene.now.locals.now e s → HasType e x.now (PointerType from) → Casts moment.now.world.h.now from how.now to → rule ≡ refused moment.now.world.h.now s.objects (right_uses moment.now.world.h.now (is_clear moment.now.world.h.now s.objects) s (Cast how.now x.now) c.now)) }
+    ensures is { IfOk result (λ rule. (e : Scope) (s : Sight) (from to : ClassId) → Stands moment.now.world.h.now moment.now.heap.now scene.now e s → HasType e x.now (PointerType from) → Casts moment.now.world.h.now from how.now to → rule ≡ refused moment.now.world.h.now s.objects (right_uses moment.now.world.h.now (is_clear moment.now.world.h.now s.objects) s (Cast how.now x.now) c.now)) }
 {
     let v = value(scene, x);
     match cast_rule(moment, answers, v, how)? {
@@ -138,10 +138,10 @@ pub(crate) fn right(
     right: &TypedRight,
     c: &Conversion,
 ) -> Refusal
-    requires world { IsWorld moment.now.world.h.now moment.now.world.numbers.now moment.now.world.overriders.now }
+    requires world { IsWorld moment.now.world }
     requires answers { AreAnswers moment.now.world.h.now answers.old }
     ensures answers { AreAnswers moment.now.world.h.now answers.new }
-    ensures is { IfOk result (λ rule. (e : Scope) (s : Sight) (t : ValueType ClassId) → Stands moment.now.world.h.now moment.now.heap.now scene.now.globals.now scene.now.this scene.now.locals.now e s → HasRight moment.now.world.h.now e right.now t → rule ≡ refused moment.now.world.h.now s.objects (right_uses moment.now.world.h.now (is_clear moment.now.world.h.now s.objects) s right.now c.now)) }
+    ensures is { IfOk result (λ rule. (e : Scope) (s : Sight) (t : ValueType ClassId) → Stands moment.now.world.h.now moment.now.heap.now scene.now e s → HasRight moment.now.world.h.now e right.now t → rule ≡ refused moment.now.world.h.now s.objects (right_uses moment.now.world.h.now (is_clear moment.now.world.h.now s.objects) s right.now c.now)) }
 {
     match right {
         TypedRight::Operand(x) => {

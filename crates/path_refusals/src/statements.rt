@@ -41,10 +41,10 @@ fn written(
     to: &TypedPlace,
     x: &Argument,
 ) -> Refusal
-    requires world { IsWorld moment.now.world.h.now moment.now.world.numbers.now moment.now.world.overriders.now }
+    requires world { IsWorld moment.now.world }
     requires answers { AreAnswers moment.now.world.h.now answers.old }
     ensures answers { AreAnswers moment.now.world.h.now answers.new }
-    ensures is { IfOk result (λ rule. (e : Scope) (s : Sight) (w : Wanted) (t : ValueType ClassId) → Stands moment.now.world.h.now moment.now.heap.now scene.now.globals.now scene.now.this scene.now.locals.now e s → IsPlace moment.now.world.h.now e to.now (ValueField t) → rule ≡ refusal moment.now.world.h.now s w (Write to.now x.now)) }
+    ensures is { IfOk result (λ rule. (e : Scope) (s : Sight) (w : Wanted) (t : ValueType ClassId) → Stands moment.now.world.h.now moment.now.heap.now scene.now e s → IsPlace moment.now.world.h.now e to.now (ValueField t) → rule ≡ refusal moment.now.world.h.now s w (Write to.now x.now)) }
 {
     let v = value(scene, &to.pointer);
     let left = place(moment, answers, v, to)?;
@@ -63,10 +63,10 @@ fn copied(
     from: &TypedOperand,
     c: ClassId,
 ) -> Refusal
-    requires world { IsWorld moment.now.world.h.now moment.now.world.numbers.now moment.now.world.overriders.now }
+    requires world { IsWorld moment.now.world }
     requires answers { AreAnswers moment.now.world.h.now answers.old }
     ensures answers { AreAnswers moment.now.world.h.now answers.new }
-    ensures is { IfOk result (λ rule. (e : Scope) (s : Sight) (w : Wanted) → Stands moment.now.world.h.now moment.now.heap.now scene.now.globals.now scene.now.this scene.now.locals.now e s → HasType e to.now (PointerType c) → HasType e from.now (PointerType c) → rule ≡ refusal moment.now.world.h.now s w (Copy to.now from.now c)) }
+    ensures is { IfOk result (λ rule. (e : Scope) (s : Sight) (w : Wanted) → Stands moment.now.world.h.now moment.now.heap.now scene.now e s → HasType e to.now (PointerType c) → HasType e from.now (PointerType c) → rule ≡ refusal moment.now.world.h.now s w (Copy to.now from.now c)) }
 {
     let needed = has_virtual_base(&moment.world, c);
     let v = value(scene, to);
@@ -85,10 +85,10 @@ fn declared(
     scene: &Scene,
     from: &Option<Converted>,
 ) -> Refusal
-    requires world { IsWorld moment.now.world.h.now moment.now.world.numbers.now moment.now.world.overriders.now }
+    requires world { IsWorld moment.now.world }
     requires answers { AreAnswers moment.now.world.h.now answers.old }
     ensures answers { AreAnswers moment.now.world.h.now answers.new }
-    ensures is { IfOk result (λ rule. (e : Scope) (s : Sight) (w : Wanted) (n : ℕ) → SceneStands moment.now.world.h.now moment.now.heap.now scene.now.globals.now scene.now.this scene.now.locals.now s → IsGiven moment.now.world.h.now e s w (Declare n from.now) → rule ≡ refusal moment.now.world.h.now s w (Declare n from.now)) }
+    ensures is { IfOk result (λ rule. (e : Scope) (s : Sight) (w : Wanted) (n : ℕ) → SceneStands moment.now.world.h.now moment.now.heap.now scene.now s → IsGiven moment.now.world.h.now e s w (Declare n from.now) → rule ≡ refusal moment.now.world.h.now s w (Declare n from.now)) }
 {
     match from {
         Some(x) => right(moment, answers, scene, &x.right, &x.conversion),
@@ -107,10 +107,10 @@ fn returned(
     found: &Conversion,
     target: &Conversion,
 ) -> Refusal
-    requires world { IsWorld moment.now.world.h.now moment.now.world.numbers.now moment.now.world.overriders.now }
+    requires world { IsWorld moment.now.world }
     requires answers { AreAnswers moment.now.world.h.now answers.old }
     ensures answers { AreAnswers moment.now.world.h.now answers.new }
-    ensures is { IfOk result (λ rule. (e : Scope) (s : Sight) (w : Wanted) → SceneStands moment.now.world.h.now moment.now.heap.now scene.now.globals.now scene.now.this scene.now.locals.now s → IsGiven moment.now.world.h.now e s w (Return from.now) → w.found ≡ found.now → w.target ≡ target.now → rule ≡ refusal moment.now.world.h.now s w (Return from.now)) }
+    ensures is { IfOk result (λ rule. (e : Scope) (s : Sight) (w : Wanted) → SceneStands moment.now.world.h.now moment.now.heap.now scene.now s → IsGiven moment.now.world.h.now e s w (Return from.now) → w.found ≡ found.now → w.target ≡ target.now → rule ≡ refusal moment.now.world.h.now s w (Return from.now)) }
 {
     match from {
         Some(a) => result(moment, answers, scene, a, found, target),
@@ -129,10 +129,10 @@ pub fn refusal(
     target: &Conversion,
     kind: &TypedKind,
 ) -> Refusal
-    requires world { IsWorld moment.now.world.h.now moment.now.world.numbers.now moment.now.world.overriders.now }
+    requires world { IsWorld moment.now.world }
     requires answers { AreAnswers moment.now.world.h.now answers.old }
     ensures answers { AreAnswers moment.now.world.h.now answers.new }
-    ensures is { IfOk result (λ rule. (e : Scope) (s : Sight) (w : Wanted) → SceneStands moment.now.world.h.now moment.now.heap.now scene.now.globals.now scene.now.this scene.now.locals.now s → IsGiven moment.now.world.h.now e s w kind.now → w.found ≡ found.now → w.target ≡ target.now → rule ≡ refusal moment.now.world.h.now s w kind.now) }
+    ensures is { IfOk result (λ rule. (e : Scope) (s : Sight) (w : Wanted) → SceneStands moment.now.world.h.now moment.now.heap.now scene.now s → IsGiven moment.now.world.h.now e s w kind.now → w.found ≡ found.now → w.target ≡ target.now → rule ≡ refusal moment.now.world.h.now s w kind.now) }
 {
     match kind {
         TypedKind::Declare(_, x) => declared(moment, answers, scene, x),

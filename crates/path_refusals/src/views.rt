@@ -30,7 +30,7 @@ pub(crate) fn is_shared(i: &Subobject) -> bool
 ///
 /// Errors: want of memory.
 pub(crate) fn view(moment: &Moment, answers: &mut Answers, n: u32, needed: bool) -> Refusal
-    requires world { IsWorld moment.now.world.h.now moment.now.world.numbers.now moment.now.world.overriders.now }
+    requires world { IsWorld moment.now.world }
     requires answers { AreAnswers moment.now.world.h.now answers.old }
     ensures answers { AreAnswers moment.now.world.h.now answers.new }
     ensures is { IfOk result (ReadyRefuses moment.now.world.h.now moment.now.heap.now n (λ p. views needed (Pointer p))) }
@@ -49,7 +49,7 @@ pub(crate) fn view(moment: &Moment, answers: &mut Answers, n: u32, needed: bool)
 ///
 /// Errors: want of memory.
 pub(crate) fn view_of(moment: &Moment, answers: &mut Answers, v: Value, needed: bool) -> Refusal
-    requires world { IsWorld moment.now.world.h.now moment.now.world.numbers.now moment.now.world.overriders.now }
+    requires world { IsWorld moment.now.world }
     requires answers { AreAnswers moment.now.world.h.now answers.old }
     ensures answers { AreAnswers moment.now.world.h.now answers.new }
     ensures is { IfOk result (SteadyRefuses moment.now.world.h.now moment.now.heap.now v (λ x. views needed x)) }
@@ -66,7 +66,7 @@ pub(crate) fn view_of(moment: &Moment, answers: &mut Answers, v: Value, needed: 
 ///
 /// Errors: want of memory.
 pub(crate) fn guard_view(moment: &Moment, answers: &mut Answers, n: u32, needed: bool) -> Refusal
-    requires world { IsWorld moment.now.world.h.now moment.now.world.numbers.now moment.now.world.overriders.now }
+    requires world { IsWorld moment.now.world }
     requires answers { AreAnswers moment.now.world.h.now answers.old }
     ensures answers { AreAnswers moment.now.world.h.now answers.new }
     ensures is { IfOk result (PartRefuses moment.now.world.h.now moment.now.heap.now n (λ p. Guards (Pointer p) ∷ views needed (Pointer p))) }
@@ -86,7 +86,7 @@ pub(crate) fn guard_view_of(
     v: Value,
     needed: bool,
 ) -> Refusal
-    requires world { IsWorld moment.now.world.h.now moment.now.world.numbers.now moment.now.world.overriders.now }
+    requires world { IsWorld moment.now.world }
     requires answers { AreAnswers moment.now.world.h.now answers.old }
     ensures answers { AreAnswers moment.now.world.h.now answers.new }
     ensures is { IfOk result (Refuses moment.now.world.h.now moment.now.heap.now v (λ x. Guards x ∷ views needed x)) }
@@ -103,7 +103,7 @@ pub(crate) fn guard_view_of(
 ///
 /// Errors: want of memory.
 pub(crate) fn read_view(moment: &Moment, answers: &mut Answers, v: Value, needed: bool) -> Refusal
-    requires world { IsWorld moment.now.world.h.now moment.now.world.numbers.now moment.now.world.overriders.now }
+    requires world { IsWorld moment.now.world }
     requires answers { AreAnswers moment.now.world.h.now answers.old }
     ensures answers { AreAnswers moment.now.world.h.now answers.new }
     ensures is { IfOk result (Refuses moment.now.world.h.now moment.now.heap.now v (λ x. Reads x ∷ (Guards x ∷ views needed x))) }
@@ -118,7 +118,7 @@ pub(crate) fn read_view(moment: &Moment, answers: &mut Answers, v: Value, needed
 ///
 /// Errors: want of memory.
 pub(crate) fn convert(moment: &Moment, answers: &mut Answers, v: Value, c: &Conversion) -> Refusal
-    requires world { IsWorld moment.now.world.h.now moment.now.world.numbers.now moment.now.world.overriders.now }
+    requires world { IsWorld moment.now.world }
     requires answers { AreAnswers moment.now.world.h.now answers.old }
     ensures answers { AreAnswers moment.now.world.h.now answers.new }
     ensures is { IfOk result (Refuses moment.now.world.h.now moment.now.heap.now v (λ x. convert x c.now)) }
@@ -140,7 +140,7 @@ pub(crate) fn read_converted(
     v: Value,
     c: &Conversion,
 ) -> Refusal
-    requires world { IsWorld moment.now.world.h.now moment.now.world.numbers.now moment.now.world.overriders.now }
+    requires world { IsWorld moment.now.world }
     requires answers { AreAnswers moment.now.world.h.now answers.old }
     ensures answers { AreAnswers moment.now.world.h.now answers.new }
     ensures is { IfOk result (Refuses moment.now.world.h.now moment.now.heap.now v (λ x. Reads x ∷ convert x c.now)) }
@@ -155,7 +155,7 @@ pub(crate) fn read_converted(
 ///
 /// Errors: want of memory.
 pub(crate) fn arrow_view(moment: &Moment, answers: &mut Answers, v: Value, needed: bool) -> Refusal
-    requires world { IsWorld moment.now.world.h.now moment.now.world.numbers.now moment.now.world.overriders.now }
+    requires world { IsWorld moment.now.world }
     requires answers { AreAnswers moment.now.world.h.now answers.old }
     ensures answers { AreAnswers moment.now.world.h.now answers.new }
     ensures is { IfOk result (Refuses moment.now.world.h.now moment.now.heap.now v (λ x. arrow x ++ views needed x)) }

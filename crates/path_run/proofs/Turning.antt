@@ -7,7 +7,6 @@ use Rattle.cxx_hierarchy.specs.declared.stop.LimitNo.TheVariants.{L9}
 use Rattle.cxx_hierarchy.specs.Classes.{Classes}
 use Rattle.cxx_program.specs.declared.program.TypedProgram.{TypedProgram}
 use Rattle.path_model.specs.declared.outs.Out.{Out}
-use Rattle.path_model.specs.declared.outs.Out.TheVariants.{Number, Pointer, TypeName, Dump, Call, Built, Ending}
 use Rattle.path_model.specs.declared.outs.Turn.{Turn}
 use Rattle.path_model.specs.declared.outs.Turn.TheVariants.{Went, Ended as EndedTurn, Refused, OutOfSteps as NoSteps, Limit as LimitTurn}
 use Rattle.path_model.specs.Runs.{IsRunning, move, outs_at, outs_in, run_of, state_at}
@@ -16,7 +15,8 @@ use Rattle.path_machine.specs.declared.telling.Telling.{Telling}
 use Rattle.path_machine.specs.Tellings.{is_told}
 use Rattle.path_machine.specs.Turns.{IsAtStep, IsInRun, HasEnded, TurnAgrees, taken_by, budget_of, ended_with}
 use Rattle.abi_sound.specs.Places.{Places}
-use Rattle.abi_out.specs.OutTexts.{is_traced, shown, text_of}
+use Rattle.path_model.specs.Outs.{is_traced}
+use Rattle.abi_out.specs.OutTexts.{shown, text_of}
 use Rattle.abi_told.specs.declared.ending.End.{End}
 use Rattle.abi_told.specs.declared.ending.End.TheVariants.{Done, Undefined, OutOfSteps, Limit}
 use Rattle.abi_told.specs.Told.{IsRun, ending_of, text_at, text_limit, told}
@@ -77,29 +77,9 @@ ends_run h l program trace before text end_is goes last = ends_with h l program 
 abbrev pub all_told : Classes → Places → TypedProgram → PathState → List Out
 all_told h l program before = outs_in (move h l.size program (state_at h l.size program (taken_by before)))
 
--- what is told without a trace is what is printed
-is_printed : (out : Out) → is_told false out ≡ not (is_traced out)
-is_printed (Number z) = refl
-is_printed (Pointer at) = refl
-is_printed (TypeName c) = refl
-is_printed (Dump number c leaves) = refl
-is_printed (Call f at) = refl
-is_printed (Built c at) = refl
-is_printed (Ending c at) = refl
-
--- with a trace all is told
-all_is_told : (out : Out) → is_told true out ≡ true
-all_is_told (Number z) = refl
-all_is_told (Pointer at) = refl
-all_is_told (TypeName c) = refl
-all_is_told (Dump number c leaves) = refl
-all_is_told (Call f at) = refl
-all_is_told (Built c at) = refl
-all_is_told (Ending c at) = refl
-
 told_shown : (trace : Bool) (xs : List Out) → filter (is_told trace) xs ≡ shown trace xs
-told_shown true xs = filter_all (is_told true) xs (λ x has. all_is_told x)
-told_shown false xs = filter_same (is_told false) (λ out. not (is_traced out)) xs (λ x has. is_printed x)
+told_shown true xs = filter_all (is_told true) xs (λ x has. or-true (not (is_traced x)))
+told_shown false xs = filter_same (is_told false) (λ out. not (is_traced out)) xs (λ x has. or-false (not (is_traced x)))
 
 -- the lines of what was told are those that the step shows
 all_lines : (h : Classes) (l : Places) (program : TypedProgram) (trace : Bool) (before after : PathState) (lines : List ℕ) (telling : List Out) → HasGoneOn h l program trace before after telling → lines ≡ text_of h l telling → lines ≡ text_of h l (shown trace (all_told h l program before))

@@ -38,7 +38,7 @@ fn run_all<L: SoundLayout>(
     trace: bool,
 ) -> Result<PathRun, NoMemory>
     requires layout { L.lays_out layout.now run.now.world.h.now }
-    requires setup { IsSetup run.now.world.h.now run.now.world.numbers.now run.now.world.overriders.now run.now.program.now run.now.index.now }
+    requires setup { IsSetup run.now }
     requires main { is_body run.now.program.now.main ≡ true }
     requires sizes { size_in run.now.sizes.now ≡ (places_of run.now.world.h.now (L.rows layout.now)).size }
     ensures { IfOk result (λ ran. IsRun run.now.world.h.now (places_of run.now.world.h.now (L.rows layout.now)) run.now.program.now trace steps ran.text ran.end) }

@@ -43,7 +43,7 @@ pub(crate) fn turn<L: SoundLayout>(
     trace: bool,
 ) -> Result<Option<End>, NoMemory>
     requires layout { L.lays_out layout.now run.now.world.h.now }
-    requires setup { IsSetup run.now.world.h.now run.now.world.numbers.now run.now.world.overriders.now run.now.program.now run.now.index.now }
+    requires setup { IsSetup run.now }
     requires main { is_body run.now.program.now.main ≡ true }
     requires sizes { size_in run.now.sizes.now ≡ (places_of run.now.world.h.now (L.rows layout.now)).size }
     requires going { IsGoing run.now.world.h.now (places_of run.now.world.h.now (L.rows layout.now)) run.now.program.now trace state.old text.old.items }

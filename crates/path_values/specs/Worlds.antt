@@ -1,17 +1,15 @@
 -- When what a run looks at belongs to one hierarchy, which no condition refuses.
-use Rattle.std.specs.Prelude.{◌<◌, List, length}
+use Rattle.std.specs.Prelude.{◌<◌, length}
 use Rattle.cxx_hierarchy.specs.declared.records.ClassId.{ClassId}
-use Rattle.cxx_hierarchy.specs.Classes.{Classes}
 use Rattle.cxx_hierarchy.specs.Hierarchies.{IsHierarchy}
 use Rattle.cxx_subobject.specs.Parts.{IsWithinLimits}
-use Rattle.cxx_overrider.specs.declared.pass.Overriders.{Overriders}
 use Rattle.cxx_overrider.specs.Overriders.{AreOverriders}
-use Rattle.path_numbers.specs.declared.numbers.ClassNumbers.{ClassNumbers}
 use Rattle.path_numbers.specs.Numbers.{AreNumbers}
+use Rattle.path_values.specs.declared.world.World.{World}
 
 -- the numbers and the overriders are those of the hierarchy, each class of which is within the limits on parts
-pub record IsWorld (h : Classes) (numbers : List ClassNumbers) (overriders : Overriders) : Type 0 where
-  pub hierarchy : IsHierarchy h
-  pub limits : (c : ClassId) → c.0 < length h → IsWithinLimits h c
-  pub are_numbers : AreNumbers h numbers
-  pub are_overriders : AreOverriders h overriders
+pub record IsWorld (world : World) : Type 0 where
+  pub hierarchy : IsHierarchy world.h.now
+  pub limits : (c : ClassId) → c.0 < length world.h.now → IsWithinLimits world.h.now c
+  pub are_numbers : AreNumbers world.h.now world.numbers.now
+  pub are_overriders : AreOverriders world.h.now world.overriders.now

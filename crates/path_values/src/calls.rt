@@ -18,7 +18,7 @@ use path_heap::{Heap, Value};
 
 /// The value of a call's pointer, moved to the class before `::`, where one stands there.
 pub fn goes_to(world: &World, heap: &Heap, v: Value, qualifier: &Option<Subobject>) -> Value
-    requires world { IsWorld world.now.h.now world.now.numbers.now world.now.overriders.now }
+    requires world { IsWorld world.now }
     ensures { (s : Objects) (w : ValueOf) → HeapStands world.now.h.now heap.now s → Means world.now.h.now s.classes v w → CanGo world.now.h.now s w qualifier.now → Means world.now.h.now s.classes result (goes_to qualifier.now w) }
 {
     match qualifier {
@@ -29,8 +29,8 @@ pub fn goes_to(world: &World, heap: &Heap, v: Value, qualifier: &Option<Subobjec
 
 /// A pointer to the subobject of the class in which a call's function was found.
 pub fn receiver(world: &World, heap: &Heap, scene: &Scene, call: &TypedCall) -> Value
-    requires world { IsWorld world.now.h.now world.now.numbers.now world.now.overriders.now }
-    ensures { (s : Sight) → SceneStands world.now.h.now heap.now scene.now.globals.now scene.now.this scene.now.locals.now s → CanGo world.now.h.now s.objects (value s call.now.pointer) call.now.qualifier
+    requires world { IsWorld world.now }
+    ensures { (s : Sight) → SceneStands world.now.h.now heap.now scene.now s → CanGo world.now.h.now s.objects (value s call.now.pointer) call.now.qualifier
         → CanReach world.now.h.now s.objects (goes_to call.now.qualifier (value s call.now.pointer)) call.now.base → Means world.now.h.now s.objects.classes result (receiver s call.now) }
 {
     let from = goes_to(world, heap, value(scene, &call.pointer), &call.qualifier);

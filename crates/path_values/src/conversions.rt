@@ -28,7 +28,7 @@ pub fn to_number(t: Scalar, v: Value) -> Value
 
 /// A value, moved to a base of its class where it is a pointer (ISO C++03 4.10).
 pub fn to_base(world: &World, heap: &Heap, v: Value, i: &Subobject) -> Value
-    requires world { IsWorld world.now.h.now world.now.numbers.now world.now.overriders.now }
+    requires world { IsWorld world.now }
     ensures { (s : Objects) (w : ValueOf) → HeapStands world.now.h.now heap.now s → Means world.now.h.now s.classes v w → CanReach world.now.h.now s w i.now → Means world.now.h.now s.classes result (to_base i.now w) }
 {
     match v {
@@ -39,7 +39,7 @@ pub fn to_base(world: &World, heap: &Heap, v: Value, i: &Subobject) -> Value
 
 /// A value, converted (ISO C++03 4.5, 4.7, 4.10, 4.12).
 pub fn convert(world: &World, heap: &Heap, v: Value, c: &Conversion) -> Value
-    requires world { IsWorld world.now.h.now world.now.numbers.now world.now.overriders.now }
+    requires world { IsWorld world.now }
     ensures { (s : Objects) (w : ValueOf) → HeapStands world.now.h.now heap.now s → Means world.now.h.now s.classes v w → CanConvert world.now.h.now s w c.now → Means world.now.h.now s.classes result (converted w c.now) }
 {
     match c {

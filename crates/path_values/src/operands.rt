@@ -26,7 +26,7 @@ fn value_at(values: &[Value], n: usize) -> Value
 
 /// The value of a variable.
 fn variable_value(scene: &Scene, x: &Variable) -> Value
-    ensures { (h : Classes) (heap : Heap) (s : Sight) → SceneStands h heap scene.now.globals.now scene.now.this scene.now.locals.now s → Means h s.objects.classes result (variable_value s x.now) }
+    ensures { (h : Classes) (heap : Heap) (s : Sight) → SceneStands h heap scene.now s → Means h s.objects.classes result (variable_value s x.now) }
 {
     match x {
         Variable::Global(n) => value_at(scene.globals, *n),
@@ -36,7 +36,7 @@ fn variable_value(scene: &Scene, x: &Variable) -> Value
 
 /// The value of an operand.
 pub fn value(scene: &Scene, x: &TypedOperand) -> Value
-    ensures { (h : Classes) (heap : Heap) (s : Sight) → SceneStands h heap scene.now.globals.now scene.now.this scene.now.locals.now s → Means h s.objects.classes result (value s x.now) }
+    ensures { (h : Classes) (heap : Heap) (s : Sight) → SceneStands h heap scene.now s → Means h s.objects.classes result (value s x.now) }
 {
     match x {
         TypedOperand::Variable(x) => variable_value(scene, x),

@@ -21,7 +21,7 @@ use path_heap::Heap;
 
 /// The number of the class member that a path passes through, from the part of number n.
 pub fn passed_number(world: &World, heap: &Heap, n: u32, x: &PassedMember) -> u32
-    requires world { IsWorld world.now.h.now world.now.numbers.now world.now.overriders.now }
+    requires world { IsWorld world.now }
     ensures { (s : Objects) (p : ObjectPart) (c : ClassId) → HeapStands world.now.h.now heap.now s → Points world.now.h.now s.classes n p → OpensTo world.now.h.now s p c x.now.base → IsPassed world.now.h.now c x.now → Points world.now.h.now s.classes result (passed_part p x.now) }
 {
     let declared_in = heap.base(world.numbers, world.h, n, &x.base);
@@ -30,7 +30,7 @@ pub fn passed_number(world: &World, heap: &Heap, n: u32, x: &PassedMember) -> u3
 
 /// The number of the part behind all class members of a path.
 pub fn end_number(world: &World, heap: &Heap, n: u32, passed: &[PassedMember]) -> u32
-    requires world { IsWorld world.now.h.now world.now.numbers.now world.now.overriders.now }
+    requires world { IsWorld world.now }
     ensures { (s : Objects) (p : ObjectPart) (c : ClassId) (last : Subobject) → HeapStands world.now.h.now heap.now s → Points world.now.h.now s.classes n p → IsOpen world.now.h.now s p c passed.now last → Points world.now.h.now s.classes result (end_part p passed.now) }
 {
     match passed {
@@ -41,7 +41,7 @@ pub fn end_number(world: &World, heap: &Heap, n: u32, passed: &[PassedMember]) -
 
 /// The number of the leaf to which a place leads from the part of number n.
 pub fn leaf_number(world: &World, heap: &Heap, n: u32, place: &TypedPlace) -> u32
-    requires world { IsWorld world.now.h.now world.now.numbers.now world.now.overriders.now }
+    requires world { IsWorld world.now }
     ensures { (s : Objects) (p : ObjectPart) (c d : ClassId) (t : ValueType ClassId) → HeapStands world.now.h.now heap.now s → Points world.now.h.now s.classes n p → IsOpen world.now.h.now s p c place.now.passed place.now.base
         → class_of place.now.base ≡ Some d → IsElement world.now.h.now d place.now.member place.now.index (Value t) → PointsLeaf world.now.h.now s.classes result (leaf_at p place.now) }
 {
@@ -58,7 +58,7 @@ pub fn leaf_number(world: &World, heap: &Heap, n: u32, place: &TypedPlace) -> u3
 
 /// The number of the class member that a place is, from the part of number n.
 pub fn address_number(world: &World, heap: &Heap, n: u32, place: &TypedPlace) -> u32
-    requires world { IsWorld world.now.h.now world.now.numbers.now world.now.overriders.now }
+    requires world { IsWorld world.now }
     ensures { (s : Objects) (p : ObjectPart) (c d e : ClassId) → HeapStands world.now.h.now heap.now s → Points world.now.h.now s.classes n p → IsOpen world.now.h.now s p c place.now.passed place.now.base
         → class_of place.now.base ≡ Some e → IsElement world.now.h.now e place.now.member place.now.index (Object d) → Points world.now.h.now s.classes result (end_part p (place.now.passed ++ last_passed place.now d ∷ [])) }
 {

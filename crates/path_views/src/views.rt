@@ -63,7 +63,7 @@ fn overrider_at(
     at: Standing,
     f: FunctionId,
 ) -> Result<Option<FinalAt>, NoMemory>
-    requires world { IsWorld world.now.h.now world.now.numbers.now world.now.overriders.now }
+    requires world { IsWorld world.now }
     requires answers { AreAnswers world.now.h.now answers.old }
     ensures answers { AreAnswers world.now.h.now answers.new }
     ensures is { IfOk result (λ found. (s : Objects) (p : ObjectPart) → IsStanding world.now.h.now s p at → IsCallable world.now.h.now p f → found ≡ numbered world.now.h.now at.class (overrider_by world.now.h.now (view_of world.now.h.now s p) p.at f)) }
@@ -103,7 +103,7 @@ pub fn is_outside(
     answers: &mut Answers,
     n: u32,
 ) -> Result<bool, NoMemory>
-    requires world { IsWorld world.now.h.now world.now.numbers.now world.now.overriders.now }
+    requires world { IsWorld world.now }
     requires answers { AreAnswers world.now.h.now answers.old }
     ensures answers { AreAnswers world.now.h.now answers.new }
     ensures is { IfOk result (λ outside. (s : Objects) (p : ObjectPart) → IsPartAt world.now.h.now heap.now s n p → outside ≡ is_outside world.now.h.now s p) }
@@ -129,7 +129,7 @@ pub fn is_pure(
     n: u32,
     f: FunctionId,
 ) -> Result<bool, NoMemory>
-    requires world { IsWorld world.now.h.now world.now.numbers.now world.now.overriders.now }
+    requires world { IsWorld world.now }
     requires answers { AreAnswers world.now.h.now answers.old }
     ensures answers { AreAnswers world.now.h.now answers.new }
     ensures is { IfOk result (λ pure. (s : Objects) (p : ObjectPart) → IsPartAt world.now.h.now heap.now s n p → IsCallable world.now.h.now p f → pure ≡ is_pure_at world.now.h.now s f p) }
@@ -152,7 +152,7 @@ pub fn dispatched(
     n: u32,
     f: FunctionId,
 ) -> Result<Option<Found>, NoMemory>
-    requires world { IsWorld world.now.h.now world.now.numbers.now world.now.overriders.now }
+    requires world { IsWorld world.now }
     requires answers { AreAnswers world.now.h.now answers.old }
     ensures answers { AreAnswers world.now.h.now answers.new }
     ensures is { IfOk result (λ found. (s : Objects) (p : ObjectPart) → IsPartAt world.now.h.now heap.now s n p → IsCallable world.now.h.now p f → IsRun world.now.h.now s.classes found (dispatched world.now.h.now s p f)) }
@@ -178,7 +178,7 @@ pub fn cast(
     n: u32,
     target: ClassId,
 ) -> Result<Value, NoMemory>
-    requires world { IsWorld world.now.h.now world.now.numbers.now world.now.overriders.now }
+    requires world { IsWorld world.now }
     requires answers { AreAnswers world.now.h.now answers.old }
     ensures answers { AreAnswers world.now.h.now answers.new }
     ensures is { IfOk result (λ value. (s : Objects) (p : ObjectPart) → IsPartAt world.now.h.now heap.now s n p → Means world.now.h.now s.classes value (dynamic_value world.now.h.now s target (Pointer p))) }
@@ -211,7 +211,7 @@ pub fn down(
     target: ClassId,
     i: &Subobject,
 ) -> Result<Value, NoMemory>
-    requires world { IsWorld world.now.h.now world.now.numbers.now world.now.overriders.now }
+    requires world { IsWorld world.now }
     requires answers { AreAnswers world.now.h.now answers.old }
     ensures answers { AreAnswers world.now.h.now answers.new }
     ensures is { IfOk result (λ value. (s : Objects) (p : ObjectPart) → IsPartAt world.now.h.now heap.now s n p → Means world.now.h.now s.classes value (down_value world.now.h.now s target i.now (Pointer p))) }
@@ -231,7 +231,7 @@ pub fn conversion(
     c: ClassId,
     d: ClassId,
 ) -> Result<Conversion, NoMemory>
-    requires world { IsWorld world.now.h.now world.now.numbers.now world.now.overriders.now }
+    requires world { IsWorld world.now }
     requires known { c.0 < length world.now.h.now }
     requires answers { AreAnswers world.now.h.now answers.old }
     ensures answers { AreAnswers world.now.h.now answers.new }

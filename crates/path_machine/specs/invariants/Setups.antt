@@ -5,7 +5,6 @@ use Rattle.cxx_hierarchy.specs.declared.records.ValueType.{ValueType}
 use Rattle.cxx_hierarchy.specs.declared.records.ValueType.TheVariants.{Pointer as PointerType}
 use Rattle.cxx_hierarchy.specs.declared.records.Function.{Function}
 use Rattle.cxx_hierarchy.specs.Classes.{Classes}
-use Rattle.cxx_overrider.specs.declared.pass.Overriders.{Overriders}
 use Rattle.cxx_overrider.specs.Faults.{HasNoFault}
 use Rattle.cxx_program.specs.declared.program.TypedProgram.{TypedProgram}
 use Rattle.cxx_program.specs.declared.operand.TypedOperand.{TypedOperand}
@@ -19,8 +18,6 @@ use Rattle.cxx_program.specs.declared.statement.TypedStatement.{TypedStatement}
 use Rattle.cxx_program.specs.declared.program.TypedBody.{TypedBody}
 use Rattle.path_plan.specs.Phases.{Event}
 use Rattle.path_plan.specs.Views.{Fits}
-use Rattle.path_numbers.specs.declared.numbers.ClassNumbers.{ClassNumbers}
-use Rattle.path_bodies.specs.declared.index.BodyIndex.{BodyIndex}
 use Rattle.path_bodies.specs.Places.{IsIndexOf}
 use Rattle.path_model.specs.Values.{Sight}
 use Rattle.path_model.specs.Uses.{Wanted, call_uses, right_uses, kind_uses}
@@ -35,12 +32,13 @@ use Rattle.path_frames.specs.declared.frames.PlanFrame.{PlanFrame}
 use Rattle.path_frames.specs.declared.machine.Machine.{Machine}
 use Rattle.path_frames.specs.Frames.{PlanFrameStands}
 use Rattle.path_frames.specs.Machines.{MachineStands}
+use Rattle.path_machine.specs.declared.run.Run.{Run}
 
 -- what a run looks at belongs to one typed program
-pub record IsSetup (h : Classes) (numbers : List ClassNumbers) (overriders : Overriders) (program : TypedProgram) (index : BodyIndex) : Type 0 where
-  pub world : IsWorld h numbers overriders
-  pub are_bodies : IsIndexOf program index
-  pub typed : IsTypedProgram h program
+pub record IsSetup (run : Run) : Type 0 where
+  pub world : IsWorld run.world
+  pub are_bodies : IsIndexOf run.program.now run.index.now
+  pub typed : IsTypedProgram run.world.h.now run.program.now
 
 -- the plan f is taken from the top: the machine stands for the state with the frames below it
 pub record IsPlanTaken (h : Classes) (sizes : ClassId → ℕ) (program : TypedProgram) (machine : Machine) (frame : PlanFrame) (s : State) (f : Planned) (below : List Frame) : Type 0 where

@@ -1,17 +1,19 @@
 -- What a function of the machine does of a step of the model.
 use Rattle.std.specs.Prelude.{◌≡◌, ℕ, Option, Some, None, List, ◌∷◌, get_or}
 use Rattle.cxx_hierarchy.specs.declared.records.ClassId.{ClassId}
+use Rattle.cxx_hierarchy.specs.declared.stop.LimitNo.{LimitNo}
 use Rattle.cxx_hierarchy.specs.Classes.{Classes}
 use Rattle.cxx_program.specs.declared.statement.TypedKind.{TypedKind}
 use Rattle.cxx_program.specs.declared.program.TypedProgram.{TypedProgram}
 use Rattle.cxx_program.specs.Typed.{Scope}
 use Rattle.path_machine.specs.declared.telling.Telling.{Telling}
+use Rattle.path_machine.specs.declared.run.Run.{Run}
 use Rattle.path_machine.specs.Tellings.{TellsMore}
 use Rattle.path_model.specs.Values.{Value}
-use Rattle.path_model.specs.States.{Target, Running, Frame, InBody, State, sight, wanted, with_frames}
+use Rattle.path_model.specs.States.{Target, Running, Frame, InBody, State, at_statement, sight, wanted, with_frames}
 use Rattle.path_model.specs.Rules.{refusal}
 use Rattle.path_model.specs.Effects.{Next, Goes, Refuses, Ends, Wrong}
-use Rattle.path_model.specs.Runs.{Move, Moves, IsRefused, IsLimited, IsOver, IsWrong, open_count}
+use Rattle.path_model.specs.Runs.{Demand, limit_of, Move, Moves, IsRefused, IsLimited, IsOver, IsWrong, open_count}
 use Rattle.path_values.specs.Given.{IsGiven}
 use Rattle.path_values.specs.Conversions.{CanConvert}
 use Rattle.path_frames.specs.declared.frames.BodyFrame.{BodyFrame}
@@ -45,6 +47,24 @@ pub record IsTaken (h : Classes) (sizes : ClassId → ℕ) (program : TypedProgr
   pub machine_stands : MachineStands h sizes program machine (with_frames s below)
   pub body_stands : BodyStands h s.objects.classes frame f
   pub counts : frame.depth ≡ open_count (InBody f ∷ below)
+
+-- the state in which a frame goes on at the statement `next`
+abbrev pub gone_on : State → Running → (next : ℕ) → (below : List Frame) → State
+gone_on s f next below = with_frames s (InBody (at_statement f next) ∷ below)
+
+-- the limit that a statement of the frame meets, by what it asks for
+abbrev pub limit_at : Run → State → Running → (below : List Frame) → Demand → Option LimitNo
+limit_at run s f below demand = limit_of (size_in run.sizes.now) (with_frames s (InBody f ∷ below)) demand
+
+-- these three in a run
+abbrev pub IsTakenIn : Run → Machine → BodyFrame → State → Running → (below : List Frame) → Type 0
+IsTakenIn run = IsTaken run.world.h.now (size_in run.sizes.now) run.program.now
+
+abbrev pub StepAgreesIn : Run → Next → Machine → (before after : Telling) → NextCode → Type 0
+StepAgreesIn run = StepAgrees run.world.h.now (size_in run.sizes.now) run.program.now
+
+abbrev pub MoveAgreesIn : Run → Move → Machine → (before after : Telling) → NextCode → Type 0
+MoveAgreesIn run = MoveAgrees run.world.h.now (size_in run.sizes.now) run.program.now
 
 -- a statement of the frame that no rule refuses
 pub record IsClear (h : Classes) (e : Scope) (s : State) (f : Running) (kind : TypedKind) : Type 0 where

@@ -29,6 +29,7 @@ use Rattle.path_values.specs.Scenes.{SceneStands}
 use Rattle.path_values.specs.Given.{IsSeen}
 use Rattle.path_heap.specs.Points.{Points}
 use Rattle.path_heap.specs.Stands.{HeapStands, HasBegun, Means}
+use Rattle.path_values.specs.declared.scene.Scene.{Scene}
 
 -- the rule of the smaller number
 abbrev pub smaller : Undefined → Undefined → Undefined
@@ -87,13 +88,13 @@ way_uses place x = arrow x ++ of_part (λ p. passes p place.passed place.base) x
 abbrev pub path_asked : TypedPlace → Value → List Use
 path_asked place x = views (is_shared (first_base place.passed place.base)) x ++ of_part (λ p. asked_members p place.passed) x
 
--- the rule that refuses these uses of each sight that the globals, `this` and the locals over the heap stand for
-abbrev pub SightRefuses : Classes → Heap → List ValueCode → ValueCode → List ValueCode → (Sight → List Use) → Option Undefined → Type 0
-SightRefuses h heap globals this locals uses rule = (s : Sight) → SceneStands h heap globals this locals s → rule ≡ refused h s.objects (uses s)
+-- the rule that refuses these uses of each sight that the scene over the heap stands for
+abbrev pub SightRefuses : Classes → Heap → Scene → (Sight → List Use) → Option Undefined → Type 0
+SightRefuses h heap scene uses rule = (s : Sight) → SceneStands h heap scene s → rule ≡ refused h s.objects (uses s)
 
 -- the sight is one over settled objects, of the types of the scope e
-pub record Stands (h : Classes) (heap : Heap) (globals : List ValueCode) (this : ValueCode) (locals : List ValueCode) (e : Scope) (s : Sight) : Type 0 where
-  pub scene : SceneStands h heap globals this locals s
+pub record Stands (h : Classes) (heap : Heap) (scene : Scene) (e : Scope) (s : Sight) : Type 0 where
+  pub stands : SceneStands h heap scene s
   pub seen : IsSeen h e s
 
 -- the rule that refuses the conversion of what a typed cast gives, of values that are no pointers to parts that are not ready

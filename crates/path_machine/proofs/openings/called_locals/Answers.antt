@@ -11,4 +11,4 @@ returns c = λ e s scene calling.
     let call = c.args.call.now in
     let values = c.in_ok-values.values.items in
     locals_mean h s.objects.classes c.args.count values c.in_ok-locals.locals.items (map (argument_value s) call.arguments) c.in_ok-locals.ensures
-    (arguments_mean h c.args.heap.now sees.globals.now sees.this sees.locals.now call c.as_slice.result.now values c.as_slice.ensures c.in_ok-values.ensures e s scene calling)
+    (arguments_mean h c.args.heap.now sees call c.as_slice.result.now values c.as_slice.ensures c.in_ok-values.ensures e s scene calling)

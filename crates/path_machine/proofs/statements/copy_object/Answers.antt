@@ -13,7 +13,7 @@ returns c = λ e s f below outs t clear.
     let sizes = size_in c.args.run.now.sizes.now in
     let program = c.args.run.now.program.now in
     let see = sight s f in
-    let scene = scene_by h sizes program c.args.machine.now c.args.frame s f below t _ _ (search rules) (search rules) in
+    let scene = scene_by h sizes program c.args.machine.now c.args.frame s f below t _ (search rules) (search rules) (search rules) in
     copy_agrees h sizes program c.go_on.new.machine (with_frames s _) c.args.class (value see c.args.to.now) (value see c.args.from.now) outs (λ p q names other.
     let x = copied h c.args.class p q s.objects in
     c.in_ok-go_on.ensures h sizes program (with_objects s x) f below

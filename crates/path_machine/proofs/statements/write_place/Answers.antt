@@ -14,7 +14,7 @@ returns c = λ e s f below outs t clear.
     let sizes = size_in c.args.run.now.sizes.now in
     let program = c.args.run.now.program.now in
     let see = sight s f in
-    let scene = scene_by h sizes program c.args.machine.now c.args.frame s f below t _ _ (search rules) (search rules) in
+    let scene = scene_by h sizes program c.args.machine.now c.args.frame s f below t _ (search rules) (search rules) (search rules) in
     write_agrees h sizes program c.go_on.new.machine (with_frames s _) c.args.place.now (argument_value see c.args.x.now) (value see c.args.place.now.pointer) outs (λ p names.
     let x = leaf_set s.objects (leaf_at p c.args.place.now) (argument_value see c.args.x.now) in
     c.in_ok-go_on.ensures h sizes program (with_objects s x) f below

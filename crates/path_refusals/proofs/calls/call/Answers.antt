@@ -13,8 +13,8 @@ use Rattle.path_refusals.proofs.calls.call.Goals as goal
 pub returns-clause-is : goal.returns-clause-is
 returns-clause-is c = λ e s f a is.
     let x = value s c.args.call.now.pointer in
-    let v = operand_value c.args.moment.now.world.h.now c.args.moment.now.heap.now c.args.scene.now.globals.now c.args.scene.now.this c.args.scene.now.locals.now e s a c.args.call.now.pointer c.args.call.now.class is.pointer c.value-v.result (c.value-v.ensures c.args.moment.now.world.h.now c.args.moment.now.heap.now s a.scene) in
+    let v = operand_value c.args.moment.now.world.h.now c.args.moment.now.heap.now c.args.scene.now e s a c.args.call.now.pointer c.args.call.now.class is.pointer c.value-v.result (c.value-v.ensures c.args.moment.now.world.h.now c.args.moment.now.heap.now s a.stands) in
     joined c.args.moment.now.world.h.now s.objects (arrow x ++ way_asked c.args.call.now x) (flat_map (argument_uses s) c.args.call.now.arguments) c.in_ok-to.to c.in_ok-with.with c.least.result c.least.ensures
     (c.in_ok-to.ensures.is s.objects x is.through v is.way (call_found c.args.moment.now.world.h.now e c.args.call.now f is))
-    (c.in_ok-with.ensures.is s a.scene ∙ ap (λ (xs : List Argument). refused c.args.moment.now.world.h.now s.objects (flat_map (argument_uses s) xs)) c.as_slice.ensures)
+    (c.in_ok-with.ensures.is s a.stands ∙ ap (λ (xs : List Argument). refused c.args.moment.now.world.h.now s.objects (flat_map (argument_uses s) xs)) c.as_slice.ensures)
     ∙ call_is c.args.moment.now.world.h.now s c.args.call.now

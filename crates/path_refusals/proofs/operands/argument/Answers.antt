@@ -6,4 +6,4 @@ use Rattle.path_refusals.specs.invariants.Pieces.{Refuses, SightRefuses}
 use Rattle.path_refusals.proofs.operands.argument.Goals as goal
 
 pub returns-clause-is : goal.returns-clause-is
-returns-clause-is c = IfOk-weaker c.read_converted.result (Refuses c.args.moment.now.world.h.now c.args.moment.now.heap.now c.value-v.result (λ x. Reads x ∷ convert x c.args.a.now.conversion)) (SightRefuses c.args.moment.now.world.h.now c.args.moment.now.heap.now c.args.scene.now.globals.now c.args.scene.now.this c.args.scene.now.locals.now (λ s. argument_uses s c.args.a.now)) (λ rule told s stands. told s.objects (value s c.args.a.now.operand) stands.heap_stands (c.value-v.ensures c.args.moment.now.world.h.now c.args.moment.now.heap.now s stands)) c.read_converted.ensures.is
+returns-clause-is c = IfOk-weaker c.read_converted.result (Refuses c.args.moment.now.world.h.now c.args.moment.now.heap.now c.value-v.result (λ x. Reads x ∷ convert x c.args.a.now.conversion)) (SightRefuses c.args.moment.now.world.h.now c.args.moment.now.heap.now c.args.scene.now (λ s. argument_uses s c.args.a.now)) (λ rule told s stands. told s.objects (value s c.args.a.now.operand) stands.heap_stands (c.value-v.ensures c.args.moment.now.world.h.now c.args.moment.now.heap.now s stands)) c.read_converted.ensures.is

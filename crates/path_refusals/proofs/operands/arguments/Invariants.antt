@@ -9,5 +9,5 @@ use Rattle.path_refusals.proofs.operands.arguments.Given as goal
 abbrev pub invariant-loop-a : goal.invariant-loop-a
 invariant-loop-a l = record {
   answers : AreAnswers l.moment.world.h.now l.answers;
-  so_far : SightRefuses l.moment.world.h.now l.moment.heap.now l.scene.globals.now l.scene.this l.scene.locals.now (λ s. flat_map (argument_uses s) (take l.a-index l.list)) l.first;
+  so_far : SightRefuses l.moment.world.h.now l.moment.heap.now l.scene (λ s. flat_map (argument_uses s) (take l.a-index l.list)) l.first;
 }

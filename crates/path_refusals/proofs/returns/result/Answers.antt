@@ -28,7 +28,7 @@ returns-in-Some-2-clause-is c = λ s w stands all found target typed.
     (first_stage (refused c.args.moment.now.world.h.now s.objects (convert (converted (value s c.args.a.now.operand) c.args.a.now.conversion) w.found)) (refused c.args.moment.now.world.h.now s.objects (convert (converted (converted (value s c.args.a.now.operand) c.args.a.now.conversion) w.found) w.target)) (option_or (refused c.args.moment.now.world.h.now s.objects (convert (converted (value s c.args.a.now.operand) c.args.a.now.conversion) w.found)) (refused c.args.moment.now.world.h.now s.objects (convert (converted (converted (value s c.args.a.now.operand) c.args.a.now.conversion) w.found) w.target))) c.in-Some-2.rule refl (sym c.in-Some-2.is ∙ (c.in_ok-rule-2.ensures.is s.objects (converted (value s c.args.a.now.operand) c.args.a.now.conversion) stands.heap_stands own ∙ ap (λ (k : Conversion). refused c.args.moment.now.world.h.now s.objects (convert (converted (value s c.args.a.now.operand) c.args.a.now.conversion) k)) (sym found))))
 
 pub returns-clause-is : goal.returns-clause-is
-returns-clause-is c = IfOk-weaker c.convert-2.result (Refuses c.args.moment.now.world.h.now c.args.moment.now.heap.now c.convert-declared.result (λ x. convert x c.args.target.now)) (λ rule. (s : Sight) (w : Wanted) → SceneStands c.args.moment.now.world.h.now c.args.moment.now.heap.now c.args.scene.now.globals.now c.args.scene.now.this c.args.scene.now.locals.now s → AllSettled c.args.moment.now.world.h.now s.objects → w.found ≡ c.args.found.now → w.target ≡ c.args.target.now → IsReturn c.args.moment.now.world.h.now s w (Some c.args.a.now) → rule ≡ (refused c.args.moment.now.world.h.now s.objects (return_uses s w (Some c.args.a.now)))) (λ rule told s w stands all found target typed.
+returns-clause-is c = IfOk-weaker c.convert-2.result (Refuses c.args.moment.now.world.h.now c.args.moment.now.heap.now c.convert-declared.result (λ x. convert x c.args.target.now)) (λ rule. (s : Sight) (w : Wanted) → SceneStands c.args.moment.now.world.h.now c.args.moment.now.heap.now c.args.scene.now s → AllSettled c.args.moment.now.world.h.now s.objects → w.found ≡ c.args.found.now → w.target ≡ c.args.target.now → IsReturn c.args.moment.now.world.h.now s w (Some c.args.a.now) → rule ≡ (refused c.args.moment.now.world.h.now s.objects (return_uses s w (Some c.args.a.now)))) (λ rule told s w stands all found target typed.
     let first = sym c.in-None.is ∙ c.in_ok-rule.ensures.is s.objects (value s c.args.a.now.operand) stands.heap_stands (c.value-v.ensures c.args.moment.now.world.h.now c.args.moment.now.heap.now s stands) in
     let own = c.convert-own.ensures s.objects (value s c.args.a.now.operand) stands.heap_stands (c.value-v.ensures c.args.moment.now.world.h.now c.args.moment.now.heap.now s stands) (can_convert c.args.moment.now.world.h.now s.objects (value s c.args.a.now.operand) typed.0 typed.1 c.args.a.now.conversion typed.4 typed.5 (convert_clear c.args.moment.now.world.h.now s.objects (value s c.args.a.now.operand) c.args.a.now.conversion first)) in
     let second = sym c.in-None-2.is ∙ (c.in_ok-rule-2.ensures.is s.objects (converted (value s c.args.a.now.operand) c.args.a.now.conversion) stands.heap_stands own ∙ ap (λ (k : Conversion). refused c.args.moment.now.world.h.now s.objects (convert (converted (value s c.args.a.now.operand) c.args.a.now.conversion) k)) (sym found)) in

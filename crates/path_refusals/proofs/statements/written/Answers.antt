@@ -8,5 +8,5 @@ use Rattle.path_refusals.proofs.statements.written.Goals as goal
 pub returns-clause-is : goal.returns-clause-is
 returns-clause-is c = λ e s w t a of.
     let x = value s c.args.to.now.pointer in
-    let v = operand_value c.args.moment.now.world.h.now c.args.moment.now.heap.now c.args.scene.now.globals.now c.args.scene.now.this c.args.scene.now.locals.now e s a c.args.to.now.pointer c.args.to.now.class of.pointer c.value-v.result (c.value-v.ensures c.args.moment.now.world.h.now c.args.moment.now.heap.now s a.scene) in
-    joined c.args.moment.now.world.h.now s.objects (way_uses c.args.to.now x) (argument_uses s c.args.x.now) c.in_ok-left.left c.in_ok-right.right c.least.result c.least.ensures (c.in_ok-left.ensures.is of.path s.objects x v) (c.in_ok-right.ensures.is s a.scene)
+    let v = operand_value c.args.moment.now.world.h.now c.args.moment.now.heap.now c.args.scene.now e s a c.args.to.now.pointer c.args.to.now.class of.pointer c.value-v.result (c.value-v.ensures c.args.moment.now.world.h.now c.args.moment.now.heap.now s a.stands) in
+    joined c.args.moment.now.world.h.now s.objects (way_uses c.args.to.now x) (argument_uses s c.args.x.now) c.in_ok-left.left c.in_ok-right.right c.least.result c.least.ensures (c.in_ok-left.ensures.is of.path s.objects x v) (c.in_ok-right.ensures.is s a.stands)
