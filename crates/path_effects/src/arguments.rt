@@ -9,14 +9,15 @@ ghost use Rattle.path_model.specs.Values.{Sight, argument_value};
 ghost use Rattle.path_model.specs.Uses.{argument_uses};
 ghost use Rattle.path_model.specs.Rules.{refused};
 ghost use Rattle.path_heap.specs.Stands.{Means};
-ghost use Rattle.path_values.specs.Worlds.{IsWorld};
+ghost use Rattle.path_tables.specs.Worlds.{IsWorld};
 ghost use Rattle.path_values.specs.Scenes.{SceneStands};
 ghost use Rattle.path_values.specs.Given.{IsSeen};
 
 use cxx_program::Argument;
 use foundation::NoMemory;
 use path_heap::{Heap, Value};
-use path_values::{Scene, World, convert, value};
+use path_tables::World;
+use path_values::{Scene, convert, value};
 use std::alloc::Global;
 
 /// The value of an operand, converted.

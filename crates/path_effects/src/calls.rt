@@ -11,15 +11,15 @@ ghost use Rattle.path_model.specs.Rules.{refused};
 ghost use Rattle.path_model.specs.Effects.{runs};
 ghost use Rattle.path_tables.specs.Asked.{AreAnswers};
 ghost use Rattle.path_views.specs.Views.{IsRun};
-ghost use Rattle.path_values.specs.Worlds.{IsWorld};
+ghost use Rattle.path_tables.specs.Worlds.{IsWorld};
 ghost use Rattle.path_values.specs.Scenes.{SceneStands};
 ghost use Rattle.path_values.specs.Given.{IsSeen};
 
 use cxx_program::TypedCall;
 use foundation::NoMemory;
 use path_heap::{Heap, Value};
-use path_tables::Answers;
-use path_values::{Scene, World, receiver};
+use path_tables::{Answers, World};
+use path_values::{Scene, receiver};
 use path_views::{Found, dispatched};
 use std::alloc::Global;
 

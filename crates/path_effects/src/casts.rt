@@ -9,7 +9,7 @@ ghost use Rattle.path_model.specs.Uses.{cast_value, cast_uses, down_value, dynam
 ghost use Rattle.path_model.specs.Rules.{refused};
 ghost use Rattle.path_tables.specs.Asked.{AreAnswers};
 ghost use Rattle.path_heap.specs.Stands.{HeapStands, Means};
-ghost use Rattle.path_values.specs.Worlds.{IsWorld};
+ghost use Rattle.path_tables.specs.Worlds.{IsWorld};
 ghost use Rattle.path_values.specs.Scenes.{SceneStands};
 ghost use Rattle.path_values.specs.Given.{IsSeen};
 ghost use Rattle.path_effects.specs.invariants.Begun.{IsBegun};
@@ -19,8 +19,8 @@ use cxx_program::{TypedCast, TypedOperand};
 use cxx_subobject::Subobject;
 use foundation::NoMemory;
 use path_heap::{Heap, Value};
-use path_tables::Answers;
-use path_values::{Scene, World, to_base, value};
+use path_tables::{Answers, World};
+use path_values::{Scene, to_base, value};
 use path_views::{cast, down};
 use std::alloc::Global;
 

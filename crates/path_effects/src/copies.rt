@@ -9,7 +9,7 @@ ghost use Rattle.path_model.specs.Uses.{Wanted};
 ghost use Rattle.path_model.specs.Rules.{refusal};
 ghost use Rattle.path_model.specs.Effects.{copied};
 ghost use Rattle.path_heap.specs.Stands.{HeapStands};
-ghost use Rattle.path_values.specs.Worlds.{IsWorld};
+ghost use Rattle.path_tables.specs.Worlds.{IsWorld};
 ghost use Rattle.path_values.specs.Scenes.{SceneStands};
 ghost use Rattle.path_values.specs.Given.{IsSeen};
 
@@ -17,7 +17,8 @@ use cxx_hierarchy::ClassId;
 use cxx_program::TypedOperand;
 use foundation::NoMemory;
 use path_heap::{Heap, Value};
-use path_values::{Scene, World, value};
+use path_tables::World;
+use path_values::{Scene, value};
 use std::alloc::Global;
 
 /// `*to = *from`: each leaf of the one part takes the old value of the same leaf of the other one, both of class c.

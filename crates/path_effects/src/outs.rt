@@ -13,14 +13,14 @@ ghost use Rattle.path_model.specs.Steps.{class_of_part};
 ghost use Rattle.path_model.specs.Effects.{value_out, part_at, part_out, view_out, class_out, type_out, dump_out};
 ghost use Rattle.path_heap.specs.Points.{Points, PointsView, IsPart};
 ghost use Rattle.path_heap.specs.Stands.{HeapStands, Means};
-ghost use Rattle.path_values.specs.Worlds.{IsWorld};
+ghost use Rattle.path_tables.specs.Worlds.{IsWorld};
 
 use cxx_hierarchy::ClassId;
 use foundation::NoMemory;
 use path_heap::{Heap, Part, Value};
 use path_model::Out;
 use path_places::{dump, location};
-use path_values::World;
+use path_tables::World;
 use path_views::{Found, view_type};
 use std::alloc::Global;
 

@@ -13,14 +13,15 @@ ghost use Rattle.path_model.specs.Uses.{Wanted, place_uses};
 ghost use Rattle.path_model.specs.Rules.{refused, refusal};
 ghost use Rattle.path_model.specs.Effects.{leaf_set};
 ghost use Rattle.path_heap.specs.Stands.{HeapStands, Means};
-ghost use Rattle.path_values.specs.Worlds.{IsWorld};
+ghost use Rattle.path_tables.specs.Worlds.{IsWorld};
 ghost use Rattle.path_values.specs.Scenes.{SceneStands};
 ghost use Rattle.path_values.specs.Given.{IsSeen};
 
 use crate::arguments::argument_value;
 use cxx_program::{Argument, TypedPlace};
 use path_heap::{Heap, Value};
-use path_values::{Scene, World, address_number, leaf_number, value};
+use path_tables::World;
+use path_values::{Scene, address_number, leaf_number, value};
 
 /// The value of the leaf that a place is.
 pub(crate) fn leaf_value(world: &World, heap: &Heap, scene: &Scene, place: &TypedPlace) -> Value

@@ -4,7 +4,7 @@ ghost use Rattle.std.specs.Prelude.{◌≡◌, ◌<◌, IfOk, IfSome, length};
 ghost use Rattle.cxx_overrider.specs.Functions.{return_of};
 ghost use Rattle.path_model.specs.Effects.{result_conversion};
 ghost use Rattle.path_tables.specs.Asked.{AreAnswers};
-ghost use Rattle.path_values.specs.Worlds.{IsWorld};
+ghost use Rattle.path_tables.specs.Worlds.{IsWorld};
 ghost use Rattle.path_effects.specs.invariants.Results.{pointee};
 
 use cxx_hierarchy::{ClassId, Hierarchy, ReturnType, ValueType};
@@ -12,8 +12,7 @@ use cxx_overrider::FunctionId;
 use cxx_overrider::signatures::declaration;
 use cxx_program::Conversion;
 use foundation::NoMemory;
-use path_tables::Answers;
-use path_values::World;
+use path_tables::{Answers, World};
 use path_views::conversion;
 use std::alloc::Global;
 

@@ -12,7 +12,7 @@ ghost use Rattle.path_model.specs.Rules.{refused, is_clear};
 ghost use Rattle.path_model.specs.Effects.{truth, is_same_pointer, right_value};
 ghost use Rattle.path_tables.specs.Asked.{AreAnswers};
 ghost use Rattle.path_heap.specs.Stands.{Means};
-ghost use Rattle.path_values.specs.Worlds.{IsWorld};
+ghost use Rattle.path_tables.specs.Worlds.{IsWorld};
 ghost use Rattle.path_values.specs.Scenes.{SceneStands};
 ghost use Rattle.path_values.specs.Given.{IsSeen};
 
@@ -23,8 +23,8 @@ use crate::types::type_equal;
 use cxx_program::{Argument, Converted, TypedRight};
 use foundation::NoMemory;
 use path_heap::{Heap, Value};
-use path_tables::Answers;
-use path_values::{Scene, World, calculate, convert, is_same, negated, truth, value};
+use path_tables::{Answers, World};
+use path_values::{Scene, calculate, convert, is_same, negated, truth, value};
 use std::alloc::Global;
 
 /// What `==` says, or where `differ` holds `!=`.

@@ -7,14 +7,15 @@ ghost use Rattle.path_model.specs.Values.{Value as ValueOf};
 ghost use Rattle.path_model.specs.States.{State};
 ghost use Rattle.path_model.specs.Effects.{given};
 ghost use Rattle.path_heap.specs.Stands.{Means};
-ghost use Rattle.path_values.specs.Worlds.{IsWorld};
+ghost use Rattle.path_tables.specs.Worlds.{IsWorld};
 ghost use Rattle.path_frames.specs.Frames.{target_of};
 ghost use Rattle.path_frames.specs.Machines.{MachineStands};
 ghost use Rattle.path_machine.specs.invariants.Steps.{CanGive};
 
 use path_frames::{Machine, Target};
 use path_heap::Value;
-use path_values::{World, convert};
+use path_tables::World;
+use path_values::convert;
 
 /// A value comes to the variable that waits for it, converted to its type; where none waits it is dropped.
 pub(crate) fn give(world: &World, machine: &mut Machine, value: Value, target: &Option<Target>)

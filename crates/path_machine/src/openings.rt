@@ -13,7 +13,7 @@ ghost use Rattle.path_heap.specs.declared.state.Value.TheVariants.{Unset as Unse
 ghost use Rattle.path_heap.specs.Points.{Points};
 ghost use Rattle.path_heap.specs.Stands.{HeapStands, Means};
 ghost use Rattle.path_tables.specs.Asked.{AreAnswers};
-ghost use Rattle.path_values.specs.Worlds.{IsWorld};
+ghost use Rattle.path_tables.specs.Worlds.{IsWorld};
 ghost use Rattle.path_values.specs.Scenes.{SceneStands};
 ghost use Rattle.path_frames.specs.Frames.{target_of};
 ghost use Rattle.path_machine.specs.invariants.Setups.{IsSetup, IsCalling};

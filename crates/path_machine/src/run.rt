@@ -2,7 +2,7 @@
 
 use cxx_program::TypedProgram;
 use path_bodies::BodyIndex;
-use path_values::World;
+use path_tables::World;
 use std::alloc::Global;
 
 /// A program with its world, the places of its bodies, and the size of an object of each class, in bytes.

@@ -7,14 +7,14 @@ ghost use Rattle.path_model.specs.Values.{Objects};
 ghost use Rattle.path_model.specs.Effects.{copied};
 ghost use Rattle.path_heap.specs.Points.{Points};
 ghost use Rattle.path_heap.specs.Stands.{HeapStands, HasBegun};
-ghost use Rattle.path_values.specs.Worlds.{IsWorld};
+ghost use Rattle.path_tables.specs.Worlds.{IsWorld};
 ghost use Rattle.path_places.specs.invariants.Stores.{ReadsAll, StoresAll};
 
 use crate::leaves::leaf_numbers;
 use cxx_hierarchy::ClassId;
 use foundation::NoMemory;
 use path_heap::{Heap, Value};
-use path_values::World;
+use path_tables::World;
 use std::alloc::Global;
 
 /// The values of some leaves.

@@ -10,7 +10,7 @@ ghost use Rattle.path_model.specs.Values.{Objects};
 ghost use Rattle.path_model.specs.Effects.{object_out};
 ghost use Rattle.path_heap.specs.Points.{Points};
 ghost use Rattle.path_heap.specs.Stands.{HeapStands};
-ghost use Rattle.path_values.specs.Worlds.{IsWorld};
+ghost use Rattle.path_tables.specs.Worlds.{IsWorld};
 ghost use Rattle.path_places.specs.invariants.Dumps.{seen, DumpsWhole, DumpsOwn, DumpsMember, DumpsValues, DumpsElements, DumpsLeaf};
 
 use crate::leaves::class_or_first;
@@ -20,7 +20,7 @@ use cxx_subobject::{Hop, Location, Subobject, list_subobjects, subobject_below};
 use foundation::{NoMemory, Sequence};
 use path_heap::Heap;
 use path_model::{DumpLeaf, Out};
-use path_values::World;
+use path_tables::World;
 use std::alloc::Global;
 
 /// What a dump looks at, and the number from 1 and the class of the heap object.

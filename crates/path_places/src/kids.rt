@@ -2,11 +2,11 @@
 
 ghost use Rattle.std.specs.Prelude.{◌≡◌, ◌<◌, Some, length, slice_get};
 ghost use Rattle.cxx_hierarchy.specs.Classes.{bases_of, members_of};
-ghost use Rattle.path_values.specs.Worlds.{IsWorld};
+ghost use Rattle.path_tables.specs.Worlds.{IsWorld};
 ghost use Rattle.path_places.specs.invariants.Kids.{IsRest, IsItem, IsBaseRest, IsBaseFound, IsMemberRest, IsMemberFound, IsSharedRest, IsSharedFound, IsKidFound};
 
 use cxx_hierarchy::{Base, ClassId, FieldType, Member};
-use path_values::World;
+use path_tables::World;
 
 /// What a step down leads to.
 #[derive(Clone, Copy)]

@@ -11,14 +11,14 @@ ghost use Rattle.path_model.specs.Values.{Objects};
 ghost use Rattle.path_model.specs.Places.{leaves_of};
 ghost use Rattle.path_heap.specs.Points.{Points, PointsLeaf};
 ghost use Rattle.path_heap.specs.Stands.{HeapStands, HasBegun};
-ghost use Rattle.path_values.specs.Worlds.{IsWorld};
+ghost use Rattle.path_tables.specs.Worlds.{IsWorld};
 ghost use Rattle.path_places.specs.invariants.Leaves.{ListsWhole, ListsOwn, ListsMember, ListsElements};
 
 use cxx_hierarchy::{ClassId, FieldType, Member};
 use cxx_subobject::{Subobject, class_of, list_subobjects};
 use foundation::NoMemory;
 use path_heap::Heap;
-use path_values::World;
+use path_tables::World;
 use std::alloc::Global;
 
 /// The class of a subobject; the first one where there is none.

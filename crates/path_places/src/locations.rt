@@ -6,7 +6,7 @@ ghost use Rattle.path_model.specs.Values.{Value as ValueOf, Objects};
 ghost use Rattle.path_model.specs.Outs.{location_of, shown};
 ghost use Rattle.path_heap.specs.Points.{Points};
 ghost use Rattle.path_heap.specs.Stands.{HeapStands, Means};
-ghost use Rattle.path_values.specs.Worlds.{IsWorld};
+ghost use Rattle.path_tables.specs.Worlds.{IsWorld};
 ghost use Rattle.cxx_hierarchy.specs.declared.records.ClassId.{ClassId};
 ghost use Rattle.cxx_subobject.specs.declared.Root.TheVariants.{Whole};
 ghost use Rattle.path_places.specs.invariants.Walks.{hop_of, Walks};
@@ -17,7 +17,7 @@ use cxx_subobject::{Hop, Location, Root, Subobject};
 use foundation::{NoMemory, Sequence};
 use path_heap::{Heap, Value};
 use path_model::Value as Shown;
-use path_values::World;
+use path_tables::World;
 use std::alloc::Global;
 
 /// A part on the way: its class, whether it is a complete object, and which subobject of its complete object it is.

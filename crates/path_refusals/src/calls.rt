@@ -11,7 +11,7 @@ ghost use Rattle.path_model.specs.Rules.{refused, names, is_unready};
 ghost use Rattle.path_heap.specs.Points.{Points};
 ghost use Rattle.path_heap.specs.Stands.{HeapStands, HasBegun, Means};
 ghost use Rattle.path_tables.specs.Asked.{AreAnswers};
-ghost use Rattle.path_values.specs.Worlds.{IsWorld};
+ghost use Rattle.path_tables.specs.Worlds.{IsWorld};
 ghost use Rattle.path_views.specs.Views.{IsCallable};
 ghost use Rattle.path_refusals.specs.invariants.Pieces.{Stands, IsValueOf, IsFound, CanTake, way_asked, found_asked};
 

@@ -9,7 +9,7 @@ ghost use Rattle.path_model.specs.Uses.{Reads, Guards, Downs, convert, cast_uses
 ghost use Rattle.path_model.specs.Rules.{refused};
 ghost use Rattle.path_heap.specs.Stands.{Means};
 ghost use Rattle.path_tables.specs.Asked.{AreAnswers};
-ghost use Rattle.path_values.specs.Worlds.{IsWorld};
+ghost use Rattle.path_tables.specs.Worlds.{IsWorld};
 ghost use Rattle.path_refusals.specs.invariants.Pieces.{Refuses, SteadyRefuses, ReadyRefuses, IsReadyPart, CastRefuses};
 
 use crate::moment::{Moment, Refusal};

@@ -14,7 +14,7 @@ ghost use Rattle.path_model.specs.Order.{asked_covers, asked_covered};
 ghost use Rattle.path_heap.specs.Points.{Points};
 ghost use Rattle.path_heap.specs.Stands.{HeapStands};
 ghost use Rattle.path_tables.specs.Asked.{AreAnswers};
-ghost use Rattle.path_values.specs.Worlds.{IsWorld};
+ghost use Rattle.path_tables.specs.Worlds.{IsWorld};
 ghost use Rattle.path_refusals.specs.invariants.Pieces.{TypedRefuses, OpenRefuses, IsReadyPart, Covers};
 
 use crate::deletes::is_complete;
@@ -24,8 +24,7 @@ use crate::views::view;
 use cxx_hierarchy::{ClassId, FieldType, Member};
 use path_heap::Value;
 use path_rules::Undefined;
-use path_tables::Answers;
-use path_values::World;
+use path_tables::{Answers, World};
 
 /// Whether a class has a virtual base: then it takes more numbers in full than as a base.
 pub(crate) fn has_virtual_base(world: &World, c: ClassId) -> bool

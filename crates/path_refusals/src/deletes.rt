@@ -12,7 +12,7 @@ ghost use Rattle.path_model.specs.Rules.{is_no_whole, is_incomplete};
 ghost use Rattle.path_heap.specs.Points.{Points};
 ghost use Rattle.path_heap.specs.Stands.{HeapStands, HasBegun, phase_of};
 ghost use Rattle.path_tables.specs.Asked.{AreAnswers};
-ghost use Rattle.path_values.specs.Worlds.{IsWorld};
+ghost use Rattle.path_tables.specs.Worlds.{IsWorld};
 ghost use Rattle.path_refusals.specs.invariants.Pieces.{Refuses, SteadyRefuses, PartRefuses, ReadyRefuses};
 
 use crate::moment::{Moment, Refusal};
@@ -21,8 +21,7 @@ use cxx_hierarchy::ClassId;
 use cxx_overrider::FunctionId;
 use path_heap::{Heap, Phase, Value};
 use path_rules::Undefined;
-use path_tables::Answers;
-use path_values::World;
+use path_tables::{Answers, World};
 
 /// Whether a class has a virtual destructor (ISO C++03 10.3, 12.4 p7).
 fn has_virtual_destructor(world: &World, c: ClassId) -> bool

@@ -3,7 +3,7 @@
 use foundation::NoMemory;
 use path_heap::Heap;
 use path_rules::Undefined;
-use path_values::World;
+use path_tables::World;
 use std::alloc::Global;
 
 /// When a rule is asked for: what the run looks at and does not change, and its heap.

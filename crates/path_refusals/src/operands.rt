@@ -6,7 +6,7 @@ ghost use Rattle.cxx_hierarchy.specs.Classes.{Classes};
 ghost use Rattle.path_model.specs.Values.{value};
 ghost use Rattle.path_model.specs.Uses.{Reads, Overflows, argument_uses};
 ghost use Rattle.path_tables.specs.Asked.{AreAnswers};
-ghost use Rattle.path_values.specs.Worlds.{IsWorld};
+ghost use Rattle.path_tables.specs.Worlds.{IsWorld};
 ghost use Rattle.path_refusals.specs.invariants.Pieces.{SightRefuses};
 
 use crate::moment::{Moment, Refusal};

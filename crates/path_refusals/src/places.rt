@@ -9,7 +9,7 @@ ghost use Rattle.path_model.specs.Rules.{refused};
 ghost use Rattle.path_model.specs.Typed.{IsPath};
 ghost use Rattle.path_model.specs.Order.{asked_members, first_base};
 ghost use Rattle.path_tables.specs.Asked.{AreAnswers};
-ghost use Rattle.path_values.specs.Worlds.{IsWorld};
+ghost use Rattle.path_tables.specs.Worlds.{IsWorld};
 ghost use Rattle.path_refusals.specs.invariants.Pieces.{IsReadyPart, TypedRefuses, OpenRefuses, way_uses, path_asked};
 
 use crate::moment::{Moment, Refusal};

@@ -6,7 +6,7 @@ ghost use Rattle.path_model.specs.Uses.{Wanted, return_uses};
 ghost use Rattle.path_model.specs.Rules.{refused};
 ghost use Rattle.path_model.specs.Typed.{AllSettled, IsReturn};
 ghost use Rattle.path_tables.specs.Asked.{AreAnswers};
-ghost use Rattle.path_values.specs.Worlds.{IsWorld};
+ghost use Rattle.path_tables.specs.Worlds.{IsWorld};
 ghost use Rattle.path_values.specs.Scenes.{SceneStands};
 
 use crate::moment::{Moment, Refusal};

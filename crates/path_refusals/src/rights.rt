@@ -13,7 +13,7 @@ ghost use Rattle.path_model.specs.Uses.{right_uses};
 ghost use Rattle.path_model.specs.Rules.{refused, is_clear};
 ghost use Rattle.path_heap.specs.Stands.{Means};
 ghost use Rattle.path_tables.specs.Asked.{AreAnswers};
-ghost use Rattle.path_values.specs.Worlds.{IsWorld};
+ghost use Rattle.path_tables.specs.Worlds.{IsWorld};
 ghost use Rattle.path_refusals.specs.invariants.Pieces.{Stands, IsValueOf, way_uses};
 
 use crate::calls::call;

@@ -11,7 +11,7 @@ ghost use Rattle.path_model.specs.Values.{Sight};
 ghost use Rattle.path_model.specs.Uses.{Wanted};
 ghost use Rattle.path_model.specs.Rules.{refusal};
 ghost use Rattle.path_tables.specs.Asked.{AreAnswers};
-ghost use Rattle.path_values.specs.Worlds.{IsWorld};
+ghost use Rattle.path_tables.specs.Worlds.{IsWorld};
 ghost use Rattle.path_values.specs.Scenes.{SceneStands};
 ghost use Rattle.path_values.specs.Given.{IsGiven};
 ghost use Rattle.path_refusals.specs.invariants.Pieces.{Stands};

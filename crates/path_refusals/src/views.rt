@@ -4,7 +4,7 @@ ghost use Rattle.std.specs.Prelude.{◌≡◌, ◌∷◌, ◌++◌, IfOk};
 ghost use Rattle.path_model.specs.Values.{Pointer};
 ghost use Rattle.path_model.specs.Uses.{Reads, Guards, arrow, convert, is_shared, views};
 ghost use Rattle.path_tables.specs.Asked.{AreAnswers};
-ghost use Rattle.path_values.specs.Worlds.{IsWorld};
+ghost use Rattle.path_tables.specs.Worlds.{IsWorld};
 ghost use Rattle.path_refusals.specs.invariants.Pieces.{Refuses, SteadyRefuses, PartRefuses, ReadyRefuses};
 
 use crate::moment::{Moment, Refusal};

@@ -20,7 +20,7 @@ use foundation::{NoMemory, Sequence};
 use path_bodies::BodyIndex;
 use path_machine::{PathState, Run};
 use path_numbers::Numbers;
-use path_values::World;
+use path_tables::World;
 use std::alloc::Global;
 
 /// The lines of a run, and how it ended.

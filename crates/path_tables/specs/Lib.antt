@@ -1,4 +1,5 @@
 pub mod Parts
 pub mod Kept
 pub mod Asked
+pub mod Worlds
 pub mod invariants

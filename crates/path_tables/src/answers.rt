@@ -1,14 +1,12 @@
 //! Answers between two subobjects of a class that are given by their numbers, worked out by the list of the class.
 
-ghost use Rattle.std.specs.Prelude.{◌≡◌, ◌<◌, Some, IfOk, length, get_or, find};
+ghost use Rattle.std.specs.Prelude.{◌≡◌, Some, IfOk, get_or, find};
 ghost use Rattle.cxx_hierarchy.specs.declared.records.ClassId.{ClassId};
 ghost use Rattle.cxx_subobject.specs.declared.Subobject.{Subobject};
-ghost use Rattle.cxx_subobject.specs.Parts.{IsWithinLimits};
 ghost use Rattle.cxx_subobject.specs.Preorder.{preorder};
 ghost use Rattle.cxx_search.specs.Searches.{is_of_class};
-ghost use Rattle.cxx_overrider.specs.Overriders.{AreOverriders};
-ghost use Rattle.path_numbers.specs.Numbers.{AreNumbers};
 ghost use Rattle.path_tables.specs.Parts.{IsNumbered, IsPartList, number_of, derived_in};
+ghost use Rattle.path_tables.specs.Worlds.{IsWorld};
 ghost use Rattle.path_tables.specs.Kept.{id, IsCastAnswer, IsFinalAnswer, IsWithinAnswer, IsDownAnswer};
 ghost use Rattle.cxx_subobject.specs.declared.Root.TheVariants.{Shared};
 
@@ -16,11 +14,11 @@ use crate::casts::{Cast, cast_place};
 use crate::finals::{Call, FinalAt, final_at};
 use crate::kept::{CastKey, DownKey, FinalKey, WithinKey};
 use crate::parts::{PartList, first_of_class, is_of_class, is_within, part_at};
+use crate::world::World;
 use cxx_hierarchy::{ClassId, Hierarchy};
-use cxx_overrider::{FunctionId, Overriders};
+use cxx_overrider::FunctionId;
 use cxx_subobject::{Subobject, is_same, subobject_below};
 use foundation::NoMemory;
-use path_numbers::Numbers;
 use std::alloc::Global;
 
 /// The number at a place of a list; 0 past its end.
@@ -64,18 +62,15 @@ pub(crate) fn cast_number(h: &Hierarchy, list: &PartList, key: CastKey) -> Optio
 /// 10.3 p2, 12.7 p3). None: the source does not lie in the view.
 pub(crate) fn final_answer(
     alloc: Global,
-    h: &Hierarchy,
-    o: &Overriders,
-    numbers: &Numbers,
+    world: &World,
     list: &PartList,
     key: FinalKey,
 ) -> Result<Option<FinalAt>, NoMemory>
-    requires limits { (d : ClassId) → d.0 < length h.now → IsWithinLimits h.now d }
-    requires overriders { AreOverriders h.now o.now }
-    requires numbers { AreNumbers h.now numbers.now }
-    requires list { IsPartList h.now (id key.class) list.now }
-    ensures { IfOk result (IsFinalAnswer h.now key) }
+    requires world { IsWorld world.now }
+    requires list { IsPartList world.now.h.now (id key.class) list.now }
+    ensures { IfOk result (IsFinalAnswer world.now.h.now key) }
 {
+    let h = world.h;
     h.keeps();
     let c = ClassId(key.class);
     let f = FunctionId {
@@ -91,7 +86,7 @@ pub(crate) fn final_answer(
     if !is_of_class(y, f.class) {
         return Ok(None);
     }
-    if !o.is_virtual(f) {
+    if !world.overriders.is_virtual(f) {
         return Ok(None);
     }
     let call = Call {
@@ -101,7 +96,7 @@ pub(crate) fn final_answer(
         source: y,
         f,
     };
-    final_at(alloc, o, numbers, &call)
+    final_at(alloc, world.overriders, world.numbers, &call)
 }
 
 /// Whether the subobject of one number lies in that of another.

@@ -1,20 +1,18 @@
 //! Answers that are looked up first, and worked out where they are not there yet.
 
-ghost use Rattle.std.specs.Prelude.{◌≡◌, ◌<◌, Some, IfOk, length, find};
+ghost use Rattle.std.specs.Prelude.{◌≡◌, Some, IfOk, find};
 ghost use Rattle.cxx_hierarchy.specs.declared.records.ClassId.{ClassId};
 ghost use Rattle.cxx_hierarchy.specs.Classes.{Classes};
 ghost use Rattle.cxx_subobject.specs.declared.Root.TheVariants.{Whole};
 ghost use Rattle.cxx_subobject.specs.declared.Subobject.{Subobject};
 ghost use Rattle.cxx_subobject.specs.Subobjects.{class_of};
-ghost use Rattle.cxx_subobject.specs.Parts.{IsWithinLimits};
 ghost use Rattle.cxx_subobject.specs.Preorder.{preorder};
 ghost use Rattle.cxx_search.specs.Searches.{is_within, is_of_class, cast_in, final_in};
 ghost use Rattle.cxx_overrider.specs.Overriding.{IsVirtual};
-ghost use Rattle.cxx_overrider.specs.Overriders.{AreOverriders};
-ghost use Rattle.path_numbers.specs.Numbers.{AreNumbers};
 ghost use Rattle.path_tables.specs.Parts.{IsNumbered, number_of, numbered, derived_in};
 ghost use Rattle.path_tables.specs.Kept.{IsDownAnswer};
 ghost use Rattle.path_tables.specs.Asked.{AreAnswers};
+ghost use Rattle.path_tables.specs.Worlds.{IsWorld};
 
 use crate::answers::{
     base_copied, cast_number, down_number, final_answer, shared_down, within_answer,
@@ -25,11 +23,11 @@ use crate::kept::{
 };
 use crate::lists::ListTable;
 use crate::ways::{below_first, path_at};
-use cxx_hierarchy::{ClassId, Hierarchy};
-use cxx_overrider::{FunctionId, Overriders};
+use crate::world::World;
+use cxx_hierarchy::ClassId;
+use cxx_overrider::FunctionId;
 use cxx_subobject::{Root, Subobject};
 use foundation::NoMemory;
-use path_numbers::Numbers;
 use std::alloc::Global;
 
 /// What was answered so far, for all classes.
@@ -63,18 +61,16 @@ impl Answers {
     pub fn cast(
         &mut self,
         alloc: Global,
-        h: &Hierarchy,
-        numbers: &Numbers,
+        world: &World,
         c: ClassId,
         view: u32,
         source: u32,
         target: ClassId,
     ) -> Result<Option<u32>, NoMemory>
-        requires limits { (d : ClassId) → d.0 < length h.now → IsWithinLimits h.now d }
-        requires numbers { AreNumbers h.now numbers.now }
-        requires answers { AreAnswers h.now self.old }
-        ensures answers { AreAnswers h.now self.new }
-        ensures is { IfOk result (λ answer. (x y : Subobject) → IsNumbered h.now c view x → IsNumbered h.now c source y → answer ≡ number_of h.now c (cast_in h.now target x y)) }
+        requires world { IsWorld world.now }
+        requires answers { AreAnswers world.now.h.now self.old }
+        ensures answers { AreAnswers world.now.h.now self.new }
+        ensures is { IfOk result (λ answer. (x y : Subobject) → IsNumbered world.now.h.now c view x → IsNumbered world.now.h.now c source y → answer ≡ number_of world.now.h.now c (cast_in world.now.h.now target x y)) }
     {
         let key = CastKey {
             class: c.0,
@@ -85,8 +81,8 @@ impl Answers {
         if let Some(answer) = self.casts.find(key) {
             return Ok(answer);
         }
-        self.lists.make(alloc, h, numbers, c)?;
-        let answer = cast_number(h, self.lists.list(c), key);
+        self.lists.make(alloc, world.h, world.numbers, c)?;
+        let answer = cast_number(world.h, self.lists.list(c), key);
         self.casts.keep(key, answer)?;
         Ok(answer)
     }
@@ -98,20 +94,16 @@ impl Answers {
     pub fn final_overrider(
         &mut self,
         alloc: Global,
-        h: &Hierarchy,
-        overriders: &Overriders,
-        numbers: &Numbers,
+        world: &World,
         c: ClassId,
         view: u32,
         source: u32,
         f: FunctionId,
     ) -> Result<Option<FinalAt>, NoMemory>
-        requires limits { (d : ClassId) → d.0 < length h.now → IsWithinLimits h.now d }
-        requires numbers { AreNumbers h.now numbers.now }
-        requires overriders { AreOverriders h.now overriders.now }
-        requires answers { AreAnswers h.now self.old }
-        ensures answers { AreAnswers h.now self.new }
-        ensures is { IfOk result (λ answer. (x y : Subobject) → IsNumbered h.now c view x → IsNumbered h.now c source y → class_of y ≡ Some f.class → IsVirtual h.now f → answer ≡ numbered h.now c (final_in h.now x y f)) }
+        requires world { IsWorld world.now }
+        requires answers { AreAnswers world.now.h.now self.old }
+        ensures answers { AreAnswers world.now.h.now self.new }
+        ensures is { IfOk result (λ answer. (x y : Subobject) → IsNumbered world.now.h.now c view x → IsNumbered world.now.h.now c source y → class_of y ≡ Some f.class → IsVirtual world.now.h.now f → answer ≡ numbered world.now.h.now c (final_in world.now.h.now x y f)) }
     {
         let key = FinalKey {
             class: c.0,
@@ -123,8 +115,8 @@ impl Answers {
         if let Some(answer) = self.finals.find(key) {
             return Ok(answer);
         }
-        self.lists.make(alloc, h, numbers, c)?;
-        let answer = final_answer(alloc, h, overriders, numbers, self.lists.list(c), key)?;
+        self.lists.make(alloc, world.h, world.numbers, c)?;
+        let answer = final_answer(alloc, world, self.lists.list(c), key)?;
         self.finals.keep(key, answer)?;
         Ok(answer)
     }
@@ -135,19 +127,17 @@ impl Answers {
     pub fn is_within(
         &mut self,
         alloc: Global,
-        h: &Hierarchy,
-        numbers: &Numbers,
+        world: &World,
         c: ClassId,
         x: u32,
         y: u32,
     ) -> Result<bool, NoMemory>
-        requires limits { (d : ClassId) → d.0 < length h.now → IsWithinLimits h.now d }
-        requires numbers { AreNumbers h.now numbers.now }
-        requires answers { AreAnswers h.now self.old }
-        ensures answers { AreAnswers h.now self.new }
-        ensures is { IfOk result (λ answer. (s t : Subobject) → IsNumbered h.now c x s → IsNumbered h.now c y t → answer ≡ is_within h.now s t) }
+        requires world { IsWorld world.now }
+        requires answers { AreAnswers world.now.h.now self.old }
+        ensures answers { AreAnswers world.now.h.now self.new }
+        ensures is { IfOk result (λ answer. (s t : Subobject) → IsNumbered world.now.h.now c x s → IsNumbered world.now.h.now c y t → answer ≡ is_within world.now.h.now s t) }
     {
-        h.keeps();
+        world.h.keeps();
         if x == y {
             return Ok(true);
         }
@@ -162,8 +152,8 @@ impl Answers {
         if let Some(answer) = self.withins.find(key) {
             return Ok(answer);
         }
-        self.lists.make(alloc, h, numbers, c)?;
-        let answer = within_answer(h, self.lists.list(c), key);
+        self.lists.make(alloc, world.h, world.numbers, c)?;
+        let answer = within_answer(world.h, self.lists.list(c), key);
         self.withins.keep(key, answer)?;
         Ok(answer)
     }
@@ -172,22 +162,20 @@ impl Answers {
     fn down(
         &mut self,
         alloc: Global,
-        h: &Hierarchy,
-        numbers: &Numbers,
+        world: &World,
         key: DownKey,
     ) -> Result<Option<u32>, NoMemory>
-        requires limits { (d : ClassId) → d.0 < length h.now → IsWithinLimits h.now d }
-        requires numbers { AreNumbers h.now numbers.now }
-        requires answers { AreAnswers h.now self.old }
-        ensures answers { AreAnswers h.now self.new }
-        ensures is { IfOk result (IsDownAnswer h.now key) }
+        requires world { IsWorld world.now }
+        requires answers { AreAnswers world.now.h.now self.old }
+        ensures answers { AreAnswers world.now.h.now self.new }
+        ensures is { IfOk result (IsDownAnswer world.now.h.now key) }
     {
         if let Some(answer) = self.downs.find(key) {
             return Ok(answer);
         }
         let c = ClassId(key.class);
-        self.lists.make(alloc, h, numbers, c)?;
-        let answer = down_number(h, self.lists.list(c), key);
+        self.lists.make(alloc, world.h, world.numbers, c)?;
+        let answer = down_number(world.h, self.lists.list(c), key);
         self.downs.keep(key, answer)?;
         Ok(answer)
     }
@@ -199,21 +187,19 @@ impl Answers {
     pub fn derived(
         &mut self,
         alloc: Global,
-        h: &Hierarchy,
-        numbers: &Numbers,
+        world: &World,
         c: ClassId,
         source: u32,
         target: ClassId,
         i: &Subobject,
     ) -> Result<Option<u32>, NoMemory>
-        requires limits { (d : ClassId) → d.0 < length h.now → IsWithinLimits h.now d }
-        requires numbers { AreNumbers h.now numbers.now }
-        requires answers { AreAnswers h.now self.old }
-        ensures answers { AreAnswers h.now self.new }
-        ensures is { IfOk result (λ answer. (y : Subobject) → IsNumbered h.now c source y → answer ≡ number_of h.now c (derived_in h.now c target i.now y)) }
+        requires world { IsWorld world.now }
+        requires answers { AreAnswers world.now.h.now self.old }
+        ensures answers { AreAnswers world.now.h.now self.new }
+        ensures is { IfOk result (λ answer. (y : Subobject) → IsNumbered world.now.h.now c source y → answer ≡ number_of world.now.h.now c (derived_in world.now.h.now c target i.now y)) }
     {
         match i.root {
-            Root::Whole => match path_at(h, numbers, target, below_first(i.path.as_slice())) {
+            Root::Whole => match path_at(world.h, world.numbers, target, below_first(i.path.as_slice())) {
                 Some(offset) => {
                     let key = DownKey {
                         class: c.0,
@@ -221,13 +207,13 @@ impl Answers {
                         target: target.0,
                         offset,
                     };
-                    self.down(alloc, h, numbers, key)
+                    self.down(alloc, world, key)
                 }
                 None => Ok(None),
             },
             Root::Shared(v) => {
-                self.lists.make(alloc, h, numbers, c)?;
-                Ok(shared_down(h, c, self.lists.list(c), source, target, i, v))
+                self.lists.make(alloc, world.h, world.numbers, c)?;
+                Ok(shared_down(world.h, c, self.lists.list(c), source, target, i, v))
             }
         }
     }
@@ -238,18 +224,16 @@ impl Answers {
     pub fn first_base(
         &mut self,
         alloc: Global,
-        h: &Hierarchy,
-        numbers: &Numbers,
+        world: &World,
         c: ClassId,
         d: ClassId,
     ) -> Result<Option<Subobject>, NoMemory>
-        requires limits { (d : ClassId) → d.0 < length h.now → IsWithinLimits h.now d }
-        requires numbers { AreNumbers h.now numbers.now }
-        requires answers { AreAnswers h.now self.old }
-        ensures answers { AreAnswers h.now self.new }
-        ensures is { IfOk result (λ base. base ≡ find (is_of_class d) (preorder h.now c)) }
+        requires world { IsWorld world.now }
+        requires answers { AreAnswers world.now.h.now self.old }
+        ensures answers { AreAnswers world.now.h.now self.new }
+        ensures is { IfOk result (λ base. base ≡ find (is_of_class d) (preorder world.now.h.now c)) }
     {
-        self.lists.make(alloc, h, numbers, c)?;
-        base_copied(alloc, h, c, self.lists.list(c), d)
+        self.lists.make(alloc, world.h, world.numbers, c)?;
+        base_copied(alloc, world.h, c, self.lists.list(c), d)
     }
 }

@@ -1,4 +1,3 @@
-pub mod Worlds
 pub mod Scenes
 pub mod Given
 pub mod Conversions

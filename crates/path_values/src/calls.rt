@@ -4,14 +4,14 @@ ghost use Rattle.std.specs.Prelude.{List};
 ghost use Rattle.path_model.specs.Values.{Value as ValueOf, Objects, Sight, value};
 ghost use Rattle.path_model.specs.Uses.{goes_to, receiver};
 ghost use Rattle.path_heap.specs.Stands.{HeapStands, Means};
-ghost use Rattle.path_values.specs.Worlds.{IsWorld};
+ghost use Rattle.path_tables.specs.Worlds.{IsWorld};
 ghost use Rattle.path_values.specs.Scenes.{SceneStands};
 ghost use Rattle.path_values.specs.Conversions.{CanReach, CanGo};
 
 use crate::conversions::to_base;
 use crate::operands::value;
 use crate::scene::Scene;
-use crate::world::World;
+use path_tables::World;
 use cxx_program::TypedCall;
 use cxx_subobject::Subobject;
 use path_heap::{Heap, Value};

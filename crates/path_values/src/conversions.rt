@@ -6,11 +6,11 @@ ghost use Rattle.cxx_hierarchy.specs.Scalars.{stored_as};
 ghost use Rattle.cxx_hierarchy.specs.Classes.{Classes};
 ghost use Rattle.path_model.specs.Values.{Value as ValueOf, Objects, to_base, to_number, converted};
 ghost use Rattle.path_heap.specs.Stands.{HeapStands, Means};
-ghost use Rattle.path_values.specs.Worlds.{IsWorld};
+ghost use Rattle.path_tables.specs.Worlds.{IsWorld};
 ghost use Rattle.path_values.specs.Conversions.{CanReach, CanConvert};
 
 use crate::numbers::stored;
-use crate::world::World;
+use path_tables::World;
 use cxx_hierarchy::Scalar;
 use cxx_program::Conversion;
 use cxx_subobject::Subobject;

@@ -2,8 +2,8 @@
 //!
 //! What a statement sees are globals, `this` and locals (`Scene`), over a heap in which a pointer is the number of a part. This
 //! crate owns when they stand for what a statement of the model sees (`SceneStands`), what is known of a statement that is next
-//! (`IsGiven`), what a run looks at and does not change (`World`), and what has to have begun before a pointer is moved to a base
-//! (`CanReach`, `CanConvert`, `CanGo`) or a path is followed (`OpensTo`, `IsOpen`).
+//! (`IsGiven`), and what has to have begun before a pointer is moved to a base (`CanReach`, `CanConvert`, `CanGo`) or a path is
+//! followed (`OpensTo`, `IsOpen`).
 //!
 //! The layers above may rely on: each call gives a value that means the model's value of the same operand, conversion or
 //! calculation (ISO C++03 4, 5), and a place of a typed program leads to the number of the model's part or leaf. Numbers may be of
@@ -17,7 +17,6 @@ pub mod numbers;
 pub mod operands;
 pub mod places;
 pub mod scene;
-pub mod world;
 
 pub use crate::calculations::{calculate, is_same, is_zero, negated, overflows, truth};
 pub use crate::calls::{goes_to, receiver};
@@ -26,4 +25,3 @@ pub use crate::numbers::{stored, wrap};
 pub use crate::operands::{constant, value};
 pub use crate::places::{address_number, end_number, leaf_number, passed_number};
 pub use crate::scene::Scene;
-pub use crate::world::World;

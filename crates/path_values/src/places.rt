@@ -12,10 +12,10 @@ ghost use Rattle.path_model.specs.Values.{Objects};
 ghost use Rattle.path_model.specs.Places.{passed_part, end_part, leaf_at, last_passed};
 ghost use Rattle.path_heap.specs.Points.{Points, PointsLeaf};
 ghost use Rattle.path_heap.specs.Stands.{HeapStands};
-ghost use Rattle.path_values.specs.Worlds.{IsWorld};
+ghost use Rattle.path_tables.specs.Worlds.{IsWorld};
 ghost use Rattle.path_values.specs.Open.{OpensTo, IsOpen};
 
-use crate::world::World;
+use path_tables::World;
 use cxx_program::{PassedMember, TypedPlace};
 use path_heap::Heap;
 

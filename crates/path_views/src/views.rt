@@ -12,7 +12,7 @@ ghost use Rattle.path_model.specs.Effects.{class_conversion, overrider_by, dispa
 ghost use Rattle.path_tables.specs.Parts.{numbered};
 ghost use Rattle.path_heap.specs.Stands.{Means};
 ghost use Rattle.path_tables.specs.Asked.{AreAnswers};
-ghost use Rattle.path_values.specs.Worlds.{IsWorld};
+ghost use Rattle.path_tables.specs.Worlds.{IsWorld};
 ghost use Rattle.path_views.specs.Views.{IsPartAt, IsCallable, IsRun};
 ghost use Rattle.path_views.specs.invariants.Standing.{IsStanding, pointer_or};
 
@@ -23,8 +23,7 @@ use cxx_program::Conversion;
 use cxx_subobject::Subobject;
 use foundation::NoMemory;
 use path_heap::{Heap, Value};
-use path_tables::{Answers, FinalAt};
-use path_values::World;
+use path_tables::{Answers, FinalAt, World};
 use std::alloc::Global;
 
 /// A function, and the number of the part that is its `this`.
@@ -69,16 +68,7 @@ fn overrider_at(
     ensures is { IfOk result (λ found. (s : Objects) (p : ObjectPart) → IsStanding world.now.h.now s p at → IsCallable world.now.h.now p f → found ≡ numbered world.now.h.now at.class (overrider_by world.now.h.now (view_of world.now.h.now s p) p.at f)) }
 {
     match at.view {
-        Some(view) => answers.final_overrider(
-            alloc,
-            world.h,
-            world.overriders,
-            world.numbers,
-            at.class,
-            view,
-            at.part,
-            f,
-        ),
+        Some(view) => answers.final_overrider(alloc, world, at.class, view, at.part, f),
         None => Ok(None),
     }
 }
@@ -111,7 +101,7 @@ pub fn is_outside(
     let at = standing_of(heap, n);
     match at.view {
         Some(view) => {
-            let inside = answers.is_within(alloc, world.h, world.numbers, at.class, view, at.part)?;
+            let inside = answers.is_within(alloc, world, at.class, view, at.part)?;
             Ok(!inside)
         }
         None => Ok(true),
@@ -184,14 +174,13 @@ pub fn cast(
     ensures is { IfOk result (λ value. (s : Objects) (p : ObjectPart) → IsPartAt world.now.h.now heap.now s n p → Means world.now.h.now s.classes value (dynamic_value world.now.h.now s target (Pointer p))) }
 {
     let at = standing_of(heap, n);
-    let (h, numbers) = (world.h, world.numbers);
     match at.view {
         Some(view) => {
-            let inside = answers.is_within(alloc, h, numbers, at.class, view, at.part)?;
+            let inside = answers.is_within(alloc, world, at.class, view, at.part)?;
             if !inside {
                 return Ok(Value::Unset);
             }
-            let found = answers.cast(alloc, h, numbers, at.class, view, at.part, target)?;
+            let found = answers.cast(alloc, world, at.class, view, at.part, target)?;
             Ok(pointer_or(at.whole, found, Value::Null))
         }
         None => Ok(Value::Unset),
@@ -217,7 +206,7 @@ pub fn down(
     ensures is { IfOk result (λ value. (s : Objects) (p : ObjectPart) → IsPartAt world.now.h.now heap.now s n p → Means world.now.h.now s.classes value (down_value world.now.h.now s target i.now (Pointer p))) }
 {
     let at = standing_of(heap, n);
-    let found = answers.derived(alloc, world.h, world.numbers, at.class, at.part, target, i)?;
+    let found = answers.derived(alloc, world, at.class, at.part, target, i)?;
     Ok(pointer_or(at.whole, found, Value::Unset))
 }
 
@@ -240,7 +229,7 @@ pub fn conversion(
     if c.0 == d.0 {
         return Ok(Conversion::Same);
     }
-    match answers.first_base(alloc, world.h, world.numbers, c, d)? {
+    match answers.first_base(alloc, world, c, d)? {
         Some(i) => Ok(Conversion::Base(i)),
         None => Ok(Conversion::Same),
     }

@@ -26,7 +26,7 @@ use Rattle.path_model.specs.States.{Target, Running, Planned, Frame, InBody, InP
 use Rattle.path_model.specs.Typed.{AllSettled}
 use Rattle.path_model.specs.TypedStates.{IsTypedState}
 use Rattle.path_model.specs.Runs.{open_count}
-use Rattle.path_values.specs.Worlds.{IsWorld}
+use Rattle.path_tables.specs.Worlds.{IsWorld}
 use Rattle.path_values.specs.Given.{IsSeen, GivesBack}
 use Rattle.path_frames.specs.declared.frames.PlanFrame.{PlanFrame}
 use Rattle.path_frames.specs.declared.machine.Machine.{Machine}

@@ -5,7 +5,7 @@ use Rattle.cxx_hierarchy.specs.Hierarchies.{IsHierarchy}
 use Rattle.cxx_subobject.specs.Parts.{IsWithinLimits}
 use Rattle.cxx_overrider.specs.Overriders.{AreOverriders}
 use Rattle.path_numbers.specs.Numbers.{AreNumbers}
-use Rattle.path_values.specs.declared.world.World.{World}
+use Rattle.path_tables.specs.declared.world.World.{World}
 
 -- the numbers and the overriders are those of the hierarchy, each class of which is within the limits on parts
 pub record IsWorld (world : World) : Type 0 where
