@@ -35,7 +35,7 @@ use Rattle.path_model.specs.Effects.{Next, Goes, runs, body_entered, function_en
 use Rattle.path_model.specs.Steps.{body_owner, class_of_part, objects_after, plan_left, body_opened, resumed, event_step, unless, closed, before_kind, statement_step, in_body, body_step, frame_step, step}
 use Rattle.path_model.specs.Runs.{main_frames, limit_at, state_at}
 use Rattle.path_model.proofs.KeptFrames.{IfGoes}
-use Rattle.path_model.proofs.KeptSteps.{before_owner, behind_move}
+use Rattle.path_model.proofs.KeptSteps.{before_rest, behind_move}
 use Rattle.path_model.proofs.TypedBodies.{body_typed}
 use Rattle.abi_plan_turns.specs.Courses.{IsOther, StartsOwn, Follows, MayGo, MayGoBehind, AreOrderly, IsInOrder}
 use Rattle.abi_plan_turns.proofs.Closings.{construction_plain, destruction_plain}
@@ -241,7 +241,7 @@ module _ (h : Classes) (program : TypedProgram) (typed : IsTypedProgram h progra
       (kind_kept (sight (with_frames s (InBody f ∷ below)) f) (with_frames s (InBody (at_statement f statement.next) ∷ below)) (at_statement f statement.next) f below n statement.next statement.kind refl a a.0)
 
   before_kept : (f : Running) (kind : TypedKind) (below : List Frame) → AreOrderly program (InBody f ∷ below) → AreOrderly program (InBody (before_kind f kind) ∷ below)
-  before_kept f kind below a = (subst (λ (o : Owner). MayGoBehind program o below) (before_owner f kind) a.0, a.1)
+  before_kept f kind below a = (subst (λ (o : Owner). MayGoBehind program o below) ((before_rest f kind).owner) a.0, a.1)
 
   in_body_kept : (s : State) (f : Running) (below : List Frame) (body : TypedBody) (o : Option TypedStatement) → AreOrderly program (InBody f ∷ below) → Kept (in_body h program s f below body o)
   in_body_kept s f below body None a = closed_kept s f.owner body.close_line below a.0 a.1

@@ -3,7 +3,7 @@ use Rattle.std.proofs.Common.{◌≡◌, ℕ, true, Option, Some, List, [], ◌�
 use Rattle.cxx_hierarchy.specs.declared.records.ClassId.{ClassId}
 use Rattle.cxx_subobject.specs.declared.Subobject.{Subobject}
 use Rattle.cxx_subobject.specs.Locations.{ObjectPart}
-use Rattle.path_plan.specs.Phases.{Phase, Raw, InBases, ReadyBuilding, Complete, ReadyEnding, EndingBases, Ended, Phases}
+use Rattle.path_plan.specs.Phases.{Phase, Raw, InBases, ReadyBuilding, Complete, ReadyEnding, EndingBases, Ended, Phases, is_running}
 use Rattle.path_plan.specs.Plans.{Form, InFull, AsBase}
 use Rattle.path_model.specs.Values.{Objects}
 use Rattle.byte_code.specs.declared.op.Phase.{Phase as BytePhase}
@@ -18,7 +18,7 @@ use Rattle.abi_parts.specs.Heaps.{Heap}
 use Rattle.abi_stands.specs.Worlds.{World}
 use Rattle.abi_stands.specs.Words.{heap_of}
 use Rattle.abi_stands.specs.Columns.{noted_phase, pair_of, PhasesStand, ColumnsStand}
-use Rattle.abi_stands.specs.Goings.{is_running, StandsIn}
+use Rattle.abi_stands.specs.Goings.{StandsIn}
 use Rattle.abi_stands.specs.Frames.{Numbers, IsHandedBy}
 use Rattle.abi_plans.specs.Events.{IsAfter}
 use Rattle.abi_plans.proofs.Own.{whole_in, whole_same}

@@ -10,7 +10,7 @@ use Rattle.foundation.proofs.Truth.{split}
 use Rattle.foundation.proofs.Deciding.{decide_number}
 use Rattle.foundation.proofs.Members.{has_from_contains}
 use Rattle.path_plan.specs.Places.{part, same_owner}
-use Rattle.path_plan.specs.Phases.{Phases}
+use Rattle.path_plan.specs.Phases, is_in_bases, is_running.{Phases, is_in_bases, is_running}
 use Rattle.path_plan.specs.Plans.{Form, InFull, AsBase}
 use Rattle.path_plan.specs.Whole.{whole_part, IsNew, IsSameBut}
 use Rattle.path_plan.proofs.Same.{owner_same}
@@ -18,7 +18,7 @@ use Rattle.abi_parts.proofs.Made.{whole_made}
 use Rattle.abi_ops.specs.Routines.{IsCourse}
 use Rattle.abi_ops.specs.declared.routines.Course.{Course}
 use Rattle.abi_stands.specs.Worlds.{World, classes_in}
-use Rattle.abi_stands.specs.Goings.{Going, going, has_begun, stack_in, AreGoing, is_in_bases, is_running, WaitsIn, AreWaiting, IsInStep, ArePlanned}
+use Rattle.abi_stands.specs.Goings.{Going, going, has_begun, stack_in, AreGoing, WaitsIn, AreWaiting, IsInStep, ArePlanned}
 use Rattle.abi_stands.proofs.Grown.{part_more, old_part}
 use Rattle.abi_plans.proofs.Stacks.{going_off}
 use Rattle.abi_plans.proofs.Opened.{some_heap, waiting}

@@ -7,10 +7,10 @@ use Rattle.foundation.proofs.Members.{has_from_contains, contains_from_has, inde
 use Rattle.foundation.proofs.Places.{contains_at, contains_later}
 use Rattle.cxx_subobject.specs.Locations.{ObjectPart}
 use Rattle.path_plan.specs.Places.{part}
-use Rattle.path_plan.specs.Phases.{Phase, InBases, ReadyBuilding, Complete, ReadyEnding, EndingBases, Ended, Phases, Event, Begin, Ready, Init, Body, Done, Ending, Bases, End, put, pushed, popped, rest_of, first_of, after}
+use Rattle.path_plan.specs.Phases.{Phase, InBases, ReadyBuilding, Complete, ReadyEnding, EndingBases, Ended, Phases, Event, Begin, Ready, Init, Body, Done, Ending, Bases, End, put, pushed, popped, rest_of, first_of, after, is_running}
 use Rattle.path_plan.specs.Views.{Fits, IsOnTop}
 use Rattle.path_plan.proofs.Same.{put_same, pushed_other, popped_other, owner_cases, part_owns}
-use Rattle.abi_stands.specs.Goings.{IsInStep, is_running}
+use Rattle.abi_stands.specs.Goings.{IsInStep}
 use Rattle.abi_plans.proofs.Parts.{pushed_own, popped_own, part_is, part_at, put_test, put_test_other}
 
 abbrev pub phased : Phases → ObjectPart → Phase → Phases

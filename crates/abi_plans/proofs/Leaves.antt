@@ -5,7 +5,7 @@ use Rattle.cxx_subobject.specs.declared.Subobject.{Subobject}
 use Rattle.cxx_subobject.specs.Subobjects.{whole_of}
 use Rattle.foundation.proofs.Places.{contains_first}
 use Rattle.path_plan.specs.Places.{part}
-use Rattle.path_plan.specs.Phases.{Phase, Raw, ReadyBuilding, Complete, Phases, after, is_ready, first_of, rest_of}
+use Rattle.path_plan.specs.Phases.{Phase, Raw, ReadyBuilding, Complete, Phases, after, is_ready, first_of, rest_of, is_running}
 use Rattle.path_plan.specs.Plans.{Form, InFull, AsBase}
 use Rattle.path_plan.proofs.Same.{put_same, popped_same}
 use Rattle.path_model.specs.Values.{Objects}
@@ -29,7 +29,7 @@ use Rattle.abi_ops.specs.Setups.{PlanCode}
 use Rattle.abi_stands.specs.Worlds.{World, IsWorld, fixed}
 use Rattle.abi_stands.specs.Words.{heap_of}
 use Rattle.abi_stands.specs.Columns.{pair_of, ColumnsStand}
-use Rattle.abi_stands.specs.Goings.{Going, starts, is_running, StandsIn, WaitsIn}
+use Rattle.abi_stands.specs.Goings.{Going, starts, StandsIn, WaitsIn}
 use Rattle.abi_stands.specs.Frames.{Numbers, IsHandedBy}
 use Rattle.abi_stands.proofs.Objects.{objects_laid}
 use Rattle.abi_plans.specs.Events.{IsEvent, Rest, Runs, complete_of, stack_below}

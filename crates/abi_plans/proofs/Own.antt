@@ -8,7 +8,7 @@ use Rattle.cxx_subobject.specs.declared.Subobject.{Subobject}
 use Rattle.cxx_subobject.specs.Subobjects.{whole_of}
 use Rattle.cxx_subobject.specs.Locations.{ObjectPart}
 use Rattle.path_plan.specs.Places.{part}
-use Rattle.path_plan.specs.Phases.{Phase, Raw, InBases, ReadyBuilding, Complete, ReadyEnding, EndingBases, Ended, is_half, Phases, after, is_complete, is_ready, first_of, rest_of}
+use Rattle.path_plan.specs.Phases.{Phase, Raw, InBases, ReadyBuilding, Complete, ReadyEnding, EndingBases, Ended, is_half, Phases, after, is_complete, is_ready, first_of, rest_of, is_in_bases, is_running}
 use Rattle.path_plan.specs.Views.{view, Fits, IsOnTop}
 use Rattle.path_plan.specs.Plans.{Form, InFull, AsBase}
 use Rattle.path_plan.proofs.Same.{put_same, pushed_same, popped_same}
@@ -16,7 +16,7 @@ use Rattle.abi_lower.specs.Items.{Item, Does, event_of}
 use Rattle.abi_lower.specs.declared.items.Kind.{Kind}
 use Rattle.abi_lower.specs.declared.items.Kind.TheVariants.{AtBegin, AtReady, AtInit, AtBody, AtDone, AtEnding, AtBases, AtEnd}
 use Rattle.abi_stands.specs.Worlds.{World, classes_in}
-use Rattle.abi_stands.specs.Goings.{Going, at_left, starts, stops, StandsIn, is_running, is_in_bases}
+use Rattle.abi_stands.specs.Goings.{Going, at_left, starts, stops, StandsIn}
 use Rattle.abi_plans.specs.Events.{IsEvent, complete_of, stack_below}
 use Rattle.abi_plans.proofs.Opened.{over_itself}
 use Rattle.abi_plans.proofs.Planned.{event_phase, below_differ, idle_before, has_more, begun_stack}

@@ -10,7 +10,7 @@ use Rattle.cxx_subobject.specs.Locations.{Step, ObjectPart}
 use Rattle.foundation.proofs.Truth.{split}
 use Rattle.foundation.proofs.Places.{contains_first, contains_later}
 use Rattle.path_plan.specs.Places.{part, base_part, shared_part, same_owner}
-use Rattle.path_plan.specs.Phases.{InBases, ReadyBuilding, Complete, ReadyEnding, EndingBases, Ended, Phases, after}
+use Rattle.path_plan.specs.Phases.{InBases, ReadyBuilding, Complete, ReadyEnding, EndingBases, Ended, Phases, after, is_in_bases, is_running}
 use Rattle.path_plan.specs.Views.{Fits}
 use Rattle.path_plan.specs.Plans.{Form, InFull, AsBase}
 use Rattle.path_plan.specs.Pieces.{Choice}
@@ -20,7 +20,7 @@ use Rattle.abi_lower.specs.Lowered.{IsEnd}
 use Rattle.abi_lower.specs.declared.items.Kind.{Kind}
 use Rattle.abi_lower.specs.declared.items.Kind.TheVariants.{AtBegin, AtReady, AtInit, AtBody, AtDone, AtEnding, AtBases, AtEnd}
 use Rattle.abi_stands.specs.Worlds.{World, classes_in}
-use Rattle.abi_stands.specs.Goings.{Going, at_left, element_going, opened, starts, stops, has_begun, stack_in, IsGoing, AreGoing, is_in_bases, is_running, WaitsIn, AreWaiting, IsInStep, ArePlanned}
+use Rattle.abi_stands.specs.Goings.{Going, at_left, element_going, opened, starts, stops, has_begun, stack_in, IsGoing, AreGoing, WaitsIn, AreWaiting, IsInStep, ArePlanned}
 use Rattle.abi_plans.proofs.Parts.{part_at}
 use Rattle.abi_plans.proofs.InStep.{Once, below_top, event_in_step}
 use Rattle.abi_plans.proofs.Left.{AreLeft, Behind, IsAt, opens_bases, at_event}

@@ -1,6 +1,6 @@
 -- What ready and ending lead to: the virtual pointers are those of the part as a view.
 use Rattle.std.proofs.Common.{◌≡◌, true, false, List, [], ◌∷◌, ◌++◌, refl, ap, sym, ◌∙◌}
-use Rattle.path_plan.specs.Phases.{Raw, InBases, ReadyBuilding, Complete, ReadyEnding, after}
+use Rattle.path_plan.specs.Phases.{Raw, InBases, ReadyBuilding, Complete, ReadyEnding, after, is_running}
 use Rattle.path_plan.proofs.Same.{put_same}
 use Rattle.path_model.specs.Values.{Objects}
 use Rattle.path_model.specs.Steps.{objects_after, event_outs}
@@ -22,7 +22,7 @@ use Rattle.abi_ops.specs.Setups.{PlanCode}
 use Rattle.abi_stands.specs.Worlds.{World, IsWorld, fixed}
 use Rattle.abi_stands.specs.Words.{heap_of}
 use Rattle.abi_stands.specs.Columns.{ColumnsStand}
-use Rattle.abi_stands.specs.Goings.{Going, is_running}
+use Rattle.abi_stands.specs.Goings.{Going}
 use Rattle.abi_stands.specs.Frames.{Numbers}
 use Rattle.abi_stands.proofs.Objects.{objects_laid}
 use Rattle.abi_plans.specs.Events.{IsEvent, Rest, Runs, complete_of, stack_below}

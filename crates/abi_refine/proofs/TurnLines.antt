@@ -1,6 +1,6 @@
 -- The lines of a turn are those of the step.
 use Rattle.std.proofs.Common.{◌≡◌, ℕ, suc, ◌+◌, Bool, true, false, Option, Some, None, List, refl, sym, ap, subst, arith}
-use Rattle.std.specs.Prelude.{Contains, not}
+use Rattle.std.specs.Prelude.{not}
 use Rattle.foundation.proofs.Chosen.{has_filter}
 use Rattle.foundation.proofs.Members.{Has, contains_from_has, has_from_contains}
 use Rattle.cxx_program.specs.declared.program.Owner.TheVariants.{Function}

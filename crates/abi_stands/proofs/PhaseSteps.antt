@@ -1,5 +1,5 @@
 -- What events that fit do to the phase of a part, and when a part stands on the stack of its complete object.
-use Rattle.std.proofs.Common.{◌≡◌, ℕ, ⊎_elim, inl, inr, Bool, true, false, Some, List, [], ◌∷◌, refl, ap, sym, subst, ◌∙◌}
+use Rattle.std.proofs.Common.{◌≡◌, ℕ, ⊎_elim, inl, inr, true, false, Some, List, [], ◌∷◌, refl, ap, sym, subst, ◌∙◌}
 use Rattle.std.specs.Prelude.{◌⊎◌, if◌then◌else◌}
 use Rattle.foundation.proofs.Truth.{split}
 use Rattle.foundation.proofs.Members.{Has}
@@ -9,7 +9,7 @@ use Rattle.cxx_subobject.specs.declared.Subobject.{Subobject}
 use Rattle.cxx_subobject.specs.Subobjects.{whole_of}
 use Rattle.cxx_subobject.specs.Locations.{Step, ObjectPart}
 use Rattle.path_plan.specs.Places.{part, same_owner}
-use Rattle.path_plan.specs.Phases.{Phase, Raw, InBases, ReadyBuilding, Complete, ReadyEnding, EndingBases, Ended, is_complete, Phases, Event, Begin, Ready, Init, Body, Done, Ending, Bases, End, put, rest_of, first_of, pushed, popped, after, after_all}
+use Rattle.path_plan.specs.Phases.{Phase, Raw, InBases, ReadyBuilding, Complete, ReadyEnding, EndingBases, Ended, is_complete, Phases, Event, Begin, Ready, Init, Body, Done, Ending, Bases, End, put, rest_of, first_of, pushed, popped, after, after_all, is_running}
 use Rattle.path_plan.specs.Views.{view, Fits, Coherent}
 use Rattle.path_plan.proofs.Same.{owner_same, put_same, put_other, part_cases, pushed_same}
 
@@ -148,16 +148,6 @@ raw_lacks s (e ∷ es) q now has = ⊎_elim
     (λ more. raw_lacks (after s e) es q now more) has
 
 -- stacks
-
--- its constructor or destructor runs
-abbrev pub is_running : Phase → Bool
-is_running Raw = false
-is_running InBases = true
-is_running ReadyBuilding = true
-is_running Complete = false
-is_running ReadyEnding = true
-is_running EndingBases = true
-is_running Ended = false
 
 -- a part that runs stands on the stack of its complete object
 abbrev pub IsOnStack : Phases → ObjectPart → Type 0

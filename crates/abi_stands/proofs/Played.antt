@@ -10,7 +10,7 @@ use Rattle.cxx_subobject.specs.declared.Subobject.{Subobject}
 use Rattle.cxx_subobject.specs.Subobjects.{subobject, whole_of}
 use Rattle.cxx_subobject.specs.Locations.{Step}
 use Rattle.path_plan.specs.Places.{part, IsIn}
-use Rattle.path_plan.specs.Phases.{Raw, Complete, Ended, is_complete, first_of, Phases, Event, Begin, Done, Ending, End, after, after_all}
+use Rattle.path_plan.specs.Phases.{Raw, Complete, Ended, is_complete, first_of, Phases, Event, Begin, Done, Ending, End, after, after_all, is_running}
 use Rattle.path_plan.specs.Plans.{Bodies, InFull}
 use Rattle.path_plan.specs.Views.{view, Coherent}
 use Rattle.path_plan.specs.Whole.{IsNew, IsStanding, construction, destruction, whole_part}
@@ -21,7 +21,7 @@ use Rattle.path_plan.proofs.Construction.{construction_builds}
 use Rattle.path_plan.proofs.Destruction.{destruction_unbuilds}
 use Rattle.abi_stands.proofs.EventOrder.{Before, Behind, Lacks, front_has, end_has, lacks_front}
 use Rattle.abi_stands.proofs.PlanOrder.{IsMemberClass, whole_first, whole_last, built_ends_none, around_first, not_single}
-use Rattle.abi_stands.proofs.PhaseSteps.{is_running, IsOnStack, begins_in, ends_in, ends_once, done_in, ended_in, raw_before, raw_lacks, stack_after, view_there}
+use Rattle.abi_stands.proofs.PhaseSteps.{IsOnStack, begins_in, ends_in, ends_once, done_in, ended_in, raw_before, raw_lacks, stack_after, view_there}
 
 -- parts of lists that are coherent
 

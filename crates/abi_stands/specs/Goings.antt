@@ -6,7 +6,7 @@ use Rattle.cxx_subobject.specs.declared.Subobject.{Subobject}
 use Rattle.cxx_subobject.specs.Subobjects.{whole_of}
 use Rattle.cxx_subobject.specs.Locations.{Step, ObjectPart}
 use Rattle.path_plan.specs.Places.{part, base_part, shared_part, element, same_owner}
-use Rattle.path_plan.specs.Phases.{Phases, Phase, Raw, InBases, ReadyBuilding, Complete, ReadyEnding, EndingBases, Ended, Event}
+use Rattle.path_plan.specs.Phases.{Phases, Event, is_in_bases, is_running}
 use Rattle.path_plan.specs.Plans.{Form, InFull, AsBase, Inner, plan, unplan}
 use Rattle.path_plan.specs.Pieces.{expand}
 use Rattle.path_model.specs.States.{bodies_of}
@@ -136,26 +136,6 @@ pub record IsGoing (w : World) (classes : List ClassId) (f : Going) (below : Lis
 abbrev pub AreGoing : World → List ClassId → List Going → Type 0
 AreGoing w classes [] = Unit {0}
 AreGoing w classes (f ∷ fs) = IsGoing w classes f fs × AreGoing w classes fs
-
--- the part is among its bases, at their construction or at their end
-abbrev pub is_in_bases : Phase → Bool
-is_in_bases Raw = false
-is_in_bases InBases = true
-is_in_bases ReadyBuilding = false
-is_in_bases Complete = false
-is_in_bases ReadyEnding = false
-is_in_bases EndingBases = true
-is_in_bases Ended = false
-
--- its constructor or destructor runs
-abbrev pub is_running : Phase → Bool
-is_running Raw = false
-is_running InBases = true
-is_running ReadyBuilding = true
-is_running Complete = false
-is_running ReadyEnding = true
-is_running EndingBases = true
-is_running Ended = false
 
 -- the subobject around a base that waits is among its bases: the one fact of a waiting frame that looks at phases
 abbrev pub WaitsIn : Phases → Form → ObjectPart → List Subobject → Type 0

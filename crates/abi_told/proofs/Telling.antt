@@ -43,7 +43,7 @@ use Rattle.path_model.specs.Runs.{limit_at, move, move_by, outs_in, state_at, wi
 use Rattle.path_model.specs.TypedStates.{IsPartMade, IsThis}
 use Rattle.path_model.proofs.KeptFrames.{IfGoes, IsKept, IsKeptAt, kept_left}
 use Rattle.path_model.proofs.KeptLaws.{plan_inside}
-use Rattle.path_model.proofs.KeptSteps.{before_owner, behind_move, state_kept}
+use Rattle.path_model.proofs.KeptSteps.{before_rest, behind_move, state_kept}
 use Rattle.path_model.proofs.TypedBodies.{body_typed}
 use Rattle.path_model.proofs.TypedFrames.{IsSound, IsSoundNext, assigned_sound, sight_typed}
 use Rattle.path_model.proofs.TypedPlans.{inside_made}
@@ -334,7 +334,7 @@ module _ (h : Classes) (program : TypedProgram) where
     statement_fine s f below body there kept b known (Some statement) is =
         let g = before_kind f statement.kind in
         let a = (body_typed h program typed f.owner body there).1.statements f.next statement is in
-        let found : body_of program g.owner ≡ Some body = ap (body_of program) (sym (before_owner f statement.kind)) ∙ there in
+        let found : body_of program g.owner ≡ Some body = ap (body_of program) (sym ((before_rest f statement.kind).owner)) ∙ there in
         unless_fine (refusal h (sight s g) (wanted g) statement.kind) statement.line (effect h program (with_frames s (InBody g ∷ below)) g below f.next statement)
         (λ none. kind_fine typed s f below body there b known f.next statement.next statement.kind a.typed
         (kind_sound h keeps fine program typed s.objects s.globals g below body found (wanted g) f.next statement.next a.next (before_sound s f below body there statement.kind a.typed b) statement.kind a.typed a.within none))

@@ -1,6 +1,6 @@
 //! What `delete` ends (ISO C++03 5.3.5).
 
-ghost use Rattle.std.specs.Prelude.{◌≡◌, Option, None, Bool, List};
+ghost use Rattle.std.specs.Prelude.{◌≡◌, Option, None};
 ghost use Rattle.cxx_hierarchy.specs.declared.records.ClassId.{ClassId};
 ghost use Rattle.cxx_hierarchy.specs.Classes.{Classes};
 ghost use Rattle.cxx_program.specs.declared.statement.TypedKind.TheVariants.{Delete};

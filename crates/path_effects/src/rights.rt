@@ -1,6 +1,6 @@
 //! The values of right sides (ISO C++03 5).
 
-ghost use Rattle.std.specs.Prelude.{◌≡◌, None, IfOk, ◌++◌, Bool, if◌then◌else◌, not};
+ghost use Rattle.std.specs.Prelude.{◌≡◌, None, IfOk, ◌++◌, if◌then◌else◌, not};
 ghost use Rattle.cxx_hierarchy.specs.declared.records.ClassId.{ClassId};
 ghost use Rattle.cxx_hierarchy.specs.declared.records.ValueType.{ValueType};
 ghost use Rattle.cxx_hierarchy.specs.declared.records.ValueType.TheVariants.{Pointer as PointerType};

@@ -3,109 +3,78 @@
 ghost use Rattle.std.specs.Prelude.{◌≡◌, ◌+◌, false};
 ghost use Rattle.path_numbers.specs.Numbers.{AreNumbers};
 ghost use Rattle.path_events.specs.declared.frame.Stage.TheVariants.{Shared, Bases, Members, Body};
-ghost use Rattle.path_events.specs.invariants.Steps.{Gives, MayGive, elements_at};
+ghost use Rattle.path_events.specs.invariants.Steps.{GivesNext, MayGiveNext, elements_at};
 
 use crate::classes::{base_at, bases_of, class_at, member_at, members_of, order_of};
-use crate::frame::{Form, Pending, Stage, Step};
+use crate::course::Course;
+use crate::frame::{Form, Stage, Step};
 use crate::kids::{base_kid, element_kid, shared_kid};
 use crate::plan::PlanEvent;
 use cxx_hierarchy::{ClassId, FieldType, Hierarchy};
 use cxx_program::Owner;
-use path_bodies::BodyIndex;
-use path_numbers::Numbers;
 
 /// The virtual base before place j, and the end where there is none.
-fn ended_shared(
-    h: &Hierarchy,
-    numbers: &Numbers,
-    index: &BodyIndex,
-    frame: Pending,
-    j: usize,
-) -> Step
-    requires { AreNumbers h.now numbers.now }
-    ensures { Gives h.now index.now false frame (Shared j) result }
+fn ended_shared(course: &Course, j: usize) -> Step
+    requires { AreNumbers course.now.h.now course.now.numbers.now }
+    ensures { GivesNext course.now false (Shared j) result }
 {
-    match frame.form {
-        Form::AsBase => Step::Last(PlanEvent::End(frame.part)),
+    match course.frame.form {
+        Form::AsBase => Step::Last(PlanEvent::End(course.frame.part)),
         Form::InFull => {
-            let order = order_of(h, numbers, frame.part.class);
+            let order = order_of(course.h, course.numbers, course.frame.part.class);
             let left = j.min(order.len());
             if left == 0 {
-                return Step::Last(PlanEvent::End(frame.part));
+                return Step::Last(PlanEvent::End(course.frame.part));
             }
             let place = left - 1;
             let v = class_at(order, place);
-            let kid = shared_kid(numbers, h, frame.part, place, v);
+            let kid = shared_kid(course.numbers, course.h, course.frame.part, place, v);
             Step::Open(kid, Form::AsBase, Stage::Shared(place))
         }
     }
 }
 
 /// The direct base at place i, unless it is virtual.
-fn ended_base(
-    h: &Hierarchy,
-    numbers: &Numbers,
-    index: &BodyIndex,
-    frame: Pending,
-    i: usize,
-) -> Option<Step>
-    requires { AreNumbers h.now numbers.now }
-    ensures { MayGive h.now index.now false frame (Bases (i + 1)) (Bases i) result }
+fn ended_base(course: &Course, i: usize) -> Option<Step>
+    requires { AreNumbers course.now.h.now course.now.numbers.now }
+    ensures { MayGiveNext course.now false (Bases (i + 1)) (Bases i) result }
 {
-    match base_at(h, frame.part.class, i) {
+    match base_at(course.h, course.frame.part.class, i) {
         None => None,
         Some(base) => {
             if base.is_virtual {
                 return None;
             }
-            let kid = base_kid(numbers, h, frame.part, i, base);
+            let kid = base_kid(course.numbers, course.h, course.frame.part, i, base);
             Some(Step::Open(kid, Form::AsBase, Stage::Bases(i)))
         }
     }
 }
 
 /// The last base before place i, and behind them the virtual bases.
-fn ended_bases(
-    h: &Hierarchy,
-    numbers: &Numbers,
-    index: &BodyIndex,
-    frame: Pending,
-    i: usize,
-) -> Step
-    requires { AreNumbers h.now numbers.now }
-    ensures { Gives h.now index.now false frame (Bases i) result }
+fn ended_bases(course: &Course, i: usize) -> Step
+    requires { AreNumbers course.now.h.now course.now.numbers.now }
+    ensures { GivesNext course.now false (Bases i) result }
 {
     let mut left = i;
     while left > 0 {
         left -= 1;
-        match ended_base(h, numbers, index, frame, left) {
+        match ended_base(course, left) {
             Some(step) => return step,
             None => {}
         }
     }
-    ended_shared(
-        h,
-        numbers,
-        index,
-        frame,
-        order_of(h, numbers, frame.part.class).len(),
-    )
+    let left = order_of(course.h, course.numbers, course.frame.part.class).len();
+    ended_shared(course, left)
 }
 
 /// The last of the i elements that are left of the member at place m.
-fn ended_element(
-    h: &Hierarchy,
-    numbers: &Numbers,
-    index: &BodyIndex,
-    frame: Pending,
-    m: usize,
-    i: u32,
-) -> Option<Step>
-    requires { AreNumbers h.now numbers.now }
-    ensures { MayGive h.now index.now false frame (Members m i) (Members m 0) result }
+fn ended_element(course: &Course, m: usize, i: u32) -> Option<Step>
+    requires { AreNumbers course.now.h.now course.now.numbers.now }
+    ensures { MayGiveNext course.now false (Members m i) (Members m 0) result }
 {
-    h.keeps();
-    match member_at(h, frame.part.class, m) {
+    course.h.keeps();
+    match member_at(course.h, course.frame.part.class, m) {
         None => None,
         Some(member) => match member.ty {
             FieldType::Value(_) => None,
@@ -115,7 +84,15 @@ fn ended_element(
                     return None;
                 }
                 let element = left - 1;
-                let kid = element_kid(numbers, h, frame.part, m, member, element, d);
+                let kid = element_kid(
+                    course.numbers,
+                    course.h,
+                    course.frame.part,
+                    m,
+                    member,
+                    element,
+                    d,
+                );
                 Some(Step::Open(kid, Form::InFull, Stage::Members(m, element)))
             }
         },
@@ -133,62 +110,56 @@ fn elements_at(h: &Hierarchy, c: ClassId, m: usize) -> u32
 }
 
 /// The last element of the member at place m, after it those of the members before, and behind them the bases.
-fn ended_members(
-    h: &Hierarchy,
-    numbers: &Numbers,
-    index: &BodyIndex,
-    frame: Pending,
-    m: usize,
-    i: u32,
-) -> Step
-    requires { AreNumbers h.now numbers.now }
-    ensures { Gives h.now index.now false frame (Members m i) result }
+fn ended_members(course: &Course, m: usize, i: u32) -> Step
+    requires { AreNumbers course.now.h.now course.now.numbers.now }
+    ensures { GivesNext course.now false (Members m i) result }
 {
-    match ended_element(h, numbers, index, frame, m, i) {
+    match ended_element(course, m, i) {
         Some(step) => return step,
         None => {}
     }
     let mut left = m;
     while left > 0 {
         left -= 1;
-        let elements = elements_at(h, frame.part.class, left);
-        match ended_element(h, numbers, index, frame, left, elements) {
+        let elements = elements_at(course.h, course.frame.part.class, left);
+        match ended_element(course, left, elements) {
             Some(step) => return step,
             None => {}
         }
     }
-    let bases = bases_of(h, frame.part.class).len();
-    Step::Event(PlanEvent::Bases(frame.part), Stage::Bases(bases))
+    let bases = bases_of(course.h, course.frame.part.class).len();
+    Step::Event(PlanEvent::Bases(course.frame.part), Stage::Bases(bases))
 }
 
 /// The body of the destructor where it is declared, and else the members.
-fn ended_body(h: &Hierarchy, numbers: &Numbers, index: &BodyIndex, frame: Pending) -> Step
-    requires { AreNumbers h.now numbers.now }
-    ensures { Gives h.now index.now false frame Body result }
+fn ended_body(course: &Course) -> Step
+    requires { AreNumbers course.now.h.now course.now.numbers.now }
+    ensures { GivesNext course.now false Body result }
 {
-    let members = members_of(h, frame.part.class).len();
-    if index.has_body(Owner::Destructor(frame.part.class)) {
-        Step::Event(PlanEvent::Body(frame.part), Stage::Members(members, 0))
+    let members = members_of(course.h, course.frame.part.class).len();
+    if course
+        .index
+        .has_body(Owner::Destructor(course.frame.part.class))
+    {
+        Step::Event(
+            PlanEvent::Body(course.frame.part),
+            Stage::Members(members, 0),
+        )
     } else {
-        ended_members(h, numbers, index, frame, members, 0)
+        ended_members(course, members, 0)
     }
 }
 
 /// What comes next.
-pub(crate) fn ended_step(
-    h: &Hierarchy,
-    numbers: &Numbers,
-    index: &BodyIndex,
-    frame: Pending,
-) -> Step
-    requires { AreNumbers h.now numbers.now }
-    ensures { Gives h.now index.now false frame frame.stage result }
+pub(crate) fn ended_step(course: &Course) -> Step
+    requires { AreNumbers course.now.h.now course.now.numbers.now }
+    ensures { GivesNext course.now false course.now.frame.stage result }
 {
-    match frame.stage {
-        Stage::Body => ended_body(h, numbers, index, frame),
-        Stage::Members(m, i) => ended_members(h, numbers, index, frame, m, i),
-        Stage::Bases(i) => ended_bases(h, numbers, index, frame, i),
-        Stage::Shared(j) => ended_shared(h, numbers, index, frame, j),
-        Stage::Last => Step::Last(PlanEvent::End(frame.part)),
+    match course.frame.stage {
+        Stage::Body => ended_body(course),
+        Stage::Members(m, i) => ended_members(course, m, i),
+        Stage::Bases(i) => ended_bases(course, i),
+        Stage::Shared(j) => ended_shared(course, j),
+        Stage::Last => Step::Last(PlanEvent::End(course.frame.part)),
     }
 }

@@ -13,6 +13,7 @@
 
 pub mod built;
 pub mod classes;
+pub mod course;
 pub mod ended;
 pub mod frame;
 pub mod kids;

@@ -13,9 +13,10 @@ ghost use Rattle.path_numbers.specs.Numbers.{AreNumbers};
 ghost use Rattle.path_heap.specs.Points.{IsPart};
 ghost use Rattle.path_bodies.specs.Places.{IsIndexOf};
 ghost use Rattle.path_events.specs.Plans.{MeansNext, PlanStands};
-ghost use Rattle.path_events.specs.invariants.Steps.{Gives, first_event, first_stage, at_stage, event_in, stack_behind};
+ghost use Rattle.path_events.specs.invariants.Steps.{GivesNext, first_event, first_stage, at_stage, event_in, stack_behind};
 
 use crate::built::built_step;
+use crate::course::Course;
 use crate::ended::ended_step;
 use crate::frame::{Form, Pending, Stage, Step};
 use cxx_hierarchy::Hierarchy;
@@ -69,20 +70,14 @@ fn first_stage(is_building: bool) -> Stage
 }
 
 /// What a part gives next.
-fn next_step(
-    h: &Hierarchy,
-    numbers: &Numbers,
-    index: &BodyIndex,
-    is_building: bool,
-    frame: Pending,
-) -> Step
-    requires { AreNumbers h.now numbers.now }
-    ensures { Gives h.now index.now is_building frame frame.stage result }
+fn next_step(course: &Course, is_building: bool) -> Step
+    requires { AreNumbers course.now.h.now course.now.numbers.now }
+    ensures { GivesNext course.now is_building course.now.frame.stage result }
 {
     if is_building {
-        built_step(h, numbers, index, frame)
+        built_step(course)
     } else {
-        ended_step(h, numbers, index, frame)
+        ended_step(course)
     }
 }
 
@@ -180,7 +175,13 @@ impl Plan {
         match self.stack.pop() {
             None => self.upcoming = None,
             Some(frame) => {
-                let step = next_step(h, numbers, index, self.is_building, frame);
+                let course = Course {
+                    h,
+                    numbers,
+                    index,
+                    frame,
+                };
+                let step = next_step(&course, self.is_building);
                 self.take(frame, step)?;
             }
         }

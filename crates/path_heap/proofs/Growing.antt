@@ -10,7 +10,7 @@ use Rattle.cxx_hierarchy.specs.Classes.{Classes}
 use Rattle.cxx_hierarchy.specs.Hierarchies.{IsHierarchy}
 use Rattle.cxx_subobject.specs.declared.Subobject.{Subobject}
 use Rattle.path_plan.specs.Places.{Step, ObjectPart, part}
-use Rattle.path_plan.specs.Phases.{Phase, Raw}
+use Rattle.path_plan.specs.Phases.{Phase, Raw, is_running}
 use Rattle.path_plan.specs.Plans.{InFull}
 use Rattle.path_numbers.specs.Sizes.{sizes_of, total, before}
 use Rattle.path_numbers.specs.Nodes.{Node, Under}
@@ -20,7 +20,7 @@ use Rattle.path_model.specs.Values.{Value, Unset, Number, Null, Pointer}
 use Rattle.path_heap.specs.declared.state.Value.{Value as ValueCode}
 use Rattle.path_heap.specs.declared.state.Value.TheVariants.{Unset as UnsetCode, Number as NumberCode, Null as NullCode, Pointer as PointerCode}
 use Rattle.path_heap.specs.Points.{Points, IsOwner}
-use Rattle.path_heap.specs.Running.{is_running, entry_in, entry_at, AreRunning, StackStands}
+use Rattle.path_heap.specs.Running.{entry_in, entry_at, AreRunning, StackStands}
 use Rattle.path_heap.specs.Stands.{Means}
 use Rattle.path_heap.proofs.Viewing.{at_less}
 

@@ -8,7 +8,7 @@ use Rattle.cxx_hierarchy.specs.declared.records.ClassId.{ClassId}
 use Rattle.cxx_hierarchy.specs.Classes.{Classes}
 use Rattle.cxx_subobject.specs.declared.Subobject.{Subobject}
 use Rattle.path_plan.specs.Places.{Step, ObjectPart}
-use Rattle.path_plan.specs.Phases.{Phases, Event, Begin, Ready, Done, Ending, Bases, End, put, pushed, popped}
+use Rattle.path_plan.specs.Phases.{put, pushed, is_running}
 use Rattle.path_plan.specs.Phases as Plan
 use Rattle.path_plan.specs.Plans.{InFull}
 use Rattle.path_plan.proofs.Same.{put_same, put_other}
@@ -24,7 +24,7 @@ use Rattle.path_heap.specs.declared.state.ObjectRow.{ObjectRow}
 use Rattle.path_heap.specs.declared.state.Part.{Part}
 use Rattle.path_heap.specs.declared.heap.Heap.{Heap}
 use Rattle.path_heap.specs.Points.{IsPart, IsOwner}
-use Rattle.path_heap.specs.Running.{is_running, entry_at, ViewsStand}
+use Rattle.path_heap.specs.Running.{entry_at, ViewsStand}
 use Rattle.path_heap.specs.Stands.{phase_of, CellStands, ObjectStands, HeapStands}
 use Rattle.path_heap.specs.invariants.Columns.{cell_or, cell_at, marked_cell, Marked, Entered}
 use Rattle.path_heap.proofs.Sets.{set_same, set_other}

@@ -8,7 +8,7 @@ use Rattle.cxx_hierarchy.specs.Classes.{Classes}
 use Rattle.cxx_hierarchy.specs.Hierarchies.{IsHierarchy}
 use Rattle.cxx_subobject.specs.declared.Subobject.{Subobject}
 use Rattle.path_plan.specs.Places.{Step, ObjectPart, part}
-use Rattle.path_plan.specs.Phases.{Phase, Phases, put, first_of, rest_of, pushed, popped}
+use Rattle.path_plan.specs.Phases.{Phase, Phases, put, first_of, rest_of, pushed, popped, is_running}
 use Rattle.path_plan.specs.Plans.{InFull}
 use Rattle.path_plan.specs.Views.{IsOnTop}
 use Rattle.path_plan.proofs.Same.{put_same, put_other, part_cases, Owns, owner_cases, pushed_same, popped_same, pushed_other, popped_other, part_owns}
@@ -21,7 +21,7 @@ use Rattle.path_numbers.proofs.Heap.{at_within, heap_part, heap_number}
 use Rattle.path_numbers.proofs.Wholes.{one_whole}
 use Rattle.path_heap.specs.declared.state.Part.{Part}
 use Rattle.path_heap.specs.Points.{Points, IsPart}
-use Rattle.path_heap.specs.Running.{is_running, entry_in, entry_at, AreRunning, StackStands, ViewsStand}
+use Rattle.path_heap.specs.Running.{entry_in, entry_at, AreRunning, StackStands, ViewsStand}
 use Rattle.path_heap.proofs.Sets.{set_same, set_other}
 
 -- what is listed as running runs

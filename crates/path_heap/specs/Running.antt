@@ -1,25 +1,15 @@
 -- The parts of each complete object whose constructors or destructors run, as numbers.
-use Rattle.std.specs.Prelude.{◌≡◌, ℕ, Bool, true, false, Option, Some, None, List, [], ◌∷◌, Contains, slice_get}
+use Rattle.std.specs.Prelude.{◌≡◌, ℕ, true, Option, Some, None, List, [], ◌∷◌, Contains, slice_get}
 use Rattle.cxx_hierarchy.specs.declared.records.ClassId.{ClassId}
 use Rattle.cxx_hierarchy.specs.Classes.{Classes}
 use Rattle.cxx_subobject.specs.declared.Subobject.{Subobject}
 use Rattle.path_plan.specs.Places.{Step, ObjectPart, part}
-use Rattle.path_plan.specs.Phases.{Phase, Raw, InBases, ReadyBuilding, Complete, ReadyEnding, EndingBases, Ended, Phases}
+use Rattle.path_plan.specs.Phases.{Phase, Phases, is_running}
 use Rattle.path_plan.specs.Plans.{InFull}
 use Rattle.path_numbers.specs.Sizes.{sizes_of}
 use Rattle.path_numbers.specs.Nodes.{Node}
 use Rattle.path_numbers.specs.Heap.{IsAt}
 use Rattle.path_heap.specs.Points.{Points}
-
--- its constructor or destructor runs
-abbrev pub is_running : Phase → Bool
-is_running Raw = false
-is_running InBases = true
-is_running ReadyBuilding = true
-is_running Complete = false
-is_running ReadyEnding = true
-is_running EndingBases = true
-is_running Ended = false
 
 -- the entry at a place, and none past the end
 abbrev pub entry_in : Option (Option ℕ) → Option ℕ

@@ -17,6 +17,7 @@ use Rattle.path_model.specs.Values.{Unset}
 use Rattle.path_model.specs.States.{Running, Planned, Frame, InBody, InPlan, State, body_of, sight, wanted, with_frames}
 use Rattle.path_model.specs.Steps.{before_kind, body_step, closed, constructor_closed, event_step, in_body, statement_step}
 use Rattle.path_model.specs.Runs.{Demand, asks_nothing, asks_call, asks_object, body_limit, demand_of, heap_total, limit_of, most_heap_bytes, most_open, move_by, open_count, opened_by, rounded, statement_limit}
+use Rattle.path_model.proofs.KeptSteps.{before_rest}
 use Rattle.path_model.proofs.TypedValues.{values_set}
 use Rattle.path_heap.specs.declared.state.Value.TheVariants.{Unset as UnsetCode}
 use Rattle.path_values.specs.Given.{IsSeen, IsGiven, GivesBack}
@@ -41,53 +42,6 @@ pub declared_taken : (h : Classes) (sizes : ClassId → ℕ) (program : TypedPro
 declared_taken h sizes program machine frame new s f below n kind x is t same items =
     subst (λ k. IsTaken h sizes program machine new s (before_kind f k) below) (sym is)
     (record { machine_stands = t.machine_stands; body_stands = local_set h s.objects.classes frame new f n UnsetCode Unset same items t.body_stands tt; counts = same.depth ∙ t.counts })
-
--- what a declaration leaves as it is
-
-pub wanted_before : (f : Running) (kind : TypedKind) → wanted (before_kind f kind) ≡ wanted f
-wanted_before f (Declare n x) = refl
-wanted_before f (Assign variable x) = refl
-wanted_before f (Write place x) = refl
-wanted_before f (Copy to from c) = refl
-wanted_before f (Call call) = refl
-wanted_before f (Delete x c) = refl
-wanted_before f (If x other behind) = refl
-wanted_before f (While x behind) = refl
-wanted_before f (Return x) = refl
-wanted_before f (Print x) = refl
-wanted_before f (PrintType x c) = refl
-wanted_before f (PrintView x c) = refl
-wanted_before f (Dump x c) = refl
-
-pub next_before : (f : Running) (kind : TypedKind) → (before_kind f kind).next ≡ f.next
-next_before f (Declare n x) = refl
-next_before f (Assign variable x) = refl
-next_before f (Write place x) = refl
-next_before f (Copy to from c) = refl
-next_before f (Call call) = refl
-next_before f (Delete x c) = refl
-next_before f (If x other behind) = refl
-next_before f (While x behind) = refl
-next_before f (Return x) = refl
-next_before f (Print x) = refl
-next_before f (PrintType x c) = refl
-next_before f (PrintView x c) = refl
-next_before f (Dump x c) = refl
-
-owner_before : (f : Running) (kind : TypedKind) → (before_kind f kind).owner ≡ f.owner
-owner_before f (Declare n x) = refl
-owner_before f (Assign variable x) = refl
-owner_before f (Write place x) = refl
-owner_before f (Copy to from c) = refl
-owner_before f (Call call) = refl
-owner_before f (Delete x c) = refl
-owner_before f (If x other behind) = refl
-owner_before f (While x behind) = refl
-owner_before f (Return x) = refl
-owner_before f (Print x) = refl
-owner_before f (PrintType x c) = refl
-owner_before f (PrintView x c) = refl
-owner_before f (Dump x c) = refl
 
 demand_before : (s : State) (f : Running) (kind : TypedKind) → demand_of (sight s (before_kind f kind)) kind ≡ demand_of (sight s f) kind
 demand_before s f (Declare n x) = refl
@@ -117,7 +71,7 @@ limit_before : (sizes : ClassId → ℕ) (s : State) (f : Running) (below : List
     limit_of sizes (with_frames s (InBody (before_kind f kind) ∷ below)) (demand_of (sight s (before_kind f kind)) kind) ≡ limit_of sizes s (demand_of (sight s f) kind)
 limit_before sizes s f below kind is =
     ap (limit_of sizes (with_frames s (InBody (before_kind f kind) ∷ below))) (demand_before s f kind)
-    ∙ limit_same sizes s (InBody (before_kind f kind) ∷ below) (demand_of (sight s f) kind) (ap (λ (o : Owner). sum_by opened_by (InBody (owned f o) ∷ below)) (owner_before f kind) ∙ ap open_count (sym is))
+    ∙ limit_same sizes s (InBody (before_kind f kind) ∷ below) (demand_of (sight s f) kind) (ap (λ (o : Owner). sum_by opened_by (InBody (owned f o) ∷ below)) (sym ((before_rest f kind).owner)) ∙ ap open_count (sym is))
 
 -- what a statement of a typed body is given
 
@@ -160,7 +114,7 @@ pub given_before : (h : Classes) (program : TypedProgram) (s : State) (f : Runni
 given_before h program s f below body n statement next here at =
     let e = scope_of h program.globals body in
     let typed = next.typed body n statement here at in
-    record { seen = seen_before h e s f statement.kind typed (next.seen body here); typed = typed; back = subst (GivesBack h e) (sym (wanted_before f statement.kind)) (next.back body here) }
+    record { seen = seen_before h e s f statement.kind typed (next.seen body here); typed = typed; back = subst (GivesBack h e) (sym ((before_rest f statement.kind).wanted_is)) (next.back body here) }
 
 -- the steps
 
@@ -172,7 +126,7 @@ statement_agrees h sizes program new s f below body statement before after code 
     subst (λ b. MoveAgrees h sizes program (move_by (body_step h program s f below b) (body_limit sizes s f b)) new before after code) (sym here)
     (subst (λ o. MoveAgrees h sizes program (move_by (in_body h program s f below body o) (statement_limit sizes s f o)) new before after code) (sym at)
     (subst (λ l. MoveAgrees h sizes program (move_by (statement_step h program s (before_kind f statement.kind) below f.next statement) l) new before after code) (limit_before sizes s f below statement.kind frames)
-    (subst (λ n. MoveAgrees h sizes program (move_by (statement_step h program s (before_kind f statement.kind) below n statement) (limit_of sizes (with_frames s (InBody (before_kind f statement.kind) ∷ below)) (demand_of (sight s (before_kind f statement.kind)) statement.kind))) new before after code) (next_before f statement.kind) a)))
+    (subst (λ n. MoveAgrees h sizes program (move_by (statement_step h program s (before_kind f statement.kind) below n statement) (limit_of sizes (with_frames s (InBody (before_kind f statement.kind) ∷ below)) (demand_of (sight s (before_kind f statement.kind)) statement.kind))) new before after code) ((before_rest f statement.kind).next) a)))
 
 pub close_agrees : (h : Classes) (sizes : ClassId → ℕ) (program : TypedProgram) (new : Machine) (s : State) (f : Running) (below : List Frame) (body : TypedBody) (before after : Telling) (code : NextCode) →
     body_of program f.owner ≡ Some body → slice_get body.statements f.next ≡ None → StepAgrees h sizes program (closed h program s f.owner body.close_line below) new before after code →

@@ -26,7 +26,6 @@ use Rattle.path_model.specs.States.{Target, Running, Frame, State, sight, assign
 use Rattle.path_model.specs.Effects.{Next, Goes, Refuses, Ends, Wrong, leaf_set, copied, written, copied_at, left_by, returned, result_given, right_value, taken}
 use Rattle.path_model.specs.Runs.{heap_total, move_by, limit_of, right_demand}
 use Rattle.path_heap.specs.declared.heap.Heap.{Heap}
-use Rattle.path_heap.specs.declared.state.Value.{Value as ValueCode}
 use Rattle.path_heap.specs.Stands.{HeapStands, Means}
 use Rattle.path_values.specs.Scenes.{SceneStands}
 use Rattle.path_values.specs.Conversions.{CanConvert}

@@ -19,7 +19,7 @@ ghost use Rattle.path_frames.specs.declared.machine.Machine.{Machine as MachineO
 ghost use Rattle.path_frames.specs.Frames.{target_of};
 ghost use Rattle.path_frames.specs.Machines.{MachineStands};
 ghost use Rattle.cxx_program.specs.declared.operand.Conversion.TheVariants.{Same as ToSame};
-ghost use Rattle.path_machine.specs.invariants.Steps.{size_in, IsTaken, IsClear, StepAgrees, gone_on, limit_at, IsTakenIn, MoveAgreesIn};
+ghost use Rattle.path_machine.specs.invariants.Steps.{size_in, IsTaken, IsClear, StepAgrees, gone_on, limit_met, IsTakenIn, MoveAgreesIn};
 ghost use Rattle.path_machine.specs.invariants.Plans.{plan_in};
 ghost use Rattle.path_machine.specs.invariants.Setups.{IsSetup, IsDeclaring, IsBelowNext, IsBodyNext};
 
@@ -108,7 +108,7 @@ fn declare(
     ensures answers { AreAnswers run.now.world.h.now answers.new }
     ensures agrees { IfOk result (λ done. (e : Scope) (s : State) (f : Running) (below : List FrameOf) →
         IsTakenIn run.now machine.old frame s f below → IsDeclaring run.now.world.h.now e (sight s f) x.now →
-        MoveAgreesIn run.now (move_by (declared run.now.world.h.now run.now.program.now (sight s f) (gone_on s f next below) n x.now) (limit_at run.now s f below (converted_demand x.now))) machine.new outs.old outs.new done) }
+        MoveAgreesIn run.now (move_by (declared run.now.world.h.now run.now.program.now (sight s f) (gone_on s f next below) n x.now) (limit_met run.now s f below (converted_demand x.now))) machine.new outs.old outs.new done) }
 {
     match x {
         None => {
@@ -146,7 +146,7 @@ fn effect(
     ensures answers { AreAnswers run.now.world.h.now answers.new }
     ensures agrees { IfOk result (λ done. (e : Scope) (s : State) (f : Running) (below : List FrameOf) →
         IsTakenIn run.now machine.old frame s f below → IsClear run.now.world.h.now e s f statement.now.kind → after ≡ f.next + 1 →
-        MoveAgreesIn run.now (move_by (effect run.now.world.h.now run.now.program.now (with_frames s (InBody f ∷ below)) f below f.next statement.now) (limit_at run.now s f below (demand_of (sight s f) statement.now.kind))) machine.new outs.old outs.new done) }
+        MoveAgreesIn run.now (move_by (effect run.now.world.h.now run.now.program.now (with_frames s (InBody f ∷ below)) f below f.next statement.now) (limit_met run.now s f below (demand_of (sight s f) statement.now.kind))) machine.new outs.old outs.new done) }
 {
     let next = statement.next;
     let n = frame.next;
@@ -272,7 +272,7 @@ fn statement_step(
     ensures answers { AreAnswers run.now.world.h.now answers.new }
     ensures agrees { IfOk result (λ done. (e : Scope) (s : State) (f : Running) (below : List FrameOf) →
         IsTakenIn run.now machine.old frame s f below → IsGiven run.now.world.h.now e (sight s f) (wanted f) statement.now.kind → after ≡ f.next + 1 →
-        MoveAgreesIn run.now (move_by (statement_step run.now.world.h.now run.now.program.now s f below f.next statement.now) (limit_at run.now s f below (demand_of (sight s f) statement.now.kind))) machine.new outs.old outs.new done) }
+        MoveAgreesIn run.now (move_by (statement_step run.now.world.h.now run.now.program.now s f below f.next statement.now) (limit_met run.now s f below (demand_of (sight s f) statement.now.kind))) machine.new outs.old outs.new done) }
 {
     match refused(run, machine, answers, &frame, &statement.kind)? {
         Some(rule) => Ok(Next::Refuses(rule, statement.line)),

@@ -13,7 +13,7 @@ ghost use Rattle.path_heap.specs.Points.{IsPart};
 ghost use Rattle.path_tables.specs.Asked.{AreAnswers};
 ghost use Rattle.path_frames.specs.Frames.{target_of};
 ghost use Rattle.path_frames.specs.Machines.{MachineStands};
-ghost use Rattle.path_machine.specs.invariants.Steps.{size_in, IsTaken, MoveAgrees, gone_on, limit_at, IsTakenIn, MoveAgreesIn};
+ghost use Rattle.path_machine.specs.invariants.Steps.{size_in, IsTaken, MoveAgrees, gone_on, limit_met, IsTakenIn, MoveAgreesIn};
 ghost use Rattle.path_machine.specs.invariants.Setups.{IsSetup, IsCalling, IsDeleting};
 ghost use Rattle.path_machine.specs.invariants.Openings.{planned};
 
@@ -63,7 +63,7 @@ pub(crate) fn call_body(
     ensures answers { AreAnswers run.now.world.h.now answers.new }
     ensures agrees { IfOk result (λ taken. (e : Scope) (s : State) (f : Running) (below : List FrameOf) →
         IsTakenIn run.now machine.old frame s f below → IsCalling run.now.world.h.now e (sight s f) call.now →
-        MoveAgreesIn run.now (move_by (called run.now.world.h.now run.now.program.now (sight s f) (gone_on s f next below) call.now (target_of target)) (limit_at run.now s f below asks_call)) machine.new outs.old outs.new taken) }
+        MoveAgreesIn run.now (move_by (called run.now.world.h.now run.now.program.now (sight s f) (gone_on s f next below) call.now (target_of target)) (limit_met run.now s f below asks_call)) machine.new outs.old outs.new taken) }
 {
     if frame.depth >= MOST_OPEN {
         return Ok(Next::Limited(LimitNo::L10));
@@ -103,7 +103,7 @@ pub(crate) fn new_object(
     requires setup { IsSetup run.now }
     ensures { IfOk result (λ taken. (s : State) (f : Running) (below : List FrameOf) (outs : Telling) →
         IsTakenIn run.now machine.old frame s f below → class.0 < length run.now.world.h.now →
-        MoveAgreesIn run.now (move_by (new_made run.now.world.h.now run.now.program.now (gone_on s f next below) class (target_of target)) (limit_at run.now s f below (asks_object class))) machine.new outs outs taken) }
+        MoveAgreesIn run.now (move_by (new_made run.now.world.h.now run.now.program.now (gone_on s f next below) class (target_of target)) (limit_met run.now s f below (asks_object class))) machine.new outs outs taken) }
 {
     if class.0 >= run.world.h.len() {
         return Ok(Next::Wrong);
@@ -135,7 +135,7 @@ pub(crate) fn delete_object(
     requires setup { IsSetup run.now }
     ensures { IfOk result (λ taken. (e : Scope) (c : ClassId) (s : State) (f : Running) (below : List FrameOf) (outs : Telling) →
         IsTakenIn run.now machine.old frame s f below → IsDeleting run.now.world.h.now e (sight s f) pointer.now c →
-        MoveAgreesIn run.now (move_by (deleted run.now.world.h.now run.now.program.now (gone_on s f next below) (value (sight s f) pointer.now)) (limit_at run.now s f below (delete_demand (value (sight s f) pointer.now)))) machine.new outs outs taken) }
+        MoveAgreesIn run.now (move_by (deleted run.now.world.h.now run.now.program.now (gone_on s f next below) (value (sight s f) pointer.now)) (limit_met run.now s f below (delete_demand (value (sight s f) pointer.now)))) machine.new outs outs taken) }
 {
     let scene = scene_of(machine, &frame);
     match deleted(&machine.heap, &scene, pointer) {

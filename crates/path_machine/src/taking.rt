@@ -9,7 +9,7 @@ ghost use Rattle.path_model.specs.Effects.{Goes, right_value, taken, taker};
 ghost use Rattle.path_model.specs.Runs.{move_by, right_demand};
 ghost use Rattle.path_tables.specs.Asked.{AreAnswers};
 ghost use Rattle.path_frames.specs.Frames.{target_of};
-ghost use Rattle.path_machine.specs.invariants.Steps.{gone_on, limit_at, IsTakenIn, StepAgreesIn, MoveAgreesIn};
+ghost use Rattle.path_machine.specs.invariants.Steps.{gone_on, limit_met, IsTakenIn, StepAgreesIn, MoveAgreesIn};
 ghost use Rattle.path_machine.specs.invariants.Setups.{IsSetup, IsTaking, is_plain};
 
 use crate::calls::{call_body, new_object};
@@ -92,7 +92,7 @@ pub(crate) fn take(
     ensures answers { AreAnswers run.now.world.h.now answers.new }
     ensures agrees { IfOk result (λ done. (e : Scope) (s : State) (f : Running) (below : List FrameOf) →
         IsTakenIn run.now machine.old frame s f below → IsTaking run.now.world.h.now e (sight s f) x.now →
-        MoveAgreesIn run.now (move_by (taken run.now.world.h.now run.now.program.now (sight s f) (gone_on s f next below) variable x.now.right x.now.conversion) (limit_at run.now s f below (right_demand x.now.right))) machine.new outs.old outs.new done) }
+        MoveAgreesIn run.now (move_by (taken run.now.world.h.now run.now.program.now (sight s f) (gone_on s f next below) variable x.now.right x.now.conversion) (limit_met run.now s f below (right_demand x.now.right))) machine.new outs.old outs.new done) }
 {
     match &x.right {
         TypedRight::Call(call) => {

@@ -35,25 +35,34 @@ closed_kept h program s (Function g) line below a = unless_kept (IsKept h progra
 closed_kept h program s (Constructor c) line below a = constructor_kept h program s below a
 closed_kept h program s (Destructor c) line below a = a
 
-pub before_owner : (f : Running) (kind : TypedKind) → f.owner ≡ (before_kind f kind).owner
-before_owner f (Declare n x) = refl
-before_owner f (Assign variable x) = refl
-before_owner f (Write place x) = refl
-before_owner f (Copy to from c) = refl
-before_owner f (Call call) = refl
-before_owner f (Delete x c) = refl
-before_owner f (If x other behind) = refl
-before_owner f (While x behind) = refl
-before_owner f (Return x) = refl
-before_owner f (Print x) = refl
-before_owner f (PrintType x c) = refl
-before_owner f (PrintView x c) = refl
-before_owner f (Dump x c) = refl
+-- what a declaration leaves as it is, before its right side is read
+pub record IsSameRest (f g : Running) : Type 0 where
+  pub owner : f.owner ≡ g.owner
+  pub next : g.next ≡ f.next
+  pub wanted_is : wanted g ≡ wanted f
+
+same_rest : (f : Running) → IsSameRest f f
+same_rest f = record { owner = refl; next = refl; wanted_is = refl }
+
+pub before_rest : (f : Running) (kind : TypedKind) → IsSameRest f (before_kind f kind)
+before_rest f (Declare n x) = record { owner = refl; next = refl; wanted_is = refl }
+before_rest f (Assign variable x) = same_rest f
+before_rest f (Write place x) = same_rest f
+before_rest f (Copy to from c) = same_rest f
+before_rest f (Call call) = same_rest f
+before_rest f (Delete x c) = same_rest f
+before_rest f (If x other behind) = same_rest f
+before_rest f (While x behind) = same_rest f
+before_rest f (Return x) = same_rest f
+before_rest f (Print x) = same_rest f
+before_rest f (PrintType x c) = same_rest f
+before_rest f (PrintView x c) = same_rest f
+before_rest f (Dump x c) = same_rest f
 
 before_kept : (h : Classes) (program : TypedProgram) (x : Objects) (f : Running) (below : List Frame) (kind : TypedKind) → IsKeptAt h program x (InBody f ∷ below) → IsKeptAt h program x (InBody (before_kind f kind) ∷ below)
 before_kept h program x f below kind a = record {
   reached = a.reached;
-  going = (subst (λ (o : Owner). StandsOn program o below) (before_owner f kind) a.going.0, a.going.1);
+  going = (subst (λ (o : Owner). StandsOn program o below) (before_rest f kind).owner a.going.0, a.going.1);
   closed = a.closed;
 }
 

@@ -47,12 +47,12 @@ standing NotComplete = record { place = 9; number = refl; listed = refl; below =
 standing MissingReturn = record { place = 10; number = refl; listed = refl; below = omega arith }
 standing Overflow = record { place = 11; number = refl; listed = refl; below = omega arith }
 
-abbrev number_in : ℕ → Option Undefined → ℕ
+abbrev pub number_in : ℕ → Option Undefined → ℕ
 number_in n None = suc n
 number_in n (Some r) = undefined_no r
 
 -- the rule at a place has its number
-number_at : (n : ℕ) → number_in n (slice_get rules n) ≡ suc n
+pub number_at : (n : ℕ) → number_in n (slice_get rules n) ≡ suc n
 number_at zero = refl
 number_at (suc zero) = refl
 number_at (suc (suc zero)) = refl

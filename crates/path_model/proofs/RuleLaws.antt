@@ -9,7 +9,6 @@ use Rattle.std.proofs.Math.Nat.{mod-eq_of_lt}
 use Rattle.foundation.proofs.Chosen.{find_passes}
 use Rattle.cxx_hierarchy.specs.declared.records.ClassId.{ClassId}
 use Rattle.cxx_hierarchy.specs.declared.records.Scalar.{Scalar}
-use Rattle.cxx_hierarchy.specs.declared.records.Scalar.TheVariants.{Bool as TheBool, Char, SChar, UChar, Short, UShort, Int, UInt, Long, ULong, LongLong, ULongLong}
 use Rattle.cxx_hierarchy.specs.Scalars.{is_signed, count_of, below_zero, IsInRange, wrapped}
 use Rattle.cxx_hierarchy.specs.Classes.{Classes}
 use Rattle.cxx_hierarchy.specs.Hierarchies.{IsHierarchy}
@@ -35,7 +34,7 @@ use Rattle.path_model.specs.Values.{Objects}
 use Rattle.path_model.specs.Uses.{class_of_owner, view_of, derived_of}
 use Rattle.path_model.specs.Rules.{is_outside, is_outside_of, is_pure_by, is_pure_at, is_nowhere, is_in_heap_object, is_whole_of, is_no_whole, is_whole_complete, is_incomplete, differ, is_over}
 use Rattle.path_model.specs.Effects.{overrider_by}
-use Rattle.path_model.proofs.TypedRanges.{euclid_range}
+use Rattle.path_model.proofs.TypedRanges.{count_positive, euclid_range}
 
 untrue : (b : Bool) → not b ≡ false → b ≡ true
 untrue true e = refl
@@ -122,20 +121,6 @@ complete_law s p d class = (λ e. complete_is (s.phases.phase (part p.object [] 
     by_class = ap (λ k. not (is_whole_complete s p.object k)) class
 
 -- numbers
-
-count_positive : (t : Scalar) → 0 < count_of t
-count_positive TheBool = omega arith
-count_positive Char = omega arith
-count_positive SChar = omega arith
-count_positive UChar = omega arith
-count_positive Short = omega arith
-count_positive UShort = omega arith
-count_positive Int = omega arith
-count_positive UInt = omega arith
-count_positive Long = omega arith
-count_positive ULong = omega arith
-count_positive LongLong = omega arith
-count_positive ULongLong = omega arith
 
 euclid_same : (y : ℤ) (n : ℕ) → pos 0 ≤ℤ y → y <ℤ pos n → int_rem_euclid y (pos n) ≡ y
 euclid_same (pos a) n low high = let l : a < n = omega (arith, ints) in ap pos (mod-eq_of_lt l)

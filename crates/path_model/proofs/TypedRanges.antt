@@ -8,7 +8,7 @@ use Rattle.cxx_hierarchy.specs.declared.records.Scalar.{Scalar}
 use Rattle.cxx_hierarchy.specs.declared.records.Scalar.TheVariants.{Bool as TheBool, Char, SChar, UChar, Short, UShort, Int, UInt, Long, ULong, LongLong, ULongLong}
 use Rattle.cxx_hierarchy.specs.Scalars.{is_signed, count_of, below_zero, IsInRange, wrapped, truth_of, stored_as}
 
-count_positive : (t : Scalar) → 0 < count_of t
+pub count_positive : (t : Scalar) → 0 < count_of t
 count_positive TheBool = omega arith
 count_positive Char = omega arith
 count_positive SChar = omega arith

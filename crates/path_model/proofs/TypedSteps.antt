@@ -24,7 +24,7 @@ use Rattle.path_model.specs.Steps.{unless, closed, constructor_closed, before_ki
 use Rattle.path_model.specs.Runs.{IsWrong, within, move_by, move, limit_at, Done, UndefinedAt, OutOfSteps, LimitMet, WentWrong, Ran, ran_by, run_from, run_of, state_at, start}
 use Rattle.path_model.specs.TypedStates.{FitsResult, IsOverPlan, IsOpened}
 use Rattle.path_model.proofs.KeptFrames.{IsKeptAt, IsKept, IfGoes, kept_left}
-use Rattle.path_model.proofs.KeptSteps.{before_owner, step_kept, behind_move, state_kept}
+use Rattle.path_model.proofs.KeptSteps.{before_rest, step_kept, behind_move, state_kept}
 use Rattle.path_model.proofs.TypedFrames.{IsSound, IsSoundNext, assigned_sound, called_some}
 use Rattle.path_model.proofs.TypedBodies.{body_typed, start_sound}
 use Rattle.path_model.proofs.TypedPlans.{plan_sound}
@@ -87,7 +87,7 @@ module _ (h : Classes) (keeps : IsHierarchy h) (fine : HasNoFault h) (program : 
   statement_sound s f below body n there statement at b =
       let g = before_kind f statement.kind in
       let typed = (body_typed h program a f.owner body there).1.statements n statement at in
-      let found : body_of program g.owner ≡ Some body = ap (body_of program) (sym (before_owner f statement.kind)) ∙ there in
+      let found : body_of program g.owner ≡ Some body = ap (body_of program) (sym (before_rest f statement.kind).owner) ∙ there in
       unless_sound h program (refusal h (sight s g) (wanted g) statement.kind) statement.line (effect h program (with_frames s (InBody g ∷ below)) g below n statement)
       (λ none. kind_sound h keeps fine program a s.objects s.globals g below body found (wanted g) n statement.next typed.next (before_sound s f below body there statement.kind typed.typed b) statement.kind typed.typed typed.within none)
 

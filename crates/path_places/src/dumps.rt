@@ -1,9 +1,8 @@
 //! The dump of a heap object.
 
-ghost use Rattle.std.specs.Prelude.{◌≡◌, ◌+◌, ◌<◌, ◌++◌, ◌∷◌, [], true, Some, IfOk, OnOk, IsTrue, length, slice_get};
+ghost use Rattle.std.specs.Prelude.{◌≡◌, ◌+◌, ◌<◌, ◌++◌, ◌∷◌, [], Some, IfOk, OnOk, length, slice_get};
 ghost use Rattle.cxx_hierarchy.specs.declared.records.ClassId.{ClassId};
 ghost use Rattle.cxx_hierarchy.specs.declared.records.FieldType.TheVariants.{Object};
-ghost use Rattle.cxx_hierarchy.specs.Classes.{members_of};
 ghost use Rattle.cxx_subobject.specs.declared.locations.Hop.TheVariants.{Inherit, Member as MemberHop};
 ghost use Rattle.path_plan.specs.Places.{ObjectPart};
 ghost use Rattle.path_model.specs.Values.{Objects};

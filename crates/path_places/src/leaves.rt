@@ -1,6 +1,6 @@
 //! The numbers of the leaves of a part.
 
-ghost use Rattle.std.specs.Prelude.{◌≡◌, ◌+◌, ◌<◌, ◌%◌, ◌^◌, ◌++◌, ℕ, Some, List, IfOk, OnOk, length, map, slice_get};
+ghost use Rattle.std.specs.Prelude.{◌≡◌, ◌+◌, ◌<◌, ◌%◌, ◌^◌, ◌++◌, Some, IfOk, OnOk, length, map};
 ghost use Rattle.std.specs.List.{AllZip};
 ghost use Rattle.cxx_hierarchy.specs.declared.records.ClassId.{ClassId};
 ghost use Rattle.cxx_hierarchy.specs.declared.records.FieldType.TheVariants.{Object};

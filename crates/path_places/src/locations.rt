@@ -1,6 +1,6 @@
 //! Parts and values from the outside.
 
-ghost use Rattle.std.specs.Prelude.{◌≡◌, ℕ, true, OnOk, IfOk, ◌∷◌, []};
+ghost use Rattle.std.specs.Prelude.{◌≡◌, true, OnOk, IfOk, ◌∷◌, []};
 ghost use Rattle.cxx_subobject.specs.Locations.{ObjectPart};
 ghost use Rattle.path_model.specs.Values.{Value as ValueOf, Objects};
 ghost use Rattle.path_model.specs.Outs.{location_of, shown};

@@ -38,6 +38,20 @@ is_complete Ended = false
 abbrev pub is_ready : Phase → Bool
 is_ready x = is_half x || is_complete x
 
+-- among its bases, at their construction or at their end
+abbrev pub is_in_bases : Phase → Bool
+is_in_bases Raw = false
+is_in_bases InBases = true
+is_in_bases ReadyBuilding = false
+is_in_bases Complete = false
+is_in_bases ReadyEnding = false
+is_in_bases EndingBases = true
+is_in_bases Ended = false
+
+-- its constructor or destructor runs
+abbrev pub is_running : Phase → Bool
+is_running x = is_in_bases x || is_half x
+
 -- the phase of each part, and by object and owner the subobjects of each complete object whose constructor or destructor
 -- runs, the innermost first
 pub record Phases : Type 0 where

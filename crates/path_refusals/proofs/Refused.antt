@@ -1,5 +1,5 @@
 -- The refusal of two lists of uses, by that of each.
-use Rattle.std.proofs.Common.{arith, ◌≡◌, ℕ, zero, suc, ◌<◌, ◌≤◌, ltb, true, false, Option, Some, None, List, [], ◌∷◌, ◌++◌, refl, ap, sym, ◌∙◌}
+use Rattle.std.proofs.Common.{arith, ◌≡◌, ℕ, suc, ◌<◌, ◌≤◌, ltb, true, false, Option, Some, None, List, [], ◌∷◌, ◌++◌, refl, ap, sym, ◌∙◌}
 use Rattle.std.specs.Prelude.{if◌then◌else◌, min, nat_lt, slice_get}
 use Rattle.std.specs.Option.{option_or}
 use Rattle.std.specs.List.{flat_map}
@@ -18,29 +18,10 @@ use Rattle.path_model.specs.Values.{Objects}
 use Rattle.path_model.specs.Uses.{Use}
 use Rattle.path_model.specs.Rules.{rules, refused}
 use Rattle.path_model.specs.Order.{first_broken, sorted}
+use Rattle.path_model.proofs.Least.{number_in, number_at}
 use Rattle.path_model.proofs.Ranks.{rank, rank_append, refused_rank}
 use Rattle.path_model.proofs.Sorted.{Answers, by_sort, by_then, broken_append, Outcome, none, broken, outcome}
 use Rattle.path_refusals.specs.invariants.Pieces.{least}
-
-abbrev number_in : ℕ → Option Undefined → ℕ
-number_in n None = suc n
-number_in n (Some r) = undefined_no r
-
--- the rule at a place has its number
-number_at : (n : ℕ) → number_in n (slice_get rules n) ≡ suc n
-number_at zero = refl
-number_at (suc zero) = refl
-number_at (suc (suc zero)) = refl
-number_at (suc (suc (suc zero))) = refl
-number_at (suc (suc (suc (suc zero)))) = refl
-number_at (suc (suc (suc (suc (suc zero))))) = refl
-number_at (suc (suc (suc (suc (suc (suc zero)))))) = refl
-number_at (suc (suc (suc (suc (suc (suc (suc zero))))))) = refl
-number_at (suc (suc (suc (suc (suc (suc (suc (suc zero)))))))) = refl
-number_at (suc (suc (suc (suc (suc (suc (suc (suc (suc zero))))))))) = refl
-number_at (suc (suc (suc (suc (suc (suc (suc (suc (suc (suc zero)))))))))) = refl
-number_at (suc (suc (suc (suc (suc (suc (suc (suc (suc (suc (suc zero))))))))))) = refl
-number_at (suc (suc (suc (suc (suc (suc (suc (suc (suc (suc (suc (suc n)))))))))))) = refl
 
 -- a smaller place has the smaller rule
 low : (m n : ℕ) → m ≤ n → (a b : Option Undefined) → slice_get rules m ≡ a → slice_get rules n ≡ b → least a b ≡ a

@@ -9,7 +9,7 @@ ghost use Rattle.cxx_search.specs.Searches.{has_virtual_base};
 ghost use Rattle.path_plan.specs.Views.{Settled};
 ghost use Rattle.path_model.specs.Values.{Value, Objects, Pointer};
 ghost use Rattle.path_model.specs.Uses.{Passes, arrow, views, member_uses};
-ghost use Rattle.path_model.specs.Rules.{refused, names, is_unready};
+ghost use Rattle.path_model.specs.Rules.{is_unready};
 ghost use Rattle.path_model.specs.Order.{asked_covers, asked_covered};
 ghost use Rattle.path_heap.specs.Points.{Points};
 ghost use Rattle.path_heap.specs.Stands.{HeapStands};

@@ -1,6 +1,5 @@
 //! The subobject that a call is for (ISO C++03 5.2.2).
 
-ghost use Rattle.std.specs.Prelude.{List};
 ghost use Rattle.path_model.specs.Values.{Value as ValueOf, Objects, Sight, value};
 ghost use Rattle.path_model.specs.Uses.{goes_to, receiver};
 ghost use Rattle.path_heap.specs.Stands.{HeapStands, Means};

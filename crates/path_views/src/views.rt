@@ -1,7 +1,6 @@
 //! The questions that rest on the view of a part's complete object (ISO C++03 12.7).
 
 ghost use Rattle.std.specs.Prelude.{◌≡◌, ◌<◌, Some, IfOk, length};
-ghost use Rattle.cxx_subobject.specs.Subobjects.{class_of};
 ghost use Rattle.cxx_subobject.specs.Locations.{ObjectPart};
 ghost use Rattle.path_model.specs.Values.{Objects, Pointer};
 ghost use Rattle.cxx_hierarchy.specs.Classes.{Classes};

@@ -14,6 +14,7 @@ use Rattle.path_bodies.specs.declared.index.BodyIndex.{BodyIndex}
 use Rattle.path_bodies.specs.Places.{IsIndexOf}
 use Rattle.path_events.specs.declared.plan.PlanEvent.{PlanEvent}
 use Rattle.path_events.specs.declared.plan.PlanEvent.TheVariants.{Begin as BeginCode, Ending as EndingCode}
+use Rattle.path_events.specs.declared.course.Course.{Course}
 use Rattle.path_events.specs.declared.frame.Form.{Form as FormCode}
 use Rattle.path_events.specs.declared.frame.Stage.{Stage}
 use Rattle.path_events.specs.declared.frame.Stage.TheVariants.{Shared as SharedStage, Body as BodyStage}
@@ -58,6 +59,13 @@ IsSameLeft h index is_building frame stage next = (program : TypedProgram) (p : 
 abbrev pub MayGive : Classes → BodyIndex → Bool → Frame → (stage next : Stage) → Option Step → Type 0
 MayGive h index is_building frame stage next None = IsSameLeft h index is_building frame stage next
 MayGive h index is_building frame stage next (Some step) = Gives h index is_building frame stage step
+
+-- the same of the part that is open
+abbrev pub GivesNext : Course → Bool → Stage → Step → Type 0
+GivesNext course is_building stage step = Gives course.h.now course.index.now is_building course.frame stage step
+
+abbrev pub MayGiveNext : Course → Bool → (stage next : Stage) → Option Step → Type 0
+MayGiveNext course is_building stage next step = MayGive course.h.now course.index.now is_building course.frame stage next step
 
 -- where a part begins
 abbrev pub first_event : Bool → Part → PlanEvent

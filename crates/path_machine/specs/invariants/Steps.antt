@@ -53,8 +53,8 @@ abbrev pub gone_on : State → Running → (next : ℕ) → (below : List Frame)
 gone_on s f next below = with_frames s (InBody (at_statement f next) ∷ below)
 
 -- the limit that a statement of the frame meets, by what it asks for
-abbrev pub limit_at : Run → State → Running → (below : List Frame) → Demand → Option LimitNo
-limit_at run s f below demand = limit_of (size_in run.sizes.now) (with_frames s (InBody f ∷ below)) demand
+abbrev pub limit_met : Run → State → Running → (below : List Frame) → Demand → Option LimitNo
+limit_met run s f below demand = limit_of (size_in run.sizes.now) (with_frames s (InBody f ∷ below)) demand
 
 -- these three in a run
 abbrev pub IsTakenIn : Run → Machine → BodyFrame → State → Running → (below : List Frame) → Type 0

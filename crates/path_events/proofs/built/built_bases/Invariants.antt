@@ -4,4 +4,4 @@ use Rattle.path_events.specs.invariants.Steps.{IsSameLeft}
 use Rattle.path_events.proofs.built.built_bases.Given as goal
 
 abbrev pub invariant-loop-place : goal.invariant-loop-place
-invariant-loop-place l = IsSameLeft l.h l.index true l.frame (Bases l.i) (Bases l.place)
+invariant-loop-place l = IsSameLeft l.course.h.now l.course.index.now true l.course.frame (Bases l.i) (Bases l.place)

@@ -9,4 +9,4 @@ use Rattle.path_events.proofs.Building.{members_past}
 use Rattle.path_events.proofs.built.built_members.Goals as goal
 
 pub returns : goal.returns
-returns c = gives_then c.args.h.now c.args.index.now true c.args.frame (MembersStage c.args.m c.args.i) BodyStage c.built_body.result (λ program p is. c.loop-place.invariant program p is ∙ members_past c.args.h.now (bodies_of program) c.args.frame.part.class p c.loop-place.place c.loop-place.element (subst (λ (ms : List (Member ClassId)). length ms ≤ c.loop-place.place) c.members_of-place-end.ensures c.loop-place-test.false)) c.built_body.ensures
+returns c = gives_then c.args.course.now.h.now c.args.course.now.index.now true c.args.course.now.frame (MembersStage c.args.m c.args.i) BodyStage c.built_body.result (λ program p is. c.loop-place.invariant program p is ∙ members_past c.args.course.now.h.now (bodies_of program) c.args.course.now.frame.part.class p c.loop-place.place c.loop-place.element (subst (λ (ms : List (Member ClassId)). length ms ≤ c.loop-place.place) c.members_of-place-end.ensures c.loop-place-test.false)) c.built_body.ensures

@@ -7,11 +7,11 @@ use Rattle.path_events.proofs.Giving.{gives_then, may_some}
 use Rattle.path_events.proofs.ended.ended_bases.Goals as goal
 
 pub returns-in-Some : goal.returns-in-Some
-returns-in-Some c = gives_then c.args.h.now c.args.index.now false c.args.frame (BasesStage c.args.i) (BasesStage (c.loop-left.left - 1 + 1)) c.in-Some.step
-    (λ program p is. c.loop-left.invariant program p is ∙ ap (λ n. ended_bases c.args.h.now (form_of c.args.frame.form) c.args.frame.part.class p n) (let e : c.loop-left.left ≡ c.loop-left.left - 1 + 1 = omega arith in e))
-    (may_some c.args.h.now c.args.index.now false c.args.frame (BasesStage (c.loop-left.left - 1 + 1)) (BasesStage (c.loop-left.left - 1)) c.ended_base.result c.in-Some.step c.in-Some.is c.ended_base.ensures)
+returns-in-Some c = gives_then c.args.course.now.h.now c.args.course.now.index.now false c.args.course.now.frame (BasesStage c.args.i) (BasesStage (c.loop-left.left - 1 + 1)) c.in-Some.step
+    (λ program p is. c.loop-left.invariant program p is ∙ ap (λ n. ended_bases c.args.course.now.h.now (form_of c.args.course.now.frame.form) c.args.course.now.frame.part.class p n) (let e : c.loop-left.left ≡ c.loop-left.left - 1 + 1 = omega arith in e))
+    (may_some c.args.course.now.h.now c.args.course.now.index.now false c.args.course.now.frame (BasesStage (c.loop-left.left - 1 + 1)) (BasesStage (c.loop-left.left - 1)) c.ended_base.result c.in-Some.step c.in-Some.is c.ended_base.ensures)
 
 pub returns : goal.returns
-returns c = gives_then c.args.h.now c.args.index.now false c.args.frame (BasesStage c.args.i) (SharedStage (length c.order_of.result.now)) c.ended_shared.result
-    (λ program p is. c.loop-left.invariant program p is ∙ (ap (λ n. ended_bases c.args.h.now (form_of c.args.frame.form) c.args.frame.part.class p n) (let e : c.loop-left.left ≡ 0 = omega arith in e) ∙ ap (λ (vs : List ClassId). ended_shared c.args.h.now (form_of c.args.frame.form) c.args.frame.part.class p (length vs)) (sym c.order_of.ensures)))
+returns c = gives_then c.args.course.now.h.now c.args.course.now.index.now false c.args.course.now.frame (BasesStage c.args.i) (SharedStage (length c.order_of.result.now)) c.ended_shared.result
+    (λ program p is. c.loop-left.invariant program p is ∙ (ap (λ n. ended_bases c.args.course.now.h.now (form_of c.args.course.now.frame.form) c.args.course.now.frame.part.class p n) (let e : c.loop-left.left ≡ 0 = omega arith in e) ∙ ap (λ (vs : List ClassId). ended_shared c.args.course.now.h.now (form_of c.args.course.now.frame.form) c.args.course.now.frame.part.class p (length vs)) (sym c.order_of.ensures)))
     c.ended_shared.ensures

@@ -9,4 +9,4 @@ use Rattle.path_events.proofs.Giving.{named}
 use Rattle.path_events.proofs.ended.ended_step.Goals as goal
 
 pub returns-in-Last : goal.returns-in-Last
-returns-in-Last c = subst (λ (s : Stage). Gives c.args.h.now c.args.index.now false c.args.frame s (LastStep (EndCode c.args.frame.part))) (sym c.in-Last.is) (λ program classes p is stands. record { e = End p; means = end_event c.args.frame.part p (named c.args.h.now classes c.args.frame.part _ p stands); is = refl })
+returns-in-Last c = subst (λ (s : Stage). Gives c.args.course.now.h.now c.args.course.now.index.now false c.args.course.now.frame s (LastStep (EndCode c.args.course.now.frame.part))) (sym c.in-Last.is) (λ program classes p is stands. record { e = End p; means = end_event c.args.course.now.frame.part p (named c.args.course.now.h.now classes c.args.course.now.frame.part _ p stands); is = refl })

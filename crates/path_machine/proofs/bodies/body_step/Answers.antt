@@ -4,7 +4,8 @@ use Rattle.cxx_program.specs.Typed.{scope_of}
 use Rattle.path_model.specs.States.{body_of}
 use Rattle.path_model.specs.Steps.{before_kind, closed}
 use Rattle.path_machine.specs.invariants.Steps.{size_in, StepAgrees}
-use Rattle.path_machine.proofs.Beginning.{next_before, given_before, statement_agrees, close_agrees}
+use Rattle.path_model.proofs.KeptSteps.{before_rest}
+use Rattle.path_machine.proofs.Beginning.{given_before, statement_agrees, close_agrees}
 use Rattle.path_machine.proofs.bodies.body_step.Goals as goal
 
 pub returns-in_ok-done-in-None-statement_at-clause-agrees : goal.returns-in_ok-done-in-None-statement_at-clause-agrees
@@ -30,4 +31,4 @@ returns-in_ok-done-in-Some-statement_at-clause-agrees c = λ s f below t frames 
     let g = before_kind f statement.kind in
     let taken = c.before_kind-begun.ensures h sizes program c.args.machine.now s f below t in
     statement_agrees h sizes program c.statement_step.new.machine s f below body statement c.args.outs.now c.statement_step.new.outs c.in_ok-done-in-Some-statement_at.done frames here at
-    (c.in_ok-done-in-Some-statement_at.ensures.agrees (scope_of h program.globals body) s g below taken (given_before h program s f below body f.next statement next here at) (ap (λ n. n + 1) (t.body_stands.same_next ∙ sym (next_before f statement.kind))))
+    (c.in_ok-done-in-Some-statement_at.ensures.agrees (scope_of h program.globals body) s g below taken (given_before h program s f below body f.next statement next here at) (ap (λ n. n + 1) (t.body_stands.same_next ∙ sym ((before_rest f statement.kind).next))))
