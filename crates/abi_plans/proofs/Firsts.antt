@@ -10,7 +10,7 @@ use Rattle.foundation.proofs.Truth.{split}
 use Rattle.foundation.proofs.Deciding.{decide_number}
 use Rattle.foundation.proofs.Members.{has_from_contains}
 use Rattle.path_plan.specs.Places.{part, same_owner}
-use Rattle.path_plan.specs.Phases, is_in_bases, is_running.{Phases, is_in_bases, is_running}
+use Rattle.path_plan.specs.Phases.{Phases, is_in_bases, is_running}
 use Rattle.path_plan.specs.Plans.{Form, InFull, AsBase}
 use Rattle.path_plan.specs.Whole.{whole_part, IsNew, IsSameBut}
 use Rattle.path_plan.proofs.Same.{owner_same}

@@ -3,16 +3,16 @@ use Rattle.std.proofs.Common.{◌≡◌, ℕ, ◌+◌, ◌-◌, ◌*◌, ◌%◌
 use Rattle.std.specs.Prelude.{slice_get, take}
 use Rattle.std.proofs.lemmas.List.{take_all}
 use Rattle.std.proofs.lemmas.Option.{slice_get_past, slice_get_within}
-use Rattle.foundation.proofs.Members.{Has, has_from_contains, index_of}
+use Rattle.foundation.proofs.Members.{index_of}
 use Rattle.foundation.proofs.Places.{contains_at}
 use Rattle.cxx_hierarchy.specs.declared.records.ClassId.{ClassId}
 use Rattle.cxx_hierarchy.specs.declared.records.FieldType.{FieldType}
 use Rattle.cxx_hierarchy.specs.declared.records.FieldType.TheVariants.{Value, Object}
 use Rattle.cxx_hierarchy.specs.declared.records.ValueType.{ValueType}
 use Rattle.cxx_hierarchy.specs.declared.records.Member.{Member}
-use Rattle.cxx_hierarchy.specs.Classes.{Classes, bases_in, members_in, bases_of, members_of}
+use Rattle.cxx_hierarchy.specs.Classes.{Classes, members_in, members_of}
 use Rattle.cxx_hierarchy.specs.Hierarchies.{IsHierarchy}
-use Rattle.cxx_hierarchy.specs.VirtualBases.{IsDirectBase, HasVirtualBase, direct, further}
+use Rattle.cxx_hierarchy.specs.VirtualBases.{HasVirtualBase, direct, further}
 use Rattle.cxx_subobject.specs.declared.Root.TheVariants.{Whole, Shared}
 use Rattle.cxx_subobject.specs.declared.Subobject.{Subobject}
 use Rattle.cxx_subobject.specs.Subobjects.{IsSubobject, whole, shared, Leads, subobject, last_of, class_of, tail_of}
@@ -37,6 +37,7 @@ use Rattle.path_numbers.proofs.Within.{path_leads}
 use Rattle.path_heap.specs.declared.state.Cell.{Cell}
 use Rattle.path_heap.specs.declared.heap.Heap.{Heap}
 use Rattle.path_heap.specs.Points.{Points, PointsLeaf}
+use Rattle.path_numbers.proofs.Placed.{base_past}
 use Rattle.path_heap.specs.Stands.{HasBegun, HeapStands}
 use Rattle.path_heap.specs.invariants.Columns.{cell_at}
 use Rattle.path_heap.specs.invariants.Distances.{IsBaseDistance, IsPathDistance}
@@ -44,9 +45,6 @@ use Rattle.path_heap.proofs.Asking.{class_node, owner_told}
 use Rattle.path_heap.proofs.Viewing.{at_less}
 
 -- a class that has something is one of the hierarchy
-pub base_past : (h : Classes) (c b : ClassId) (way : _) → IsDirectBase h c way b → length h ≤ c.0 → ⊥
-base_past h c b way d past = subst (λ l. Has l d.base) (ap bases_in (slice_get_past h c.0 past)) (has_from_contains (bases_of h c) d.base d.listed)
-
 pub virtual_past : (h : Classes) (c v : ClassId) → HasVirtualBase h c v → length h ≤ c.0 → ⊥
 virtual_past h _ _ (direct c v d) past = base_past h c v _ d past
 virtual_past h _ _ (further c b v way d more) past = base_past h c b way d past

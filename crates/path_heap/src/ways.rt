@@ -1,10 +1,9 @@
 //! From a part to its bases, its member objects and its leaves, in numbers.
 
-ghost use Rattle.std.specs.Prelude.{◌≡◌, ◌+◌, ◌*◌, ◌%◌, ◌^◌, ◌<◌, ℕ, Some, length, slice_get};
+ghost use Rattle.std.specs.Prelude.{◌≡◌, ◌+◌, ◌*◌, ◌%◌, ◌^◌, ◌<◌, Some, length, slice_get};
 ghost use Rattle.cxx_hierarchy.specs.declared.records.ClassId.{ClassId};
 ghost use Rattle.cxx_hierarchy.specs.declared.records.ValueType.{ValueType};
 ghost use Rattle.cxx_hierarchy.specs.declared.records.FieldType.TheVariants.{Value, Object};
-ghost use Rattle.cxx_hierarchy.specs.Classes.{Classes};
 ghost use Rattle.cxx_subobject.specs.Subobjects.{IsSubobject, class_of, tail_of};
 ghost use Rattle.cxx_subobject.specs.Locations.{IsElement};
 ghost use Rattle.path_plan.specs.Places.{ObjectPart, element};
@@ -15,30 +14,12 @@ ghost use Rattle.path_model.specs.Values.{Objects, inner_part};
 ghost use Rattle.path_model.specs.Places.{leaf};
 ghost use Rattle.path_heap.specs.Points.{Points, PointsLeaf};
 ghost use Rattle.path_heap.specs.Stands.{HeapStands, HasBegun};
-ghost use Rattle.path_heap.specs.invariants.Distances.{IsBaseDistance, IsPathDistance, IsSharedDistance};
+ghost use Rattle.path_heap.specs.invariants.Distances.{IsPathDistance, IsSharedDistance};
 
 use crate::heap::Heap;
 use cxx_hierarchy::{ClassId, FieldType, Hierarchy, Member};
 use cxx_subobject::{Root, Subobject};
 use path_numbers::Numbers;
-
-/// How far a direct base that is not virtual stands behind a part of class c.
-fn base_distance(numbers: &Numbers, h: &Hierarchy, c: ClassId, b: ClassId) -> u32
-    requires { AreNumbers h.now numbers.now }
-    ensures { IsBaseDistance h.now c b result }
-{
-    h.keeps();
-    if c.0 >= h.len() {
-        return 0;
-    }
-    let bases = h.class(c).bases.as_slice();
-    for (i, base) in bases.iter().enumerate() {
-        if base.class == b {
-            return numbers.base_offset(c, i);
-        }
-    }
-    0
-}
 
 /// How far a path of direct bases that are not virtual leads from a part of class c.
 fn path_distance(numbers: &Numbers, h: &Hierarchy, c: ClassId, path: &[ClassId]) -> u32
@@ -48,7 +29,8 @@ fn path_distance(numbers: &Numbers, h: &Hierarchy, c: ClassId, path: &[ClassId])
     match path {
         [] => 0,
         [b, below @ ..] => {
-            base_distance(numbers, h, c, *b).wrapping_add(path_distance(numbers, h, *b, below))
+            let base = numbers.base_number(h, c, *b);
+            base.wrapping_add(path_distance(numbers, h, *b, below))
         }
     }
 }

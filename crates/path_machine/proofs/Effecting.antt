@@ -55,7 +55,8 @@ scene_by h sizes program machine frame s f below t scene e1 this e2 = record {
 abbrev pub heaped : Machine → Heap → Machine
 heaped machine heap = record { heap = heap; globals = machine.globals; top = machine.top; below = machine.below; bytes = machine.bytes }
 
-machine_heaped : (h : Classes) (sizes : ClassId → ℕ) (program : TypedProgram) (machine : Machine) (heap : Heap) (s : State) (x : Objects) → MachineStands h sizes program machine s → HeapStands h heap x → x.classes ≡ s.objects.classes → MachineStands h sizes program (heaped machine heap) (with_objects s x)
+-- only the heap changes, and no object is made
+pub machine_heaped : (h : Classes) (sizes : ClassId → ℕ) (program : TypedProgram) (machine : Machine) (heap : Heap) (s : State) (x : Objects) → MachineStands h sizes program machine s → HeapStands h heap x → x.classes ≡ s.objects.classes → MachineStands h sizes program (heaped machine heap) (with_objects s x)
 machine_heaped h sizes program machine heap s x a stands same = record {
   heap_stands = stands;
   globals_mean = subst (λ (cs : List ClassId). AllZip (Means h cs) machine.globals.items s.globals) (sym same) a.globals_mean;

@@ -1,7 +1,6 @@
 -- What an event does to a machine, and what it tells.
 use Rattle.std.proofs.Common.{◌≡◌, ◌⊎◌, ⊎_elim, ◌<◌, ℕ, true, false, Option, Some, None, List, [], ◌∷◌, refl, ap, subst, sym, ◌∙◌, arith}
 use Rattle.std.specs.Prelude.{slice_get, nat_eq}
-use Rattle.std.specs.List.{AllZip}
 use Rattle.std.proofs.lemmas.Bool.{eqb-true}
 use Rattle.foundation.proofs.Chosen.{find_passes}
 use Rattle.cxx_hierarchy.specs.declared.records.ClassId.{ClassId}
@@ -25,8 +24,7 @@ use Rattle.path_model.specs.declared.outs.Out.{Out}
 use Rattle.path_model.specs.declared.outs.Out.TheVariants.{Built as BuiltOut, Ending as EndingOut}
 use Rattle.path_model.specs.Values.{Value, Leaf, Objects}
 use Rattle.path_model.specs.Places.{leaf}
-use Rattle.path_model.specs.States.{State, body_of, inits_in, init_of, is_init, with_objects}
-use Rattle.path_model.specs.Runs.{heap_total}
+use Rattle.path_model.specs.States.{State, body_of, inits_in, init_of, is_init}
 use Rattle.path_model.specs.Outs.{class_or_first, location_of}
 use Rattle.path_model.specs.Effects.{leaf_set}
 use Rattle.path_model.specs.Steps.{init_value, class_of_part, objects_after}
@@ -41,28 +39,12 @@ use Rattle.path_events.specs.declared.plan.PlanEvent.{PlanEvent}
 use Rattle.path_events.specs.declared.plan.PlanEvent.TheVariants.{Begin as BeginCode, Ready as ReadyCode, Init as InitCode, Body as BodyCode, Done as DoneCode, Ending as EndingCode, Bases as BasesCode, End as EndCode}
 use Rattle.path_events.specs.Plans.{begins_event, ready_event, init_event, body_event, done_event, ending_event, bases_event, end_event}
 use Rattle.path_frames.specs.declared.machine.Machine.{Machine}
-use Rattle.path_frames.specs.Frames.{FramesStand}
-use Rattle.path_frames.specs.Machines.{MachineStands, stack}
+use Rattle.path_frames.specs.Machines.{MachineStands}
 use Rattle.path_machine.specs.invariants.Events.{Happens, Tells}
 use Rattle.path_machine.specs.declared.telling.Telling.{Telling}
 use Rattle.path_machine.specs.Tellings.{TellsMore}
+use Rattle.path_machine.proofs.Effecting.{heaped, machine_heaped}
 use Rattle.path_machine.proofs.Tellings.{nothing_more}
-
--- the machine with another heap
-abbrev pub with_heap : Machine → Heap → Machine
-with_heap machine heap = record { heap = heap; globals = machine.globals; top = machine.top; below = machine.below; bytes = machine.bytes }
-
--- only the heap changes, and no object is made
-pub heap_changed : (h : Classes) (sizes : ClassId → ℕ) (program : TypedProgram) (machine : Machine) (heap : Heap) (s : State) (x : Objects) → MachineStands h sizes program machine s → HeapStands h heap x → x.classes ≡ s.objects.classes →
-    MachineStands h sizes program (with_heap machine heap) (with_objects s x)
-heap_changed h sizes program machine heap s x a stands same = record {
-  heap_stands = stands;
-  globals_mean = subst (λ (cs : List ClassId). AllZip (Means h cs) machine.globals.items s.globals) (sym same) a.globals_mean;
-  frames_stand = subst (λ (cs : List ClassId). FramesStand h program cs (stack machine.top machine.below.items) s.frames) (sym same) a.frames_stand;
-  none_below = a.none_below;
-  bytes_are = a.bytes_are ∙ ap (heap_total sizes) (sym same);
-  few_bytes = a.few_bytes;
-}
 
 -- the events that the heap does
 
@@ -70,27 +52,27 @@ heap_changed h sizes program machine heap s x a stands same = record {
 abbrev pub HeapDoes : Classes → TypedProgram → (old new : Heap) → Part → (ObjectPart → Event) → Type 0
 HeapDoes h program old new part event = (s : Objects) (p : ObjectPart) → HeapStands h old s → IsPart h s.classes part p → Fits h s.phases (event p) → HeapStands h new (objects_after program s (event p))
 
-pub begins : (h : Classes) (program : TypedProgram) (machine : Machine) (heap : Heap) (part : Part) → HeapDoes h program machine.heap heap part Begin → Happens h program machine (with_heap machine heap) (BeginCode part)
-begins h program machine heap part does sizes s _ a (begins_event _ p named) fits = heap_changed h sizes program machine heap s (objects_after program s.objects (Begin p)) a (does s.objects p a.heap_stands named fits) refl
+pub begins : (h : Classes) (program : TypedProgram) (machine : Machine) (heap : Heap) (part : Part) → HeapDoes h program machine.heap heap part Begin → Happens h program machine (heaped machine heap) (BeginCode part)
+begins h program machine heap part does sizes s _ a (begins_event _ p named) fits = machine_heaped h sizes program machine heap s (objects_after program s.objects (Begin p)) a (does s.objects p a.heap_stands named fits) refl
 
-pub readies : (h : Classes) (program : TypedProgram) (machine : Machine) (heap : Heap) (part : Part) → HeapDoes h program machine.heap heap part Ready → Happens h program machine (with_heap machine heap) (ReadyCode part)
-readies h program machine heap part does sizes s _ a (ready_event _ p named) fits = heap_changed h sizes program machine heap s (objects_after program s.objects (Ready p)) a (does s.objects p a.heap_stands named fits) refl
+pub readies : (h : Classes) (program : TypedProgram) (machine : Machine) (heap : Heap) (part : Part) → HeapDoes h program machine.heap heap part Ready → Happens h program machine (heaped machine heap) (ReadyCode part)
+readies h program machine heap part does sizes s _ a (ready_event _ p named) fits = machine_heaped h sizes program machine heap s (objects_after program s.objects (Ready p)) a (does s.objects p a.heap_stands named fits) refl
 
-pub completes : (h : Classes) (program : TypedProgram) (machine : Machine) (heap : Heap) (part : Part) → HeapDoes h program machine.heap heap part Done → Happens h program machine (with_heap machine heap) (DoneCode part)
-completes h program machine heap part does sizes s _ a (done_event _ p named) fits = heap_changed h sizes program machine heap s (objects_after program s.objects (Done p)) a (does s.objects p a.heap_stands named fits) refl
+pub completes : (h : Classes) (program : TypedProgram) (machine : Machine) (heap : Heap) (part : Part) → HeapDoes h program machine.heap heap part Done → Happens h program machine (heaped machine heap) (DoneCode part)
+completes h program machine heap part does sizes s _ a (done_event _ p named) fits = machine_heaped h sizes program machine heap s (objects_after program s.objects (Done p)) a (does s.objects p a.heap_stands named fits) refl
 
-pub starts_ending : (h : Classes) (program : TypedProgram) (machine : Machine) (heap : Heap) (part : Part) → HeapDoes h program machine.heap heap part Ending → Happens h program machine (with_heap machine heap) (EndingCode part)
-starts_ending h program machine heap part does sizes s _ a (ending_event _ p named) fits = heap_changed h sizes program machine heap s (objects_after program s.objects (Ending p)) a (does s.objects p a.heap_stands named fits) refl
+pub starts_ending : (h : Classes) (program : TypedProgram) (machine : Machine) (heap : Heap) (part : Part) → HeapDoes h program machine.heap heap part Ending → Happens h program machine (heaped machine heap) (EndingCode part)
+starts_ending h program machine heap part does sizes s _ a (ending_event _ p named) fits = machine_heaped h sizes program machine heap s (objects_after program s.objects (Ending p)) a (does s.objects p a.heap_stands named fits) refl
 
-pub ends_bases : (h : Classes) (program : TypedProgram) (machine : Machine) (heap : Heap) (part : Part) → HeapDoes h program machine.heap heap part Bases → Happens h program machine (with_heap machine heap) (BasesCode part)
-ends_bases h program machine heap part does sizes s _ a (bases_event _ p named) fits = heap_changed h sizes program machine heap s (objects_after program s.objects (Bases p)) a (does s.objects p a.heap_stands named fits) refl
+pub ends_bases : (h : Classes) (program : TypedProgram) (machine : Machine) (heap : Heap) (part : Part) → HeapDoes h program machine.heap heap part Bases → Happens h program machine (heaped machine heap) (BasesCode part)
+ends_bases h program machine heap part does sizes s _ a (bases_event _ p named) fits = machine_heaped h sizes program machine heap s (objects_after program s.objects (Bases p)) a (does s.objects p a.heap_stands named fits) refl
 
-pub finishes : (h : Classes) (program : TypedProgram) (machine : Machine) (heap : Heap) (part : Part) → HeapDoes h program machine.heap heap part End → Happens h program machine (with_heap machine heap) (EndCode part)
-finishes h program machine heap part does sizes s _ a (end_event _ p named) fits = heap_changed h sizes program machine heap s (objects_after program s.objects (End p)) a (does s.objects p a.heap_stands named fits) refl
+pub finishes : (h : Classes) (program : TypedProgram) (machine : Machine) (heap : Heap) (part : Part) → HeapDoes h program machine.heap heap part End → Happens h program machine (heaped machine heap) (EndCode part)
+finishes h program machine heap part does sizes s _ a (end_event _ p named) fits = machine_heaped h sizes program machine heap s (objects_after program s.objects (End p)) a (does s.objects p a.heap_stands named fits) refl
 
 -- a body changes no object before it is entered
 pub waits : (h : Classes) (program : TypedProgram) (machine : Machine) (part : Part) → Happens h program machine machine (BodyCode part)
-waits h program machine part sizes s _ a (body_event _ p named) fits = heap_changed h sizes program machine machine.heap s (objects_after program s.objects (Body p)) a a.heap_stands refl
+waits h program machine part sizes s _ a (body_event _ p named) fits = machine_heaped h sizes program machine machine.heap s (objects_after program s.objects (Body p)) a a.heap_stands refl
 
 -- initializers
 
@@ -137,12 +119,12 @@ pub sets_member : (h : Classes) (program : TypedProgram) → IsTypedProgram h pr
     → ((sizes : ClassId → ℕ) (s : State) → MachineStands h sizes program machine s → Means h s.objects.classes value (init_value (init_of program part.class m)))
     → ((s : Objects) (p : ObjectPart) (c : ClassId) (t : ValueType ClassId) → HeapStands h machine.heap s → Points h s.classes part.number p → HasBegun s p → class_of p.at ≡ Some c → IsElement h c m 0 (ValueField t) → PointsLeaf h s.classes k (leaf p m 0))
     → ((s : Objects) (l : Leaf) (v : Value) → HeapStands h machine.heap s → PointsLeaf h s.classes k l → Means h s.classes value v → HeapStands h heap (leaf_set s l v))
-    → Happens h program machine (with_heap machine heap) (InitCode part m)
+    → Happens h program machine (heaped machine heap) (InitCode part m)
 sets_member h program typed machine heap part m k value means points stores sizes s _ a (init_event _ _ p named some) fits =
     let plain = plain_member h program typed part.class m (init_of program part.class m) refl some in
     let to = points s.objects p part.class plain.type a.heap_stands (points_of h s.objects.classes part p named) (half_begun (s.objects.phases.phase p) fits.0) (named_class h s.objects.classes part p named) plain.element in
     let v = subst (λ (c : ClassId). Means h s.objects.classes value (init_value (init_of program c m))) (sym (part_class h s.objects.classes part p named)) (means sizes s a) in
-    heap_changed h sizes program machine heap s (objects_after program s.objects (Init p m)) a (stores s.objects (leaf p m 0) (init_value (init_of program (class_of_part p) m)) a.heap_stands to v) refl
+    machine_heaped h sizes program machine heap s (objects_after program s.objects (Init p m)) a (stores s.objects (leaf p m 0) (init_value (init_of program (class_of_part p) m)) a.heap_stands to v) refl
 
 -- what events tell
 

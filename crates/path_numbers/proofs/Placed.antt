@@ -6,13 +6,13 @@ use Rattle.std.proofs.lemmas.List.{get_or_past}
 use Rattle.std.proofs.lemmas.Option.{slice_get-get_or, slice_get_past}
 use Rattle.cxx_hierarchy.specs.declared.records.ClassId.{ClassId}
 use Rattle.cxx_hierarchy.specs.declared.records.Base.{Base}
-use Rattle.cxx_hierarchy.specs.Classes.{Classes, bases_of}
+use Rattle.cxx_hierarchy.specs.Classes.{Classes, bases_in, bases_of}
 use Rattle.cxx_hierarchy.specs.Hierarchies.{IsHierarchy}
 use Rattle.cxx_hierarchy.specs.VirtualBases.{HasVirtualBase, IsDirectBase}
 use Rattle.cxx_subobject.specs.Subobjects.{Leads}
 use Rattle.cxx_subobject.proofs.PathLemmas.{same_id, virtual_below}
 use Rattle.foundation.proofs.Truth.{split, not_both, is_false, or_left, or_right}
-use Rattle.foundation.proofs.Members.{Has, index_of, once_by_place}
+use Rattle.foundation.proofs.Members.{Has, has_from_contains, index_of, once_by_place}
 use Rattle.foundation.proofs.Places.{place_of}
 use Rattle.path_plan.specs.Plans.{InFull, AsBase, is_among, virtual_order}
 use Rattle.path_plan.proofs.Order.{order_has, order_virtual, among_has}
@@ -132,3 +132,7 @@ some_base h c b i d le none =
 pub told_is : (h : Classes) (c v : ClassId) (told : Option ℕ) (n : ℕ) → IsSharedAt h c v told → HasVirtualBase h c v → n ≡ or_zero told → n ≡ shared_number h c v
 told_is h c v None n t has e = absurd (t has)
 told_is h c v (Some k) n t has e = e ∙ t.1
+
+-- a class that has a base is one of the hierarchy
+pub base_past : (h : Classes) (c b : ClassId) (way : _) → IsDirectBase h c way b → length h ≤ c.0 → ⊥
+base_past h c b way d past = subst (λ l. Has l d.base) (ap bases_in (slice_get_past h c.0 past)) (has_from_contains (bases_of h c) d.base d.listed)

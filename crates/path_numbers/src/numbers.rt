@@ -1,6 +1,6 @@
 //! The sizes of all classes, and the offsets of their bases, members and virtual bases, in numbers.
 
-ghost use Rattle.std.specs.Prelude.{◌≡◌, ◌+◌, ◌≤◌, ◌<◌, ◌++◌, ◌∷◌, [], ℕ, false, nat_eq, if◌then◌else◌, Some, None, All, Contains, IfOk, OnOk, length, get_or};
+ghost use Rattle.std.specs.Prelude.{◌≡◌, ◌+◌, ◌≤◌, ◌<◌, ◌++◌, ◌∷◌, [], false, nat_eq, if◌then◌else◌, Some, None, All, Contains, IfOk, OnOk, length, get_or};
 ghost use Rattle.cxx_hierarchy.specs.declared.records.ClassId.{ClassId};
 ghost use Rattle.cxx_hierarchy.specs.declared.records.Base.{Base};
 ghost use Rattle.cxx_hierarchy.specs.declared.records.Member.{Member};
@@ -256,14 +256,15 @@ impl Numbers {
         row_at(&self.rows, c).order.as_slice()
     }
 
-    /// How far a direct base of a class stands behind a part, by the base's class.
-    fn base_number(&self, h: &Hierarchy, c: ClassId, b: ClassId) -> u32
-        requires known { c.0 < length h.now }
-        requires numbers { AreNumbers h.now self.now }
-        requires base { IsDirectBase h.now c false b }
-        ensures { result ≡ base_number h.now c b }
+    /// How far a direct base that is not virtual stands behind a part of class c, by the base's class; 0 where b is none.
+    pub fn base_number(&self, h: &Hierarchy, c: ClassId, b: ClassId) -> u32
+        requires { AreNumbers h.now self.now }
+        ensures { IsDirectBase h.now c false b → result ≡ base_number h.now c b }
     {
         h.keeps();
+        if c.0 >= h.len() {
+            return 0;
+        }
         let bases = h.class(c).bases.as_slice();
         for (i, base) in bases.iter().enumerate() {
             if base.class == b {

@@ -1,5 +1,6 @@
 pub mod Holding
 pub mod Walking
+pub mod Walked
 pub mod Naming
 pub mod Growing
 pub mod Opening

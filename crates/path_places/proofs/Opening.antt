@@ -21,7 +21,8 @@ use Rattle.path_plan.specs.Places.{ObjectPart, element}
 use Rattle.path_plan.specs.Plans.{upto}
 use Rattle.path_model.specs.Values.{Leaf, inner_part}
 use Rattle.path_model.specs.Places.{typed_leaves, member_leaves, own_leaves, leaves_within, leaves_of}
-use Rattle.path_heap.proofs.Reaching.{base_past, virtual_past}
+use Rattle.path_numbers.proofs.Placed.{base_past}
+use Rattle.path_heap.proofs.Reaching.{virtual_past}
 use Rattle.path_places.specs.invariants.Leaves.{base_leaves}
 
 abbrev Inside : Type 0

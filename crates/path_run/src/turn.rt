@@ -1,11 +1,12 @@
 //! One turn of a run.
 
-ghost use Rattle.std.specs.Prelude.{◌≡◌, true, IfOk};
+ghost use Rattle.std.specs.Prelude.{◌≡◌, [], true, None, IfOk};
 ghost use Rattle.path_model.specs.States.{is_body};
 ghost use Rattle.path_machine.specs.invariants.Setups.{IsSetup};
 ghost use Rattle.path_machine.specs.invariants.Steps.{size_in};
-ghost use Rattle.abi_sound.specs.Places.{places_of};
-ghost use Rattle.path_run.specs.invariants.Going.{IsGoing, Turned, end_by};
+ghost use Rattle.path_machine.specs.Turns.{IsAtStep, ended_with};
+ghost use Rattle.abi_sound.specs.Places.{Places, places_of};
+ghost use Rattle.path_run.specs.invariants.Going.{IsGoing, Stepped, Turned, end_by};
 
 use crate::lines::append_told;
 use abi_sound::SoundLayout;
@@ -31,6 +32,21 @@ fn end_of(turn: Turn) -> Option<End>
     }
 }
 
+/// The next step, and what it tells; the end of the run, where it has ended.
+///
+/// Errors: want of memory.
+fn step(run: &Run, state: &mut PathState, telling: &mut Telling) -> Result<Option<End>, NoMemory>
+    requires setup { IsSetup run.now }
+    requires main { is_body run.now.program.now.main ≡ true }
+    requires at_step { IsAtStep run.now.world.h.now (size_in run.now.sizes.now) run.now.program.now state.old }
+    requires going { ended_with state.old ≡ None }
+    requires fresh { telling.old.outs ≡ [] }
+    ensures { IfOk result (λ end. (l : Places) → size_in run.now.sizes.now ≡ l.size → Stepped run.now.world.h.now l run.now.program.now telling.old.trace state.old state.new telling.new.outs end) }
+{
+    let turn = state.step(run, telling)?;
+    Ok(end_of(turn))
+}
+
 /// The next step, with its lines behind those before; the end of the run, where it has ended. A step whose lines pass the
 /// limit on the text leaves none.
 ///
@@ -50,8 +66,7 @@ pub(crate) fn turn<L: SoundLayout>(
     ensures { IfOk result (λ end. Turned run.now.world.h.now (places_of run.now.world.h.now (L.rows layout.now)) run.now.program.now trace state.old state.new text.new.items end) }
 {
     let mut telling = Telling::new(run.alloc, trace);
-    let answer = state.step(run, &mut telling)?;
-    match end_of(answer) {
+    match step(run, state, &mut telling)? {
         Some(end) => return Ok(Some(end)),
         None => {}
     }

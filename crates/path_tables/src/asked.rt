@@ -159,12 +159,7 @@ impl Answers {
     }
 
     /// The answer under a key of a cast down.
-    fn down(
-        &mut self,
-        alloc: Global,
-        world: &World,
-        key: DownKey,
-    ) -> Result<Option<u32>, NoMemory>
+    fn down(&mut self, alloc: Global, world: &World, key: DownKey) -> Result<Option<u32>, NoMemory>
         requires world { IsWorld world.now }
         requires answers { AreAnswers world.now.h.now self.old }
         ensures answers { AreAnswers world.now.h.now self.new }
@@ -199,7 +194,12 @@ impl Answers {
         ensures is { IfOk result (λ answer. (y : Subobject) → IsNumbered world.now.h.now c source y → answer ≡ number_of world.now.h.now c (derived_in world.now.h.now c target i.now y)) }
     {
         match i.root {
-            Root::Whole => match path_at(world.h, world.numbers, target, below_first(i.path.as_slice())) {
+            Root::Whole => match path_at(
+                world.h,
+                world.numbers,
+                target,
+                below_first(i.path.as_slice()),
+            ) {
                 Some(offset) => {
                     let key = DownKey {
                         class: c.0,

@@ -10,10 +10,10 @@ ghost use Rattle.path_values.specs.Conversions.{CanReach, CanGo};
 use crate::conversions::to_base;
 use crate::operands::value;
 use crate::scene::Scene;
-use path_tables::World;
 use cxx_program::TypedCall;
 use cxx_subobject::Subobject;
 use path_heap::{Heap, Value};
+use path_tables::World;
 
 /// The value of a call's pointer, moved to the class before `::`, where one stands there.
 pub fn goes_to(world: &World, heap: &Heap, v: Value, qualifier: &Option<Subobject>) -> Value

@@ -10,11 +10,11 @@ ghost use Rattle.path_tables.specs.Worlds.{IsWorld};
 ghost use Rattle.path_values.specs.Conversions.{CanReach, CanConvert};
 
 use crate::numbers::stored;
-use path_tables::World;
 use cxx_hierarchy::Scalar;
 use cxx_program::Conversion;
 use cxx_subobject::Subobject;
 use path_heap::{Heap, Value};
+use path_tables::World;
 
 /// What a variable of a number type keeps of a value, where it is a number (ISO C++03 4.7, 4.12).
 pub fn to_number(t: Scalar, v: Value) -> Value

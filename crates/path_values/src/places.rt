@@ -15,9 +15,9 @@ ghost use Rattle.path_heap.specs.Stands.{HeapStands};
 ghost use Rattle.path_tables.specs.Worlds.{IsWorld};
 ghost use Rattle.path_values.specs.Open.{OpensTo, IsOpen};
 
-use path_tables::World;
 use cxx_program::{PassedMember, TypedPlace};
 use path_heap::Heap;
+use path_tables::World;
 
 /// The number of the class member that a path passes through, from the part of number n.
 pub fn passed_number(world: &World, heap: &Heap, n: u32, x: &PassedMember) -> u32

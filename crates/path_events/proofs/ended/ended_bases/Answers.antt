@@ -12,6 +12,6 @@ returns-in-Some c = gives_then c.args.course.now.h.now c.args.course.now.index.n
     (may_some c.args.course.now.h.now c.args.course.now.index.now false c.args.course.now.frame (BasesStage (c.loop-left.left - 1 + 1)) (BasesStage (c.loop-left.left - 1)) c.ended_base.result c.in-Some.step c.in-Some.is c.ended_base.ensures)
 
 pub returns : goal.returns
-returns c = gives_then c.args.course.now.h.now c.args.course.now.index.now false c.args.course.now.frame (BasesStage c.args.i) (SharedStage (length c.order_of.result.now)) c.ended_shared.result
-    (λ program p is. c.loop-left.invariant program p is ∙ (ap (λ n. ended_bases c.args.course.now.h.now (form_of c.args.course.now.frame.form) c.args.course.now.frame.part.class p n) (let e : c.loop-left.left ≡ 0 = omega arith in e) ∙ ap (λ (vs : List ClassId). ended_shared c.args.course.now.h.now (form_of c.args.course.now.frame.form) c.args.course.now.frame.part.class p (length vs)) (sym c.order_of.ensures)))
+returns c = gives_then c.args.course.now.h.now c.args.course.now.index.now false c.args.course.now.frame (BasesStage c.args.i) (SharedStage (length c.order_of-left.result.now)) c.ended_shared.result
+    (λ program p is. c.loop-left.invariant program p is ∙ (ap (λ n. ended_bases c.args.course.now.h.now (form_of c.args.course.now.frame.form) c.args.course.now.frame.part.class p n) (let e : c.loop-left.left ≡ 0 = omega arith in e) ∙ ap (λ (vs : List ClassId). ended_shared c.args.course.now.h.now (form_of c.args.course.now.frame.form) c.args.course.now.frame.part.class p (length vs)) (sym c.order_of-left.ensures)))
     c.ended_shared.ensures

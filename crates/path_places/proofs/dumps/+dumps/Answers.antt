@@ -1,14 +1,8 @@
-use Rattle.std.proofs.Common.{◌≡◌, ◌<◌, ◌∙◌, length, ap, sym, subst, List, arith}
-use Rattle.std.specs.Prelude.{Some, slice_get}
+use Rattle.std.proofs.Common.{◌∙◌, arith}
 use Rattle.std.proofs.lemmas.Result.{on_ok_weaker}
-use Rattle.std.proofs.lemmas.Option.{slice_get-get_or}
 use Rattle.foundation.proofs.Places.{contains_at}
-use Rattle.cxx_hierarchy.specs.declared.records.ClassId.{ClassId}
-use Rattle.cxx_hierarchy.specs.declared.records.Member.{Member}
 use Rattle.cxx_hierarchy.specs.Classes.{members_of}
-use Rattle.cxx_subobject.proofs.PathLemmas.{class_low, class_found}
-use Rattle.cxx_subobject.proofs.TreeLemmas.{valid_at}
-use Rattle.path_numbers.proofs.Rows.{members_are}
+use Rattle.path_places.proofs.Walked.{member_walked, base_walked}
 use Rattle.path_places.specs.invariants.Dumps.{seen}
 use Rattle.path_places.proofs.Dumping.{values_dumped, objects_dumped, elements_next, members_next, bases_step}
 use Rattle.path_places.proofs.dumps.+dumps.Goals as goal
@@ -35,29 +29,25 @@ dump_member-returns-in-Object t c =
 pub dump_own-dump_member-requires : goal.dump_own-dump_member-requires
 dump_own-dump_member-requires t c =
     let h = c.args.site.now.world.now.h.now in
-    let e = members_are h c.args.c c.class.result.now c.as_slice-members.result.now c.class.ensures c.as_slice-members.ensures in
     let x = c.index-members-m.result in
-    let at : slice_get (members_of h c.args.c) c.loop-m.m ≡ Some x = ap (λ (l : List (Member ClassId)). slice_get l c.loop-m.m) (sym e) ∙ (slice_get-get_or c.as_slice-members.result.now c.loop-m.m x c.loop-m-test.true ∙ ap (λ (y : Member ClassId). Some y) (sym c.index-members-m.is)) in
+    let at = member_walked h c.args.c c.class.result.now c.as_slice-members.result.now c.class.ensures c.as_slice-members.ensures c.loop-m.m x c.loop-m-test.true c.index-members-m.is in
     let d = c.decreases in
-    (omega arith, (c.requires.world, (c.requires.known, λ d ty. c.keeps.ensures.objects c.args.c d x (contains_at (members_of h c.args.c) c.loop-m.m x at) ty)))
+    (omega arith, (c.requires.world, (c.requires.known, λ d ty. c.keeps.ensures.objects c.args.c d x (contains_at (members_of h c.args.c) c.loop-m.m x at.at) ty)))
 
 pub dump_own-loop-m-preserved : goal.dump_own-loop-m-preserved
 dump_own-loop-m-preserved t c =
     let site = c.args.site.now in
     let h = site.world.now.h.now in
-    let e = members_are h c.args.c c.class.result.now c.as_slice-members.result.now c.class.ensures c.as_slice-members.ensures in
     let x = c.index-members-m.result in
-    let at : slice_get (members_of h c.args.c) c.loop-m.m ≡ Some x = ap (λ (l : List (Member ClassId)). slice_get l c.loop-m.m) (sym e) ∙ (slice_get-get_or c.as_slice-members.result.now c.loop-m.m x c.loop-m-test.true ∙ ap (λ (y : Member ClassId). Some y) (sym c.index-members-m.is)) in
-    let lt : c.loop-m.m < length (members_of h c.args.c) = subst (λ (l : List (Member ClassId)). c.loop-m.m < length l) e c.loop-m-test.true in
-    members_next (seen h site.heap.now site.object site.class) c.args.place.now.hops.now c.args.place.now.base.now c.args.c c.args.k c.loop-m.m x c.member_offset.result at (c.member_offset.ensures h c.requires.world.are_numbers lt)
+    let at = member_walked h c.args.c c.class.result.now c.as_slice-members.result.now c.class.ensures c.as_slice-members.ensures c.loop-m.m x c.loop-m-test.true c.index-members-m.is in
+    members_next (seen h site.heap.now site.object site.class) c.args.place.now.hops.now c.args.place.now.base.now c.args.c c.args.k c.loop-m.m x c.member_offset.result at.at (c.member_offset.ensures h c.requires.world.are_numbers at.below)
     c.args.out.now.items c.loop-m.out.items c.dump_member.new.out.items c.loop-m.invariant c.in_ok-dump_member.ensures
 
 pub dump_whole-dump_own-requires : goal.dump_whole-dump_own-requires
 dump_whole-dump_own-requires t c =
     let h = c.args.site.now.world.now.h.now in
     let is = c.as_slice-base-items.ensures ∙ c.in_ok-bases.ensures.preorder in
-    let valid = valid_at h c.args.c c.as_slice-base-items.result.now c.loop-base.base-index c.base-item.result is c.loop-base-test.true c.base-item.is in
-    let low = class_low h c.requires.world.hierarchy c.args.c c.class_or_first-d.result c.base-item.result valid (class_found h c.args.c c.class_or_first-d.result c.base-item.result valid c.class_or_first-d.ensures) in
+    let low = base_walked h c.requires.world.hierarchy c.args.c c.as_slice-base-items.result.now is c.loop-base.base-index c.base-item.result c.loop-base-test.true c.base-item.is c.class_or_first-d.result c.class_or_first-d.ensures in
     let d = c.decreases in
     let known = c.requires.known in
     (omega arith, (c.requires.world, omega arith))

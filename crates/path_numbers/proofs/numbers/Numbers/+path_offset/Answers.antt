@@ -10,4 +10,4 @@ path_offset-requires t c =
 pub overflow_add-result : goal.overflow_add-result
 overflow_add-result t c =
     let step = stepped c.args.h.now c.args.c c.args.path.now c.in-len1-up.len_at_least c.requires.path in
-    let r = path_room c.args.h.now c.keeps.ensures c.requires.limits c.args.c (first_of c.args.path.now) (rest_of c.args.path.now) c.base_number.result c.path_offset.result c.requires.known step.edge step.rest c.base_number.ensures c.path_offset.ensures in omega arith
+    let r = path_room c.args.h.now c.keeps.ensures c.requires.limits c.args.c (first_of c.args.path.now) (rest_of c.args.path.now) c.base_number.result c.path_offset.result c.requires.known step.edge step.rest (c.base_number.ensures step.edge) c.path_offset.ensures in omega arith
