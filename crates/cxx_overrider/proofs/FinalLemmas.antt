@@ -1,5 +1,5 @@
 -- The final overrider by the tables.
-use Rattle.std.proofs.Common.{◌≡◌, ℕ, zero, suc, ◌+◌, ◌<◌, ◌↔◌, Bool, true, Some, None, List, [], ◌∷◌, ◌++◌, length, take, refl, ap, subst, sym, ◌∙◌, arith, add-one}
+use Rattle.std.proofs.Common.{◌≡◌, ℕ, zero, suc, ◌+◌, ◌<◌, ◌↔◌, Bool, true, Option, Some, None, List, [], ◌∷◌, ◌++◌, length, take, refl, ap, subst, sym, ◌∙◌, arith, add-one}
 use Rattle.std.specs.List.{slice_get}
 use Rattle.cxx_hierarchy.specs.declared.records.ClassId.{ClassId}
 use Rattle.cxx_hierarchy.specs.Classes.{Classes}
@@ -18,6 +18,8 @@ use Rattle.cxx_overrider.specs.declared.tables.Tables.{Tables}
 use Rattle.cxx_overrider.specs.invariants.EntryTables.{entry_of}
 use Rattle.cxx_overrider.specs.invariants.Settling.{IsMade, key}
 use Rattle.cxx_overrider.specs.invariants.Tables.{AreTables}
+use Rattle.cxx_overrider.specs.declared.sites.ClassSite.{ClassSite}
+use Rattle.cxx_overrider.specs.invariants.Sites.{numbers_at, IsClassSite, IsMadeToEnd}
 use Rattle.cxx_overrider.specs.Functions.{Signature, signature_of}
 use Rattle.cxx_overrider.specs.Overriding.{HasPart, IsVirtual, IsVirtualIn, IsCandidate, IsFinalOverrider}
 use Rattle.cxx_overrider.specs.invariants.Numbers.{number_of, IsNumbering, IsNumberOf}
@@ -150,6 +152,13 @@ shared_tells h tables table c v _ f sig n bound lt are made (whole p l) is root 
 shared_tells h tables table c v _ f sig n bound lt are made (shared w p has l) is root e k own =
     let same : w ≡ v = cc in
     subst (λ (x : ClassId). TellsOf h c x sig (entry_of table (key c x n))) same (table_told h tables table c w p f sig n bound lt are made is l e k own)
+
+-- what is found under the number of f tells of the signature of f
+pub found_tells : (site : ClassSite) (entries : EntryTable) (v : ClassId) (s : Subobject) (f : FunctionId) (n : ℕ) (told : Option Entry) → IsClassSite site → IsMadeToEnd site entries → (of_class : IsVirtualIn site.h.now site.c s f) → s.root ≡ Shared v → number_of (numbers_at site) f ≡ Some n → ((sig : Signature) → IsNumberOf site.h.now (numbers_at site) n sig → (DeclaresNone site.h.now site.c sig → TellsOf site.h.now site.c v sig (entry_of entries (key site.c v n))) → TellsOf site.h.now site.c v sig told) → TellsOf site.h.now site.c v of_class.is_virtual.signature told
+found_tells site entries v s f n told is made of_class root number tells =
+    let sig = of_class.is_virtual.signature in
+    let k : IsNumberOf site.h.now (numbers_at site) n sig = record { function = f; number = number; is = of_class.is_virtual.is } in
+    tells sig k (λ own. shared_tells site.h.now site.tables.now entries site.c v s f sig n _ is.known is.tables made of_class.valid of_class root of_class.is_virtual.is k own)
 
 -- whether a function is virtual, by its number
 pub virtual_marked : (h : Classes) (tables : Tables) (f : FunctionId) (n : ℕ) (b : Bool) → AreTables h tables → number_of tables.numbering.rows.items f ≡ Some n → b ≡ mark_of tables.virtuals.items f.class n → (b ≡ true) ↔ IsVirtual h f

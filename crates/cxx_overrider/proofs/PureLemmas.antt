@@ -9,12 +9,21 @@ use Rattle.cxx_overrider.specs.Functions.{Signature, signature_of, is_pure}
 use Rattle.cxx_overrider.specs.Overriding.{HasVirtual, IsVirtual}
 use Rattle.cxx_overrider.specs.invariants.Numbers.{number_of, IsNumbering, IsNumberOf}
 use Rattle.cxx_overrider.specs.invariants.Marks.{AreMarks, HasMarkedPart}
+use Rattle.cxx_overrider.specs.declared.parts.NextClass.{NextClass}
+use Rattle.cxx_overrider.specs.invariants.Parts.{numbers_of, AreSignatures}
 use Rattle.cxx_overrider.specs.invariants.Pure.{DeclaresNone, StandsFirst, here, below, LeavesPure}
 use Rattle.cxx_overrider.proofs.Numbering.{same_function}
 use Rattle.cxx_overrider.proofs.MarkLemmas.{says_number}
 
 pub none_declared : (h : Classes) (rows : List (List ℕ)) (count n : ℕ) (c : ClassId) (s : Signature) → IsNumbering h rows count → IsNumberOf h rows n s → ((f : FunctionId) → f.class ≡ c → number_of rows f ≡ Some n → ⊥) → DeclaresNone h c s
 none_declared h rows count n c s is k none = record { none = λ f class e. none f class (says_number h rows count n s f is k e) }
+
+-- the same for numbers that a call was lent
+pub none_lent : (h : Classes) (rows lent : List (List ℕ)) (count n : ℕ) (c : ClassId) (s : Signature) → IsNumbering h rows count → IsNumberOf h rows n s → lent ≡ rows → ((f : FunctionId) → f.class ≡ c → number_of lent f ≡ Some n → ⊥) → DeclaresNone h c s
+none_lent h rows lent count n c s is k same none = none_declared h rows count n c s is k (λ f class number. none f class (ap (λ (r : List (List ℕ)). number_of r f) same ∙ number))
+
+pub next_none : (next : NextClass) (n : ℕ) (s : Signature) (lent : List (List ℕ)) → AreSignatures next.signatures.now → IsNumberOf next.signatures.now.h.now (numbers_of next.signatures.now) n s → lent ≡ numbers_of next.signatures.now → ((f : FunctionId) → f.class ≡ next.c → number_of lent f ≡ Some n → ⊥) → DeclaresNone next.signatures.now.h.now next.c s
+next_none next n s lent are k same none = none_lent next.signatures.now.h.now (numbers_of next.signatures.now) lent next.signatures.now.numbering.now.count n next.c s are.numbering k same none
 
 -- the class declares one: it stands first there
 first_own : (h : Classes) → IsHierarchy h → (s : Signature) (c : ClassId) (path : List ClassId) (f g : FunctionId) → StandsFirst h s c path g → f.class ≡ c → signature_of h f ≡ Some s → g ≡ f

@@ -5,10 +5,12 @@ pub mod Kinds
 pub mod Marks
 pub mod Pure
 pub mod Within
+pub mod Parts
 pub mod Entries
 pub mod EntryTables
 pub mod Settling
 pub mod Tables
+pub mod Sites
 pub mod Abstract
 pub mod Finals
 pub mod Pass

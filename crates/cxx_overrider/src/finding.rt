@@ -7,29 +7,25 @@ ghost use Rattle.cxx_overrider.specs.invariants.Pure.{DeclaresNone};
 ghost use Rattle.cxx_overrider.specs.invariants.Entries.{TellsOf};
 ghost use Rattle.cxx_overrider.specs.invariants.EntryTables.{entry_of};
 ghost use Rattle.cxx_overrider.specs.invariants.Settling.{key};
+ghost use Rattle.cxx_overrider.specs.invariants.Sites.{numbers_at};
 
 use crate::entries::{Entry, EntryTable, key_of};
 use crate::places::Place;
-use crate::signatures::{Numbering, own_function};
-use cxx_hierarchy::{ClassId, Hierarchy};
+use crate::signatures::own_function;
+use crate::sites::ClassSite;
+use cxx_hierarchy::ClassId;
 
 /// What overrides the functions of a signature in a virtual base of a class: what the class declares itself, and else
 /// what the table says. None where the class has no such base.
-pub fn find_entry(
-    h: &Hierarchy,
-    numbering: &Numbering,
-    entries: &EntryTable,
-    c: ClassId,
-    v: ClassId,
-    n: usize,
-) -> Option<Entry>
-    requires { IsNumbering h.now numbering.now.rows.items numbering.now.count }
-    ensures { (s : Signature) → IsNumberOf h.now numbering.now.rows.items n s → (DeclaresNone h.now c s → TellsOf h.now c v s (entry_of entries.now (key c v n))) → TellsOf h.now c v s result }
+pub fn find_entry(site: &ClassSite, entries: &EntryTable, v: ClassId, n: usize) -> Option<Entry>
+    requires { IsNumbering site.now.h.now (numbers_at site.now) site.now.tables.now.numbering.count }
+    ensures { (s : Signature) → IsNumberOf site.now.h.now (numbers_at site.now) n s → (DeclaresNone site.now.h.now site.now.c s → TellsOf site.now.h.now site.now.c v s (entry_of entries.now (key site.now.c v n))) → TellsOf site.now.h.now site.now.c v s result }
 {
-    if !h.has_virtual_base(c, v) {
+    let c = site.c;
+    if !site.h.has_virtual_base(c, v) {
         return None;
     }
-    match own_function(&numbering.rows, c, n) {
+    match own_function(&site.tables.numbering.rows, c, n) {
         Some(function) => Some(Entry {
             place: Place::Itself,
             function,

@@ -5,15 +5,14 @@ ghost use Rattle.cxx_hierarchy.specs.declared.records.ClassId.{ClassId};
 ghost use Rattle.cxx_subobject.specs.declared.Subobject.{Subobject};
 ghost use Rattle.cxx_subobject.specs.Subobjects.{IsSubobject, class_of};
 ghost use Rattle.cxx_overrider.specs.Overriding.{HasPart, IsVirtualIn, IsFinalOverrider};
-ghost use Rattle.cxx_overrider.specs.invariants.Numbers.{AreShort, IsNumbering, number_of};
-ghost use Rattle.cxx_overrider.specs.invariants.Settling.{IsMade};
-ghost use Rattle.cxx_overrider.specs.invariants.Tables.{AreTables};
+ghost use Rattle.cxx_overrider.specs.invariants.Numbers.{AreShort, number_of};
+ghost use Rattle.cxx_overrider.specs.invariants.Sites.{numbers_at, IsClassSite, IsMadeToEnd};
 ghost use Rattle.cxx_overrider.specs.invariants.Finals.{IsFirstAt, DeclareNone, IsFirstOverrider, IsByPath, IsByClass};
 
 use crate::entries::EntryTable;
 use crate::finding::find_entry;
 use crate::signatures::{NumberRow, Numbering, number_of, own_function};
-use crate::tables::Tables;
+use crate::sites::ClassSite;
 use crate::{FunctionId, Overrider};
 use cxx_hierarchy::{ClassId, Hierarchy};
 use cxx_subobject::listing::longer_path;
@@ -103,27 +102,24 @@ fn subobject_of_class(
 /// The function of the final overrider, where the subobject lies below a virtual base and a class that has that base
 /// declares one. None: the final overrider is the first one on the path of the subobject.
 fn overriding_base(
-    h: &Hierarchy,
-    tables: &Tables,
+    site: &ClassSite,
     entries: &EntryTable,
-    c: ClassId,
     s: &Subobject,
     f: FunctionId,
     n: usize,
 ) -> Option<FunctionId>
-    requires known { c.0 < length h.now }
-    requires tables { AreTables h.now tables.now }
-    requires made { IsMade h.now tables.now.numbering.rows.items entries.now (length h.now) 0 0 }
-    requires of_class { IsVirtualIn h.now c s.now f }
-    requires number { number_of tables.now.numbering.rows.items f ≡ Some n }
-    ensures { MatchOption result (IsByPath h.now tables.now.numbering.rows.items n c s.now f) (IsByClass h.now c s.now f) }
+    requires site { IsClassSite site.now }
+    requires made { IsMadeToEnd site.now entries.now }
+    requires of_class { IsVirtualIn site.now.h.now site.now.c s.now f }
+    requires number { number_of (numbers_at site.now) f ≡ Some n }
+    ensures { MatchOption result (IsByPath site.now.h.now (numbers_at site.now) n site.now.c s.now f) (IsByClass site.now.h.now site.now.c s.now f) }
 {
-    h.keeps();
+    site.h.keeps();
     let root = match s.root {
         Root::Whole => return None,
         Root::Shared(root) => root,
     };
-    match find_entry(h, &tables.numbering, entries, c, root, n) {
+    match find_entry(site, entries, root, n) {
         Some(entry) => Some(entry.function),
         None => None,
     }
@@ -134,47 +130,41 @@ fn overriding_base(
 /// Errors: want of memory.
 pub fn final_overrider(
     alloc: Global,
-    h: &Hierarchy,
-    tables: &Tables,
+    site: &ClassSite,
     entries: &EntryTable,
-    c: ClassId,
     s: &Subobject,
     f: FunctionId,
 ) -> Result<Overrider, NoMemory>
-    requires known { c.0 < length h.now }
-    requires tables { AreTables h.now tables.now }
-    requires made { IsMade h.now tables.now.numbering.rows.items entries.now (length h.now) 0 0 }
-    requires of_class { IsVirtualIn h.now c s.now f }
-    ensures { IfOk result (IsFinalOverrider h.now c s.now f) }
+    requires site { IsClassSite site.now }
+    requires made { IsMadeToEnd site.now entries.now }
+    requires of_class { IsVirtualIn site.now.h.now site.now.c s.now f }
+    ensures { IfOk result (IsFinalOverrider site.now.h.now site.now.c s.now f) }
 {
-    let n = number_at(&tables.numbering, f);
-    match overriding_base(h, tables, entries, c, s, f, n) {
+    let n = number_at(&site.tables.numbering, f);
+    match overriding_base(site, entries, s, f, n) {
         Some(function) => {
-            let at = subobject_of_class(alloc, h, c, function.class)?;
+            let at = subobject_of_class(alloc, site.h, site.c, function.class)?;
             Ok(Overrider { at, function })
         }
-        None => path_overrider(alloc, &tables.numbering, s, n),
+        None => path_overrider(alloc, &site.tables.numbering, s, n),
     }
 }
 
 /// The function of the final overrider. It takes no memory.
 pub fn final_function(
-    h: &Hierarchy,
-    tables: &Tables,
+    site: &ClassSite,
     entries: &EntryTable,
-    c: ClassId,
     s: &Subobject,
     f: FunctionId,
 ) -> FunctionId
-    requires known { c.0 < length h.now }
-    requires tables { AreTables h.now tables.now }
-    requires made { IsMade h.now tables.now.numbering.rows.items entries.now (length h.now) 0 0 }
-    requires of_class { IsVirtualIn h.now c s.now f }
-    ensures { (at : Subobject) × IsFinalOverrider h.now c s.now f (record { at = at; function = result }) }
+    requires site { IsClassSite site.now }
+    requires made { IsMadeToEnd site.now entries.now }
+    requires of_class { IsVirtualIn site.now.h.now site.now.c s.now f }
+    ensures { (at : Subobject) × IsFinalOverrider site.now.h.now site.now.c s.now f (record { at = at; function = result }) }
 {
-    let n = number_at(&tables.numbering, f);
-    match overriding_base(h, tables, entries, c, s, f, n) {
+    let n = number_at(&site.tables.numbering, f);
+    match overriding_base(site, entries, s, f, n) {
         Some(function) => function,
-        None => first_on_path(&tables.numbering.rows, s.path.as_slice(), n).function,
+        None => first_on_path(&site.tables.numbering.rows, s.path.as_slice(), n).function,
     }
 }

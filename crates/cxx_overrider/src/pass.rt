@@ -20,6 +20,7 @@ use crate::entries::EntryTable;
 use crate::overriding::{final_function, final_overrider};
 use crate::settling::settle_class;
 use crate::signatures::number_of;
+use crate::sites::ClassSite;
 use crate::tables::{Tables, tables_of};
 use crate::virtuals::is_marked;
 use crate::{FunctionId, Overrider};
@@ -56,7 +57,12 @@ impl Overriders {
         requires is_virtual { IsVirtual h.now f }
         ensures { IfOk result (IsFinalOverrider h.now c s.now f) }
     {
-        final_overrider(self.alloc, h, &self.tables, &self.entries, c, s, f)
+        let site = ClassSite {
+            h,
+            tables: &self.tables,
+            c,
+        };
+        final_overrider(self.alloc, &site, &self.entries, s, f)
     }
 
     /// The function of the final overrider of a virtual function in a subobject of a class (ISO C++03 10.3 p2). It
@@ -75,7 +81,12 @@ impl Overriders {
         requires is_virtual { IsVirtual h.now f }
         ensures { (at : Subobject) × IsFinalOverrider h.now c s.now f (record { at = at; function = result }) }
     {
-        final_function(h, &self.tables, &self.entries, c, s, f)
+        let site = ClassSite {
+            h,
+            tables: &self.tables,
+            c,
+        };
+        final_function(&site, &self.entries, s, f)
     }
 
     /// Whether a function is virtual: declared so, or in a class that has a virtual function of its signature from
@@ -152,7 +163,8 @@ fn check_finals(
     ensures err { IfErr result (StopsIn h.now c) }
 {
     let class = h.class(c);
-    let is_one = settle_class(alloc, h, tables, entries, c)?;
+    let site = ClassSite { h, tables, c };
+    let is_one = settle_class(alloc, &site, entries)?;
     if !is_one {
         return Err(Stop::Refused(Rule::TwoFinalOverriders, class.at));
     }
@@ -225,7 +237,8 @@ fn check_class(
     check_returns(h, tables, c)?;
     check_finals(alloc, h, tables, entries, c)?;
     check_members(h, abstracts, c)?;
-    let is_abstract = is_abstract_class(h, tables, entries, c);
+    let site = ClassSite { h, tables, c };
+    let is_abstract = is_abstract_class(&site, entries);
     abstracts.push(is_abstract)?;
     Ok(())
 }

@@ -1,14 +1,14 @@
 //! Whether the non-virtual part of a class leaves a pure function without an overrider.
 
 ghost use Rattle.std.specs.Prelude.{◌≡◌, ◌<◌, ◌↔◌, true, IsTrue, length};
-ghost use Rattle.cxx_overrider.specs.Functions.{Signature, is_pure};
-ghost use Rattle.cxx_overrider.specs.Overriding.{HasVirtual};
-ghost use Rattle.cxx_overrider.specs.invariants.Numbers.{IsNumbering, IsNumberOf};
-ghost use Rattle.cxx_overrider.specs.invariants.Marks.{mark_of, AreMarks, HasMarkedPart};
+ghost use Rattle.cxx_overrider.specs.Functions.{is_pure};
+ghost use Rattle.cxx_overrider.specs.invariants.Marks.{mark_of, HasMarkedPart};
+ghost use Rattle.cxx_overrider.specs.invariants.Parts.{IsNextClass, TellsNext};
 ghost use Rattle.cxx_overrider.specs.invariants.Pure.{LeavesPure};
 
 use crate::FunctionId;
-use crate::signatures::{Numbering, declaration, own_function};
+use crate::parts::NextClass;
+use crate::signatures::{declaration, own_function};
 use crate::virtuals::{MarkRow, is_marked};
 use cxx_hierarchy::{ClassId, Hierarchy};
 
@@ -45,25 +45,14 @@ fn is_marked_pure(h: &Hierarchy, virtuals: &[MarkRow], f: FunctionId, n: usize) 
 }
 
 /// Whether a virtual pure function of the signature stands first on some path of non-virtual bases.
-pub fn leaves_pure(
-    h: &Hierarchy,
-    numbering: &Numbering,
-    virtuals: &[MarkRow],
-    rows: &[MarkRow],
-    c: ClassId,
-    n: usize,
-) -> bool
-    requires known { c.0 < length h.now }
-    requires numbering { IsNumbering h.now numbering.now.rows.items numbering.now.count }
-    requires virtuals { AreMarks h.now numbering.now.rows.items (HasVirtual h.now) virtuals.now }
-    requires all { length virtuals.now ≡ length h.now }
-    requires rows { AreMarks h.now numbering.now.rows.items (LeavesPure h.now) rows.now }
-    requires size { length rows.now ≡ c.0 }
-    ensures { (s : Signature) → IsNumberOf h.now numbering.now.rows.items n s → (IsTrue result ↔ LeavesPure h.now c s) }
+pub fn leaves_pure(next: &NextClass, n: usize) -> bool
+    requires { IsNextClass LeavesPure next.now }
+    ensures { TellsNext LeavesPure next.now n result }
 {
-    h.keeps();
-    match own_function(&numbering.rows, c, n) {
-        Some(f) => is_marked_pure(h, virtuals, f, n),
-        None => has_marked_part(h, rows, c, n),
+    let signatures = next.signatures;
+    signatures.h.keeps();
+    match own_function(&signatures.numbering.rows, next.c, n) {
+        Some(f) => is_marked_pure(signatures.h, signatures.virtuals, f, n),
+        None => has_marked_part(signatures.h, next.rows, next.c, n),
     }
 }

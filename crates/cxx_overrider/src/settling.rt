@@ -7,16 +7,16 @@ ghost use Rattle.cxx_overrider.specs.declared.FunctionId.{FunctionId};
 ghost use Rattle.cxx_overrider.specs.declared.entries.Entry.{Entry};
 ghost use Rattle.cxx_overrider.specs.Functions.{Signature};
 ghost use Rattle.cxx_overrider.specs.Overriding.{HasTwoFinalOverriders};
-ghost use Rattle.cxx_overrider.specs.invariants.Numbers.{row_of, number_of, IsNumbering, IsNumberOf};
-ghost use Rattle.cxx_overrider.specs.invariants.Within.{HasVirtualWithin};
+ghost use Rattle.cxx_overrider.specs.invariants.Numbers.{row_of, number_of, IsNumberOf};
 ghost use Rattle.cxx_overrider.specs.invariants.EntryTables.{KeepsBefore};
-ghost use Rattle.cxx_overrider.specs.invariants.Settling.{Holds, AreCandidates, IsAmong, IsOrder, IsAbove, IsPicked, IsSettled, TellsBefore, IsMade};
-ghost use Rattle.cxx_overrider.specs.invariants.Tables.{AreTables};
+ghost use Rattle.cxx_overrider.specs.invariants.Settling.{Holds, AreCandidates, IsAmong, IsOrder, IsAbove, IsPicked, IsSettled, TellsBefore};
+ghost use Rattle.cxx_overrider.specs.invariants.Sites.{numbers_at, IsClassSite, IsMadeAt, IsMadeThrough, IsVirtualAt};
 
 use crate::entries::{Entry, EntryTable, key_of};
 use crate::finding::find_entry;
 use crate::places::{Place, lifted};
-use crate::signatures::{Numbering, own_function};
+use crate::signatures::own_function;
+use crate::sites::ClassSite;
 use crate::tables::Tables;
 use cxx_hierarchy::{ClassId, Hierarchy};
 use cxx_subobject::virtual_flags::has_virtual_bases;
@@ -47,22 +47,24 @@ fn holds(h: &Hierarchy, outer: Entry, inner: Entry) -> bool
 /// What the direct bases of a class have under the signature.
 fn candidates(
     alloc: Global,
-    h: &Hierarchy,
-    numbering: &Numbering,
+    site: &ClassSite,
     entries: &EntryTable,
-    c: ClassId,
     v: ClassId,
     n: usize,
 ) -> Result<Vec<Entry>, NoMemory>
-    requires known { c.0 < length h.now }
-    requires numbering { IsNumbering h.now numbering.now.rows.items numbering.now.count }
-    ensures { IfOk result (λ xs. (s : Signature) → IsNumberOf h.now numbering.now.rows.items n s → TellsBefore h.now entries.now c v n s → AreCandidates h.now c v s (length (bases_of h.now c)) xs.items) }
+    requires { IsClassSite site.now }
+    ensures { IfOk result (λ xs. (s : Signature) → IsNumberOf site.now.h.now (numbers_at site.now) n s → TellsBefore site.now.h.now entries.now site.now.c v n s → AreCandidates site.now.h.now site.now.c v s (length (bases_of site.now.h.now site.now.c)) xs.items) }
 {
-    h.keeps();
+    site.h.keeps();
     let mut found = Vec::new(alloc);
-    for base in h.class(c).bases.as_slice() {
-        let below = find_entry(h, numbering, entries, base.class, v, n);
-        if let Some(entry) = below {
+    for base in site.h.class(site.c).bases.as_slice() {
+        let below = ClassSite {
+            h: site.h,
+            tables: site.tables,
+            c: base.class,
+        };
+        let found_below = find_entry(&below, entries, v, n);
+        if let Some(entry) = found_below {
             found.push(Entry {
                 place: lifted(base, entry.place),
                 function: entry.function,
@@ -118,22 +120,19 @@ fn pick(h: &Hierarchy, xs: &[Entry]) -> Settled
 /// What overrides the functions of the signature in the virtual base of a class that declares none itself.
 fn settle(
     alloc: Global,
-    h: &Hierarchy,
-    numbering: &Numbering,
+    site: &ClassSite,
     entries: &EntryTable,
-    c: ClassId,
     v: ClassId,
     n: usize,
 ) -> Result<Settled, NoMemory>
-    requires known { c.0 < length h.now }
-    requires base { HasVirtualBase h.now c v }
-    requires numbering { IsNumbering h.now numbering.now.rows.items numbering.now.count }
-    requires own { (f : FunctionId) → f.class ≡ c → number_of numbering.now.rows.items f ≡ Some n → ⊥ }
-    ensures { IfOk result (λ settled. (s : Signature) → IsNumberOf h.now numbering.now.rows.items n s → TellsBefore h.now entries.now c v n s → IsSettled h.now c v s settled) }
+    requires site { IsClassSite site.now }
+    requires base { HasVirtualBase site.now.h.now site.now.c v }
+    requires own { (f : FunctionId) → f.class ≡ site.now.c → number_of (numbers_at site.now) f ≡ Some n → ⊥ }
+    ensures { IfOk result (λ settled. (s : Signature) → IsNumberOf site.now.h.now (numbers_at site.now) n s → TellsBefore site.now.h.now entries.now site.now.c v n s → IsSettled site.now.h.now site.now.c v s settled) }
 {
-    h.keeps();
-    let found = candidates(alloc, h, numbering, entries, c, v, n)?;
-    let picked = pick(h, &found);
+    site.h.keeps();
+    let found = candidates(alloc, site, entries, v, n)?;
+    let picked = pick(site.h, &found);
     Ok(picked)
 }
 
@@ -141,30 +140,25 @@ fn settle(
 /// is one.
 fn settle_number(
     alloc: Global,
-    h: &Hierarchy,
-    tables: &Tables,
+    site: &ClassSite,
     entries: &mut EntryTable,
-    c: ClassId,
     v: ClassId,
     n: usize,
 ) -> Result<bool, NoMemory>
-    requires known { c.0 < length h.now }
-    requires base { HasVirtualBase h.now c v }
-    requires tables { AreTables h.now tables.now }
-    requires number { n < tables.now.numbering.count }
-    requires within { (s : Signature) → IsNumberOf h.now tables.now.numbering.rows.items n s → HasVirtualWithin h.now v s }
-    requires made { IsMade h.now tables.now.numbering.rows.items entries.old c.0 v.0 n }
-    ensures one { IfOk result (λ is_one. MatchBool is_one (IsMade h.now tables.now.numbering.rows.items entries.new c.0 v.0 (n + 1)) (HasTwoFinalOverriders h.now c)) }
-    ensures kept { KeepsBefore c entries.old entries.new }
+    requires site { IsClassSite site.now }
+    requires at { IsVirtualAt site.now v n }
+    requires made { IsMadeAt site.now entries.old v.0 n }
+    ensures one { IfOk result (λ is_one. MatchBool is_one (IsMadeAt site.now entries.new v.0 (n + 1)) (HasTwoFinalOverriders site.now.h.now site.now.c)) }
+    ensures kept { KeepsBefore site.now.c entries.old entries.new }
 {
-    match own_function(&tables.numbering.rows, c, n) {
+    match own_function(&site.tables.numbering.rows, site.c, n) {
         Some(_) => return Ok(true),
         None => {}
     }
-    match settle(alloc, h, &tables.numbering, entries, c, v, n)? {
+    match settle(alloc, site, entries, v, n)? {
         Settled::Nothing => Ok(true),
         Settled::One(entry) => {
-            entries.put(key_of(c, v, n), entry)?;
+            entries.put(key_of(site.c, v, n), entry)?;
             Ok(true)
         }
         Settled::Two(_, _) => Ok(false),
@@ -179,51 +173,29 @@ pub fn numbers_within(tables: &Tables, v: ClassId) -> &[usize]
     tables.within[v.0 as usize].as_slice()
 }
 
-/// Puts down what overrides the virtual functions of a virtual base, and tells whether each has one overrider.
+/// Puts down what overrides the virtual functions of a virtual base, and tells whether each has one overrider. Nothing
+/// is to be put down for a class that is no virtual base.
 fn settle_base(
     alloc: Global,
-    h: &Hierarchy,
-    tables: &Tables,
+    site: &ClassSite,
     entries: &mut EntryTable,
-    c: ClassId,
     v: ClassId,
 ) -> Result<bool, NoMemory>
-    requires known { c.0 < length h.now }
-    requires base { HasVirtualBase h.now c v }
-    requires tables { AreTables h.now tables.now }
-    requires made { IsMade h.now tables.now.numbering.rows.items entries.old c.0 v.0 0 }
-    ensures one { IfOk result (λ is_one. MatchBool is_one (IsMade h.now tables.now.numbering.rows.items entries.new c.0 (v.0 + 1) 0) (HasTwoFinalOverriders h.now c)) }
-    ensures kept { KeepsBefore c entries.old entries.new }
+    requires site { IsClassSite site.now }
+    requires made { IsMadeAt site.now entries.old v.0 0 }
+    ensures one { IfOk result (λ is_one. MatchBool is_one (IsMadeAt site.now entries.new (v.0 + 1) 0) (HasTwoFinalOverriders site.now.h.now site.now.c)) }
+    ensures kept { KeepsBefore site.now.c entries.old entries.new }
 {
-    h.keeps();
-    for n in numbers_within(tables, v) {
-        if !settle_number(alloc, h, tables, entries, c, v, *n)? {
+    site.h.keeps();
+    if !site.h.has_virtual_base(site.c, v) {
+        return Ok(true);
+    }
+    for n in numbers_within(site.tables, v) {
+        if !settle_number(alloc, site, entries, v, *n)? {
             return Ok(false);
         }
     }
     Ok(true)
-}
-
-/// The same for a class that may be no virtual base.
-fn settle_if_base(
-    alloc: Global,
-    h: &Hierarchy,
-    tables: &Tables,
-    entries: &mut EntryTable,
-    c: ClassId,
-    v: ClassId,
-) -> Result<bool, NoMemory>
-    requires known { c.0 < length h.now }
-    requires tables { AreTables h.now tables.now }
-    requires made { IsMade h.now tables.now.numbering.rows.items entries.old c.0 v.0 0 }
-    ensures one { IfOk result (λ is_one. MatchBool is_one (IsMade h.now tables.now.numbering.rows.items entries.new c.0 (v.0 + 1) 0) (HasTwoFinalOverriders h.now c)) }
-    ensures kept { KeepsBefore c entries.old entries.new }
-{
-    if h.has_virtual_base(c, v) {
-        settle_base(alloc, h, tables, entries, c, v)
-    } else {
-        Ok(true)
-    }
 }
 
 /// Puts down what overrides the virtual functions of the virtual bases of a class, and tells whether each virtual
@@ -231,25 +203,21 @@ fn settle_if_base(
 /// classes before stays.
 pub fn settle_class(
     alloc: Global,
-    h: &Hierarchy,
-    tables: &Tables,
+    site: &ClassSite,
     entries: &mut EntryTable,
-    c: ClassId,
 ) -> Result<bool, NoMemory>
-    requires known { c.0 < length h.now }
-    requires tables { AreTables h.now tables.now }
-    requires made { IsMade h.now tables.now.numbering.rows.items entries.old c.0 0 0 }
-    ensures made { IfOk result (λ is_one. IsTrue is_one → IsMade h.now tables.now.numbering.rows.items entries.new (c.0 + 1) 0 0) }
-    ensures one { IfOk result (λ is_one. MatchBool is_one (HasTwoFinalOverriders h.now c → ⊥) (HasTwoFinalOverriders h.now c)) }
-    ensures kept { KeepsBefore c entries.old entries.new }
+    requires site { IsClassSite site.now }
+    requires made { IsMadeAt site.now entries.old 0 0 }
+    ensures made { IfOk result (λ is_one. IsTrue is_one → IsMadeThrough site.now entries.new) }
+    ensures one { IfOk result (λ is_one. MatchBool is_one (HasTwoFinalOverriders site.now.h.now site.now.c → ⊥) (HasTwoFinalOverriders site.now.h.now site.now.c)) }
+    ensures kept { KeepsBefore site.now.c entries.old entries.new }
 {
-    h.keeps();
-    if !has_virtual_bases(&tables.with_virtual, c) {
+    site.h.keeps();
+    if !has_virtual_bases(&site.tables.with_virtual, site.c) {
         return Ok(true);
     }
-    for number in 0..c.0 {
-        let v = ClassId(number);
-        if !settle_if_base(alloc, h, tables, entries, c, v)? {
+    for number in 0..site.c.0 {
+        if !settle_base(alloc, site, entries, ClassId(number))? {
             return Ok(false);
         }
     }

@@ -4,6 +4,7 @@ ghost use Rattle.std.specs.Prelude.{IfOk};
 ghost use Rattle.cxx_overrider.specs.invariants.Tables.{AreTables};
 
 use crate::kinds::{KindRow, kind_rows};
+use crate::parts::Signatures;
 use crate::signatures::{NumberRow, Numbering, number_signatures};
 use crate::virtuals::{MarkRow, virtual_rows};
 use crate::within::{PartQuestion, part_rows, within_lists};
@@ -34,8 +35,13 @@ pub fn tables_of(alloc: Global, h: &Hierarchy) -> Result<Tables, NoMemory>
     let numbering = number_signatures(alloc, h)?;
     let kinds = kind_rows(alloc, h)?;
     let virtuals = virtual_rows(alloc, h, &numbering)?;
-    let pure = part_rows(alloc, h, &numbering, &virtuals, PartQuestion::LeavesPure)?;
-    let within = within_lists(alloc, h, &numbering, &virtuals)?;
+    let signatures = Signatures {
+        h,
+        numbering: &numbering,
+        virtuals: &virtuals,
+    };
+    let pure = part_rows(alloc, &signatures, PartQuestion::LeavesPure)?;
+    let within = within_lists(alloc, &signatures)?;
     let with_virtual = classes_with_virtual_bases(alloc, h)?;
     Ok(Tables {
         numbering,

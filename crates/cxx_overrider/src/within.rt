@@ -1,44 +1,31 @@
 //! Which virtual functions the non-virtual part of a class declares, and which pure ones it leaves without an overrider,
 //! by the numbers of their signatures.
 
-ghost use Rattle.std.specs.Prelude.{◌≡◌, ◌<◌, ◌↔◌, [], IsTrue, IfOk, length, slice_index_or};
-ghost use Rattle.cxx_hierarchy.specs.declared.records.ClassId.{ClassId};
-ghost use Rattle.cxx_overrider.specs.Functions.{Signature};
-ghost use Rattle.cxx_overrider.specs.Overriding.{HasVirtual};
-ghost use Rattle.cxx_overrider.specs.invariants.Numbers.{IsNumbering, IsNumberOf};
+ghost use Rattle.std.specs.Prelude.{◌≡◌, [], IfOk, length, slice_index_or};
 ghost use Rattle.cxx_overrider.specs.invariants.Marks.{AreMarks, IsMarkRow};
+ghost use Rattle.cxx_overrider.specs.invariants.Parts.{numbers_of, AreSignatures, IsNextClass, TellsNext};
 ghost use Rattle.cxx_overrider.specs.invariants.Within.{HasVirtualWithin, IsAnswered, ListsMarked, AreListed, AreWithin};
 
+use crate::parts::{NextClass, Signatures};
 use crate::pure::{has_marked_part, leaves_pure};
-use crate::signatures::{NumberRow, Numbering, own_function};
+use crate::signatures::{NumberRow, own_function};
 use crate::virtuals::{MarkRow, is_marked};
-use cxx_hierarchy::{ClassId, Hierarchy};
+use cxx_hierarchy::ClassId;
 use foundation::{NoMemory, Sequence};
 use std::alloc::Global;
 
 /// Whether the non-virtual part of a class declares a virtual function of the signature.
-fn has_virtual_within(
-    h: &Hierarchy,
-    numbering: &Numbering,
-    virtuals: &[MarkRow],
-    rows: &[MarkRow],
-    c: ClassId,
-    n: usize,
-) -> bool
-    requires known { c.0 < length h.now }
-    requires numbering { IsNumbering h.now numbering.now.rows.items numbering.now.count }
-    requires virtuals { AreMarks h.now numbering.now.rows.items (HasVirtual h.now) virtuals.now }
-    requires all { length virtuals.now ≡ length h.now }
-    requires rows { AreMarks h.now numbering.now.rows.items (HasVirtualWithin h.now) rows.now }
-    requires size { length rows.now ≡ c.0 }
-    ensures { (s : Signature) → IsNumberOf h.now numbering.now.rows.items n s → (IsTrue result ↔ HasVirtualWithin h.now c s) }
+fn has_virtual_within(next: &NextClass, n: usize) -> bool
+    requires { IsNextClass HasVirtualWithin next.now }
+    ensures { TellsNext HasVirtualWithin next.now n result }
 {
-    h.keeps();
-    if has_marked_part(h, rows, c, n) {
+    let signatures = next.signatures;
+    signatures.h.keeps();
+    if has_marked_part(signatures.h, next.rows, next.c, n) {
         return true;
     }
-    match own_function(&numbering.rows, c, n) {
-        Some(_) => is_marked(virtuals, c, n),
+    match own_function(&signatures.numbering.rows, next.c, n) {
+        Some(_) => is_marked(signatures.virtuals, next.c, n),
         None => false,
     }
 }
@@ -53,50 +40,24 @@ pub enum PartQuestion {
 }
 
 /// The answer for a signature, from those of the classes before.
-fn part_answer(
-    h: &Hierarchy,
-    numbering: &Numbering,
-    virtuals: &[MarkRow],
-    question: PartQuestion,
-    rows: &[MarkRow],
-    c: ClassId,
-    n: usize,
-) -> bool
-    requires known { c.0 < length h.now }
-    requires numbering { IsNumbering h.now numbering.now.rows.items numbering.now.count }
-    requires virtuals { AreMarks h.now numbering.now.rows.items (HasVirtual h.now) virtuals.now }
-    requires all { length virtuals.now ≡ length h.now }
-    requires rows { AreMarks h.now numbering.now.rows.items (IsAnswered h.now question) rows.now }
-    requires size { length rows.now ≡ c.0 }
-    ensures { (s : Signature) → IsNumberOf h.now numbering.now.rows.items n s → (IsTrue result ↔ IsAnswered h.now question c s) }
+fn part_answer(next: &NextClass, question: PartQuestion, n: usize) -> bool
+    requires { IsNextClass (λ h. IsAnswered h question) next.now }
+    ensures { TellsNext (λ h. IsAnswered h question) next.now n result }
 {
     match question {
-        PartQuestion::LeavesPure => leaves_pure(h, numbering, virtuals, rows, c, n),
-        PartQuestion::DeclaresVirtual => has_virtual_within(h, numbering, virtuals, rows, c, n),
+        PartQuestion::LeavesPure => leaves_pure(next, n),
+        PartQuestion::DeclaresVirtual => has_virtual_within(next, n),
     }
 }
 
 /// The answers for all signatures.
-fn part_row(
-    alloc: Global,
-    h: &Hierarchy,
-    numbering: &Numbering,
-    virtuals: &[MarkRow],
-    question: PartQuestion,
-    rows: &[MarkRow],
-    c: ClassId,
-) -> Result<MarkRow, NoMemory>
-    requires known { c.0 < length h.now }
-    requires numbering { IsNumbering h.now numbering.now.rows.items numbering.now.count }
-    requires virtuals { AreMarks h.now numbering.now.rows.items (HasVirtual h.now) virtuals.now }
-    requires all { length virtuals.now ≡ length h.now }
-    requires rows { AreMarks h.now numbering.now.rows.items (IsAnswered h.now question) rows.now }
-    requires size { length rows.now ≡ c.0 }
-    ensures { IfOk result (IsMarkRow h.now numbering.now.rows.items numbering.now.count (IsAnswered h.now question c)) }
+fn part_row(alloc: Global, next: &NextClass, question: PartQuestion) -> Result<MarkRow, NoMemory>
+    requires { IsNextClass (λ h. IsAnswered h question) next.now }
+    ensures { IfOk result (IsMarkRow next.now.signatures.now.h.now (numbers_of next.now.signatures.now) next.now.signatures.now.numbering.now.count (IsAnswered next.now.signatures.now.h.now question next.now.c)) }
 {
     let mut row = Sequence::new(alloc);
-    for n in 0..numbering.count {
-        row.push(part_answer(h, numbering, virtuals, question, rows, c, n))?;
+    for n in 0..next.signatures.numbering.count {
+        row.push(part_answer(next, question, n))?;
     }
     Ok(row)
 }
@@ -104,28 +65,21 @@ fn part_row(
 /// For each class the signatures of which its non-virtual part is as the question says.
 pub fn part_rows(
     alloc: Global,
-    h: &Hierarchy,
-    numbering: &Numbering,
-    virtuals: &[MarkRow],
+    signatures: &Signatures,
     question: PartQuestion,
 ) -> Result<Vec<MarkRow>, NoMemory>
-    requires numbering { IsNumbering h.now numbering.now.rows.items numbering.now.count }
-    requires virtuals { AreMarks h.now numbering.now.rows.items (HasVirtual h.now) virtuals.now }
-    requires all { length virtuals.now ≡ length h.now }
-    ensures marks { IfOk result (λ rows. AreMarks h.now numbering.now.rows.items (IsAnswered h.now question) rows.items) }
-    ensures size { IfOk result (λ rows. length rows.items ≡ length h.now) }
+    requires { AreSignatures signatures.now }
+    ensures marks { IfOk result (λ rows. AreMarks signatures.now.h.now (numbers_of signatures.now) (IsAnswered signatures.now.h.now question) rows.items) }
+    ensures size { IfOk result (λ rows. length rows.items ≡ length signatures.now.h.now) }
 {
     let mut rows = Vec::new(alloc);
-    for number in 0..h.len() {
-        let row = part_row(
-            alloc,
-            h,
-            numbering,
-            virtuals,
-            question,
-            &rows,
-            ClassId(number),
-        )?;
+    for number in 0..signatures.h.len() {
+        let next = NextClass {
+            signatures: &*signatures,
+            rows: &rows,
+            c: ClassId(number),
+        };
+        let row = part_row(alloc, &next, question)?;
         rows.push(row)?;
     }
     Ok(rows)
@@ -169,19 +123,13 @@ fn number_lists(
 
 /// For each class the numbers, in their order, of the signatures of which its non-virtual part declares a virtual
 /// function.
-pub fn within_lists(
-    alloc: Global,
-    h: &Hierarchy,
-    numbering: &Numbering,
-    virtuals: &[MarkRow],
-) -> Result<Vec<NumberRow>, NoMemory>
-    requires numbering { IsNumbering h.now numbering.now.rows.items numbering.now.count }
-    requires virtuals { AreMarks h.now numbering.now.rows.items (HasVirtual h.now) virtuals.now }
-    requires all { length virtuals.now ≡ length h.now }
-    ensures lists { IfOk result (λ lists. AreWithin h.now numbering.now.rows.items numbering.now.count lists.items) }
-    ensures size { IfOk result (λ lists. length lists.items ≡ length h.now) }
+pub fn within_lists(alloc: Global, signatures: &Signatures) -> Result<Vec<NumberRow>, NoMemory>
+    requires { AreSignatures signatures.now }
+    ensures lists { IfOk result (λ lists. AreWithin signatures.now.h.now (numbers_of signatures.now) signatures.now.numbering.now.count lists.items) }
+    ensures size { IfOk result (λ lists. length lists.items ≡ length signatures.now.h.now) }
 {
-    let rows = part_rows(alloc, h, numbering, virtuals, PartQuestion::DeclaresVirtual)?;
-    let lists = number_lists(alloc, &rows, h.len(), numbering.count)?;
+    let rows = part_rows(alloc, signatures, PartQuestion::DeclaresVirtual)?;
+    let count = signatures.numbering.count;
+    let lists = number_lists(alloc, &rows, signatures.h.len(), count)?;
     Ok(lists)
 }

@@ -7,4 +7,4 @@ use Rattle.cxx_overrider.proofs.abstracts.has_pure_whole.Given as goal
 
 -- no signature so far
 abbrev pub invariant-loop-n : goal.invariant-loop-n
-invariant-loop-n l = (m : ℕ) (s : Signature) → m < l.n → IsNumberOf l.h l.tables.numbering.rows.items m s → HasPureAt l.h l.fn.c Whole s → ⊥
+invariant-loop-n l = (m : ℕ) (s : Signature) → m < l.n → IsNumberOf l.site.h.now l.site.tables.now.numbering.rows.items m s → HasPureAt l.site.h.now l.site.c Whole s → ⊥

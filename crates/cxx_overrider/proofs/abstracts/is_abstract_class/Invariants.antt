@@ -7,4 +7,4 @@ use Rattle.cxx_overrider.proofs.abstracts.is_abstract_class.Given as goal
 
 -- no virtual base so far
 abbrev pub invariant-loop-number : goal.invariant-loop-number
-invariant-loop-number l = (v : ClassId) (s : Signature) → v.0 < l.number → HasPureAt l.h l.fn.c (Shared v) s → ⊥
+invariant-loop-number l = (v : ClassId) (s : Signature) → v.0 < l.number → HasPureAt l.site.h.now l.site.c (Shared v) s → ⊥

@@ -8,6 +8,6 @@ use Rattle.cxx_overrider.proofs.settling.candidates.Given as goal
 -- the entries of the bases so far
 abbrev pub invariant-loop-base : goal.invariant-loop-base
 invariant-loop-base l = record {
-  items : l.base-items ≡ bases_of l.h l.fn.c;
-  found : (s : Signature) → IsNumberOf l.h l.numbering.rows.items l.n s → TellsBefore l.h l.entries l.fn.c l.v l.n s → AreCandidates l.h l.fn.c l.v s l.base-index l.found.items;
+  items : l.base-items ≡ bases_of l.site.h.now l.site.c;
+  found : (s : Signature) → IsNumberOf l.site.h.now l.site.tables.now.numbering.rows.items l.n s → TellsBefore l.site.h.now l.entries l.site.c l.v l.n s → AreCandidates l.site.h.now l.site.c l.v s l.base-index l.found.items;
 }

@@ -7,8 +7,8 @@ use Rattle.cxx_overrider.proofs.settling.settle.Goals as goal
 
 pub returns : goal.returns
 returns c = λ s k tells.
-    let h = c.args.h.now in
-    let rows = c.args.numbering.now.rows.items in
-    let none = none_declared h rows c.args.numbering.now.count c.args.n c.args.c s c.requires.numbering k c.requires.own in
+    let h = c.args.site.now.h.now in
+    let rows = c.args.site.now.tables.now.numbering.rows.items in
+    let none = none_declared h rows c.args.site.now.tables.now.numbering.count c.args.n c.args.site.now.c s c.requires.site.tables.numbering k c.requires.own in
     let picked : IsPicked h c.in_ok-found.found.items c.pick-picked.result = subst (λ (xs : List Entry). IsPicked h xs c.pick-picked.result) c.deref.ensures.value c.pick-picked.ensures in
-    settled_picked h c.keeps.ensures c.args.c c.args.v s c.in_ok-found.found.items c.pick-picked.result none (c.in_ok-found.ensures s k tells) c.requires.base picked
+    settled_picked h c.keeps.ensures c.args.site.now.c c.args.v s c.in_ok-found.found.items c.pick-picked.result none (c.in_ok-found.ensures s k tells) c.requires.base picked

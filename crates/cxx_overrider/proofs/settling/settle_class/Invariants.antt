@@ -4,6 +4,6 @@ use Rattle.cxx_overrider.proofs.settling.settle_class.Given as goal
 
 abbrev pub invariant-loop-number : goal.invariant-loop-number
 invariant-loop-number l = record {
-  made : IsMade l.h l.tables.numbering.rows.items l.entries l.fn.c.0 l.number 0;
-  kept : KeepsBefore l.fn.c l.fn.entries l.entries;
+  made : IsMade l.site.h.now l.site.tables.now.numbering.rows.items l.entries l.site.c.0 l.number 0;
+  kept : KeepsBefore l.site.c l.fn.entries l.entries;
 }

@@ -12,55 +12,55 @@ use Rattle.cxx_overrider.proofs.settling.settle_number.Goals as goal
 
 pub returns-in-Some-clause-one : goal.returns-in-Some-clause-one
 returns-in-Some-clause-one c =
-    let h = c.args.h.now in
-    let rows = c.args.tables.now.numbering.rows.items in
+    let h = c.args.site.now.h.now in
+    let rows = c.args.site.now.tables.now.numbering.rows.items in
     let f = c.in-Some.field-0 in
     let number : number_of rows f ≡ Some c.args.n = ap (λ (r : List (List ℕ)). number_of r f) (sym c.deref.ensures.value) ∙ c.in-Some.ensures.1 in
-    made_skip h rows c.args.entries.now c.args.c c.args.v c.args.n c.requires.made
-    (λ s k has own. absurd (own.none f c.in-Some.ensures.0 (number_says h rows c.args.tables.now.numbering.count c.args.n s f c.requires.tables.numbering k number)))
+    made_skip h rows c.args.entries.now c.args.site.now.c c.args.v c.args.n c.requires.made
+    (λ s k has own. absurd (own.none f c.in-Some.ensures.0 (number_says h rows c.args.site.now.tables.now.numbering.count c.args.n s f c.requires.site.tables.numbering k number)))
 
 pub returns-in-Some-clause-kept : goal.returns-in-Some-clause-kept
-returns-in-Some-clause-kept c = keeps_all c.args.c c.args.entries.now
+returns-in-Some-clause-kept c = keeps_all c.args.site.now.c c.args.entries.now
 
 pub settle-requires-clause-own : goal.settle-requires-clause-own
 settle-requires-clause-own c = λ f class number. c.in-None.ensures f class (ap (λ (r : List (List ℕ)). number_of r f) c.deref.ensures.value ∙ number)
 
 pub returns-in-Nothing-clause-one : goal.returns-in-Nothing-clause-one
 returns-in-Nothing-clause-one c =
-    let h = c.args.h.now in
-    let numbers = c.args.tables.now.numbering.rows.items in
-    made_skip h numbers c.args.entries.now c.args.c c.args.v c.args.n c.requires.made
-    (λ s k has own. subst (λ (x : Settled). IsSettled h c.args.c c.args.v s x) c.in-Nothing.is
-    (c.in_ok-settle.ensures s k (made_tells h numbers c.args.entries.now c.args.c c.args.v c.args.n c.requires.made s k has)))
+    let h = c.args.site.now.h.now in
+    let numbers = c.args.site.now.tables.now.numbering.rows.items in
+    made_skip h numbers c.args.entries.now c.args.site.now.c c.args.v c.args.n c.requires.made
+    (λ s k has own. subst (λ (x : Settled). IsSettled h c.args.site.now.c c.args.v s x) c.in-Nothing.is
+    (c.in_ok-settle.ensures s k (made_tells h numbers c.args.entries.now c.args.site.now.c c.args.v c.args.n c.requires.made s k has)))
 
 pub returns-in_ok-put-in-One-clause-one : goal.returns-in_ok-put-in-One-clause-one
 returns-in_ok-put-in-One-clause-one c =
-    let h = c.args.h.now in
-    let numbers = c.args.tables.now.numbering.rows.items in
+    let h = c.args.site.now.h.now in
+    let numbers = c.args.site.now.tables.now.numbering.rows.items in
     let old = c.args.entries.now in
-    made_put h numbers old c.args.c c.args.v c.args.n c.requires.made c.put.new.self c.in-One.entry
-    (λ s k has own. subst (λ (x : Settled). IsSettled h c.args.c c.args.v s x) c.in-One.is
-    (c.in_ok-settle.ensures s k (made_tells h numbers old c.args.c c.args.v c.args.n c.requires.made s k has)))
+    made_put h numbers old c.args.site.now.c c.args.v c.args.n c.requires.made c.put.new.self c.in-One.entry
+    (λ s k has own. subst (λ (x : Settled). IsSettled h c.args.site.now.c c.args.v s x) c.in-One.is
+    (c.in_ok-settle.ensures s k (made_tells h numbers old c.args.site.now.c c.args.v c.args.n c.requires.made s k has)))
     (subst (λ (k : Key). (q : Key) → entry_of c.put.new.self q ≡ (if same_key q k then Some c.in-One.entry else entry_of old q)) c.key_of.ensures c.in_ok-put-in-One.ensures.put)
 
 pub returns-in-Two-clause-one : goal.returns-in-Two-clause-one
 returns-in-Two-clause-one c =
-    let h = c.args.h.now in
-    let t = c.requires.tables in
-    let numbers = c.args.tables.now.numbering.rows.items in
-    let f = t.numbering.used c.args.n c.requires.number in
+    let h = c.args.site.now.h.now in
+    let t = c.requires.site.tables in
+    let numbers = c.args.site.now.tables.now.numbering.rows.items in
+    let f = t.numbering.used c.args.n c.requires.at.number in
     let s = t.numbering.known f.0 c.args.n f.1 in
     let k : IsNumberOf h numbers c.args.n s.0 = record { function = f.0; number = f.1; is = s.1 } in
-    let has = c.requires.within s.0 k in
-    let settled = subst (λ (x : Settled). IsSettled h c.args.c c.args.v s.0 x) c.in-Two.is
-    (c.in_ok-settle.ensures s.0 k (made_tells h numbers c.args.entries.now c.args.c c.args.v c.args.n c.requires.made s.0 k has)) in
+    let has = c.requires.at.within s.0 k in
+    let settled = subst (λ (x : Settled). IsSettled h c.args.site.now.c c.args.v s.0 x) c.in-Two.is
+    (c.in_ok-settle.ensures s.0 k (made_tells h numbers c.args.entries.now c.args.site.now.c c.args.v c.args.n c.requires.made s.0 k has)) in
     settled (within_virtual h c.args.v s.0 has)
 
 pub returns-in-Nothing-clause-kept : goal.returns-in-Nothing-clause-kept
-returns-in-Nothing-clause-kept c = keeps_all c.args.c c.args.entries.now
+returns-in-Nothing-clause-kept c = keeps_all c.args.site.now.c c.args.entries.now
 
 pub returns-in_ok-put-in-One-clause-kept : goal.returns-in_ok-put-in-One-clause-kept
-returns-in_ok-put-in-One-clause-kept c = keeps_put c.args.c c.args.v c.args.n c.args.entries.now c.put.new.self c.in-One.entry _ c.key_of.ensures c.in_ok-put-in-One.ensures.put
+returns-in_ok-put-in-One-clause-kept c = keeps_put c.args.site.now.c c.args.v c.args.n c.args.entries.now c.put.new.self c.in-One.entry _ c.key_of.ensures c.in_ok-put-in-One.ensures.put
 
 pub returns-in-Two-clause-kept : goal.returns-in-Two-clause-kept
-returns-in-Two-clause-kept c = keeps_all c.args.c c.args.entries.now
+returns-in-Two-clause-kept c = keeps_all c.args.site.now.c c.args.entries.now

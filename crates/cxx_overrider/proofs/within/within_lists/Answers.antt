@@ -5,8 +5,8 @@ use Rattle.cxx_overrider.proofs.within.within_lists.Goals as goal
 
 pub returns-clause-lists : goal.returns-clause-lists
 returns-clause-lists c =
-    let h = c.args.h.now in
-    let numbering = c.args.numbering.now in
+    let h = c.args.signatures.now.h.now in
+    let numbering = c.args.signatures.now.numbering.now in
     let rows = c.in_ok-rows.rows.items in
     let lists = c.in_ok-lists.lists.items in
     let listed : AreListed rows numbering.count lists = subst (λ (r : List (List Bool)). AreListed r numbering.count lists) c.deref.ensures.value c.in_ok-lists.ensures.lists in
