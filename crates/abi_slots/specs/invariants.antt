@@ -1,3 +1,4 @@
 pub mod OffsetWords
 pub mod SlotRows
 pub mod CodeTables
+pub mod RowSites

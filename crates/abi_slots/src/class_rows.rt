@@ -3,14 +3,14 @@
 ghost use Rattle.std.specs.Prelude.{◌≡◌, ◌<◌, ◌≤◌, ◌↔◌, ℕ, true, false, IfOk, IsTrue, List, length};
 ghost use Rattle.cxx_hierarchy.specs.Classes.{Classes};
 ghost use Rattle.cxx_overrider.specs.Overriders.{AreOverriders};
-ghost use Rattle.cxx_overrider.specs.invariants.Numbers.{IsNumbering};
-ghost use Rattle.abi_sound.specs.Places.{Places, places_of};
+ghost use Rattle.abi_sound.specs.Places.{Places};
 ghost use Rattle.cxx_overrider.specs.Virtuals.{own};
 ghost use Rattle.abi_slots.specs.Limits.{most_offsets};
 ghost use Rattle.abi_slots.specs.Listing.{entries, offsets, primary_entries, primary_offsets};
 ghost use Rattle.abi_slots.specs.Rows.{listings_of, AreOwn};
 ghost use Rattle.abi_slots.specs.Slots.{IsVirtualBase, IsSlotRow};
 ghost use Rattle.abi_slots.specs.invariants.OffsetWords.{base_number, name_number, AreWords};
+ghost use Rattle.abi_slots.specs.invariants.RowSites.{row_numbers, row_places, IsRowSite};
 ghost use Rattle.abi_slots.specs.invariants.SlotRows.{AreRows, IsBefore, IsShared, ListsShared};
 
 use crate::entries::{Entries, entries_of};
@@ -19,13 +19,13 @@ use crate::functions::own_functions;
 use crate::keys::keys_of;
 use crate::offset_tables::{OffsetTable, base_table, name_table};
 use crate::offsets::push_bases;
+use crate::row_sites::RowSite;
 use crate::rows::SlotRow;
 use crate::vcalls::{FunctionList, push_calls};
 use crate::words::{EntryKey, Offset};
 use abi_primary::Primary;
 use abi_sound::SoundLayout;
 use cxx_hierarchy::{ClassId, Hierarchy};
-use cxx_overrider::signatures::Numbering;
 use cxx_overrider::{FunctionId, Overriders};
 use foundation::{NoMemory, Sequence};
 use std::alloc::Global;
@@ -59,55 +59,54 @@ fn old_offsets(rows: &[SlotRow], primary: Primary) -> &[Offset]
 ///
 /// Errors: want of memory.
 fn class_entries<L: SoundLayout>(
-    alloc: Global,
-    h: &Hierarchy,
-    layout: &L,
-    numbering: &Numbering,
+    site: &RowSite<L>,
     rows: &[SlotRow],
     mine: &[FunctionId],
     c: ClassId,
 ) -> Result<Entries, NoMemory>
-    requires layout { L.lays_out layout.now h.now }
-    requires numbering { IsNumbering h.now numbering.now.rows.items numbering.now.count }
-    requires known { c.0 < length h.now }
+    requires site { IsRowSite L.lays_out site.now }
+    requires known { c.0 < length site.now.h.now }
     requires size { length rows.now ≡ c.0 }
-    requires rows { AreRows h.now (places_of h.now (L.rows layout.now)) numbering.now.rows.items rows.now }
-    requires own { mine.now ≡ own h.now c }
-    ensures entries { IfOk result (λ all. all.entries.items ≡ entries h.now (places_of h.now (L.rows layout.now)) c) }
-    ensures listings { IfOk result (λ all. all.listings.items ≡ listings_of h.now (places_of h.now (L.rows layout.now)) c) }
+    requires rows { AreRows site.now.h.now (row_places L.rows site.now) (row_numbers site.now) rows.now }
+    requires own { mine.now ≡ own site.now.h.now c }
+    ensures entries { IfOk result (λ all. all.entries.items ≡ entries site.now.h.now (row_places L.rows site.now) c) }
+    ensures listings { IfOk result (λ all. all.listings.items ≡ listings_of site.now.h.now (row_places L.rows site.now) c) }
 {
-    h.keeps();
-    let keys = keys_of(alloc, h, mine)?;
-    let row = layout.layout(c);
+    site.h.keeps();
+    let keys = keys_of(site.alloc, site.h, mine)?;
+    let row = site.layout.layout(c);
     let old = old_entries(rows, row.primary);
-    entries_of(alloc, h, layout, numbering, old, keys.as_slice())
+    entries_of(
+        site.alloc,
+        site.h,
+        site.layout,
+        site.numbering,
+        old,
+        keys.as_slice(),
+    )
 }
 
 /// The offsets of a class, with the numbers of the words to its virtual bases.
 ///
 /// Errors: want of memory.
 fn class_offsets<L: SoundLayout>(
-    alloc: Global,
-    h: &Hierarchy,
-    layout: &L,
-    numbering: &Numbering,
+    site: &RowSite<L>,
     rows: &[SlotRow],
     c: ClassId,
 ) -> Result<OffsetTable, NoMemory>
-    requires layout { L.lays_out layout.now h.now }
-    requires known { c.0 < length h.now }
+    requires site { IsRowSite L.lays_out site.now }
+    requires known { c.0 < length site.now.h.now }
     requires size { length rows.now ≡ c.0 }
-    requires rows { AreRows h.now (places_of h.now (L.rows layout.now)) numbering.now.rows.items rows.now }
-    ensures offsets { IfOk result (λ table. table.offsets.items ≡ offsets h.now (places_of h.now (L.rows layout.now)) false c) }
+    requires rows { AreRows site.now.h.now (row_places L.rows site.now) (row_numbers site.now) rows.now }
+    ensures offsets { IfOk result (λ table. table.offsets.items ≡ offsets site.now.h.now (row_places L.rows site.now) false c) }
     ensures size { IfOk result (λ table. length table.words.items ≡ c.0) }
     ensures words { IfOk result (λ table. AreWords base_number table.offsets.items table.words.items) }
 {
-    let _numbering = numbering;
-    h.keeps();
-    let row = layout.layout(c);
+    site.h.keeps();
+    let row = site.layout.layout(c);
     let old = old_offsets(rows, row.primary);
-    let mut table = base_table(alloc, old, c.0 as usize)?;
-    push_bases(&mut table, h, row.virtual_bases.as_slice())?;
+    let mut table = base_table(site.alloc, old, c.0 as usize)?;
+    push_bases(&mut table, site.h, row.virtual_bases.as_slice())?;
     Ok(table)
 }
 
@@ -115,26 +114,29 @@ fn class_offsets<L: SoundLayout>(
 ///
 /// Errors: want of memory.
 fn shared_offsets<L: SoundLayout>(
-    alloc: Global,
-    h: &Hierarchy,
-    layout: &L,
-    numbering: &Numbering,
-    own: &[FunctionList],
+    site: &RowSite<L>,
     plain: &[Offset],
     c: ClassId,
 ) -> Result<OffsetTable, NoMemory>
-    requires layout { L.lays_out layout.now h.now }
-    requires numbering { IsNumbering h.now numbering.now.rows.items numbering.now.count }
-    requires own { AreOwn h.now own.now }
-    requires known { c.0 < length h.now }
-    requires plain { plain.now ≡ offsets h.now (places_of h.now (L.rows layout.now)) false c }
-    ensures offsets { IfOk result (λ table. table.offsets.items ≡ offsets h.now (places_of h.now (L.rows layout.now)) true c) }
-    ensures size { IfOk result (λ table. length table.words.items ≡ numbering.now.count) }
-    ensures words { IfOk result (λ table. AreWords (name_number numbering.now.rows.items) table.offsets.items table.words.items) }
+    requires site { IsRowSite L.lays_out site.now }
+    requires known { c.0 < length site.now.h.now }
+    requires plain { plain.now ≡ offsets site.now.h.now (row_places L.rows site.now) false c }
+    ensures offsets { IfOk result (λ table. table.offsets.items ≡ offsets site.now.h.now (row_places L.rows site.now) true c) }
+    ensures size { IfOk result (λ table. length table.words.items ≡ site.now.numbering.now.count) }
+    ensures words { IfOk result (λ table. AreWords (name_number (row_numbers site.now)) table.offsets.items table.words.items) }
 {
-    h.keeps();
-    let mut table = name_table(alloc, numbering, plain)?;
-    push_calls(alloc, h, layout, numbering, own, &[c], c, &mut table)?;
+    site.h.keeps();
+    let mut table = name_table(site.alloc, site.numbering, plain)?;
+    push_calls(
+        site.alloc,
+        site.h,
+        site.layout,
+        site.numbering,
+        site.own,
+        &[c],
+        c,
+        &mut table,
+    )?;
     Ok(table)
 }
 
@@ -154,72 +156,52 @@ fn is_virtual_base(h: &Hierarchy, v: ClassId) -> bool
 ///
 /// Errors: want of memory.
 fn calls_of<L: SoundLayout>(
-    alloc: Global,
-    h: &Hierarchy,
-    layout: &L,
-    numbering: &Numbering,
-    own: &[FunctionList],
+    site: &RowSite<L>,
     plain: &[Offset],
     c: ClassId,
 ) -> Result<OffsetTable, NoMemory>
-    requires layout { L.lays_out layout.now h.now }
-    requires numbering { IsNumbering h.now numbering.now.rows.items numbering.now.count }
-    requires own { AreOwn h.now own.now }
-    requires known { c.0 < length h.now }
-    requires plain { plain.now ≡ offsets h.now (places_of h.now (L.rows layout.now)) false c }
-    ensures { IfOk result (λ table. ListsShared h.now (places_of h.now (L.rows layout.now)) numbering.now.rows.items numbering.now.count c table.offsets.items table.words.items) }
+    requires site { IsRowSite L.lays_out site.now }
+    requires known { c.0 < length site.now.h.now }
+    requires plain { plain.now ≡ offsets site.now.h.now (row_places L.rows site.now) false c }
+    ensures { IfOk result (λ table. ListsShared site.now.h.now (row_places L.rows site.now) (row_numbers site.now) site.now.numbering.now.count c table.offsets.items table.words.items) }
 {
-    h.keeps();
-    if !is_virtual_base(h, c) {
+    site.h.keeps();
+    if !is_virtual_base(site.h, c) {
         return Ok(OffsetTable {
-            offsets: Vec::new(alloc),
-            words: Vec::new(alloc),
+            offsets: Vec::new(site.alloc),
+            words: Vec::new(site.alloc),
         });
     }
-    shared_offsets(alloc, h, layout, numbering, own, plain, c)
+    shared_offsets(site, plain, c)
 }
 
 /// What is kept of a class, by the rows of the classes before it.
 ///
 /// Errors: want of memory.
 fn slot_row<L: SoundLayout>(
-    alloc: Global,
-    h: &Hierarchy,
-    layout: &L,
-    numbering: &Numbering,
-    own: &[FunctionList],
+    site: &RowSite<L>,
     rows: &[SlotRow],
     c: ClassId,
 ) -> Result<SlotRow, NoMemory>
-    requires layout { L.lays_out layout.now h.now }
-    requires numbering { IsNumbering h.now numbering.now.rows.items numbering.now.count }
-    requires own { AreOwn h.now own.now }
-    requires known { c.0 < length h.now }
+    requires site { IsRowSite L.lays_out site.now }
+    requires known { c.0 < length site.now.h.now }
     requires size { length rows.now ≡ c.0 }
-    requires rows { AreRows h.now (places_of h.now (L.rows layout.now)) numbering.now.rows.items rows.now }
-    ensures { IfOk result (IsSlotRow h.now (places_of h.now (L.rows layout.now)) numbering.now.rows.items c) }
+    requires rows { AreRows site.now.h.now (row_places L.rows site.now) (row_numbers site.now) rows.now }
+    ensures { IfOk result (IsSlotRow site.now.h.now (row_places L.rows site.now) (row_numbers site.now) c) }
 {
-    h.keeps();
-    let mine = &own[c.0 as usize];
-    let all = class_entries(alloc, h, layout, numbering, rows, mine.as_slice(), c)?;
-    let declared = declared_of(alloc, all.listings.as_slice(), all.entries.as_slice())?;
-    let count = h.class(c).functions.len() + 1;
+    site.h.keeps();
+    let mine = &site.own[c.0 as usize];
+    let all = class_entries(site, rows, mine.as_slice(), c)?;
+    let declared = declared_of(site.alloc, all.listings.as_slice(), all.entries.as_slice())?;
+    let count = site.h.class(c).functions.len() + 1;
     let numbers = numbers_of(
-        alloc,
+        site.alloc,
         all.listings.as_slice(),
         all.entries.as_slice(),
         count,
     )?;
-    let bases = class_offsets(alloc, h, layout, numbering, rows, c)?;
-    let calls = calls_of(
-        alloc,
-        h,
-        layout,
-        numbering,
-        own,
-        bases.offsets.as_slice(),
-        c,
-    )?;
+    let bases = class_offsets(site, rows, c)?;
+    let calls = calls_of(site, bases.offsets.as_slice(), c)?;
     Ok(SlotRow {
         entries: Sequence::from_vec(all.entries),
         declared,
@@ -253,22 +235,14 @@ pub fn own_of_each(
 /// What is kept of each class.
 ///
 /// Errors: want of memory.
-pub fn rows_of_each<L: SoundLayout>(
-    alloc: Global,
-    h: &Hierarchy,
-    layout: &L,
-    numbering: &Numbering,
-    own: &[FunctionList],
-) -> Result<Vec<SlotRow>, NoMemory>
-    requires layout { L.lays_out layout.now h.now }
-    requires numbering { IsNumbering h.now numbering.now.rows.items numbering.now.count }
-    requires own { AreOwn h.now own.now }
-    ensures size { IfOk result (λ rows. length rows.items ≡ length h.now) }
-    ensures rows { IfOk result (λ rows. AreRows h.now (places_of h.now (L.rows layout.now)) numbering.now.rows.items rows.items) }
+pub(crate) fn rows_of_each<L: SoundLayout>(site: &RowSite<L>) -> Result<Vec<SlotRow>, NoMemory>
+    requires site { IsRowSite L.lays_out site.now }
+    ensures size { IfOk result (λ rows. length rows.items ≡ length site.now.h.now) }
+    ensures rows { IfOk result (λ rows. AreRows site.now.h.now (row_places L.rows site.now) (row_numbers site.now) rows.items) }
 {
-    let mut rows = Vec::new(alloc);
-    for number in 0..h.len() {
-        let row = slot_row(alloc, h, layout, numbering, own, &rows, ClassId(number))?;
+    let mut rows = Vec::new(site.alloc);
+    for number in 0..site.h.len() {
+        let row = slot_row(site, &rows, ClassId(number))?;
         rows.push(row)?;
     }
     Ok(rows)

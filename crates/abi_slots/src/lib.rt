@@ -25,6 +25,7 @@ pub mod keys;
 pub mod laws;
 pub mod offset_tables;
 pub mod offsets;
+pub mod row_sites;
 pub mod rows;
 pub mod slots;
 pub mod vcalls;

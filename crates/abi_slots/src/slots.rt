@@ -1,6 +1,6 @@
 //! The numbers of the words of virtual tables.
 
-ghost use Rattle.std.specs.Prelude.{◌≡◌, ◌<◌, ◌≤◌, ℕ, true, IfOk, Contains, length, slice_get, slice_index_or, pos};
+ghost use Rattle.std.specs.Prelude.{◌≡◌, ◌<◌, ◌≤◌, true, IfOk, Contains, length, slice_get, slice_index_or, pos};
 ghost use Rattle.std.specs.List.{list_any};
 ghost use Rattle.std.specs.Option.{option_and_then};
 ghost use Rattle.cxx_hierarchy.specs.Classes.{Classes};
@@ -13,6 +13,7 @@ ghost use Rattle.abi_slots.specs.Listing.{is_name, entries, offsets, entry_numbe
 ghost use Rattle.abi_slots.specs.Slots.{word_number, first_key, declared_at, IsVirtualBase, AreSlots};
 
 use crate::class_rows::{own_of_each, rows_of_each};
+use crate::row_sites::RowSite;
 use crate::rows::SlotRow;
 use crate::words::{EntryKey, Offset};
 use abi_sound::SoundLayout;
@@ -76,7 +77,14 @@ impl Slots {
         h.keeps();
         let numbering = number_signatures(alloc, h)?;
         let own = own_of_each(alloc, h, overriders)?;
-        let rows = rows_of_each(alloc, h, layout, &numbering, &own)?;
+        let site = RowSite {
+            alloc,
+            h,
+            layout,
+            numbering: &numbering,
+            own: &own,
+        };
+        let rows = rows_of_each(&site)?;
         Ok(Slots { numbering, rows })
     }
 

@@ -6,5 +6,5 @@ use Rattle.abi_slots.proofs.class_rows.rows_of_each.Given as goal
 abbrev pub invariant-loop-number : goal.invariant-loop-number
 invariant-loop-number g l = record {
   size : length l.rows.items ≡ l.number;
-  rows_are : AreRows l.h (places_of l.h (g.L.SoundLayout.rows l.layout)) l.numbering.rows.items l.rows.items;
+  rows_are : AreRows l.site.h.now (places_of l.site.h.now (g.L.SoundLayout.rows l.site.layout.now)) l.site.numbering.now.rows.items l.rows.items;
 }
