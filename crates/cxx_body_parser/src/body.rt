@@ -12,12 +12,12 @@ ghost use Rattle.cxx_grammar.specs.Table.{ABlock, StatementsEnd};
 ghost use Rattle.cxx_syntax.specs.Statements.{BodyReads, StatementsRead, StatementReads};
 
 use crate::statement::{
-    copy, delete, dump, name_statement, print_statement, return_statement, scalar_declaration,
-    statement_at, this_statement,
+    condition, copy, delete, dump, name_statement, print_statement, return_statement,
+    scalar_declaration, statement_at, this_statement,
 };
-use cxx_grammar::{Lexeme, Sort, is_same, lexemes, next, refusal, take};
+use crate::texts::{Reading, Text};
+use cxx_grammar::{Lexeme, Sort, is_same, lexemes, next, refusal};
 use cxx_hierarchy::{LimitNo, Stop};
-use cxx_syntax::operand::operand;
 use cxx_syntax::{BodyTree, Statement, StatementKind};
 use cxx_text::TokenList;
 use std::alloc::Global;
@@ -27,25 +27,17 @@ const MAX_OPEN_BLOCKS: u32 = 64;
 
 // "if" "(" operand ")" block ["else" block] after its first word
 #[cycle(parser)]
-fn if_of<'a>(
-    alloc: Global,
-    text: &[u8],
-    first: Lexeme,
-    rest: &'a [Lexeme],
-    depth: u32,
-) -> Result<(Statement, &'a [Lexeme]), Stop>
+fn if_of<'a>(text: &Text, first: Lexeme, rest: &'a [Lexeme], depth: u32) -> Reading<'a, Statement>
     requires { first.sort ≡ Sort.If }
-    ensures reads { IfOk result (λ x. StatementReads text.now x.0 (first ∷ rest.now) x.1.now) }
+    ensures reads { IfOk result (λ x. StatementReads text.now.bytes.now x.0 (first ∷ rest.now) x.1.now) }
     ensures shorter { IfOk result (λ x. length x.1.now ≤ length rest.now) }
     ensures follows { (m : Bool) → Follows (λ x. x.1.now) (record { blocks = depth; main = m }) (StatementsEnd ∷ []) (first ∷ rest.now) (record { blocks = depth; main = m }) (StatementsEnd ∷ []) result }
 {
-    let (_open, rest) = take(rest, Sort::OpenParen)?;
-    let (test, rest) = operand(alloc, text, rest)?;
-    let (_close, rest) = take(rest, Sort::CloseParen)?;
-    let (then, rest) = block(alloc, text, rest, depth)?;
+    let (test, rest) = condition(text, rest)?;
+    let (then, rest) = block(text, rest, depth)?;
     let (word, after) = next(rest)?;
     if is_same(word.sort, Sort::Else) {
-        let (other, rest) = block(alloc, text, after, depth)?;
+        let (other, rest) = block(text, after, depth)?;
         return Ok((
             statement_at(first, StatementKind::If(test, then, Some(other))),
             rest,
@@ -60,55 +52,51 @@ fn if_of<'a>(
 // "while" "(" operand ")" block after its first word
 #[cycle(parser)]
 fn while_of<'a>(
-    alloc: Global,
-    text: &[u8],
+    text: &Text,
     first: Lexeme,
     rest: &'a [Lexeme],
     depth: u32,
-) -> Result<(Statement, &'a [Lexeme]), Stop>
+) -> Reading<'a, Statement>
     requires { first.sort ≡ Sort.While }
-    ensures reads { IfOk result (λ x. StatementReads text.now x.0 (first ∷ rest.now) x.1.now) }
+    ensures reads { IfOk result (λ x. StatementReads text.now.bytes.now x.0 (first ∷ rest.now) x.1.now) }
     ensures shorter { IfOk result (λ x. length x.1.now ≤ length rest.now) }
     ensures follows { (m : Bool) → Follows (λ x. x.1.now) (record { blocks = depth; main = m }) (StatementsEnd ∷ []) (first ∷ rest.now) (record { blocks = depth; main = m }) (StatementsEnd ∷ []) result }
 {
-    let (_open, rest) = take(rest, Sort::OpenParen)?;
-    let (test, rest) = operand(alloc, text, rest)?;
-    let (_close, rest) = take(rest, Sort::CloseParen)?;
-    let (body, rest) = block(alloc, text, rest, depth)?;
+    let (test, rest) = condition(text, rest)?;
+    let (body, rest) = block(text, rest, depth)?;
     Ok((statement_at(first, StatementKind::While(test, body)), rest))
 }
 
 // A statement, the first token of which was read.
 #[cycle(parser)]
 fn statement<'a>(
-    alloc: Global,
-    text: &[u8],
+    text: &Text,
     first: Lexeme,
     rest: &'a [Lexeme],
     depth: u32,
-) -> Result<(Statement, &'a [Lexeme]), Stop>
+) -> Reading<'a, Statement>
     requires { first.sort ≡ Sort.CloseBrace → ⊥ }
-    ensures reads { IfOk result (λ x. StatementReads text.now x.0 (first ∷ rest.now) x.1.now) }
+    ensures reads { IfOk result (λ x. StatementReads text.now.bytes.now x.0 (first ∷ rest.now) x.1.now) }
     ensures shorter { IfOk result (λ x. length x.1.now ≤ length rest.now) }
     ensures follows { (m : Bool) → Follows (λ x. x.1.now) (record { blocks = depth; main = m }) (StatementsEnd ∷ []) (first ∷ rest.now) (record { blocks = depth; main = m }) (StatementsEnd ∷ []) result }
 {
     match first.sort {
-        Sort::Name | Sort::OwnName => name_statement(alloc, text, first, rest),
-        Sort::This => this_statement(alloc, text, first, rest),
-        Sort::Star => copy(alloc, text, first, rest),
-        Sort::Delete => delete(alloc, text, first, rest),
-        Sort::If => if_of(alloc, text, first, rest, depth),
-        Sort::While => while_of(alloc, text, first, rest, depth),
-        Sort::Return => return_statement(alloc, text, first, rest),
-        Sort::Print => print_statement(alloc, text, first, rest),
-        Sort::Dump => dump(alloc, text, first, rest),
+        Sort::Name | Sort::OwnName => name_statement(text, first, rest),
+        Sort::This => this_statement(text, first, rest),
+        Sort::Star => copy(text, first, rest),
+        Sort::Delete => delete(text, first, rest),
+        Sort::If => if_of(text, first, rest, depth),
+        Sort::While => while_of(text, first, rest, depth),
+        Sort::Return => return_statement(text, first, rest),
+        Sort::Print => print_statement(text, first, rest),
+        Sort::Dump => dump(text, first, rest),
         Sort::Boolean
         | Sort::Char
         | Sort::Short
         | Sort::Int
         | Sort::Long
         | Sort::Signed
-        | Sort::Unsigned => scalar_declaration(alloc, text, first, rest),
+        | Sort::Unsigned => scalar_declaration(text, first, rest),
         _ => Err(refusal(&first)),
     }
 }
@@ -116,24 +104,23 @@ fn statement<'a>(
 // {statement} "}"
 #[cycle(parser)]
 fn statements<'a>(
-    alloc: Global,
-    text: &[u8],
+    text: &Text,
     rest: &'a [Lexeme],
     depth: u32,
 ) -> Result<(Vec<Statement>, Lexeme, &'a [Lexeme]), Stop>
-    ensures reads { IfOk result (λ x. StatementsRead text.now x.0.items rest.now (x.1 ∷ x.2.now)) }
+    ensures reads { IfOk result (λ x. StatementsRead text.now.bytes.now x.0.items rest.now (x.1 ∷ x.2.now)) }
     ensures close { IfOk result (λ x. x.1.sort ≡ Sort.CloseBrace) }
     ensures shorter { IfOk result (λ x. length x.2.now ≤ length rest.now) }
     ensures follows { (m : Bool) → Follows (λ x. x.2.now) (record { blocks = depth; main = m }) (StatementsEnd ∷ []) rest.now (record { blocks = depth - 1; main = m }) [] result }
 {
-    let mut items = Vec::new(alloc);
+    let mut items = Vec::new(text.alloc);
     let mut left = rest;
     loop {
         let (first, after) = next(left)?;
         if is_same(first.sort, Sort::CloseBrace) {
             return Ok((items, first, after));
         }
-        let (read, more) = statement(alloc, text, first, after, depth)?;
+        let (read, more) = statement(text, first, after, depth)?;
         items.push(read)?;
         left = more;
     }
@@ -141,13 +128,8 @@ fn statements<'a>(
 
 /// The block at the front of a list, where this many are open around it, and what follows it.
 #[cycle(parser)]
-pub fn block<'a>(
-    alloc: Global,
-    text: &[u8],
-    rest: &'a [Lexeme],
-    depth: u32,
-) -> Result<(BodyTree, &'a [Lexeme]), Stop>
-    ensures reads { IfOk result (λ x. BodyReads text.now x.0 rest.now x.1.now) }
+pub fn block<'a>(text: &Text, rest: &'a [Lexeme], depth: u32) -> Reading<'a, BodyTree>
+    ensures reads { IfOk result (λ x. BodyReads text.now.bytes.now x.0 rest.now x.1.now) }
     ensures shorter { IfOk result (λ x. length x.1.now ≤ length rest.now) }
     ensures follows { (m : Bool) → Follows (λ x. x.1.now) (record { blocks = depth; main = m }) (ABlock ∷ []) rest.now (record { blocks = depth; main = m }) [] result }
 {
@@ -158,7 +140,7 @@ pub fn block<'a>(
     if depth >= MAX_OPEN_BLOCKS {
         return Err(Stop::Limit(LimitNo::L3));
     }
-    let (statements, close, rest) = statements(alloc, text, rest, depth + 1)?;
+    let (statements, close, rest) = statements(text, rest, depth + 1)?;
     Ok((
         BodyTree {
             statements,
@@ -170,19 +152,14 @@ pub fn block<'a>(
 }
 
 // The block at the front of a list, and how many lexemes it has.
-fn counted(
-    alloc: Global,
-    text: &[u8],
-    all: &[Lexeme],
-    depth: u32,
-) -> Result<(BodyTree, usize), Stop>
+fn counted(text: &Text, all: &[Lexeme], depth: u32) -> Result<(BodyTree, usize), Stop>
     requires { In Sort.Bad (sorts all.now) }
-    ensures reads { IfOk result (λ x. BodyReads text.now x.0 all.now (drop x.1 all.now)) }
+    ensures reads { IfOk result (λ x. BodyReads text.now.bytes.now x.0 all.now (drop x.1 all.now)) }
     ensures derives { IfOk result (λ x. DerivesPrefix block_form (record { blocks = depth; main = false }) all.now (drop x.1 all.now)) }
     ensures within { IfOk result (λ x. x.1 ≤ length all.now) }
     ensures event { IfErr result (λ e. (e ≡ Stop.NoMemory) ⊎ Event block_form (record { blocks = depth; main = false }) all.now e) }
 {
-    let (tree, rest) = block(alloc, text, all, depth)?;
+    let (tree, rest) = block(text, all, depth)?;
     Ok((tree, all.len() - rest.len()))
 }
 
@@ -205,6 +182,7 @@ pub fn parse_body(
 {
     let (_, from) = list.tokens.as_slice().split_at(first);
     let all = lexemes(alloc, text, from, list.bad, Sort::CloseParen)?;
-    let (tree, count) = counted(alloc, text, &all, depth)?;
+    let text = Text { alloc, bytes: text };
+    let (tree, count) = counted(&text, &all, depth)?;
     Ok((tree, first + count))
 }

@@ -11,5 +11,7 @@ pub mod body;
 pub mod place;
 pub mod right;
 pub mod statement;
+pub mod texts;
 
 pub use crate::body::{block, parse_body};
+pub use crate::texts::{Reading, Text};

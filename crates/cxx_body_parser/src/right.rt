@@ -11,11 +11,10 @@ ghost use Rattle.cxx_syntax.specs.Operands.{OperandReads, RightReads, operator_o
 ghost use Rattle.cxx_body_parser.specs.invariants.Through.{right_of};
 
 use crate::place::{Through, behind_pointer, place};
+use crate::texts::{Reading, Text};
 use cxx_grammar::{Lexeme, Sort, is_same, next, refusal, take, take_name};
-use cxx_hierarchy::Stop;
 use cxx_syntax::operand::{constant_at, operand, operand_at, pointer};
 use cxx_syntax::{BinaryOp, CastKind, CastText, Operand, Right, spot};
-use std::alloc::Global;
 
 // The operator of two operands that a sort is.
 fn operator_of(sort: Sort) -> Option<BinaryOp>
@@ -47,13 +46,8 @@ fn right_of(read: Through) -> Right
 
 // [op operand] after an operand
 #[tactic(auto, using(cxx_grammar::proofs::Tails::no_operator))]
-fn binary<'a>(
-    alloc: Global,
-    text: &[u8],
-    left: Operand,
-    rest: &'a [Lexeme],
-) -> Result<(Right, &'a [Lexeme]), Stop>
-    ensures reads { IfOk result (λ x. (ts : List Lexeme) → OperandReads text.now left ts rest.now → RightReads text.now x.0 ts x.1.now) }
+fn binary<'a>(text: &Text, left: Operand, rest: &'a [Lexeme]) -> Reading<'a, Right>
+    ensures reads { IfOk result (λ x. (ts : List Lexeme) → OperandReads text.now.bytes.now left ts rest.now → RightReads text.now.bytes.now x.0 ts x.1.now) }
     ensures shorter { IfOk result (λ x. length x.1.now ≤ length rest.now) }
     ensures follows { (s : State) → Follows (λ x. x.1.now) s (AfterOperand ∷ []) rest.now s (Only Sort.Semicolon ∷ []) result }
 {
@@ -61,110 +55,84 @@ fn binary<'a>(
     match operator_of(sign.sort) {
         None => Ok((Right::Operand(left), rest)),
         Some(operator) => {
-            let (value, after) = operand(alloc, text, after)?;
+            let (value, after) = operand(text.alloc, text.bytes, after)?;
             Ok((Right::Binary(left, operator, value), after))
         }
     }
 }
 
 // A right side that begins with a name or with `this`.
-fn pointer_right<'a>(
-    alloc: Global,
-    text: &[u8],
-    first: Lexeme,
-    rest: &'a [Lexeme],
-) -> Result<(Right, &'a [Lexeme]), Stop>
+fn pointer_right<'a>(text: &Text, first: Lexeme, rest: &'a [Lexeme]) -> Reading<'a, Right>
     requires { is_pointer first.sort ≡ true }
-    ensures reads { IfOk result (λ x. RightReads text.now x.0 (first ∷ rest.now) x.1.now) }
+    ensures reads { IfOk result (λ x. RightReads text.now.bytes.now x.0 (first ∷ rest.now) x.1.now) }
     ensures shorter { IfOk result (λ x. length x.1.now ≤ length rest.now) }
     ensures follows { (s : State) → Follows (λ x. x.1.now) s (AfterPointer ∷ []) rest.now s (Only Sort.Semicolon ∷ []) result }
 {
     let (sign, after) = next(rest)?;
     if is_same(sign.sort, Sort::Arrow) {
-        let (read, after) = behind_pointer(alloc, text, &first, after)?;
+        let (read, after) = behind_pointer(text, &first, after)?;
         return Ok((right_of(read), after));
     }
-    let left = operand_at(alloc, text, &first)?;
-    let (value, after) = binary(alloc, text, left, rest)?;
+    let left = operand_at(text.alloc, text.bytes, &first)?;
+    let (value, after) = binary(text, left, rest)?;
     Ok((value, after))
 }
 
 // A right side that begins with a constant.
-fn constant_right<'a>(
-    alloc: Global,
-    text: &[u8],
-    first: Lexeme,
-    rest: &'a [Lexeme],
-) -> Result<(Right, &'a [Lexeme]), Stop>
+fn constant_right<'a>(text: &Text, first: Lexeme, rest: &'a [Lexeme]) -> Reading<'a, Right>
     requires { is_constant first.sort ≡ true }
-    ensures reads { IfOk result (λ x. RightReads text.now x.0 (first ∷ rest.now) x.1.now) }
+    ensures reads { IfOk result (λ x. RightReads text.now.bytes.now x.0 (first ∷ rest.now) x.1.now) }
     ensures shorter { IfOk result (λ x. length x.1.now ≤ length rest.now) }
     ensures follows { (s : State) → Follows (λ x. x.1.now) s (AConstant ∷ AfterOperand ∷ []) (first ∷ rest.now) s (Only Sort.Semicolon ∷ []) result }
 {
     let (constant, after) = constant_at(first, rest)?;
-    let (value, after) = binary(alloc, text, Operand::Constant(constant), after)?;
+    let (value, after) = binary(text, Operand::Constant(constant), after)?;
     Ok((value, after))
 }
 
 // "!" operand
-fn not_right<'a>(
-    alloc: Global,
-    text: &[u8],
-    first: Lexeme,
-    rest: &'a [Lexeme],
-) -> Result<(Right, &'a [Lexeme]), Stop>
+fn not_right<'a>(text: &Text, first: Lexeme, rest: &'a [Lexeme]) -> Reading<'a, Right>
     requires { first.sort ≡ Sort.Bang }
-    ensures reads { IfOk result (λ x. RightReads text.now x.0 (first ∷ rest.now) x.1.now) }
+    ensures reads { IfOk result (λ x. RightReads text.now.bytes.now x.0 (first ∷ rest.now) x.1.now) }
     ensures shorter { IfOk result (λ x. length x.1.now ≤ length rest.now) }
     ensures follows { (s : State) → Follows (λ x. x.1.now) s (RightEnd ∷ []) (first ∷ rest.now) s (Only Sort.Semicolon ∷ []) result }
 {
-    let (value, rest) = operand(alloc, text, rest)?;
+    let (value, rest) = operand(text.alloc, text.bytes, rest)?;
     Ok((Right::Not(value), rest))
 }
 
 // "&" place
-fn address_right<'a>(
-    alloc: Global,
-    text: &[u8],
-    first: Lexeme,
-    rest: &'a [Lexeme],
-) -> Result<(Right, &'a [Lexeme]), Stop>
+fn address_right<'a>(text: &Text, first: Lexeme, rest: &'a [Lexeme]) -> Reading<'a, Right>
     requires { first.sort ≡ Sort.Ampersand }
-    ensures reads { IfOk result (λ x. RightReads text.now x.0 (first ∷ rest.now) x.1.now) }
+    ensures reads { IfOk result (λ x. RightReads text.now.bytes.now x.0 (first ∷ rest.now) x.1.now) }
     ensures shorter { IfOk result (λ x. length x.1.now ≤ length rest.now) }
     ensures follows { (s : State) → Follows (λ x. x.1.now) s (RightEnd ∷ []) (first ∷ rest.now) s (Only Sort.Semicolon ∷ []) result }
 {
-    let (value, rest) = place(alloc, text, rest)?;
+    let (value, rest) = place(text, rest)?;
     Ok((Right::Address(value), rest))
 }
 
 // "new" name
-fn new_right<'a>(
-    alloc: Global,
-    text: &[u8],
-    first: Lexeme,
-    rest: &'a [Lexeme],
-) -> Result<(Right, &'a [Lexeme]), Stop>
+fn new_right<'a>(text: &Text, first: Lexeme, rest: &'a [Lexeme]) -> Reading<'a, Right>
     requires { first.sort ≡ Sort.New }
-    ensures reads { IfOk result (λ x. RightReads text.now x.0 (first ∷ rest.now) x.1.now) }
+    ensures reads { IfOk result (λ x. RightReads text.now.bytes.now x.0 (first ∷ rest.now) x.1.now) }
     ensures shorter { IfOk result (λ x. length x.1.now ≤ length rest.now) }
     ensures follows { (s : State) → Follows (λ x. x.1.now) s (RightEnd ∷ []) (first ∷ rest.now) s (Only Sort.Semicolon ∷ []) result }
 {
     let (word, rest) = take_name(rest)?;
-    let class = spot(alloc, text, &word)?;
+    let class = spot(text.alloc, text.bytes, &word)?;
     Ok((Right::New(class), rest))
 }
 
 // ("static_cast" | "dynamic_cast") "<" name "*" ">" "(" pointer ")"
 fn cast_right<'a>(
-    alloc: Global,
-    text: &[u8],
+    text: &Text,
     first: Lexeme,
     kind: CastKind,
     rest: &'a [Lexeme],
-) -> Result<(Right, &'a [Lexeme]), Stop>
+) -> Reading<'a, Right>
     requires { cast_of first.sort ≡ Some kind }
-    ensures reads { IfOk result (λ x. RightReads text.now x.0 (first ∷ rest.now) x.1.now) }
+    ensures reads { IfOk result (λ x. RightReads text.now.bytes.now x.0 (first ∷ rest.now) x.1.now) }
     ensures shorter { IfOk result (λ x. length x.1.now ≤ length rest.now) }
     ensures follows { (s : State) → Follows (λ x. x.1.now) s (Only Sort.Less ∷ AName ∷ Only Sort.Star ∷ Only Sort.Greater ∷ Only Sort.OpenParen ∷ APointer ∷ Only Sort.CloseParen ∷ Only Sort.Semicolon ∷ []) rest.now s (Only Sort.Semicolon ∷ []) result }
 {
@@ -173,9 +141,9 @@ fn cast_right<'a>(
     let (_star, rest) = take(rest, Sort::Star)?;
     let (_greater, rest) = take(rest, Sort::Greater)?;
     let (_open, rest) = take(rest, Sort::OpenParen)?;
-    let (pointer, rest) = pointer(alloc, text, rest)?;
+    let (pointer, rest) = pointer(text.alloc, text.bytes, rest)?;
     let (_close, rest) = take(rest, Sort::CloseParen)?;
-    let target = spot(alloc, text, &word)?;
+    let target = spot(text.alloc, text.bytes, &word)?;
     Ok((
         Right::Cast(CastText {
             kind,
@@ -187,22 +155,17 @@ fn cast_right<'a>(
 }
 
 // "(" name "*" ")" pointer
-fn plain_cast_right<'a>(
-    alloc: Global,
-    text: &[u8],
-    first: Lexeme,
-    rest: &'a [Lexeme],
-) -> Result<(Right, &'a [Lexeme]), Stop>
+fn plain_cast_right<'a>(text: &Text, first: Lexeme, rest: &'a [Lexeme]) -> Reading<'a, Right>
     requires { first.sort ≡ Sort.OpenParen }
-    ensures reads { IfOk result (λ x. RightReads text.now x.0 (first ∷ rest.now) x.1.now) }
+    ensures reads { IfOk result (λ x. RightReads text.now.bytes.now x.0 (first ∷ rest.now) x.1.now) }
     ensures shorter { IfOk result (λ x. length x.1.now ≤ length rest.now) }
     ensures follows { (s : State) → Follows (λ x. x.1.now) s (RightEnd ∷ []) (first ∷ rest.now) s (Only Sort.Semicolon ∷ []) result }
 {
     let (word, rest) = take_name(rest)?;
     let (_star, rest) = take(rest, Sort::Star)?;
     let (_close, rest) = take(rest, Sort::CloseParen)?;
-    let (pointer, rest) = pointer(alloc, text, rest)?;
-    let target = spot(alloc, text, &word)?;
+    let (pointer, rest) = pointer(text.alloc, text.bytes, rest)?;
+    let target = spot(text.alloc, text.bytes, &word)?;
     Ok((
         Right::Cast(CastText {
             kind: CastKind::Plain,
@@ -214,69 +177,55 @@ fn plain_cast_right<'a>(
 }
 
 // "typeid" "(" "*" pointer ")" "==" "typeid" "(" name ")"
-fn type_right<'a>(
-    alloc: Global,
-    text: &[u8],
-    first: Lexeme,
-    rest: &'a [Lexeme],
-) -> Result<(Right, &'a [Lexeme]), Stop>
+fn type_right<'a>(text: &Text, first: Lexeme, rest: &'a [Lexeme]) -> Reading<'a, Right>
     requires { first.sort ≡ Sort.Typeid }
-    ensures reads { IfOk result (λ x. RightReads text.now x.0 (first ∷ rest.now) x.1.now) }
+    ensures reads { IfOk result (λ x. RightReads text.now.bytes.now x.0 (first ∷ rest.now) x.1.now) }
     ensures shorter { IfOk result (λ x. length x.1.now ≤ length rest.now) }
     ensures follows { (s : State) → Follows (λ x. x.1.now) s (RightEnd ∷ []) (first ∷ rest.now) s (Only Sort.Semicolon ∷ []) result }
 {
     let (_open, rest) = take(rest, Sort::OpenParen)?;
     let (_star, rest) = take(rest, Sort::Star)?;
-    let (pointer, rest) = pointer(alloc, text, rest)?;
+    let (pointer, rest) = pointer(text.alloc, text.bytes, rest)?;
     let (_close, rest) = take(rest, Sort::CloseParen)?;
     let (_equal, rest) = take(rest, Sort::Equal)?;
     let (_typeid, rest) = take(rest, Sort::Typeid)?;
     let (_begin, rest) = take(rest, Sort::OpenParen)?;
     let (word, rest) = take_name(rest)?;
     let (_end, rest) = take(rest, Sort::CloseParen)?;
-    let class = spot(alloc, text, &word)?;
+    let class = spot(text.alloc, text.bytes, &word)?;
     Ok((Right::TypeEqual(pointer, class), rest))
 }
 
 // right, the first token of which was read
 #[tactic(auto, using(cxx_grammar::proofs::Tails::pointer_right, cxx_grammar::proofs::Tails::constant_right_at))]
-fn right_at<'a>(
-    alloc: Global,
-    text: &[u8],
-    first: Lexeme,
-    rest: &'a [Lexeme],
-) -> Result<(Right, &'a [Lexeme]), Stop>
-    ensures reads { IfOk result (λ x. RightReads text.now x.0 (first ∷ rest.now) x.1.now) }
+fn right_at<'a>(text: &Text, first: Lexeme, rest: &'a [Lexeme]) -> Reading<'a, Right>
+    ensures reads { IfOk result (λ x. RightReads text.now.bytes.now x.0 (first ∷ rest.now) x.1.now) }
     ensures shorter { IfOk result (λ x. length x.1.now ≤ length rest.now) }
     ensures follows { (s : State) → Follows (λ x. x.1.now) s (RightEnd ∷ []) (first ∷ rest.now) s (Only Sort.Semicolon ∷ []) result }
 {
     match first.sort {
-        Sort::Name | Sort::OwnName | Sort::This => pointer_right(alloc, text, first, rest),
+        Sort::Name | Sort::OwnName | Sort::This => pointer_right(text, first, rest),
         Sort::Number | Sort::Zero | Sort::Minus | Sort::True | Sort::False => constant_right(
-            alloc, text, first, rest,
+            text, first, rest,
         ),
-        Sort::Bang => not_right(alloc, text, first, rest),
-        Sort::Ampersand => address_right(alloc, text, first, rest),
-        Sort::New => new_right(alloc, text, first, rest),
-        Sort::StaticCast => cast_right(alloc, text, first, CastKind::Static, rest),
-        Sort::DynamicCast => cast_right(alloc, text, first, CastKind::Dynamic, rest),
-        Sort::OpenParen => plain_cast_right(alloc, text, first, rest),
-        Sort::Typeid => type_right(alloc, text, first, rest),
+        Sort::Bang => not_right(text, first, rest),
+        Sort::Ampersand => address_right(text, first, rest),
+        Sort::New => new_right(text, first, rest),
+        Sort::StaticCast => cast_right(text, first, CastKind::Static, rest),
+        Sort::DynamicCast => cast_right(text, first, CastKind::Dynamic, rest),
+        Sort::OpenParen => plain_cast_right(text, first, rest),
+        Sort::Typeid => type_right(text, first, rest),
         _ => Err(refusal(&first)),
     }
 }
 
 // right, up to its ";"
-pub(crate) fn right<'a>(
-    alloc: Global,
-    text: &[u8],
-    rest: &'a [Lexeme],
-) -> Result<(Right, &'a [Lexeme]), Stop>
-    ensures reads { IfOk result (λ x. RightReads text.now x.0 rest.now x.1.now) }
+pub(crate) fn right<'a>(text: &Text, rest: &'a [Lexeme]) -> Reading<'a, Right>
+    ensures reads { IfOk result (λ x. RightReads text.now.bytes.now x.0 rest.now x.1.now) }
     ensures shorter { IfOk result (λ x. length x.1.now ≤ length rest.now) }
     ensures follows { (s : State) → Follows (λ x. x.1.now) s (RightEnd ∷ []) rest.now s (Only Sort.Semicolon ∷ []) result }
 {
     let (first, after) = next(rest)?;
-    let (value, after) = right_at(alloc, text, first, after)?;
+    let (value, after) = right_at(text, first, after)?;
     Ok((value, after))
 }

@@ -15,191 +15,172 @@ ghost use Rattle.cxx_syntax.specs.declared.part.Part.{Part};
 ghost use Rattle.cxx_syntax.specs.Parts.{access_of, PartReads, PartsRead};
 ghost use Rattle.cxx_record_parser.specs.invariants.Readers.{outside, max_lexemes, IsDraft};
 
-use crate::function::{constructor, destructor, plain_function, virtual_part};
+use crate::function::{FunctionHead, constructor, destructor, plain_function, virtual_part};
+use cxx_body_parser::{Reading, Text};
 use cxx_grammar::{Lexeme, Sort, is_same, name_of, next, refusal, take, take_name};
 use cxx_hierarchy::{FieldType, Name, ReturnType, Stop, ValueType};
 use cxx_record_parser::draft::{Draft, public_after};
 use cxx_record_parser::member::{field_end, label};
 use cxx_syntax::Part;
 use cxx_syntax::scalar::scalar;
-use std::alloc::Global;
+
+// The first token of a part, and whether what stands there is public.
+#[derive(Clone, Copy)]
+struct PartFront {
+    is_public: bool,
+    first: Lexeme,
+}
 
 // the rest of a field or of a function after its value and its name
 fn after_declared<'a>(
-    alloc: Global,
-    text: &[u8],
-    is_public: bool,
-    first: Lexeme,
+    text: &Text,
+    front: PartFront,
     ty: ValueType<Name>,
     word: Lexeme,
     rest: &'a [Lexeme],
-) -> Result<(Part, &'a [Lexeme]), Stop>
-    ensures reads { IfOk result (λ x. (ts a : List Lexeme) → IsFirst first ts → ValueReads text.now ty ts a → IsName word a rest.now → PartReads text.now is_public x.0 ts x.1.now) }
+) -> Reading<'a, Part>
+    ensures reads { IfOk result (λ x. (ts a : List Lexeme) → IsFirst front.first ts → ValueReads text.now.bytes.now ty ts a → IsName word a rest.now → PartReads text.now.bytes.now front.is_public x.0 ts x.1.now) }
     ensures shorter { IfOk result (λ x. length x.1.now ≤ length rest.now) }
     ensures follows { (m : Bool) → Follows (λ x. x.1.now) (outside m) (AfterDeclared ∷ []) rest.now (outside m) [] result }
 {
+    let PartFront { is_public, first } = front;
     let (sign, after) = next(rest)?;
     if is_same(sign.sort, Sort::OpenParen) {
         let ret = ReturnType::Value(ty);
-        let (part, after) = plain_function(alloc, text, first, ret, word, after)?;
+        let head = FunctionHead { first, ret, word };
+        let (part, after) = plain_function(text, head, after)?;
         return Ok((part, after));
     }
     let ty = FieldType::Value(ty);
-    let (part, after) = field_end(alloc, text, is_public, first, ty, word, rest)?;
+    let (part, after) = field_end(text.alloc, text.bytes, is_public, first, ty, word, rest)?;
     Ok((part, after))
 }
 
 // name and the rest of a field or of a function after its value
 fn value_part<'a>(
-    alloc: Global,
-    text: &[u8],
-    is_public: bool,
-    first: Lexeme,
+    text: &Text,
+    front: PartFront,
     ty: ValueType<Name>,
     rest: &'a [Lexeme],
-) -> Result<(Part, &'a [Lexeme]), Stop>
-    ensures reads { IfOk result (λ x. (ts : List Lexeme) → IsFirst first ts → ValueReads text.now ty ts rest.now → PartReads text.now is_public x.0 ts x.1.now) }
+) -> Reading<'a, Part>
+    ensures reads { IfOk result (λ x. (ts : List Lexeme) → IsFirst front.first ts → ValueReads text.now.bytes.now ty ts rest.now → PartReads text.now.bytes.now front.is_public x.0 ts x.1.now) }
     ensures shorter { IfOk result (λ x. length x.1.now ≤ length rest.now) }
     ensures follows { (m : Bool) → Follows (λ x. x.1.now) (outside m) (AName ∷ AfterDeclared ∷ []) rest.now (outside m) [] result }
 {
     let (word, rest) = take_name(rest)?;
-    let (part, rest) = after_declared(alloc, text, is_public, first, ty, word, rest)?;
+    let (part, rest) = after_declared(text, front, ty, word, rest)?;
     Ok((part, rest))
 }
 
 // a field or a function that begins with a scalar
-fn scalar_part<'a>(
-    alloc: Global,
-    text: &[u8],
-    is_public: bool,
-    first: Lexeme,
-    rest: &'a [Lexeme],
-) -> Result<(Part, &'a [Lexeme]), Stop>
-    requires { is_scalar_word first.sort ≡ true }
-    ensures reads { IfOk result (λ x. PartReads text.now is_public x.0 (first ∷ rest.now) x.1.now) }
+fn scalar_part<'a>(text: &Text, front: PartFront, rest: &'a [Lexeme]) -> Reading<'a, Part>
+    requires { is_scalar_word front.first.sort ≡ true }
+    ensures reads { IfOk result (λ x. PartReads text.now.bytes.now front.is_public x.0 (front.first ∷ rest.now) x.1.now) }
     ensures shorter { IfOk result (λ x. length x.1.now ≤ length rest.now) }
-    ensures follows { (m : Bool) → Follows (λ x. x.1.now) (outside m) (scalar_rest first.sort ++ (AfterDeclared ∷ [])) rest.now (outside m) [] result }
+    ensures follows { (m : Bool) → Follows (λ x. x.1.now) (outside m) (scalar_rest front.first.sort ++ (AfterDeclared ∷ [])) rest.now (outside m) [] result }
 {
-    let (number, rest) = scalar(first, rest)?;
+    let (number, rest) = scalar(front.first, rest)?;
     let ty = ValueType::Number(number);
-    let (part, rest) = value_part(alloc, text, is_public, first, ty, rest)?;
+    let (part, rest) = value_part(text, front, ty, rest)?;
     Ok((part, rest))
 }
 
 // a field or a function that begins with a name
-fn name_part<'a>(
-    alloc: Global,
-    text: &[u8],
-    is_public: bool,
-    first: Lexeme,
-    rest: &'a [Lexeme],
-) -> Result<(Part, &'a [Lexeme]), Stop>
-    requires { is_name first.sort ≡ true }
-    ensures reads { IfOk result (λ x. PartReads text.now is_public x.0 (first ∷ rest.now) x.1.now) }
+fn name_part<'a>(text: &Text, front: PartFront, rest: &'a [Lexeme]) -> Reading<'a, Part>
+    requires { is_name front.first.sort ≡ true }
+    ensures reads { IfOk result (λ x. PartReads text.now.bytes.now front.is_public x.0 (front.first ∷ rest.now) x.1.now) }
     ensures shorter { IfOk result (λ x. length x.1.now ≤ length rest.now) }
     ensures follows { (m : Bool) → Follows (λ x. x.1.now) (outside m) (AfterType ∷ []) rest.now (outside m) [] result }
 {
+    let PartFront { is_public, first } = front;
     let (sign, after) = next(rest)?;
     if is_same(sign.sort, Sort::Star) {
-        let class = name_of(alloc, text, &first)?;
+        let class = name_of(text.alloc, text.bytes, &first)?;
         let ty = ValueType::Pointer(class);
-        let (part, after) = value_part(alloc, text, is_public, first, ty, after)?;
+        let (part, after) = value_part(text, front, ty, after)?;
         return Ok((part, after));
     }
     let (word, after) = take_name(rest)?;
-    let class = name_of(alloc, text, &first)?;
+    let class = name_of(text.alloc, text.bytes, &first)?;
     let ty = FieldType::Object(class);
-    let (part, after) = field_end(alloc, text, is_public, first, ty, word, after)?;
+    let (part, after) = field_end(text.alloc, text.bytes, is_public, first, ty, word, after)?;
     Ok((part, after))
 }
 
 // a constructor, or a field or a function, that begins with the name of its class
-fn own_name_part<'a>(
-    alloc: Global,
-    text: &[u8],
-    is_public: bool,
-    first: Lexeme,
-    rest: &'a [Lexeme],
-) -> Result<(Part, &'a [Lexeme]), Stop>
-    requires { first.sort ≡ Sort.OwnName }
-    ensures reads { IfOk result (λ x. PartReads text.now is_public x.0 (first ∷ rest.now) x.1.now) }
+fn own_name_part<'a>(text: &Text, front: PartFront, rest: &'a [Lexeme]) -> Reading<'a, Part>
+    requires { front.first.sort ≡ Sort.OwnName }
+    ensures reads { IfOk result (λ x. PartReads text.now.bytes.now front.is_public x.0 (front.first ∷ rest.now) x.1.now) }
     ensures shorter { IfOk result (λ x. length x.1.now ≤ length rest.now) }
     ensures follows { (m : Bool) → Follows (λ x. x.1.now) (outside m) (AfterOwnName ∷ []) rest.now (outside m) [] result }
 {
     let (sign, after) = next(rest)?;
     if is_same(sign.sort, Sort::OpenParen) {
-        let (part, after) = constructor(alloc, text, first, sign, after)?;
+        let (part, after) = constructor(text, front.first, sign, after)?;
         return Ok((part, after));
     }
-    let (part, after) = name_part(alloc, text, is_public, first, rest)?;
+    let (part, after) = name_part(text, front, rest)?;
     Ok((part, after))
 }
 
 // a function without a result, after "void"
-fn void_part<'a>(
-    alloc: Global,
-    text: &[u8],
-    first: Lexeme,
-    rest: &'a [Lexeme],
-) -> Result<(Part, &'a [Lexeme]), Stop>
+fn void_part<'a>(text: &Text, first: Lexeme, rest: &'a [Lexeme]) -> Reading<'a, Part>
     requires { first.sort ≡ Sort.Void }
-    ensures reads { IfOk result (λ x. (is_public : Bool) → PartReads text.now is_public x.0 (first ∷ rest.now) x.1.now) }
+    ensures reads { IfOk result (λ x. (is_public : Bool) → PartReads text.now.bytes.now is_public x.0 (first ∷ rest.now) x.1.now) }
     ensures shorter { IfOk result (λ x. length x.1.now ≤ length rest.now) }
     ensures follows { (m : Bool) → Follows (λ x. x.1.now) (outside m) (AName ∷ Only Sort.OpenParen ∷ ParamsEnd ∷ ABlock ∷ []) rest.now (outside m) [] result }
 {
     let (word, rest) = take_name(rest)?;
     let (_open, rest) = take(rest, Sort::OpenParen)?;
-    let (part, rest) = plain_function(alloc, text, first, ReturnType::Void, word, rest)?;
+    let head = FunctionHead {
+        first,
+        ret: ReturnType::Void,
+        word,
+    };
+    let (part, rest) = plain_function(text, head, rest)?;
     Ok((part, rest))
 }
 
 // a part, the first token of which was read
-fn part<'a>(
-    alloc: Global,
-    text: &[u8],
-    is_public: bool,
-    first: Lexeme,
-    rest: &'a [Lexeme],
-) -> Result<(Part, &'a [Lexeme]), Stop>
-    requires { first.sort ≡ Sort.CloseBrace → ⊥ }
-    ensures reads { IfOk result (λ x. PartReads text.now is_public x.0 (first ∷ rest.now) x.1.now) }
+fn part<'a>(text: &Text, front: PartFront, rest: &'a [Lexeme]) -> Reading<'a, Part>
+    requires { front.first.sort ≡ Sort.CloseBrace → ⊥ }
+    ensures reads { IfOk result (λ x. PartReads text.now.bytes.now front.is_public x.0 (front.first ∷ rest.now) x.1.now) }
     ensures shorter { IfOk result (λ x. length x.1.now ≤ length rest.now) }
-    ensures follows { (m : Bool) → Follows (λ x. x.1.now) (outside m) (PartsEnd ∷ []) (first ∷ rest.now) (outside m) (PartsEnd ∷ []) result }
+    ensures follows { (m : Bool) → Follows (λ x. x.1.now) (outside m) (PartsEnd ∷ []) (front.first ∷ rest.now) (outside m) (PartsEnd ∷ []) result }
 {
-    match first.sort {
-        Sort::Public => label(first, true, rest),
-        Sort::Protected | Sort::Private => label(first, false, rest),
-        Sort::Name => name_part(alloc, text, is_public, first, rest),
-        Sort::OwnName => own_name_part(alloc, text, is_public, first, rest),
-        Sort::Virtual => virtual_part(alloc, text, first, rest),
-        Sort::Void => void_part(alloc, text, first, rest),
-        Sort::Tilde => destructor(alloc, text, false, first, rest),
+    match front.first.sort {
+        Sort::Public => label(front.first, true, rest),
+        Sort::Protected | Sort::Private => label(front.first, false, rest),
+        Sort::Name => name_part(text, front, rest),
+        Sort::OwnName => own_name_part(text, front, rest),
+        Sort::Virtual => virtual_part(text, front.first, rest),
+        Sort::Void => void_part(text, front.first, rest),
+        Sort::Tilde => destructor(text, false, front.first, rest),
         Sort::Boolean
         | Sort::Char
         | Sort::Short
         | Sort::Int
         | Sort::Long
         | Sort::Signed
-        | Sort::Unsigned => scalar_part(alloc, text, is_public, first, rest),
-        _ => Err(refusal(&first)),
+        | Sort::Unsigned => scalar_part(text, front, rest),
+        _ => Err(refusal(&front.first)),
     }
 }
 
 // {part} "}", in a class of this name
 pub(crate) fn parts<'a>(
-    alloc: Global,
-    text: &[u8],
+    text: &Text,
     by_default: bool,
     class: &Lexeme,
     rest: &'a [Lexeme],
 ) -> Result<(Draft, Lexeme, &'a [Lexeme]), Stop>
     requires { length rest.now ≤ max_lexemes }
-    ensures reads { IfOk result (λ x. (ps : List Part) × PartsRead text.now by_default ps rest.now (x.1 ∷ x.2.now) × IsDraft text.now class.now ps x.0) }
+    ensures reads { IfOk result (λ x. (ps : List Part) × PartsRead text.now.bytes.now by_default ps rest.now (x.1 ∷ x.2.now) × IsDraft text.now.bytes.now class.now ps x.0) }
     ensures close { IfOk result (λ x. x.1.sort ≡ Sort.CloseBrace) }
     ensures shorter { IfOk result (λ x. length x.2.now ≤ length rest.now) }
     ensures follows { (m : Bool) → Follows (λ x. x.2.now) (outside m) (PartsEnd ∷ []) rest.now (outside m) [] result }
 {
-    let mut draft = Draft::new(alloc);
+    let mut draft = Draft::new(text.alloc);
     let mut is_public = by_default;
     let mut left = rest;
     loop {
@@ -207,9 +188,10 @@ pub(crate) fn parts<'a>(
         if is_same(first.sort, Sort::CloseBrace) {
             return Ok((draft, first, after));
         }
-        let (read, more) = part(alloc, text, is_public, first, after)?;
+        let front = PartFront { is_public, first };
+        let (read, more) = part(text, front, after)?;
         is_public = public_after(is_public, &read);
-        draft.add(alloc, text, class, read)?;
+        draft.add(text.alloc, text.bytes, class, read)?;
         left = more;
     }
 }

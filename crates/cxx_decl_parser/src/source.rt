@@ -15,6 +15,7 @@ ghost use Rattle.cxx_grammar.specs.Table.{ItemsEnd};
 ghost use Rattle.cxx_record_parser.specs.invariants.Readers.{outside, max_lexemes, FollowsTo};
 
 use crate::item::item;
+use cxx_body_parser::{Reading, Text};
 use cxx_grammar::{Lexeme, Sort, is_same, lexemes, next};
 use cxx_hierarchy::Stop;
 use cxx_record_parser::gather::{add, empty_source};
@@ -23,37 +24,33 @@ use cxx_text::TokenList;
 use std::alloc::Global;
 
 // {class | forward | global | mainfn} and the end of the text
-fn items<'a>(
-    alloc: Global,
-    text: &[u8],
-    rest: &'a [Lexeme],
-) -> Result<(SourceText, &'a [Lexeme]), Stop>
+fn items<'a>(text: &Text, rest: &'a [Lexeme]) -> Reading<'a, SourceText>
     requires { length rest.now ≤ max_lexemes }
-    ensures reads { IfOk result (λ x. SourceReads text.now x.0 rest.now x.1.now) }
+    ensures reads { IfOk result (λ x. SourceReads text.now.bytes.now x.0 rest.now x.1.now) }
     ensures follows { FollowsTo (λ x. x.1.now) (outside false) (ItemsEnd ∷ []) rest.now (λ x. outside (is_some x.0.main)) [] result }
 {
-    let mut source = empty_source(alloc);
+    let mut source = empty_source(text.alloc);
     let mut left = rest;
     loop {
         let (first, after) = next(left)?;
         if is_same(first.sort, Sort::End) {
             return Ok((source, after));
         }
-        let (read, more) = item(alloc, text, source.main.is_some(), first, after)?;
+        let (read, more) = item(text, source.main.is_some(), first, after)?;
         add(&mut source, read)?;
         left = more;
     }
 }
 
 // The source at the front of a list of lexemes.
-fn whole_source(alloc: Global, text: &[u8], all: &[Lexeme]) -> Result<SourceText, Stop>
+fn whole_source(text: &Text, all: &[Lexeme]) -> Result<SourceText, Stop>
     requires ends { In Sort.Bad (sorts all.now) }
     requires few { length all.now ≤ max_lexemes }
-    ensures reads { IfOk result (λ s. (rest : List Lexeme) × SourceReads text.now s all.now rest × DerivesPrefix source_form (outside false) all.now rest) }
+    ensures reads { IfOk result (λ s. (rest : List Lexeme) × SourceReads text.now.bytes.now s all.now rest × DerivesPrefix source_form (outside false) all.now rest) }
     ensures in_order { IfOk result (λ s. All IsInOrder s.records) }
     ensures event { IfErr result (λ e. (e ≡ Stop.NoMemory) ⊎ Event source_form (outside false) all.now e) }
 {
-    let (source, _rest) = items(alloc, text, all)?;
+    let (source, _rest) = items(text, all)?;
     Ok(source)
 }
 
@@ -68,6 +65,7 @@ pub fn parse_source(alloc: Global, text: &[u8], list: &TokenList) -> Result<Sour
     ensures event { let all = lexemes text.now source_start list.now.tokens list.now.bad in IfErr result (λ e. (e ≡ Stop.NoMemory) ⊎ Event source_form at_start all e) }
 {
     let all = lexemes(alloc, text, list.tokens.as_slice(), list.bad, Sort::End)?;
-    let source = whole_source(alloc, text, &all)?;
+    let text = Text { alloc, bytes: text };
+    let source = whole_source(&text, &all)?;
     Ok(source)
 }

@@ -14,13 +14,13 @@ pub block-returns-clause-reads : goal.block-returns-clause-reads
 block-returns-clause-reads t c = a_body {b = roll-BodyTree (record { statements = c.in_ok-statements.statements; line = c.in_ok-brace.brace.line; close_line = c.in_ok-statements.close.line })} (record { front = c.in_ok-brace.ensures.ok; sort = search rules }) c.in_ok-statements.ensures.reads (record { front = refl; sort = c.in_ok-statements.ensures.close }) (search (rules, the_lemmas)) (search (rules, the_lemmas)) (search (rules, the_lemmas))
 
 pub if_of-returns-then-is_same-clause-reads : goal.if_of-returns-then-is_same-clause-reads
-if_of-returns-then-is_same-clause-reads t c = an_if_else (record { front = refl; sort = c.requires }) c.in_ok-_open.ensures.reads c.in_ok-test.ensures.reads c.in_ok-_close.ensures.reads c.in_ok-then.ensures.reads (record { front = c.in_ok-word.ensures.ok; sort = search rules }) c.in_ok-other.ensures.reads c.statement_at.ensures
+if_of-returns-then-is_same-clause-reads t c = an_if_else (record { front = refl; sort = c.requires }) c.in_ok-test.ensures.reads.open_paren c.in_ok-test.ensures.reads.test c.in_ok-test.ensures.reads.close_paren c.in_ok-then.ensures.reads (record { front = c.in_ok-word.ensures.ok; sort = search rules }) c.in_ok-other.ensures.reads c.statement_at.ensures
 
 pub if_of-returns-clause-reads : goal.if_of-returns-clause-reads
-if_of-returns-clause-reads t c = an_if (record { front = refl; sort = c.requires }) c.in_ok-_open.ensures.reads c.in_ok-test.ensures.reads c.in_ok-_close.ensures.reads c.in_ok-then.ensures.reads c.statement_at-2.ensures
+if_of-returns-clause-reads t c = an_if (record { front = refl; sort = c.requires }) c.in_ok-test.ensures.reads.open_paren c.in_ok-test.ensures.reads.test c.in_ok-test.ensures.reads.close_paren c.in_ok-then.ensures.reads c.statement_at-2.ensures
 
 pub while_of-returns-clause-reads : goal.while_of-returns-clause-reads
-while_of-returns-clause-reads t c = a_while (record { front = refl; sort = c.requires }) c.in_ok-_open.ensures.reads c.in_ok-test.ensures.reads c.in_ok-_close.ensures.reads c.in_ok-body.ensures.reads c.statement_at.ensures
+while_of-returns-clause-reads t c = a_while (record { front = refl; sort = c.requires }) c.in_ok-test.ensures.reads.open_paren c.in_ok-test.ensures.reads.test c.in_ok-test.ensures.reads.close_paren c.in_ok-body.ensures.reads c.statement_at.ensures
 
 pub statements-returns-then-is_same-clause-reads : goal.statements-returns-then-is_same-clause-reads
 statements-returns-then-is_same-clause-reads t c = rw (← c.in_ok-first.ensures.ok) (all_statements _ _ _ _ c.loop-items.invariant.reads)

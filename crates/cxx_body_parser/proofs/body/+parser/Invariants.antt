@@ -22,7 +22,7 @@ decreases-statements l = 2 * length l.rest.now
 abbrev pub invariant-statements-loop-items : goal.invariant-statements-loop-items
 invariant-statements-loop-items l = record {
   shorter : length l.left ≤ length l.fn.rest;
-  reads : StatementsSoFar l.text l.fn.rest l.left l.items.items;
+  reads : StatementsSoFar l.text.bytes.now l.fn.rest l.left l.items.items;
   follows : (m : Bool) → Leads (record { blocks = l.depth; main = m }) (StatementsEnd ∷ []) l.fn.rest (record { blocks = l.depth; main = m }) (StatementsEnd ∷ []) l.left;
 }
 

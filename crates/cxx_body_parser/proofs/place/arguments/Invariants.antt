@@ -8,7 +8,7 @@ use Rattle.cxx_body_parser.proofs.place.arguments.Given as goal
 abbrev pub invariant-loop-items : goal.invariant-loop-items
 invariant-loop-items l = record {
   shorter : length l.left ≤ length l.fn.rest;
-  reads : ArgumentsSoFar l.text l.fn.rest l.left l.items;
+  reads : ArgumentsSoFar l.text.bytes.now l.fn.rest l.left l.items;
   follows : (s : State) → Leads s (ArgumentsEnd ∷ []) l.fn.rest s (MoreArgumentsEnd ∷ []) l.left;
 }
 

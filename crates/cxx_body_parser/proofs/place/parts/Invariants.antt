@@ -8,7 +8,7 @@ use Rattle.cxx_body_parser.proofs.place.parts.Given as goal
 abbrev pub invariant-loop-items : goal.invariant-loop-items
 invariant-loop-items l = record {
   shorter : length l.left ≤ length l.fn.rest;
-  reads : PartsSoFar l.text l.name l.fn.rest l.left l.items;
+  reads : PartsSoFar l.text.bytes.now l.name l.fn.rest l.left l.items;
   follows : (s : State) (u : Use) → Leads s (Named u ∷ []) l.fn.rest s (Tail u ∷ []) l.left;
 }
 

@@ -3,4 +3,4 @@ use Rattle.cxx_syntax.specs.Statements.{a_print_view}
 use Rattle.cxx_body_parser.proofs.statement.print_view.Goals as goal
 
 pub returns-clause-reads : goal.returns-clause-reads
-returns-clause-reads c = a_print_view (record { front = refl; sort = c.requires.first }) (record { front = refl; sort = c.requires.paren }) (record { front = refl; sort = c.requires.word }) c.in_ok-_less.ensures.reads c.in_ok-_void.ensures.reads c.in_ok-_star.ensures.reads c.in_ok-_greater.ensures.reads c.in_ok-_open.ensures.reads c.in_ok-target.ensures.reads c.in_ok-_close.ensures.reads c.in_ok-_last.ensures.reads c.in_ok-_end.ensures.reads c.statement_at.ensures
+returns-clause-reads c = λ s first paren f p b. a_print_view (record { front = refl; sort = f }) (record { front = refl; sort = p }) (record { front = refl; sort = c.requires }) c.in_ok-_less.ensures.reads c.in_ok-_void.ensures.reads c.in_ok-_star.ensures.reads c.in_ok-_greater.ensures.reads c.in_ok-_open.ensures.reads c.in_ok-target.ensures.reads c.in_ok-_close.ensures.reads c.in_ok-_last.ensures.reads c.in_ok-_end.ensures.reads b

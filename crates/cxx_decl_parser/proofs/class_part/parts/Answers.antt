@@ -12,7 +12,7 @@ add-requires-clause-functions c = few_functions _ _ c.loop-draft.invariant.reads
 pub loop-draft-init : goal.loop-draft-init
 loop-draft-init c = record {
   shorter = omega arith;
-  reads = ([], (λ ps r h. h), c.new-draft.ensures c.args.text.now c.args.class.now, omega arith);
+  reads = ([], (λ ps r h. h), c.new-draft.ensures c.args.text.now.bytes.now c.args.class.now, omega arith);
   follows = λ m k. refl;
 }
 

@@ -9,7 +9,7 @@ use Rattle.cxx_decl_parser.proofs.class_part.parts.Given as goal
 abbrev pub invariant-loop-draft : goal.invariant-loop-draft
 invariant-loop-draft l = record {
   shorter : length l.left ≤ length l.fn.rest;
-  reads : (done : List Part) × PartsSoFar l.text l.by_default l.fn.rest l.is_public l.left done × IsDraft l.text l.class done l.draft × (length done + length l.left ≤ length l.fn.rest);
+  reads : (done : List Part) × PartsSoFar l.text.bytes.now l.by_default l.fn.rest l.is_public l.left done × IsDraft l.text.bytes.now l.class done l.draft × (length done + length l.left ≤ length l.fn.rest);
   follows : (m : Bool) → Leads (outside m) (PartsEnd ∷ []) l.fn.rest (outside m) (PartsEnd ∷ []) l.left;
 }
 

@@ -6,10 +6,10 @@ use Rattle.cxx_record_parser.specs.invariants.Readers.{outside}
 use Rattle.cxx_decl_parser.proofs.class_part.scalar_part.Goals as goal
 
 pub returns-in_err-number-clause-follows : goal.returns-in_err-number-clause-follows
-returns-in_err-number-clause-follows c = λ m. same_error (λ x. x.1.now) (outside m) (outside m) (scalar_rest c.args.first.sort ++ (AfterDeclared ∷ [])) (scalar_rest c.args.first.sort ++ (AfterDeclared ∷ [])) ([]) c.args.rest.now c.args.rest.now _ c.in_err-number.field-0.0 (search rules) (λ k. refl) (λ n k. rw append_assoc (c.in_err-number.ensures.follows (outside m) n (AfterDeclared ∷ k)))
+returns-in_err-number-clause-follows c = λ m. same_error (λ x. x.1.now) (outside m) (outside m) (scalar_rest c.args.front.first.sort ++ (AfterDeclared ∷ [])) (scalar_rest c.args.front.first.sort ++ (AfterDeclared ∷ [])) ([]) c.args.rest.now c.args.rest.now _ c.in_err-number.field-0.0 (search rules) (λ k. refl) (λ n k. rw append_assoc (c.in_err-number.ensures.follows (outside m) n (AfterDeclared ∷ k)))
 
 pub returns-in_err-part-clause-follows : goal.returns-in_err-part-clause-follows
-returns-in_err-part-clause-follows c = λ m. same_error (λ x. x.1.now) (outside m) (outside m) (scalar_rest c.args.first.sort ++ (AfterDeclared ∷ [])) (AName ∷ AfterDeclared ∷ []) ([]) c.args.rest.now c.in_ok-number.rest.now _ c.in_err-part.field-0.0 (search rules) (λ k. rw append_assoc (c.in_ok-number.ensures.follows (outside m) (AfterDeclared ∷ k))) (c.in_err-part.ensures.follows m)
+returns-in_err-part-clause-follows c = λ m. same_error (λ x. x.1.now) (outside m) (outside m) (scalar_rest c.args.front.first.sort ++ (AfterDeclared ∷ [])) (AName ∷ AfterDeclared ∷ []) ([]) c.args.rest.now c.in_ok-number.rest.now _ c.in_err-part.field-0.0 (search rules) (λ k. rw append_assoc (c.in_ok-number.ensures.follows (outside m) (AfterDeclared ∷ k))) (c.in_err-part.ensures.follows m)
 
 pub returns-clause-reads : goal.returns-clause-reads
 returns-clause-reads c = c.in_ok-part.ensures.reads _ (record { rest = _; front = refl }) (a_scalar c.in_ok-number.ensures.reads)

@@ -10,7 +10,7 @@ use Rattle.cxx_decl_parser.proofs.source.items.Given as goal
 abbrev pub invariant-loop-source : goal.invariant-loop-source
 invariant-loop-source l = record {
   shorter : length l.left ≤ length l.fn.rest;
-  reads : (done : List Item) × ItemsSoFar l.text l.fn.rest l.left done × AreItemsOf l.source done;
+  reads : (done : List Item) × ItemsSoFar l.text.bytes.now l.fn.rest l.left done × AreItemsOf l.source done;
   follows : Leads (outside false) (ItemsEnd ∷ []) l.fn.rest (outside (is_some l.source.main)) (ItemsEnd ∷ []) l.left;
 }
 
