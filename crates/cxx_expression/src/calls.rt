@@ -12,12 +12,12 @@ ghost use Rattle.cxx_expression.specs.invariants.Known.{Knows};
 
 use crate::arguments::arguments_of;
 use crate::copies::{copy_return, copy_type};
-use crate::faults::{FaultList, note};
+use crate::faults::{FaultList, note, refuse};
 use crate::known::Known;
 use crate::look_up::{Looked, function_record, looked_up};
-use crate::qualified::qualified_call;
+use crate::qualified::{qualified, qualified_call};
 use crate::site::Site;
-use crate::typed::{CallValue, FoundFunction, Target};
+use crate::typed::{CallValue, FoundFunction, Receiver, Target};
 use crate::values::pointer_of;
 use cxx_hierarchy::{ClassId, Hierarchy, Param, Rule, ValueType};
 use cxx_overrider::{FunctionId, Overriders};
@@ -27,6 +27,9 @@ use cxx_subobject::{Subobject, class_of};
 use cxx_syntax::{CallText, Spot};
 use foundation::{NoMemory, Sequence};
 use std::alloc::Global;
+
+/// What a call is typed to, where its names and types fit.
+type Answer = Result<Option<CallValue>, NoMemory>;
 
 /// The types of parameters.
 fn types_of(alloc: Global, params: &[Param<ClassId>]) -> Result<TypeList, NoMemory>
@@ -52,12 +55,10 @@ fn function_in(
     ensures { Answers result faults.old faults.new (function_in h.now name_at s number (class_of_subobject s)) }
 {
     let Some(class) = class_of(&s) else {
-        note(faults, Rule::NoSuchMember, name_at)?;
-        return Ok(None);
+        return refuse(faults, Rule::NoSuchMember, name_at);
     };
     let Some(function) = function_record(h, class, number) else {
-        note(faults, Rule::NoSuchMember, name_at)?;
-        return Ok(None);
+        return refuse(faults, Rule::NoSuchMember, name_at);
     };
     let parameters = types_of(alloc, function.params.as_slice())?;
     Ok(Some(FoundFunction {
@@ -86,19 +87,10 @@ pub(crate) fn function_of(
     ensures knows { OnOk result (Knows site.now.h.now known.new) }
 {
     match looked_up(site.h, known, c, x.name.as_slice())? {
-        Looked::Missing => {
-            note(faults, Rule::NoSuchMember, x.at)?;
-            Ok(None)
-        }
-        Looked::Ambiguous => {
-            note(faults, Rule::AmbiguousName, x.at)?;
-            Ok(None)
-        }
+        Looked::Missing => refuse(faults, Rule::NoSuchMember, x.at),
+        Looked::Ambiguous => refuse(faults, Rule::AmbiguousName, x.at),
         Looked::Function(s, number) => function_in(known.alloc, site.h, x.at, faults, s, number),
-        Looked::Member(_, _) => {
-            note(faults, Rule::TypeMismatch, site.at)?;
-            Ok(None)
-        }
+        Looked::Member(_, _) => refuse(faults, Rule::TypeMismatch, site.at),
     }
 }
 
@@ -136,26 +128,23 @@ fn parameters_in(target: &Option<Target>) -> &[ValueType<ClassId>]
     }
 }
 
+/// A call in the class of the pointer: one without a class before `::`, which may be dispatched.
 fn dispatched(target: Target, is_dispatched: bool, arguments: ArgumentList) -> CallValue
     ensures { result ≡ dispatched target is_dispatched arguments }
 {
     let Target { pointer, found } = target;
-    let FoundFunction {
-        base,
-        function,
-        returns,
-        ..
-    } = found;
-    let call = TypedCall {
-        pointer: pointer.operand,
-        class: pointer.class,
-        qualifier: None,
-        base,
-        function,
-        is_dispatched,
-        arguments,
+    let receiver = Receiver {
+        pointer,
+        path: None,
     };
-    CallValue { call, returns }
+    let CallValue { call, returns } = qualified(receiver, found, arguments);
+    CallValue {
+        call: TypedCall {
+            is_dispatched,
+            ..call
+        },
+        returns,
+    }
 }
 
 /// Whether a function is virtual.
@@ -170,12 +159,7 @@ fn is_virtual(h: &Hierarchy, o: &Overriders, f: FunctionId) -> bool
 
 /// A call of the function that the pointer's class means.
 #[tactic(auto, unfolding(crate::specs::Calls::plain_call))]
-fn plain_call(
-    site: &Site,
-    known: &mut Known,
-    faults: &mut FaultList,
-    call: &CallText,
-) -> Result<Option<CallValue>, NoMemory>
+fn plain_call(site: &Site, known: &mut Known, faults: &mut FaultList, call: &CallText) -> Answer
     requires made { AreOverriders site.now.h.now site.now.overriders.now }
     requires knows { Knows site.now.h.now known.old }
     ensures answers { Answers result faults.old faults.new (plain_call site.now.h.now site.now.setting.now site.now.scene.now site.now.at call.now) }
@@ -195,12 +179,7 @@ fn plain_call(
 /// A call, and what it returns; `at` is the place of the statement's first token. Faults: E3, E9, E10, E14, E15, E16, E19,
 /// E22, and those of the arguments.
 #[tactic(auto, unfolding(crate::specs::Calls::call_of))]
-pub fn call_of(
-    site: &Site,
-    known: &mut Known,
-    faults: &mut FaultList,
-    call: &CallText,
-) -> Result<Option<CallValue>, NoMemory>
+pub fn call_of(site: &Site, known: &mut Known, faults: &mut FaultList, call: &CallText) -> Answer
     requires made { AreOverriders site.now.h.now site.now.overriders.now }
     requires knows { Knows site.now.h.now known.old }
     ensures answers { Answers result faults.old faults.new (call_of site.now.h.now site.now.setting.now site.now.scene.now site.now.at call.now) }

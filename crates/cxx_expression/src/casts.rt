@@ -6,7 +6,7 @@ ghost use Rattle.cxx_expression.specs.Casts.{down_to, up_or_down, static_cast, i
 ghost use Rattle.cxx_expression.specs.invariants.Known.{Knows};
 
 use crate::classes::class_of;
-use crate::faults::{FaultList, note};
+use crate::faults::{FaultList, refuse};
 use crate::known::Known;
 use crate::look_up::{Based, base_up, is_polymorphic};
 use crate::operators::truth_value;
@@ -30,10 +30,7 @@ fn down_to(
 {
     match s.root {
         Root::Whole => Ok(Some(TypedCast::Down(d, s))),
-        Root::Shared(_) => {
-            note(faults, Rule::DowncastVirtual, at)?;
-            Ok(None)
-        }
+        Root::Shared(_) => refuse(faults, Rule::DowncastVirtual, at),
     }
 }
 
@@ -50,14 +47,12 @@ fn up_or_down(
     match (up, down) {
         (Based::Base(s), _) => Ok(Some(TypedCast::Up(s))),
         (Based::NotBase, Based::Base(s)) => down_to(at, faults, d, s),
-        (Based::TwoBases, _) | (Based::NotBase, Based::TwoBases) => {
-            note(faults, Rule::AmbiguousBase, at)?;
-            Ok(None)
-        }
-        (Based::NotBase, Based::NotBase) => {
-            note(faults, Rule::NotBase, at)?;
-            Ok(None)
-        }
+        (Based::TwoBases, _) | (Based::NotBase, Based::TwoBases) => refuse(
+            faults,
+            Rule::AmbiguousBase,
+            at,
+        ),
+        (Based::NotBase, Based::NotBase) => refuse(faults, Rule::NotBase, at),
     }
 }
 
@@ -100,16 +95,12 @@ fn dynamic_cast(
     }
     match base_up(site.h, known, c, d)? {
         Based::Base(s) => Ok(Some(TypedCast::Up(s))),
-        Based::TwoBases => {
-            note(faults, Rule::AmbiguousBase, site.at)?;
-            Ok(None)
-        }
+        Based::TwoBases => refuse(faults, Rule::AmbiguousBase, site.at),
         Based::NotBase => {
             if is_polymorphic(site.h, known, c)? {
                 return Ok(Some(TypedCast::Dynamic(d)));
             }
-            note(faults, Rule::NotPolymorphic, site.at)?;
-            Ok(None)
+            refuse(faults, Rule::NotPolymorphic, site.at)
         }
     }
 }
@@ -178,8 +169,7 @@ pub fn polymorphic_pointer(
         return Ok(None);
     };
     if !is_polymorphic(site.h, known, pointer.class)? {
-        note(faults, Rule::NotPolymorphic, site.at)?;
-        return Ok(None);
+        return refuse(faults, Rule::NotPolymorphic, site.at);
     }
     Ok(Some(pointer))
 }

@@ -5,7 +5,7 @@ ghost use Rattle.cxx_expression.specs.Checked.{Answers};
 ghost use Rattle.cxx_expression.specs.Lookups.{find_class};
 ghost use Rattle.cxx_expression.specs.Values.{class_named, class_of, type_of};
 
-use crate::faults::{FaultList, note};
+use crate::faults::{FaultList, refuse};
 use cxx_hierarchy::{ClassId, Hierarchy, Name, Rule, ValueType};
 use cxx_syntax::Spot;
 use foundation::NoMemory;
@@ -30,8 +30,7 @@ pub fn class_named(
     ensures { Answers result faults.old faults.new (class_named h.now name.now at) }
 {
     let Some(class) = find_class(h, name.as_slice()) else {
-        note(faults, Rule::UnknownClass, at)?;
-        return Ok(None);
+        return refuse(faults, Rule::UnknownClass, at);
     };
     Ok(Some(class))
 }

@@ -5,7 +5,7 @@ ghost use Rattle.cxx_expression.specs.Checked.{Answers};
 ghost use Rattle.cxx_expression.specs.Operators.{same_pointer, one_converted, to_one_class, if_null, equality, pointers_right, null_right, compared, equal_right};
 ghost use Rattle.cxx_expression.specs.invariants.Known.{Knows};
 
-use crate::faults::{FaultList, note};
+use crate::faults::{FaultList, refuse};
 use crate::known::Known;
 use crate::look_up::{Based, base_up};
 use crate::operators::{calculated, truth_value};
@@ -52,14 +52,12 @@ fn one_converted(
     match (up, down) {
         (Based::Base(s), _) => Ok(Some((Conversion::Base(s), Conversion::Same))),
         (Based::NotBase, Based::Base(s)) => Ok(Some((Conversion::Same, Conversion::Base(s)))),
-        (Based::TwoBases, _) | (Based::NotBase, Based::TwoBases) => {
-            note(faults, Rule::AmbiguousBase, at)?;
-            Ok(None)
-        }
-        (Based::NotBase, Based::NotBase) => {
-            note(faults, Rule::NotBase, at)?;
-            Ok(None)
-        }
+        (Based::TwoBases, _) | (Based::NotBase, Based::TwoBases) => refuse(
+            faults,
+            Rule::AmbiguousBase,
+            at,
+        ),
+        (Based::NotBase, Based::NotBase) => refuse(faults, Rule::NotBase, at),
     }
 }
 
@@ -128,8 +126,7 @@ fn null_right(
     ensures { Answers result faults.old faults.new (null_right at is_null differ a b conversions) }
 {
     if !is_null {
-        note(faults, Rule::TypeMismatch, at)?;
-        return Ok(None);
+        return refuse(faults, Rule::TypeMismatch, at);
     }
     Ok(Some(same_pointer(differ, a, b, conversions)))
 }

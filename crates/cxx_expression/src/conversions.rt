@@ -5,7 +5,7 @@ ghost use Rattle.cxx_expression.specs.Checked.{Answers};
 ghost use Rattle.cxx_expression.specs.Values.{path_to, conversion_by, class_conversion, conversion_of, converted_operand};
 ghost use Rattle.cxx_expression.specs.invariants.Known.{Knows};
 
-use crate::faults::{FaultList, note};
+use crate::faults::{FaultList, refuse};
 use crate::known::Known;
 use crate::look_up::{Based, base_up};
 use crate::site::Site;
@@ -34,14 +34,8 @@ pub(crate) fn path_to(
     }
     match base_up(site.h, known, from, to)? {
         Based::Base(s) => Ok(Some(Some(s))),
-        Based::TwoBases => {
-            note(faults, Rule::AmbiguousBase, site.at)?;
-            Ok(None)
-        }
-        Based::NotBase => {
-            note(faults, Rule::NotBase, site.at)?;
-            Ok(None)
-        }
+        Based::TwoBases => refuse(faults, Rule::AmbiguousBase, site.at),
+        Based::NotBase => refuse(faults, Rule::NotBase, site.at),
     }
 }
 
@@ -93,13 +87,13 @@ pub fn conversion_of(
             if is_null {
                 return Ok(Some(Conversion::Null));
             }
-            note(faults, Rule::TypeMismatch, site.at)?;
-            Ok(None)
+            refuse(faults, Rule::TypeMismatch, site.at)
         }
-        (ValueType::Pointer(_), ValueType::Number(_)) => {
-            note(faults, Rule::TypeMismatch, site.at)?;
-            Ok(None)
-        }
+        (ValueType::Pointer(_), ValueType::Number(_)) => refuse(
+            faults,
+            Rule::TypeMismatch,
+            site.at,
+        ),
         (ValueType::Pointer(c), ValueType::Pointer(d)) => {
             class_conversion(site, known, faults, *c, *d)
         }

@@ -2,6 +2,7 @@
 
 ghost use Rattle.std.specs.Prelude.{◌≡◌, ◌++◌, ◌∷◌, [], IfOk, IfErr, OnOk, Ok, Err};
 ghost use Rattle.cxx_hierarchy.specs.declared.stop.Stop.TheVariants.{NoMemory as OutOfMemory};
+ghost use Rattle.cxx_expression.specs.Checked.{Answers, fail};
 ghost use Rattle.cxx_expression.specs.Faults.{is_before, least, settled};
 
 use cxx_hierarchy::{Rule, Stop};
@@ -54,6 +55,16 @@ pub fn note(faults: &mut FaultList, rule: Rule, at: u32) -> Result<(), NoMemory>
     ensures { OnOk result (faults.new ≡ faults.old ++ (record { rule = rule; at = at }) ∷ []) }
 {
     faults.push(Fault { rule, at })
+}
+
+/// Adds a fault to a piece that is then not typed.
+///
+/// Errors: want of memory.
+pub fn refuse<X>(faults: &mut FaultList, rule: Rule, at: u32) -> Result<Option<X>, NoMemory>
+    ensures { Answers result faults.old faults.new (fail rule at) }
+{
+    note(faults, rule, at)?;
+    Ok(None)
 }
 
 /// The fault that counts, or what is typed. Where nothing refuses, all is typed.

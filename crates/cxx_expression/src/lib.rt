@@ -37,7 +37,7 @@ pub use crate::casts::polymorphic_pointer;
 pub use crate::classes::{class_named, class_of, find_class, type_of};
 pub use crate::conversions::{class_conversion, conversion_of, converted_operand};
 pub use crate::copies::copy_type;
-pub use crate::faults::{Fault, FaultList, least, note, settle};
+pub use crate::faults::{Fault, FaultList, least, note, refuse, settle};
 pub use crate::known::Known;
 pub use crate::laws::answered;
 pub use crate::places::leaf_of;

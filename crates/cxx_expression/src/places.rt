@@ -7,7 +7,7 @@ ghost use Rattle.cxx_expression.specs.Places.{member_in, member_of, index_of, ob
 ghost use Rattle.cxx_expression.specs.invariants.Known.{Knows};
 
 use crate::copies::copy_field;
-use crate::faults::{FaultList, note};
+use crate::faults::{FaultList, note, refuse};
 use crate::known::Known;
 use crate::look_up::{Looked, looked_up, member_record};
 use crate::site::Site;
@@ -32,12 +32,10 @@ fn member_in(
     ensures { Answers result faults.old faults.new (member_in h.now name_at s number (class_of s)) }
 {
     let Some(class) = class_of(&s) else {
-        note(faults, Rule::NoSuchMember, name_at)?;
-        return Ok(None);
+        return refuse(faults, Rule::NoSuchMember, name_at);
     };
     let Some(member) = member_record(h, class, number) else {
-        note(faults, Rule::NoSuchMember, name_at)?;
-        return Ok(None);
+        return refuse(faults, Rule::NoSuchMember, name_at);
     };
     Ok(Some(FoundMember {
         base: s,
@@ -61,19 +59,10 @@ fn member_of(
     ensures knows { OnOk result (Knows site.now.h.now known.new) }
 {
     match looked_up(site.h, known, c, x.name.as_slice())? {
-        Looked::Missing => {
-            note(faults, Rule::NoSuchMember, x.at)?;
-            Ok(None)
-        }
-        Looked::Ambiguous => {
-            note(faults, Rule::AmbiguousName, x.at)?;
-            Ok(None)
-        }
+        Looked::Missing => refuse(faults, Rule::NoSuchMember, x.at),
+        Looked::Ambiguous => refuse(faults, Rule::AmbiguousName, x.at),
         Looked::Member(s, number) => member_in(site.h, x.at, faults, s, number),
-        Looked::Function(_, _) => {
-            note(faults, Rule::TypeMismatch, site.at)?;
-            Ok(None)
-        }
+        Looked::Function(_, _) => refuse(faults, Rule::TypeMismatch, site.at),
     }
 }
 
@@ -96,10 +85,7 @@ fn index_of(
             note(faults, Rule::Index, place)?;
             Ok(Some(0))
         }
-        (None, Some(_)) | (Some(_), None) => {
-            note(faults, Rule::TypeMismatch, at)?;
-            Ok(None)
-        }
+        (None, Some(_)) | (Some(_), None) => refuse(faults, Rule::TypeMismatch, at),
     }
 }
 
@@ -114,10 +100,7 @@ fn object_of(
 {
     match ty {
         FieldType::Object(class) => Ok(Some(*class)),
-        FieldType::Value(_) => {
-            note(faults, Rule::TypeMismatch, at)?;
-            Ok(None)
-        }
+        FieldType::Value(_) => refuse(faults, Rule::TypeMismatch, at),
     }
 }
 
@@ -252,8 +235,7 @@ fn place_of(
         return Ok(None);
     };
     let Some(place) = with_last(pointer, reached) else {
-        note(faults, Rule::TypeMismatch, site.at)?;
-        return Ok(None);
+        return refuse(faults, Rule::TypeMismatch, site.at);
     };
     Ok(Some(place))
 }
@@ -276,10 +258,7 @@ pub fn leaf_of(
     let FieldPlace { place, ty } = found;
     match ty {
         FieldType::Value(ty) => Ok(Some(LeafPlace { place, ty })),
-        FieldType::Object(_) => {
-            note(faults, Rule::TypeMismatch, site.at)?;
-            Ok(None)
-        }
+        FieldType::Object(_) => refuse(faults, Rule::TypeMismatch, site.at),
     }
 }
 
@@ -301,9 +280,6 @@ pub(crate) fn object_place_of(
     let FieldPlace { place, ty } = found;
     match ty {
         FieldType::Object(class) => Ok(Some(ObjectPlace { place, class })),
-        FieldType::Value(_) => {
-            note(faults, Rule::TypeMismatch, site.at)?;
-            Ok(None)
-        }
+        FieldType::Value(_) => refuse(faults, Rule::TypeMismatch, site.at),
     }
 }

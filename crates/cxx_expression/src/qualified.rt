@@ -76,7 +76,12 @@ fn parameters_of(found: &Option<FoundFunction>) -> &[ValueType<ClassId>]
     }
 }
 
-fn qualified(receiver: Receiver, found: FoundFunction, arguments: ArgumentList) -> CallValue
+/// A call that is not dispatched.
+pub(crate) fn qualified(
+    receiver: Receiver,
+    found: FoundFunction,
+    arguments: ArgumentList,
+) -> CallValue
     ensures { result ≡ qualified receiver found arguments }
 {
     let Receiver { pointer, path } = receiver;

@@ -11,7 +11,7 @@ use crate::calls::call_of;
 use crate::casts::{cast_right, type_right};
 use crate::classes::class_of;
 use crate::conversions::conversion_of;
-use crate::faults::{FaultList, note};
+use crate::faults::{FaultList, refuse};
 use crate::known::Known;
 use crate::operators::{binary_right, not_right};
 use crate::places::{leaf_of, object_place_of};
@@ -25,13 +25,12 @@ use cxx_search::abstract_is_found;
 use cxx_syntax::{CallText, Operand, PlaceText, Right, Spot};
 use foundation::NoMemory;
 
+/// What a right side is typed to, where its names and types fit.
+type Answer = Result<Option<RightValue>, NoMemory>;
+
 /// An operand.
 #[tactic(auto, unfolding(crate::specs::Rights::operand_right))]
-fn operand_right(
-    site: &Site,
-    faults: &mut FaultList,
-    operand: &Operand,
-) -> Result<Option<RightValue>, NoMemory>
+fn operand_right(site: &Site, faults: &mut FaultList, operand: &Operand) -> Answer
     ensures { Answers result faults.old faults.new (operand_right site.now.setting.now site.now.scene.now site.now.at operand.now) }
 {
     let Some(value) = operand_of(site, faults, operand)? else {
@@ -46,12 +45,7 @@ fn operand_right(
 
 /// A place that is read.
 #[tactic(auto, unfolding(crate::specs::Rights::place_right))]
-fn place_right(
-    site: &Site,
-    known: &mut Known,
-    faults: &mut FaultList,
-    text: &PlaceText,
-) -> Result<Option<RightValue>, NoMemory>
+fn place_right(site: &Site, known: &mut Known, faults: &mut FaultList, text: &PlaceText) -> Answer
     requires knows { Knows site.now.h.now known.old }
     ensures answers { Answers result faults.old faults.new (place_right site.now.h.now site.now.setting.now site.now.scene.now site.now.at text.now) }
     ensures knows { OnOk result (Knows site.now.h.now known.new) }
@@ -68,12 +62,7 @@ fn place_right(
 
 /// The address of an object.
 #[tactic(auto, unfolding(crate::specs::Rights::address_right))]
-fn address_right(
-    site: &Site,
-    known: &mut Known,
-    faults: &mut FaultList,
-    text: &PlaceText,
-) -> Result<Option<RightValue>, NoMemory>
+fn address_right(site: &Site, known: &mut Known, faults: &mut FaultList, text: &PlaceText) -> Answer
     requires knows { Knows site.now.h.now known.old }
     ensures answers { Answers result faults.old faults.new (address_right site.now.h.now site.now.setting.now site.now.scene.now site.now.at text.now) }
     ensures knows { OnOk result (Knows site.now.h.now known.new) }
@@ -90,12 +79,7 @@ fn address_right(
 
 /// A call whose result is used.
 #[tactic(auto, unfolding(crate::specs::Rights::call_right))]
-fn call_right(
-    site: &Site,
-    known: &mut Known,
-    faults: &mut FaultList,
-    text: &CallText,
-) -> Result<Option<RightValue>, NoMemory>
+fn call_right(site: &Site, known: &mut Known, faults: &mut FaultList, text: &CallText) -> Answer
     requires made { AreOverriders site.now.h.now site.now.overriders.now }
     requires knows { Knows site.now.h.now known.old }
     ensures answers { Answers result faults.old faults.new (call_right site.now.h.now site.now.setting.now site.now.scene.now site.now.at text.now) }
@@ -106,10 +90,7 @@ fn call_right(
     };
     let CallValue { call, returns } = value;
     match returns {
-        ReturnType::Void => {
-            note(faults, Rule::TypeMismatch, site.at)?;
-            Ok(None)
-        }
+        ReturnType::Void => refuse(faults, Rule::TypeMismatch, site.at),
         ReturnType::Value(ty) => Ok(Some(RightValue {
             right: TypedRight::Call(call),
             ty,
@@ -133,12 +114,7 @@ fn is_abstract(h: &Hierarchy, o: &Overriders, c: ClassId) -> bool
 
 /// A `new`.
 #[tactic(auto, unfolding(crate::specs::Rights::new_right))]
-fn new_right(
-    h: &Hierarchy,
-    o: &Overriders,
-    faults: &mut FaultList,
-    x: &Spot,
-) -> Result<Option<RightValue>, NoMemory>
+fn new_right(h: &Hierarchy, o: &Overriders, faults: &mut FaultList, x: &Spot) -> Answer
     requires made { AreOverriders h.now o.now }
     ensures { Answers result faults.old faults.new (new_right h.now x.now) }
 {
@@ -146,8 +122,7 @@ fn new_right(
         return Ok(None);
     };
     if is_abstract(h, o, class) {
-        note(faults, Rule::Abstract, x.at)?;
-        return Ok(None);
+        return refuse(faults, Rule::Abstract, x.at);
     }
     Ok(Some(RightValue {
         right: TypedRight::New(class),
@@ -158,12 +133,7 @@ fn new_right(
 
 /// A right side and its type; `at` is the place of the statement's first token. Faults: those of the right side.
 #[tactic(auto, unfolding(crate::specs::Rights::right_of))]
-pub fn right_of(
-    site: &Site,
-    known: &mut Known,
-    faults: &mut FaultList,
-    right: &Right,
-) -> Result<Option<RightValue>, NoMemory>
+pub fn right_of(site: &Site, known: &mut Known, faults: &mut FaultList, right: &Right) -> Answer
     requires made { AreOverriders site.now.h.now site.now.overriders.now }
     requires knows { Knows site.now.h.now known.old }
     ensures answers { Answers result faults.old faults.new (right_of site.now.h.now site.now.setting.now site.now.scene.now site.now.at right.now) }

@@ -5,7 +5,7 @@ ghost use Rattle.cxx_expression.specs.Checked.{Answers};
 ghost use Rattle.cxx_expression.specs.Values.{variable_of, named_value, this_of, within_long, spelled, truth, constant_of, operand_of, pointer_value, as_pointer, as_number, pointer_of, number_of};
 
 use crate::copies::copy_type;
-use crate::faults::{FaultList, note};
+use crate::faults::{FaultList, refuse};
 use crate::scene::last_of;
 use crate::site::Site;
 use crate::typed::{Number, Pointer, Value};
@@ -19,6 +19,9 @@ const LARGEST_INT: u64 = 2147483647;
 
 /// The largest number that a source has, which is the largest `long`.
 const LARGEST: u64 = 9223372036854775807;
+
+/// What an operand is typed to, where its names and types fit.
+type Answer<T> = Result<Option<T>, NoMemory>;
 
 /// The variable of a name, and its type. Faults: E22.
 #[tactic(auto, unfolding(crate::specs::Values::variable_of))]
@@ -35,13 +38,12 @@ pub fn variable_of(
     if let Some(entry) = last_of(site.setting.globals.as_slice(), x.name.as_slice()) {
         return Ok(Some((Variable::Global(entry.number), copy_type(&entry.ty))));
     }
-    note(faults, Rule::UnknownName, x.at)?;
-    Ok(None)
+    refuse(faults, Rule::UnknownName, x.at)
 }
 
 /// The value of the variable of a name.
 #[tactic(auto, unfolding(crate::specs::Values::named_value))]
-fn named_value(site: &Site, faults: &mut FaultList, x: &Spot) -> Result<Option<Value>, NoMemory>
+fn named_value(site: &Site, faults: &mut FaultList, x: &Spot) -> Answer<Value>
     ensures { Answers result faults.old faults.new (named_value site.now.setting.now site.now.scene.now x.now) }
 {
     let Some((variable, ty)) = variable_of(site, faults, x)? else {
@@ -55,16 +57,11 @@ fn named_value(site: &Site, faults: &mut FaultList, x: &Spot) -> Result<Option<V
 }
 
 /// `this`, of the class, where there is one.
-fn this_of(
-    at: u32,
-    faults: &mut FaultList,
-    class: Option<ClassId>,
-) -> Result<Option<Value>, NoMemory>
+fn this_of(at: u32, faults: &mut FaultList, class: Option<ClassId>) -> Answer<Value>
     ensures { Answers result faults.old faults.new (this_of at class) }
 {
     let Some(class) = class else {
-        note(faults, Rule::TypeMismatch, at)?;
-        return Ok(None);
+        return refuse(faults, Rule::TypeMismatch, at);
     };
     Ok(Some(Value {
         operand: TypedOperand::This,
@@ -119,11 +116,7 @@ pub fn constant_of(constant: &Constant) -> Value
 
 /// An operand and its type; `at` is the place of the statement's first token. Faults: E22, and E19 at `this` in `main`.
 #[tactic(auto, unfolding(crate::specs::Values::operand_of))]
-pub fn operand_of(
-    site: &Site,
-    faults: &mut FaultList,
-    operand: &Operand,
-) -> Result<Option<Value>, NoMemory>
+pub fn operand_of(site: &Site, faults: &mut FaultList, operand: &Operand) -> Answer<Value>
     ensures { Answers result faults.old faults.new (operand_of site.now.setting.now site.now.scene.now site.now.at operand.now) }
 {
     match operand {
@@ -135,11 +128,7 @@ pub fn operand_of(
 
 /// A variable or `this`, and its type.
 #[tactic(auto, unfolding(crate::specs::Values::pointer_value))]
-fn pointer_value(
-    site: &Site,
-    faults: &mut FaultList,
-    pointer: &PointerText,
-) -> Result<Option<Value>, NoMemory>
+fn pointer_value(site: &Site, faults: &mut FaultList, pointer: &PointerText) -> Answer<Value>
     ensures { Answers result faults.old faults.new (pointer_value site.now.setting.now site.now.scene.now site.now.at pointer.now) }
 {
     match pointer {
@@ -149,73 +138,49 @@ fn pointer_value(
 }
 
 /// A value that must be a pointer.
-fn as_pointer(
-    at: u32,
-    faults: &mut FaultList,
-    operand: TypedOperand,
-    ty: &ValueType<ClassId>,
-) -> Result<Option<Pointer>, NoMemory>
-    ensures { Answers result faults.old faults.new (as_pointer at operand ty.now) }
+fn as_pointer(at: u32, faults: &mut FaultList, value: &Value) -> Answer<Pointer>
+    ensures { Answers result faults.old faults.new (as_pointer at value.now.operand value.now.ty) }
 {
-    match ty {
+    match &value.ty {
         ValueType::Pointer(class) => Ok(Some(Pointer {
-            operand,
+            operand: value.operand,
             class: *class,
         })),
-        ValueType::Number(_) => {
-            note(faults, Rule::TypeMismatch, at)?;
-            Ok(None)
-        }
+        ValueType::Number(_) => refuse(faults, Rule::TypeMismatch, at),
     }
 }
 
 /// A variable or `this`, which must be a pointer; `at` is the place of the statement's first token. Faults: E22, E19.
 #[tactic(auto, unfolding(crate::specs::Values::pointer_of))]
-pub fn pointer_of(
-    site: &Site,
-    faults: &mut FaultList,
-    pointer: &PointerText,
-) -> Result<Option<Pointer>, NoMemory>
+pub fn pointer_of(site: &Site, faults: &mut FaultList, pointer: &PointerText) -> Answer<Pointer>
     ensures { Answers result faults.old faults.new (pointer_of site.now.setting.now site.now.scene.now site.now.at pointer.now) }
 {
     let Some(value) = pointer_value(site, faults, pointer)? else {
         return Ok(None);
     };
-    as_pointer(site.at, faults, value.operand, &value.ty)
+    as_pointer(site.at, faults, &value)
 }
 
 /// A value that must be a number.
-fn as_number(
-    at: u32,
-    faults: &mut FaultList,
-    operand: TypedOperand,
-    ty: &ValueType<ClassId>,
-) -> Result<Option<Number>, NoMemory>
-    ensures { Answers result faults.old faults.new (as_number at operand ty.now) }
+fn as_number(at: u32, faults: &mut FaultList, value: &Value) -> Answer<Number>
+    ensures { Answers result faults.old faults.new (as_number at value.now.operand value.now.ty) }
 {
-    match ty {
+    match &value.ty {
         ValueType::Number(scalar) => Ok(Some(Number {
-            operand,
+            operand: value.operand,
             scalar: *scalar,
         })),
-        ValueType::Pointer(_) => {
-            note(faults, Rule::TypeMismatch, at)?;
-            Ok(None)
-        }
+        ValueType::Pointer(_) => refuse(faults, Rule::TypeMismatch, at),
     }
 }
 
 /// An operand that must be a number; `at` is the place of the statement's first token. Faults: E22, E19.
 #[tactic(auto, unfolding(crate::specs::Values::number_of))]
-pub fn number_of(
-    site: &Site,
-    faults: &mut FaultList,
-    operand: &Operand,
-) -> Result<Option<Number>, NoMemory>
+pub fn number_of(site: &Site, faults: &mut FaultList, operand: &Operand) -> Answer<Number>
     ensures { Answers result faults.old faults.new (number_of site.now.setting.now site.now.scene.now site.now.at operand.now) }
 {
     let Some(value) = operand_of(site, faults, operand)? else {
         return Ok(None);
     };
-    as_number(site.at, faults, value.operand, &value.ty)
+    as_number(site.at, faults, &value)
 }
