@@ -7,13 +7,16 @@ ghost use Rattle.cxx_expression.specs.invariants.Known.{Knows};
 ghost use Rattle.cxx_resolve.specs.Statements.{assign_of, write_of, copy_of, call_statement, delete_of, value_return, return_of, print_of, print_type_of, print_view_of, dump_of, plain_of};
 
 use cxx_expression::{
-    FaultList, Known, Returns, Site, call_of, conversion_of, converted_operand, leaf_of, note,
-    operand_of, pointer_of, polymorphic_pointer, right_of, variable_of,
+    FaultList, Known, Returns, Site, call_of, conversion_of, converted_operand, leaf_of,
+    operand_of, pointer_of, polymorphic_pointer, refuse, right_of, variable_of,
 };
 use cxx_hierarchy::{ClassId, Rule, ValueType};
 use cxx_program::{Argument, Converted, TypedKind};
 use cxx_syntax::{CallText, Operand, PlaceText, PointerText, Right, Spot, StatementKind};
 use foundation::NoMemory;
+
+/// What a statement is typed to, where its names and types fit.
+type Answer = Result<Option<TypedKind>, NoMemory>;
 
 /// An assignment to a variable.
 #[tactic(auto, unfolding(crate::specs::Statements::assign_of))]
@@ -23,7 +26,7 @@ fn assign_of(
     faults: &mut FaultList,
     x: &Spot,
     right: &Right,
-) -> Result<Option<TypedKind>, NoMemory>
+) -> Answer
     requires made { AreOverriders site.now.h.now site.now.overriders.now }
     requires knows { Knows site.now.h.now known.old }
     ensures answers { Answers result faults.old faults.new (assign_of site.now.h.now site.now.setting.now site.now.scene.now site.now.at x.now right.now) }
@@ -53,7 +56,7 @@ fn write_of(
     faults: &mut FaultList,
     place: &PlaceText,
     operand: &Operand,
-) -> Result<Option<TypedKind>, NoMemory>
+) -> Answer
     requires knows { Knows site.now.h.now known.old }
     ensures answers { Answers result faults.old faults.new (write_of site.now.h.now site.now.setting.now site.now.scene.now site.now.at place.now operand.now) }
     ensures knows { OnOk result (Knows site.now.h.now known.new) }
@@ -79,12 +82,7 @@ fn write_of(
 
 /// A copy of an object into another.
 #[tactic(auto, unfolding(crate::specs::Statements::copy_of))]
-fn copy_of(
-    site: &Site,
-    faults: &mut FaultList,
-    to: &PointerText,
-    source: &PointerText,
-) -> Result<Option<TypedKind>, NoMemory>
+fn copy_of(site: &Site, faults: &mut FaultList, to: &PointerText, source: &PointerText) -> Answer
     ensures { Answers result faults.old faults.new (copy_of site.now.setting.now site.now.scene.now site.now.at to.now source.now) }
 {
     let to = pointer_of(site, faults, to)?;
@@ -93,20 +91,14 @@ fn copy_of(
         return Ok(None);
     };
     if to.class.0 != source.class.0 {
-        note(faults, Rule::TypeMismatch, site.at)?;
-        return Ok(None);
+        return refuse(faults, Rule::TypeMismatch, site.at);
     }
     Ok(Some(TypedKind::Copy(to.operand, source.operand, to.class)))
 }
 
 /// A call whose result is not used.
 #[tactic(auto, unfolding(crate::specs::Statements::call_statement))]
-fn call_statement(
-    site: &Site,
-    known: &mut Known,
-    faults: &mut FaultList,
-    text: &CallText,
-) -> Result<Option<TypedKind>, NoMemory>
+fn call_statement(site: &Site, known: &mut Known, faults: &mut FaultList, text: &CallText) -> Answer
     requires made { AreOverriders site.now.h.now site.now.overriders.now }
     requires knows { Knows site.now.h.now known.old }
     ensures answers { Answers result faults.old faults.new (call_statement site.now.h.now site.now.setting.now site.now.scene.now site.now.at text.now) }
@@ -120,11 +112,7 @@ fn call_statement(
 
 /// A `delete`.
 #[tactic(auto, unfolding(crate::specs::Statements::delete_of))]
-fn delete_of(
-    site: &Site,
-    faults: &mut FaultList,
-    pointer: &PointerText,
-) -> Result<Option<TypedKind>, NoMemory>
+fn delete_of(site: &Site, faults: &mut FaultList, pointer: &PointerText) -> Answer
     ensures { Answers result faults.old faults.new (delete_of site.now.setting.now site.now.scene.now site.now.at pointer.now) }
 {
     let Some(pointer) = pointer_of(site, faults, pointer)? else {
@@ -141,7 +129,7 @@ fn value_return(
     faults: &mut FaultList,
     ty: &ValueType<ClassId>,
     operand: &Operand,
-) -> Result<Option<TypedKind>, NoMemory>
+) -> Answer
     requires knows { Knows site.now.h.now known.old }
     ensures answers { Answers result faults.old faults.new (value_return site.now.h.now site.now.setting.now site.now.scene.now site.now.at ty.now operand.now) }
     ensures knows { OnOk result (Knows site.now.h.now known.new) }
@@ -155,33 +143,23 @@ fn value_return(
 
 /// A `return`.
 #[tactic(auto, unfolding(crate::specs::Statements::return_of))]
-fn return_of(
-    site: &Site,
-    known: &mut Known,
-    faults: &mut FaultList,
-    operand: &Option<Operand>,
-) -> Result<Option<TypedKind>, NoMemory>
+fn return_of(site: &Site, known: &mut Known, faults: &mut FaultList, x: &Option<Operand>) -> Answer
     requires knows { Knows site.now.h.now known.old }
-    ensures answers { Answers result faults.old faults.new (return_of site.now.h.now site.now.setting.now site.now.scene.now site.now.at operand.now) }
+    ensures answers { Answers result faults.old faults.new (return_of site.now.h.now site.now.setting.now site.now.scene.now site.now.at x.now) }
     ensures knows { OnOk result (Knows site.now.h.now known.new) }
 {
-    match (&site.setting.returns, operand) {
+    match (&site.setting.returns, x) {
         (Returns::Nothing, None) => Ok(Some(TypedKind::Return(None))),
         (Returns::Value(ty), Some(operand)) => { value_return(site, known, faults, ty, operand) }
         (Returns::Nowhere, _) | (Returns::Nothing, Some(_)) | (Returns::Value(_), None) => {
-            note(faults, Rule::TypeMismatch, site.at)?;
-            Ok(None)
+            refuse(faults, Rule::TypeMismatch, site.at)
         }
     }
 }
 
 /// A value that is printed.
 #[tactic(auto, unfolding(crate::specs::Statements::print_of))]
-fn print_of(
-    site: &Site,
-    faults: &mut FaultList,
-    operand: &Operand,
-) -> Result<Option<TypedKind>, NoMemory>
+fn print_of(site: &Site, faults: &mut FaultList, operand: &Operand) -> Answer
     ensures { Answers result faults.old faults.new (print_of site.now.setting.now site.now.scene.now site.now.at operand.now) }
 {
     let Some(value) = operand_of(site, faults, operand)? else {
@@ -192,18 +170,12 @@ fn print_of(
 
 /// A `print` of a class's name.
 #[tactic(auto, unfolding(crate::specs::Statements::print_type_of))]
-fn print_type_of(
-    site: &Site,
-    known: &mut Known,
-    faults: &mut FaultList,
-    pointer: &PointerText,
-) -> Result<Option<TypedKind>, NoMemory>
+fn print_type_of(site: &Site, known: &mut Known, faults: &mut FaultList, x: &PointerText) -> Answer
     requires knows { Knows site.now.h.now known.old }
-    ensures answers { Answers result faults.old faults.new (print_type_of site.now.h.now site.now.setting.now site.now.scene.now site.now.at pointer.now) }
+    ensures answers { Answers result faults.old faults.new (print_type_of site.now.h.now site.now.setting.now site.now.scene.now site.now.at x.now) }
     ensures knows { OnOk result (Knows site.now.h.now known.new) }
 {
-    let pointer = polymorphic_pointer(site, known, faults, pointer)?;
-    let Some(pointer) = pointer else {
+    let Some(pointer) = polymorphic_pointer(site, known, faults, x)? else {
         return Ok(None);
     };
     Ok(Some(TypedKind::PrintType(pointer.operand, pointer.class)))
@@ -211,18 +183,12 @@ fn print_type_of(
 
 /// A `print` of the place of a whole object.
 #[tactic(auto, unfolding(crate::specs::Statements::print_view_of))]
-fn print_view_of(
-    site: &Site,
-    known: &mut Known,
-    faults: &mut FaultList,
-    pointer: &PointerText,
-) -> Result<Option<TypedKind>, NoMemory>
+fn print_view_of(site: &Site, known: &mut Known, faults: &mut FaultList, x: &PointerText) -> Answer
     requires knows { Knows site.now.h.now known.old }
-    ensures answers { Answers result faults.old faults.new (print_view_of site.now.h.now site.now.setting.now site.now.scene.now site.now.at pointer.now) }
+    ensures answers { Answers result faults.old faults.new (print_view_of site.now.h.now site.now.setting.now site.now.scene.now site.now.at x.now) }
     ensures knows { OnOk result (Knows site.now.h.now known.new) }
 {
-    let pointer = polymorphic_pointer(site, known, faults, pointer)?;
-    let Some(pointer) = pointer else {
+    let Some(pointer) = polymorphic_pointer(site, known, faults, x)? else {
         return Ok(None);
     };
     Ok(Some(TypedKind::PrintView(pointer.operand, pointer.class)))
@@ -230,11 +196,7 @@ fn print_view_of(
 
 /// A `dump`.
 #[tactic(auto, unfolding(crate::specs::Statements::dump_of))]
-fn dump_of(
-    site: &Site,
-    faults: &mut FaultList,
-    pointer: &PointerText,
-) -> Result<Option<TypedKind>, NoMemory>
+fn dump_of(site: &Site, faults: &mut FaultList, pointer: &PointerText) -> Answer
     ensures { Answers result faults.old faults.new (dump_of site.now.setting.now site.now.scene.now site.now.at pointer.now) }
 {
     let Some(pointer) = pointer_of(site, faults, pointer)? else {
@@ -250,7 +212,7 @@ pub(crate) fn plain_of(
     known: &mut Known,
     faults: &mut FaultList,
     kind: &StatementKind,
-) -> Result<Option<TypedKind>, NoMemory>
+) -> Answer
     requires made { AreOverriders site.now.h.now site.now.overriders.now }
     requires knows { Knows site.now.h.now known.old }
     ensures answers { Answers result faults.old faults.new (plain_of site.now.h.now site.now.setting.now site.now.scene.now site.now.at kind.now) }
@@ -268,8 +230,7 @@ pub(crate) fn plain_of(
         StatementKind::PrintView(x) => print_view_of(site, known, faults, x),
         StatementKind::Dump(x) => dump_of(site, faults, x),
         StatementKind::Declare(..) | StatementKind::If(..) | StatementKind::While(..) => {
-            note(faults, Rule::TypeMismatch, site.at)?;
-            Ok(None)
+            refuse(faults, Rule::TypeMismatch, site.at)
         }
     }
 }
