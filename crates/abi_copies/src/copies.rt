@@ -9,7 +9,7 @@ ghost use Rattle.byte_code.specs.declared.op.Op.TheVariants.{Copy};
 ghost use Rattle.abi_ops.specs.invariants.Fits.{FitsBase, FitsOperand};
 ghost use Rattle.abi_ops.specs.invariants.Sites.{site_setup, site_places, site_block, IsLaidSite};
 ghost use Rattle.abi_copies.specs.CopyOps.{subobject_copies, copy_ops};
-ghost use Rattle.abi_copies.specs.invariants.Fits.{FitsObject, FitsMember, FitsOwn};
+ghost use Rattle.abi_copies.specs.invariants.Fits.{FitsMember, FitsObject, FitsOwn, IsSiteOf};
 ghost use Rattle.abi_copies.specs.invariants.Pushes.{AddsObjects, AddsMember, AddsOwn, AddsObject};
 
 use crate::distances::{Elements, Sides, type_bytes, value_bytes};
@@ -53,96 +53,87 @@ fn push_values(
     Ok(())
 }
 
-/// Copies the leaves of elements that are objects of class d.
-#[cycle(copies)]
-fn push_objects<L: SoundLayout>(
-    ops: &mut OpList,
-    site: &Site<L>,
+/// Where leaves are copied: the site of the statement, and the registers that have the addresses of a subobject in both parts.
+#[derive(Drop)]
+struct CopySite<'a, L> {
+    site: &'a Site<'a, L>,
     sides: Sides,
-    d: ClassId,
-    elements: Elements,
-) -> Result<(), NoMemory>
-    requires laid { IsLaidSite L.lays_out L.rows site.now }
-    requires known { d.0 < length site.now.h.now }
-    requires fits { (i : ℕ) → i < elements.count → FitsObject site.now.h.now (site_places L.rows site.now) d (elements.start + i * elements.stride) }
-    ensures { OnOk result (AddsObjects (site_setup L.rows site.now) sides d elements.start elements.stride elements.count ops.old ops.new) }
-{
-    let bases = list_subobjects(site.alloc, site.h, d)?;
-    for i in 0..elements.count {
-        push_object(ops, site, sides, d, bases.as_slice(), elements.place(i))?;
-    }
-    Ok(())
 }
 
-/// Copies the leaves of a member of class b, of which the first element lies so many bytes behind the registers.
-#[cycle(copies)]
-fn push_member<L: SoundLayout>(
-    ops: &mut OpList,
-    site: &Site<L>,
-    sides: Sides,
-    b: ClassId,
-    member: &Member<ClassId>,
-    start: u32,
-) -> Result<(), NoMemory>
-    requires laid { IsLaidSite L.lays_out L.rows site.now }
-    requires known { b.0 < length site.now.h.now }
-    requires fits { FitsMember site.now.h.now (site_places L.rows site.now) b member.now start }
-    ensures { OnOk result (AddsMember (site_setup L.rows site.now) sides b member.now start ops.old ops.new) }
-{
-    let elements = Elements {
-        start,
-        stride: type_bytes(site, &member.ty),
-        count: member.elements(),
-    };
-    match &member.ty {
-        FieldType::Value(ty) => push_values(ops, sides, elements, value_bytes(ty)),
-        FieldType::Object(d) => push_objects(ops, site, sides, *d, elements),
+impl<'a, L: SoundLayout> CopySite<'a, L> {
+    /// Copies the leaves of elements that are objects of class d.
+    #[cycle(copies)]
+    fn push_objects(&self, ops: &mut OpList, d: ClassId, elements: Elements) -> Result<(), NoMemory>
+        requires site { IsSiteOf L.lays_out L.rows self.now.site.now d }
+        requires fits { (i : ℕ) → i < elements.count → FitsObject self.now.site.now.h.now (site_places L.rows self.now.site.now) d (elements.start + i * elements.stride) }
+        ensures { OnOk result (AddsObjects (site_setup L.rows self.now.site.now) self.now.sides d elements.start elements.stride elements.count ops.old ops.new) }
+    {
+        let bases = list_subobjects(self.site.alloc, self.site.h, d)?;
+        for i in 0..elements.count {
+            self.push_object(ops, d, bases.as_slice(), elements.place(i))?;
+        }
+        Ok(())
     }
-}
 
-/// Copies the leaves of the members that class b declares, of a subobject so many bytes behind the registers.
-#[cycle(copies)]
-fn push_own<L: SoundLayout>(
-    ops: &mut OpList,
-    site: &Site<L>,
-    sides: Sides,
-    b: ClassId,
-    offset: u32,
-) -> Result<(), NoMemory>
-    requires laid { IsLaidSite L.lays_out L.rows site.now }
-    requires known { b.0 < length site.now.h.now }
-    requires fits { FitsOwn site.now.h.now (site_places L.rows site.now) b offset }
-    ensures { OnOk result (AddsOwn (site_setup L.rows site.now) sides b offset ops.old ops.new) }
-{
-    let members = site.h.class(b).members.as_slice();
-    for (m, member) in members.iter().enumerate() {
-        let start = offset + member_place(site.layout, b, m as u32);
-        push_member(ops, site, sides, b, member, start)?;
+    /// Copies the leaves of a member of class b, of which the first element lies so many bytes behind the registers.
+    #[cycle(copies)]
+    fn push_member(
+        &self,
+        ops: &mut OpList,
+        b: ClassId,
+        member: &Member<ClassId>,
+        start: u32,
+    ) -> Result<(), NoMemory>
+        requires site { IsSiteOf L.lays_out L.rows self.now.site.now b }
+        requires fits { FitsMember self.now.site.now.h.now (site_places L.rows self.now.site.now) b member.now start }
+        ensures { OnOk result (AddsMember (site_setup L.rows self.now.site.now) self.now.sides b member.now start ops.old ops.new) }
+    {
+        let elements = Elements {
+            start,
+            stride: type_bytes(self.site, &member.ty),
+            count: member.elements(),
+        };
+        match &member.ty {
+            FieldType::Value(ty) => push_values(ops, self.sides, elements, value_bytes(ty)),
+            FieldType::Object(d) => self.push_objects(ops, *d, elements),
+        }
     }
-    Ok(())
-}
 
-/// Copies the leaves of a complete object of class d, so many bytes behind the registers, by the list of its subobjects.
-#[cycle(copies)]
-fn push_object<L: SoundLayout>(
-    ops: &mut OpList,
-    site: &Site<L>,
-    sides: Sides,
-    d: ClassId,
-    bases: &[Subobject],
-    offset: u32,
-) -> Result<(), NoMemory>
-    requires laid { IsLaidSite L.lays_out L.rows site.now }
-    requires known { d.0 < length site.now.h.now }
-    requires listed { bases.now ≡ preorder site.now.h.now d }
-    requires fits { FitsObject site.now.h.now (site_places L.rows site.now) d offset }
-    ensures { OnOk result (AddsObject (site_setup L.rows site.now) sides d offset ops.old ops.new) }
-{
-    for base in bases {
-        let start = offset + site.layout.place(site.h, d, base);
-        push_own(ops, site, sides, class_or_first(base), start)?;
+    /// Copies the leaves of the members that class b declares, of a subobject so many bytes behind the registers.
+    #[cycle(copies)]
+    fn push_own(&self, ops: &mut OpList, b: ClassId, offset: u32) -> Result<(), NoMemory>
+        requires site { IsSiteOf L.lays_out L.rows self.now.site.now b }
+        requires fits { FitsOwn self.now.site.now.h.now (site_places L.rows self.now.site.now) b offset }
+        ensures { OnOk result (AddsOwn (site_setup L.rows self.now.site.now) self.now.sides b offset ops.old ops.new) }
+    {
+        let members = self.site.h.class(b).members.as_slice();
+        for (m, member) in members.iter().enumerate() {
+            let start = offset + member_place(self.site.layout, b, m as u32);
+            self.push_member(ops, b, member, start)?;
+        }
+        Ok(())
     }
-    Ok(())
+
+    /// Copies the leaves of a complete object of class d, so many bytes behind the registers, by the list of its subobjects.
+    #[cycle(copies)]
+    fn push_object(
+        &self,
+        ops: &mut OpList,
+        d: ClassId,
+        bases: &[Subobject],
+        offset: u32,
+    ) -> Result<(), NoMemory>
+        requires site { IsSiteOf L.lays_out L.rows self.now.site.now d }
+        requires listed { bases.now ≡ preorder self.now.site.now.h.now d }
+        requires fits { FitsObject self.now.site.now.h.now (site_places L.rows self.now.site.now) d offset }
+        ensures { OnOk result (AddsObject (site_setup L.rows self.now.site.now) self.now.sides d offset ops.old ops.new) }
+    {
+        for base in bases {
+            let start = offset + self.site.layout.place(self.site.h, d, base);
+            self.push_own(ops, class_or_first(base), start)?;
+        }
+        Ok(())
+    }
 }
 
 /// Copies the leaves of the own members of a subobject of two parts of class c, of which the registers have the addresses.
@@ -165,7 +156,8 @@ fn push_subobject<L: SoundLayout>(
     push_base(&mut list, site, c, base, sides.to, parts.to)?;
     push_base(&mut list, site, c, base, sides.from, parts.from)?;
     push_done(ops, list.as_slice())?;
-    push_own(ops, site, sides, class_or_first(base), 0)?;
+    let copying = CopySite { site, sides };
+    copying.push_own(ops, class_or_first(base), 0)?;
     Ok(())
 }
 

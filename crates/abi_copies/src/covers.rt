@@ -5,7 +5,7 @@ ghost use Rattle.cxx_search.specs.Searches.{has_virtual_base as has_virtual_base
 ghost use Rattle.abi_ops.specs.invariants.Fits.{FitsOperand};
 ghost use Rattle.abi_ops.specs.invariants.Sites.{site_setup, site_places, site_block, IsSiteAt, IsLaidSite};
 ghost use Rattle.abi_copies.specs.CopyTests.{copy_front, copy_used};
-ghost use Rattle.abi_copies.specs.invariants.Fits.{FitsObject, FitsMember, FitsOwn};
+ghost use Rattle.abi_copies.specs.invariants.Fits.{FitsMember, FitsObject, FitsOwn, IsSiteOf};
 ghost use Rattle.abi_copies.specs.invariants.Pushes.{CoversObjects, CoversMember, CoversOwn};
 
 use crate::distances::{Elements, type_bytes};
@@ -46,76 +46,74 @@ fn has_virtual_base<L: SoundLayout>(site: &Site<L>, c: ClassId) -> bool
     site.layout.layout(c).virtual_bases.len() > 0
 }
 
-/// Tests elements that are objects of class d, and the class members inside them.
-#[cycle(covers)]
-fn push_elements_used<L: SoundLayout>(
-    uses: &mut UseList,
-    site: &Site<L>,
-    r: u32,
-    d: ClassId,
-    elements: Elements,
-) -> Result<(), NoMemory>
-    requires laid { IsLaidSite L.lays_out L.rows site.now }
-    requires known { d.0 < length site.now.h.now }
-    requires fits { (i : ℕ) → i < elements.count → FitsObject site.now.h.now (site_places L.rows site.now) d (elements.start + i * elements.stride) }
-    ensures { OnOk result (CoversObjects (site_setup L.rows site.now) r d elements.start elements.stride elements.count uses.old uses.new) }
-{
-    for i in 0..elements.count {
-        let distance = elements.place(i);
-        push_guards(uses, r, distance as u64, d)?;
-        push_covered(uses, site, r, d, distance)?;
-    }
-    Ok(())
+/// What class members are tested by: the site of the statement, and the register that has the address of their object.
+#[derive(Drop)]
+struct CoverSite<'a, L> {
+    site: &'a Site<'a, L>,
+    register: u32,
 }
 
-/// Tests a member of class b, of which the first element lies so many bytes behind a register.
-#[cycle(covers)]
-fn push_member_used<L: SoundLayout>(
-    uses: &mut UseList,
-    site: &Site<L>,
-    r: u32,
-    b: ClassId,
-    member: &Member<ClassId>,
-    start: u32,
-) -> Result<(), NoMemory>
-    requires laid { IsLaidSite L.lays_out L.rows site.now }
-    requires known { b.0 < length site.now.h.now }
-    requires fits { FitsMember site.now.h.now (site_places L.rows site.now) b member.now start }
-    ensures { OnOk result (CoversMember (site_setup L.rows site.now) r b member.now start uses.old uses.new) }
-{
-    match &member.ty {
-        FieldType::Value(_) => Ok(()),
-        FieldType::Object(d) => {
-            let elements = Elements {
-                start,
-                stride: type_bytes(site, &member.ty),
-                count: member.elements(),
-            };
-            push_elements_used(uses, site, r, *d, elements)
+impl<'a, L: SoundLayout> CoverSite<'a, L> {
+    /// Tests elements that are objects of class d, and the class members inside them.
+    #[cycle(covers)]
+    fn push_elements_used(
+        &self,
+        uses: &mut UseList,
+        d: ClassId,
+        elements: Elements,
+    ) -> Result<(), NoMemory>
+        requires site { IsSiteOf L.lays_out L.rows self.now.site.now d }
+        requires fits { (i : ℕ) → i < elements.count → FitsObject self.now.site.now.h.now (site_places L.rows self.now.site.now) d (elements.start + i * elements.stride) }
+        ensures { OnOk result (CoversObjects (site_setup L.rows self.now.site.now) self.now.register d elements.start elements.stride elements.count uses.old uses.new) }
+    {
+        for i in 0..elements.count {
+            let distance = elements.place(i);
+            push_guards(uses, self.register, distance as u64, d)?;
+            self.push_covered(uses, d, distance)?;
+        }
+        Ok(())
+    }
+
+    /// Tests a member of class b, of which the first element lies so many bytes behind the register.
+    #[cycle(covers)]
+    fn push_member_used(
+        &self,
+        uses: &mut UseList,
+        b: ClassId,
+        member: &Member<ClassId>,
+        start: u32,
+    ) -> Result<(), NoMemory>
+        requires site { IsSiteOf L.lays_out L.rows self.now.site.now b }
+        requires fits { FitsMember self.now.site.now.h.now (site_places L.rows self.now.site.now) b member.now start }
+        ensures { OnOk result (CoversMember (site_setup L.rows self.now.site.now) self.now.register b member.now start uses.old uses.new) }
+    {
+        match &member.ty {
+            FieldType::Value(_) => Ok(()),
+            FieldType::Object(d) => {
+                let elements = Elements {
+                    start,
+                    stride: type_bytes(self.site, &member.ty),
+                    count: member.elements(),
+                };
+                self.push_elements_used(uses, *d, elements)
+            }
         }
     }
-}
 
-/// Tests the class members that class c declares, and those in them, of an object so many bytes behind a register.
-#[cycle(covers)]
-fn push_covered<L: SoundLayout>(
-    uses: &mut UseList,
-    site: &Site<L>,
-    r: u32,
-    c: ClassId,
-    offset: u32,
-) -> Result<(), NoMemory>
-    requires laid { IsLaidSite L.lays_out L.rows site.now }
-    requires known { c.0 < length site.now.h.now }
-    requires fits { FitsOwn site.now.h.now (site_places L.rows site.now) c offset }
-    ensures { OnOk result (CoversOwn (site_setup L.rows site.now) r c offset uses.old uses.new) }
-{
-    let members = site.h.class(c).members.as_slice();
-    for (m, member) in members.iter().enumerate() {
-        let start = offset + member_place(site.layout, c, m as u32);
-        push_member_used(uses, site, r, c, member, start)?;
+    /// Tests the class members that class c declares, and those in them, of an object so many bytes behind the register.
+    #[cycle(covers)]
+    fn push_covered(&self, uses: &mut UseList, c: ClassId, offset: u32) -> Result<(), NoMemory>
+        requires site { IsSiteOf L.lays_out L.rows self.now.site.now c }
+        requires fits { FitsOwn self.now.site.now.h.now (site_places L.rows self.now.site.now) c offset }
+        ensures { OnOk result (CoversOwn (site_setup L.rows self.now.site.now) self.now.register c offset uses.old uses.new) }
+    {
+        let members = self.site.h.class(c).members.as_slice();
+        for (m, member) in members.iter().enumerate() {
+            let start = offset + member_place(self.site.layout, c, m as u32);
+            self.push_member_used(uses, c, member, start)?;
+        }
+        Ok(())
     }
-    Ok(())
 }
 
 /// Tests both pointers to parts of class c, and the class members that a copy covers.
@@ -142,7 +140,15 @@ pub fn push_copy_used<L: SoundLayout>(
     push_arrow(uses, site, again, from, c)?;
     push_views_if(uses, needs_view, first, 0, c)?;
     push_views_if(uses, needs_view, second, 0, c)?;
-    push_covered(uses, site, first, c, 0)?;
-    push_covered(uses, site, second, c, 0)?;
+    let target = CoverSite {
+        site,
+        register: first,
+    };
+    let source = CoverSite {
+        site,
+        register: second,
+    };
+    target.push_covered(uses, c, 0)?;
+    source.push_covered(uses, c, 0)?;
     Ok(())
 }

@@ -1,5 +1,5 @@
 -- What copies need of the distances of leaves: they fit into 32 bits. In every sound layout they do.
-use Rattle.std.specs.Prelude.{◌≡◌, ℕ, ◌+◌, ◌*◌, ◌<◌, ◌^◌, Some, List, slice_get}
+use Rattle.std.specs.Prelude.{◌≡◌, ℕ, ◌+◌, ◌*◌, ◌<◌, ◌^◌, Some, List, length, slice_get}
 use Rattle.cxx_hierarchy.specs.declared.records.ClassId.{ClassId}
 use Rattle.cxx_hierarchy.specs.declared.records.FieldType.{FieldType}
 use Rattle.cxx_hierarchy.specs.declared.records.FieldType.TheVariants.{Value, Object}
@@ -9,8 +9,11 @@ use Rattle.cxx_hierarchy.specs.Classes.{Classes, members_of}
 use Rattle.cxx_hierarchy.specs.Declarations.{elements_of}
 use Rattle.cxx_subobject.specs.declared.locations.Hop.{Hop}
 use Rattle.cxx_subobject.specs.Locations.{LeadsTo}
+use Rattle.abi_sound.specs.declared.class_layout.ClassLayout.{ClassLayout}
 use Rattle.abi_sound.specs.Places.{Places, size_of_value}
 use Rattle.abi_sound.specs.Locations.{place_at}
+use Rattle.abi_ops.specs.declared.sites.Site.{Site}
+use Rattle.abi_ops.specs.invariants.Sites.{IsLaidSite}
 
 -- all that lies in an object of class d, so many bytes behind a register, is near
 pub record FitsObject (h : Classes) (l : Places) (d : ClassId) (offset : ℕ) : Type 0 where
@@ -25,3 +28,8 @@ pub record FitsMember (h : Classes) (l : Places) (b : ClassId) (member : Member 
 -- each member of a subobject of class b, so many bytes behind a register
 pub record FitsOwn (h : Classes) (l : Places) (b : ClassId) (offset : ℕ) : Type 0 where
   pub members : (m : ℕ) (member : Member ClassId) → slice_get (members_of h b) m ≡ Some member → FitsMember h l b member (offset + l.member b m)
+
+-- a site with a layout, and one of its classes
+pub record IsSiteOf {L : Type 0} (lays_out : L → Classes → Type 0) (rows : L → List ClassLayout) (here : Site L) (c : ClassId) : Type 0 where
+  pub laid : IsLaidSite lays_out rows here
+  pub known : c.0 < length here.h.now

@@ -5,13 +5,13 @@ use Rattle.abi_copies.proofs.CopySteps.{subobject_copied}
 use Rattle.abi_copies.proofs.copies.push_subobject.Goals as goal
 use Rattle.abi_ops.specs.invariants.Sites.{site_block}
 
-pub push_own-requires-clause-known : goal.push_own-requires-clause-known
-push_own-requires-clause-known g c =
+pub push_own-requires-clause-site : goal.push_own-requires-clause-site
+push_own-requires-clause-site g c =
     let h = c.args.site.now.h.now in
     let class = class_found h c.args.c c.class_or_first.result c.args.base.now c.requires.base.valid c.class_or_first.ensures in
     let low = class_low h c.requires.laid.site.keeps c.args.c c.class_or_first.result c.args.base.now c.requires.base.valid class in
     let known = c.requires.base.known in
-    omega arith
+    record { laid = c.requires.laid; known = omega arith }
 
 pub push_own-requires-clause-fits : goal.push_own-requires-clause-fits
 push_own-requires-clause-fits g c =
