@@ -6,9 +6,9 @@ ghost use Rattle.abi_ops.specs.PlaceOps.{place_type};
 ghost use Rattle.abi_statements.specs.Rights.{loaded_used, load_ops};
 ghost use Rattle.abi_ops.specs.invariants.Fits.{FitsPlace};
 ghost use Rattle.abi_ops.specs.invariants.Sites.{site_setup, site_block, IsLaidSite};
-ghost use Rattle.abi_statements.specs.invariants.Sites.{site_right, FitsTaken};
+ghost use Rattle.abi_statements.specs.invariants.Sites.{TakesRight, site_right};
 
-use abi_ops::arguments::{push_convert_checks, push_taken};
+use crate::right_sites::RightSite;
 use abi_ops::operands::{operand_register, push_done};
 use abi_ops::places::{place_class, place_width, push_place};
 use abi_ops::reads::push_convert_used;
@@ -18,7 +18,7 @@ use abi_ops::widths::width;
 use abi_sound::SoundLayout;
 use byte_code::{Check, Finish, Op, OpList};
 use cxx_hierarchy::ClassId;
-use cxx_program::{Conversion, TypedPlace, Variable};
+use cxx_program::{Conversion, TypedPlace};
 use cxx_subobject::class_of;
 use foundation::{NoMemory, Sequence};
 
@@ -73,52 +73,48 @@ fn push_loaded_used<L: SoundLayout>(
     Ok(())
 }
 
-/// Loads a leaf, and gives its value to a variable.
-pub fn push_read_right<L: SoundLayout>(
-    ops: &mut OpList,
-    site: &Site<L>,
-    v: Variable,
-    place: &TypedPlace,
-    conversion: &Conversion,
-) -> Result<(), NoMemory>
-    requires laid { IsLaidSite L.lays_out L.rows site.now }
-    requires fits { FitsTaken site.now v (Read place.now) conversion.now }
-    ensures { OnOk result (ops.new ≡ ops.old ++ site_right L.rows site.now v (Read place.now) conversion.now) }
-{
-    let loaded = site.free(2);
-    push_load(ops, site, place, loaded, site.free(1))?;
-    let mut uses = Sequence::new(site.alloc);
-    push_loaded_used(&mut uses, site, place, conversion, loaded)?;
-    push_check_ops(site.alloc, ops, uses.as_slice())?;
-    let class = place_class(site, place);
-    let to = site.free(3);
-    let mut list = Sequence::new(site.alloc);
-    push_taken(&mut list, site, v, class, conversion, to, loaded)?;
-    push_done(ops, list.as_slice())?;
-    Ok(())
-}
+impl<'a, L: SoundLayout> RightSite<'a, L> {
+    /// Loads a leaf, and gives its value to the variable.
+    ///
+    /// Errors: want of memory.
+    pub(crate) fn push_read_right(
+        &self,
+        ops: &mut OpList,
+        place: &TypedPlace,
+    ) -> Result<(), NoMemory>
+        requires { TakesRight L.lays_out L.rows self.now (Read place.now) }
+        ensures { OnOk result (ops.new ≡ ops.old ++ site_right L.rows self.now (Read place.now)) }
+    {
+        let site = self.site;
+        let loaded = site.free(2);
+        push_load(ops, site, place, loaded, site.free(1))?;
+        let mut uses = Sequence::new(site.alloc);
+        push_loaded_used(&mut uses, site, place, self.conversion, loaded)?;
+        push_check_ops(site.alloc, ops, uses.as_slice())?;
+        let class = place_class(site, place);
+        self.push_value_taken(ops, class, site.free(3), loaded)?;
+        Ok(())
+    }
 
-/// Gives the address of a class member to a variable.
-pub fn push_address_right<L: SoundLayout>(
-    ops: &mut OpList,
-    site: &Site<L>,
-    v: Variable,
-    place: &TypedPlace,
-    d: ClassId,
-    conversion: &Conversion,
-) -> Result<(), NoMemory>
-    requires laid { IsLaidSite L.lays_out L.rows site.now }
-    requires fits { FitsTaken site.now v (Address place.now d) conversion.now }
-    ensures { OnOk result (ops.new ≡ ops.old ++ site_right L.rows site.now v (Address place.now d) conversion.now) }
-{
-    let there = site.free(1);
-    let pointer = operand_register(site.free(0), place.pointer);
-    let mut moves = Sequence::new(site.alloc);
-    push_place(&mut moves, site, place, there, pointer)?;
-    push_done(ops, moves.as_slice())?;
-    let mut list = Sequence::new(site.alloc);
-    push_convert_checks(&mut list, site, Some(d), conversion, there)?;
-    push_taken(&mut list, site, v, Some(d), conversion, site.free(2), there)?;
-    push_done(ops, list.as_slice())?;
-    Ok(())
+    /// Gives the address of a class member to the variable.
+    ///
+    /// Errors: want of memory.
+    pub(crate) fn push_address_right(
+        &self,
+        ops: &mut OpList,
+        place: &TypedPlace,
+        d: ClassId,
+    ) -> Result<(), NoMemory>
+        requires { TakesRight L.lays_out L.rows self.now (Address place.now d) }
+        ensures { OnOk result (ops.new ≡ ops.old ++ site_right L.rows self.now (Address place.now d)) }
+    {
+        let site = self.site;
+        let there = site.free(1);
+        let pointer = operand_register(site.free(0), place.pointer);
+        let mut moves = Sequence::new(site.alloc);
+        push_place(&mut moves, site, place, there, pointer)?;
+        push_done(ops, moves.as_slice())?;
+        self.push_pointer_taken(ops, d, there)?;
+        Ok(())
+    }
 }

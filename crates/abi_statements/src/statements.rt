@@ -1,21 +1,21 @@
 //! What statements do, behind their tests.
 
-ghost use Rattle.std.specs.Prelude.{◌≡◌, ◌<◌, ◌-◌, ◌^◌, ◌+◌, ◌∷◌, [], ◌++◌, OnOk, length};
+ghost use Rattle.std.specs.Prelude.{◌≡◌, ◌<◌, ◌-◌, ◌^◌, ◌+◌, ◌∷◌, [], ◌++◌, OnOk};
 ghost use Rattle.cxx_overrider.specs.Overriders.{AreOverriders};
 ghost use Rattle.cxx_program.specs.declared.statement.TypedKind.TheVariants.{Assign, Write, Copy, Call, Delete, If, While, Print, Dump};
 ghost use Rattle.byte_code.specs.declared.op.Op.TheVariants.{Print as PrintOp, Jump};
 ghost use Rattle.abi_ops.specs.Setups.{FunctionCode};
 ghost use Rattle.abi_ops.specs.Arguments.{free};
-ghost use Rattle.abi_ops.specs.invariants.Fits.{FitsVariable, FitsOperand, FitsPlace, FitsArgument};
 ghost use Rattle.abi_ops.specs.invariants.Sites.{site_scope, site_block, IsSiteAt, IsLaidSite};
 ghost use Rattle.abi_statements.specs.Statements.{returned_ops};
-ghost use Rattle.abi_statements.specs.invariants.Fits.{FitsCall, FitsConverted, FitsReturn, FitsKind, routine_of};
-ghost use Rattle.abi_statements.specs.invariants.Sites.{site_kind};
+ghost use Rattle.abi_statements.specs.invariants.Fits.{FitsReturn, FitsKind, routine_of};
+ghost use Rattle.abi_statements.specs.invariants.Sites.{Stands, site_kind, statement_kind};
 
 use crate::calls::{push_call, result_class, unused};
 use crate::deletes::push_delete;
 use crate::flows::{Flow, block_at, operand_print, push_jump, target};
-use crate::rights::push_right;
+use crate::right_sites::RightSite;
+use crate::statement_sites::StatementSite;
 use abi_copies::copies::push_copy;
 use abi_ops::arguments::push_argument;
 use abi_ops::operands::{operand_register, push_done};
@@ -78,215 +78,169 @@ fn push_return<L: SoundLayout>(
     Ok(())
 }
 
-/// Gives a variable a value.
-fn push_assign<L: SoundLayout>(
-    ops: &mut OpList,
-    site: &Site<L>,
-    flow: Flow,
-    variable: Variable,
-    v: &Converted,
-) -> Result<(), NoMemory>
-    requires laid { IsLaidSite L.lays_out L.rows site.now }
-    requires variable { FitsVariable variable }
-    requires fits { FitsConverted site.now.h.now (site_scope site.now) v.now }
-    ensures { OnOk result (ops.new ≡ ops.old ++ site_kind L.rows site.now flow (Assign variable v.now)) }
-{
-    push_right(ops, site, variable, &v.right, &v.conversion)?;
-    push_jump(ops, flow)?;
-    Ok(())
-}
+impl<'a, L: SoundLayout> StatementSite<'a, L> {
+    /// Gives a variable a value.
+    fn push_assign(
+        &self,
+        ops: &mut OpList,
+        variable: Variable,
+        v: &Converted,
+    ) -> Result<(), NoMemory>
+        requires { Stands L.lays_out L.rows self.now (Assign variable v.now) }
+        ensures { OnOk result (ops.new ≡ ops.old ++ statement_kind L.rows self.now (Assign variable v.now)) }
+    {
+        let here = RightSite {
+            site: self.site,
+            variable,
+            conversion: &v.conversion,
+        };
+        here.push_right(ops, &v.right)?;
+        push_jump(ops, self.flow)?;
+        Ok(())
+    }
 
-/// Stores a converted value in a leaf.
-fn push_write<L: SoundLayout>(
-    ops: &mut OpList,
-    site: &Site<L>,
-    flow: Flow,
-    place: &TypedPlace,
-    a: &Argument,
-) -> Result<(), NoMemory>
-    requires laid { IsLaidSite L.lays_out L.rows site.now }
-    requires place { FitsPlace site.now.h.now place.now }
-    requires fits { FitsArgument site.now.h.now (site_scope site.now) a.now }
-    ensures { OnOk result (ops.new ≡ ops.old ++ site_kind L.rows site.now flow (Write place.now a.now)) }
-{
-    let there = site.free(2);
-    let value = site.free(3);
-    let mut moves = Sequence::new(site.alloc);
-    let pointer = operand_register(site.free(0), place.pointer);
-    push_place(&mut moves, site, place, there, pointer)?;
-    push_done(ops, moves.as_slice())?;
-    let mut list = Sequence::new(site.alloc);
-    push_argument(&mut list, site, a, value, site.free(1))?;
-    push_done(ops, list.as_slice())?;
-    ops.push(Op::Store {
-        from: value,
-        base: there,
-        offset: 0,
-        width: place_width(site, place),
-    })?;
-    push_jump(ops, flow)?;
-    Ok(())
-}
+    /// Stores a converted value in a leaf.
+    fn push_write(&self, ops: &mut OpList, place: &TypedPlace, a: &Argument) -> Result<(), NoMemory>
+        requires { Stands L.lays_out L.rows self.now (Write place.now a.now) }
+        ensures { OnOk result (ops.new ≡ ops.old ++ statement_kind L.rows self.now (Write place.now a.now)) }
+    {
+        let site = self.site;
+        let there = site.free(2);
+        let value = site.free(3);
+        let mut moves = Sequence::new(site.alloc);
+        let pointer = operand_register(site.free(0), place.pointer);
+        push_place(&mut moves, site, place, there, pointer)?;
+        push_done(ops, moves.as_slice())?;
+        let mut list = Sequence::new(site.alloc);
+        push_argument(&mut list, site, a, value, site.free(1))?;
+        push_done(ops, list.as_slice())?;
+        ops.push(Op::Store {
+            from: value,
+            base: there,
+            offset: 0,
+            width: place_width(site, place),
+        })?;
+        push_jump(ops, self.flow)?;
+        Ok(())
+    }
 
-/// Copies one object to another.
-fn push_copy_of<L: SoundLayout>(
-    ops: &mut OpList,
-    site: &Site<L>,
-    flow: Flow,
-    to: TypedOperand,
-    from: TypedOperand,
-    c: ClassId,
-) -> Result<(), NoMemory>
-    requires laid { IsLaidSite L.lays_out L.rows site.now }
-    requires operands { FitsOperand to × FitsOperand from }
-    requires known { c.0 < length site.now.h.now }
-    ensures { OnOk result (ops.new ≡ ops.old ++ site_kind L.rows site.now flow (Copy to from c)) }
-{
-    push_copy(ops, site, to, from, c)?;
-    push_jump(ops, flow)?;
-    Ok(())
-}
+    /// Copies one object to another.
+    fn push_copy_of(
+        &self,
+        ops: &mut OpList,
+        to: TypedOperand,
+        from: TypedOperand,
+        c: ClassId,
+    ) -> Result<(), NoMemory>
+        requires { Stands L.lays_out L.rows self.now (Copy to from c) }
+        ensures { OnOk result (ops.new ≡ ops.old ++ statement_kind L.rows self.now (Copy to from c)) }
+    {
+        push_copy(ops, self.site, to, from, c)?;
+        push_jump(ops, self.flow)?;
+        Ok(())
+    }
 
-/// Makes a call whose result is not used.
-fn push_call_only<L: SoundLayout>(
-    ops: &mut OpList,
-    site: &Site<L>,
-    flow: Flow,
-    call: &TypedCall,
-) -> Result<(), NoMemory>
-    requires laid { IsLaidSite L.lays_out L.rows site.now }
-    requires fits { FitsCall site.now.h.now (site_scope site.now) call.now }
-    ensures { OnOk result (ops.new ≡ ops.old ++ site_kind L.rows site.now flow (Call call.now)) }
-{
-    push_call(ops, site, call, unused(site, call.function))?;
-    push_jump(ops, flow)?;
-    Ok(())
-}
+    /// Makes a call whose result is not used.
+    fn push_call_only(&self, ops: &mut OpList, call: &TypedCall) -> Result<(), NoMemory>
+        requires { Stands L.lays_out L.rows self.now (Call call.now) }
+        ensures { OnOk result (ops.new ≡ ops.old ++ statement_kind L.rows self.now (Call call.now)) }
+    {
+        let site = self.site;
+        push_call(ops, site, call, unused(site, call.function))?;
+        push_jump(ops, self.flow)?;
+        Ok(())
+    }
 
-/// Deletes an object.
-fn push_delete_of<L: SoundLayout>(
-    ops: &mut OpList,
-    site: &Site<L>,
-    flow: Flow,
-    p: TypedOperand,
-    c: ClassId,
-) -> Result<(), NoMemory>
-    requires laid { IsLaidSite L.lays_out L.rows site.now }
-    requires overriders { AreOverriders site.now.h.now site.now.overriders.now }
-    requires operand { FitsOperand p }
-    requires known { c.0 < length site.now.h.now }
-    ensures { OnOk result (ops.new ≡ ops.old ++ site_kind L.rows site.now flow (Delete p c)) }
-{
-    push_delete(ops, site, c, operand_register(site.free(0), p))?;
-    push_jump(ops, flow)?;
-    Ok(())
-}
+    /// Deletes an object.
+    fn push_delete_of(&self, ops: &mut OpList, p: TypedOperand, c: ClassId) -> Result<(), NoMemory>
+        requires { Stands L.lays_out L.rows self.now (Delete p c) }
+        ensures { OnOk result (ops.new ≡ ops.old ++ statement_kind L.rows self.now (Delete p c)) }
+    {
+        let site = self.site;
+        push_delete(ops, site, c, operand_register(site.free(0), p))?;
+        push_jump(ops, self.flow)?;
+        Ok(())
+    }
 
-/// Goes on to the first block where the condition is not 0, else to the second.
-fn push_branch<L: SoundLayout>(
-    ops: &mut OpList,
-    site: &Site<L>,
-    flow: Flow,
-    p: TypedOperand,
-    other: usize,
-    behind: usize,
-) -> Result<(), NoMemory>
-    requires site { IsSiteAt L.rows site.now }
-    requires operand { FitsOperand p }
-    requires within { (flow.base + other < 2 ^ 32) × (flow.base + behind < 2 ^ 32) × (flow.base + (flow.number + 1) < 2 ^ 32) }
-    ensures { OnOk result (ops.new ≡ ops.old ++ site_kind L.rows site.now flow (If p other behind)) }
-{
-    let first = block_at(flow.number + 1, other, flow.next);
-    let second = block_at(other, behind, flow.next);
-    ops.push(Op::Jump {
-        block: target(flow, second),
-    })?;
-    ops.push(Op::JumpIf {
-        register: operand_register(site.free(0), p),
-        block: target(flow, first),
-    })?;
-    Ok(())
-}
+    /// Goes on to the first block where the condition is not 0, else to the second.
+    fn push_branch(
+        &self,
+        ops: &mut OpList,
+        p: TypedOperand,
+        other: usize,
+        behind: usize,
+    ) -> Result<(), NoMemory>
+        requires { Stands L.lays_out L.rows self.now (If p other behind) }
+        ensures { OnOk result (ops.new ≡ ops.old ++ statement_kind L.rows self.now (If p other behind)) }
+    {
+        let flow = self.flow;
+        let first = block_at(flow.number + 1, other, flow.next);
+        let second = block_at(other, behind, flow.next);
+        ops.push(Op::Jump {
+            block: target(flow, second),
+        })?;
+        ops.push(Op::JumpIf {
+            register: operand_register(self.site.free(0), p),
+            block: target(flow, first),
+        })?;
+        Ok(())
+    }
 
-/// Goes on to the block where the condition is not 0, else behind it.
-fn push_loop<L: SoundLayout>(
-    ops: &mut OpList,
-    site: &Site<L>,
-    flow: Flow,
-    p: TypedOperand,
-    behind: usize,
-) -> Result<(), NoMemory>
-    requires site { IsSiteAt L.rows site.now }
-    requires operand { FitsOperand p }
-    requires within { flow.base + (flow.number + 1) < 2 ^ 32 }
-    ensures { OnOk result (ops.new ≡ ops.old ++ site_kind L.rows site.now flow (While p behind)) }
-{
-    let first = block_at(flow.number + 1, behind, flow.number);
-    push_jump(ops, flow)?;
-    ops.push(Op::JumpIf {
-        register: operand_register(site.free(0), p),
-        block: target(flow, first),
-    })?;
-    Ok(())
-}
+    /// Goes on to the block where the condition is not 0, else behind it.
+    fn push_loop(&self, ops: &mut OpList, p: TypedOperand, behind: usize) -> Result<(), NoMemory>
+        requires { Stands L.lays_out L.rows self.now (While p behind) }
+        ensures { OnOk result (ops.new ≡ ops.old ++ statement_kind L.rows self.now (While p behind)) }
+    {
+        let flow = self.flow;
+        let first = block_at(flow.number + 1, behind, flow.number);
+        push_jump(ops, flow)?;
+        ops.push(Op::JumpIf {
+            register: operand_register(self.site.free(0), p),
+            block: target(flow, first),
+        })?;
+        Ok(())
+    }
 
-/// Prints a value.
-fn push_print<L: SoundLayout>(
-    ops: &mut OpList,
-    site: &Site<L>,
-    flow: Flow,
-    p: TypedOperand,
-) -> Result<(), NoMemory>
-    requires site { IsSiteAt L.rows site.now }
-    requires operand { FitsOperand p }
-    ensures { OnOk result (ops.new ≡ ops.old ++ site_kind L.rows site.now flow (Print p)) }
-{
-    ops.push(Op::Print {
-        from: operand_register(site.free(0), p),
-        what: operand_print(site, p),
-    })?;
-    push_jump(ops, flow)?;
-    Ok(())
-}
+    /// Prints a value.
+    fn push_print(&self, ops: &mut OpList, p: TypedOperand) -> Result<(), NoMemory>
+        requires { Stands L.lays_out L.rows self.now (Print p) }
+        ensures { OnOk result (ops.new ≡ ops.old ++ statement_kind L.rows self.now (Print p)) }
+    {
+        let site = self.site;
+        ops.push(Op::Print {
+            from: operand_register(site.free(0), p),
+            what: operand_print(site, p),
+        })?;
+        push_jump(ops, self.flow)?;
+        Ok(())
+    }
 
-/// Finds what is shown of a view, and prints it.
-fn push_shown<L: SoundLayout>(
-    ops: &mut OpList,
-    site: &Site<L>,
-    flow: Flow,
-    find: Op,
-    what: PrintAs,
-) -> Result<(), NoMemory>
-    requires { IsSiteAt L.rows site.now }
-    ensures { OnOk result (ops.new ≡ ops.old ++ find ∷ PrintOp (free (site_block L.rows site.now) 1) what ∷ Jump (flow.base + flow.next) ∷ []) }
-{
-    ops.push(find)?;
-    ops.push(Op::Print {
-        from: site.free(1),
-        what,
-    })?;
-    push_jump(ops, flow)?;
-    Ok(())
-}
+    /// Finds what is shown of a view, and prints it.
+    fn push_shown(&self, ops: &mut OpList, find: Op, what: PrintAs) -> Result<(), NoMemory>
+        requires { IsSiteAt L.rows self.now.site.now }
+        ensures { OnOk result (ops.new ≡ ops.old ++ find ∷ PrintOp (free (site_block L.rows self.now.site.now) 1) what ∷ Jump (self.now.flow.base + self.now.flow.next) ∷ []) }
+    {
+        ops.push(find)?;
+        ops.push(Op::Print {
+            from: self.site.free(1),
+            what,
+        })?;
+        push_jump(ops, self.flow)?;
+        Ok(())
+    }
 
-/// Dumps an object.
-fn push_dump<L: SoundLayout>(
-    ops: &mut OpList,
-    site: &Site<L>,
-    flow: Flow,
-    p: TypedOperand,
-    c: ClassId,
-) -> Result<(), NoMemory>
-    requires site { IsSiteAt L.rows site.now }
-    requires operand { FitsOperand p }
-    ensures { OnOk result (ops.new ≡ ops.old ++ site_kind L.rows site.now flow (Dump p c)) }
-{
-    let _c = c;
-    ops.push(Op::Dump {
-        from: operand_register(site.free(0), p),
-    })?;
-    push_jump(ops, flow)?;
-    Ok(())
+    /// Dumps an object.
+    fn push_dump(&self, ops: &mut OpList, p: TypedOperand, c: ClassId) -> Result<(), NoMemory>
+        requires { Stands L.lays_out L.rows self.now (Dump p c) }
+        ensures { OnOk result (ops.new ≡ ops.old ++ statement_kind L.rows self.now (Dump p c)) }
+    {
+        let _c = c;
+        ops.push(Op::Dump {
+            from: operand_register(self.site.free(0), p),
+        })?;
+        push_jump(ops, self.flow)?;
+        Ok(())
+    }
 }
 
 /// Does what a statement says, behind its tests.
@@ -303,31 +257,32 @@ pub fn push_kind<L: SoundLayout>(
     requires fits { FitsKind site.now.h.now (site_scope site.now) (2 ^ 32 - (flow.base + 1)) flow.number kind.now }
     ensures { OnOk result (ops.new ≡ ops.old ++ site_kind L.rows site.now flow kind.now) }
 {
+    let here = StatementSite { site, flow };
     let first = site.free(0);
     let to = site.free(1);
     match kind {
         TypedKind::Declare(_, None) => push_jump(ops, flow)?,
-        TypedKind::Declare(n, Some(v)) => push_assign(ops, site, flow, Variable::Local(*n), v)?,
-        TypedKind::Assign(variable, v) => push_assign(ops, site, flow, *variable, v)?,
-        TypedKind::Write(place, a) => push_write(ops, site, flow, place, a)?,
-        TypedKind::Copy(to, from, c) => push_copy_of(ops, site, flow, *to, *from, *c)?,
-        TypedKind::Call(call) => push_call_only(ops, site, flow, call)?,
-        TypedKind::Delete(p, c) => push_delete_of(ops, site, flow, *p, *c)?,
+        TypedKind::Declare(n, Some(v)) => here.push_assign(ops, Variable::Local(*n), v)?,
+        TypedKind::Assign(variable, v) => here.push_assign(ops, *variable, v)?,
+        TypedKind::Write(place, a) => here.push_write(ops, place, a)?,
+        TypedKind::Copy(to, from, c) => here.push_copy_of(ops, *to, *from, *c)?,
+        TypedKind::Call(call) => here.push_call_only(ops, call)?,
+        TypedKind::Delete(p, c) => here.push_delete_of(ops, *p, *c)?,
         TypedKind::If(p, other, behind) => {
-            push_branch(ops, site, flow, *p, *other, *behind)?;
+            here.push_branch(ops, *p, *other, *behind)?;
         }
-        TypedKind::While(p, behind) => push_loop(ops, site, flow, *p, *behind)?,
+        TypedKind::While(p, behind) => here.push_loop(ops, *p, *behind)?,
         TypedKind::Return(value) => push_return(ops, site, value)?,
-        TypedKind::Print(p) => push_print(ops, site, flow, *p)?,
+        TypedKind::Print(p) => here.push_print(ops, *p)?,
         TypedKind::PrintType(p, _) => {
             let base = operand_register(first, *p);
-            push_shown(ops, site, flow, Op::TypeOf { to, base }, PrintAs::Class)?;
+            here.push_shown(ops, Op::TypeOf { to, base }, PrintAs::Class)?;
         }
         TypedKind::PrintView(p, _) => {
             let base = operand_register(first, *p);
-            push_shown(ops, site, flow, Op::Top { to, base }, PrintAs::Address)?;
+            here.push_shown(ops, Op::Top { to, base }, PrintAs::Address)?;
         }
-        TypedKind::Dump(p, c) => push_dump(ops, site, flow, *p, *c)?,
+        TypedKind::Dump(p, c) => here.push_dump(ops, *p, *c)?,
     }
     Ok(())
 }
