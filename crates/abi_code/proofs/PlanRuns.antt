@@ -1,5 +1,5 @@
 -- Where a plan goes on, by the numbers of its blocks.
-use Rattle.std.proofs.Common.{◌≡◌, ℕ, zero, suc, ◌+◌, ◌-◌, ◌<◌, ◌≤◌, ◌⊎◌, ⊎_elim, Bool, true, false, List, [], ◌∷◌, ◌++◌, length, get_or, take, drop, append_assoc, refl, ap, subst, sym, ◌∙◌, arith}
+use Rattle.std.proofs.Common.{◌≡◌, ℕ, zero, suc, ◌+◌, ◌-◌, ◌<◌, ◌≤◌, ◌⊎◌, ⊎_elim, Bool, true, false, List, [], ◌∷◌, ◌++◌, length, get_or, take, drop, append_assoc, refl, ap, subst, sym, arith, ◌∙◌}
 use Rattle.std.specs.Prelude.{if◌then◌else◌, option_to_list}
 use Rattle.std.proofs.lemmas.List.{append-nil, length-map, drop-map, take_rest, take-append-drop}
 use Rattle.std.specs.List.{count_by}
@@ -16,12 +16,13 @@ use Rattle.abi_lower.specs.declared.items.Kind.TheVariants.{AtBegin, AtReady, At
 use Rattle.abi_lower.specs.Items.{Item, Does, Shares, Inherits, Holds}
 use Rattle.abi_lower.specs.Blocks.{Place, items, next_place, behind_body, plan_tail, event_block, closing_ops}
 use Rattle.abi_lower.specs.Lowered.{own_block}
-use Rattle.abi_lower.specs.invariants.ItemCodes.{item_code, item_codes}
+use Rattle.abi_lower.specs.invariants.ItemCodes.{form_of, item_code, item_codes}
 use Rattle.abi_pointers.specs.Tails.{AreLeft, StartsBy}
 use Rattle.abi_code.specs.invariants.Numbers.{own_count, own_events, code_rows, number_of}
 use Rattle.abi_code.specs.invariants.Codes.{is_own_code, is_body_code, is_body_next}
 use Rattle.abi_code.specs.invariants.Runs.{event_blocks}
-use Rattle.abi_code.specs.invariants.Lowerings.{IsPlanRun}
+use Rattle.abi_code.specs.declared.plan_blocks.PlanRun.{PlanRun}
+use Rattle.abi_code.specs.invariants.Lowerings.{IsPlanRun, plan_items}
 use Rattle.abi_code.proofs.Blocks.{own_first, own_both}
 use Rattle.abi_code.proofs.Counted.{codes_own}
 use Rattle.abi_code.proofs.Placing.{first_number}
@@ -62,14 +63,17 @@ module _ (x : Setup) (course : Course) (form : Form) (c : ClassId) where
   by_count true first own done count e f g = omega arith
   by_count false first own done count e f g = omega arith
 
-  -- the number that code finds is that of the next place
-  pub next_is : (numbers : List CodeRow) (first own : ℕ) (has_code : Bool) (codes : List ItemCode) (done next : ℕ) (left : List Item) → IsPlanRun x numbers course form c first own has_code → codes ≡ item_codes left → done + count_by (is_own_code has_code) codes ≡ own →
-      next ≡ (if is_body_next codes then first + own else first + done) → number_of x (next_place course form c left) ≡ next
-  next_is numbers first own has_code codes done next left run is count made =
-      let begins : first ≡ start = run.begins ∙ ap (λ (l : List CodeRow). start_by x l (PlanCode course form c)) run.rows in
-      let counted : count_by (is_own_code has_code) codes ≡ own_count has left = ap (λ (b : Bool). count_by (is_own_code b) codes) run.body ∙ ap (λ (l : List ItemCode). count_by (is_own_code has) l) is ∙ codes_own has left in
-      next_number left ∙ by_count (is_body_next (item_codes left)) first own done (own_count has left) begins run.counted (omega arith)
-      ∙ ap (λ (l : List ItemCode). if is_body_next l then first + own else first + done) (sym is) ∙ sym made
+-- the number that code finds is that of the next place
+pub next_is : (x : Setup) (numbers : List CodeRow) (run : PlanRun) (codes : List ItemCode) (done next : ℕ) (left : List Item) → IsPlanRun x numbers run → codes ≡ item_codes left → done + count_by (is_own_code run.has_body) codes ≡ run.own →
+    next ≡ (if is_body_next codes then run.first + run.own else run.first + done) → number_of x (next_place run.plan.course (form_of run.plan.form) run.plan.class left) ≡ next
+next_is x numbers run codes done next left known is count made =
+    let course = run.plan.course in
+    let form = form_of run.plan.form in
+    let c = run.plan.class in
+    let begins : run.first ≡ start x course form c = known.begins ∙ ap (λ (l : List CodeRow). start_by x l (PlanCode course form c)) known.rows in
+    let counted : count_by (is_own_code run.has_body) codes ≡ own_count (has x course form c) left = ap (λ (b : Bool). count_by (is_own_code b) codes) known.body ∙ ap (λ (l : List ItemCode). count_by (is_own_code (has x course form c)) l) is ∙ codes_own (has x course form c) left in
+    next_number x course form c left ∙ by_count x course form c (is_body_next (item_codes left)) run.first run.own done (own_count (has x course form c) left) begins known.counted (omega arith)
+    ∙ ap (λ (l : List ItemCode). if is_body_next l then run.first + run.own else run.first + done) (sym is) ∙ sym made
 
 -- routines begin by the numbers of code
 pub starts_by : (x : Setup) (numbers : List CodeRow) → numbers ≡ code_rows x → StartsBy x (number_of x) numbers
@@ -181,24 +185,24 @@ pub left_behind : (x : Setup) (course : Course) (form : Form) (c : ClassId) (cod
 left_behind x course form c codes is = let r = behind_end (items x course form c) in record { left = behind_body (items x course form c); is = is; end = record { before = r.0; is = r.1 } }
 
 -- a plan has as many own events as are counted
-pub all_own : (x : Setup) (numbers : List CodeRow) (course : Course) (form : Form) (c : ClassId) (first own : ℕ) (has_code : Bool) (codes : List ItemCode) → IsPlanRun x numbers course form c first own has_code → codes ≡ item_codes (items x course form c) →
-    count_by (is_own_code has_code) codes ≡ own
+pub all_own : (x : Setup) (numbers : List CodeRow) (run : PlanRun) (codes : List ItemCode) → IsPlanRun x numbers run → codes ≡ plan_items x run.plan → count_by (is_own_code run.has_body) codes ≡ run.own
 unfolding own_events
-all_own x numbers course form c first own has_code codes run is =
-    let flag = has x course form c in
-    ap (λ (b : Bool). count_by (is_own_code b) codes) run.body ∙ ap (λ (l : List ItemCode). count_by (is_own_code flag) l) is ∙ codes_own flag (items x course form c) ∙ sym run.counted
+all_own x numbers run codes known is =
+    let flag = has x run.plan.course (form_of run.plan.form) run.plan.class in
+    ap (λ (b : Bool). count_by (is_own_code b) codes) known.body ∙ ap (λ (l : List ItemCode). count_by (is_own_code flag) l) is
+    ∙ codes_own flag (items x run.plan.course (form_of run.plan.form) run.plan.class) ∙ sym known.counted
 
 -- no more own events are left than there are
-pub behind_low : (x : Setup) (numbers : List CodeRow) (course : Course) (form : Form) (c : ClassId) (first own : ℕ) (has_code : Bool) (codes : List ItemCode) → IsPlanRun x numbers course form c first own has_code → codes ≡ item_codes (behind_body (items x course form c)) →
-    count_by (is_own_code has_code) codes ≤ own
+pub behind_low : (x : Setup) (numbers : List CodeRow) (run : PlanRun) (codes : List ItemCode) → IsPlanRun x numbers run → codes ≡ item_codes (behind_body (items x run.plan.course (form_of run.plan.form) run.plan.class)) →
+    count_by (is_own_code run.has_body) codes ≤ run.own
 unfolding own_events
-behind_low x numbers course form c first own has_code codes run is =
-    let plan = items x course form c in
+behind_low x numbers run codes known is =
+    let plan = items x run.plan.course (form_of run.plan.form) run.plan.class in
     let r = behind_end plan in
-    let flag = has x course form c in
-    let left : count_by (is_own_code has_code) codes ≡ own_count flag (behind_body plan) = ap (λ (b : Bool). count_by (is_own_code b) codes) run.body ∙ ap (λ (l : List ItemCode). count_by (is_own_code flag) l) is ∙ codes_own flag (behind_body plan) in
+    let flag = has x run.plan.course (form_of run.plan.form) run.plan.class in
+    let left : count_by (is_own_code run.has_body) codes ≡ own_count flag (behind_body plan) = ap (λ (b : Bool). count_by (is_own_code b) codes) known.body ∙ ap (λ (l : List ItemCode). count_by (is_own_code flag) l) is ∙ codes_own flag (behind_body plan) in
     let whole : own_count flag plan ≡ own_count flag r.0 + own_count flag (behind_body plan) = ap (own_count flag) (sym r.1) ∙ own_both flag r.0 (behind_body plan) in
-    let counted : own ≡ own_count flag plan = run.counted in omega arith
+    let counted : run.own ≡ own_count flag plan = known.counted in omega arith
 
 -- the ops behind the body of a destructor
 pub destruction_ends : (x : Setup) (at : Place → ℕ) (course : Course) (form : Form) (c : ClassId) → (course ≡ Destroys) ⊎ (course ≡ Deletes) → plan_tail x at course form c (behind_body (items x course form c)) ≡ closing_ops x at (PlanCode course form c)

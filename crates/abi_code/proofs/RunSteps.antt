@@ -1,5 +1,5 @@
 -- What is known where the blocks of a routine are put behind others.
-use Rattle.std.proofs.Common.{◌≡◌, ℕ, ◌+◌, ◌<◌, ◌≤◌, ◌^◌, Bool, true, false, Option, Some, None, List, [], ◌∷◌, ◌++◌, length, get_or, drop, append_assoc, refl, ap, subst, sym, ◌∙◌, arith}
+use Rattle.std.proofs.Common.{◌≡◌, ℕ, ◌+◌, ◌<◌, ◌≤◌, ◌^◌, Bool, true, false, Option, Some, None, List, [], ◌∷◌, ◌++◌, length, get_or, drop, append_assoc, refl, ap, subst, sym, arith, ◌∙◌}
 use Rattle.std.specs.List.{flat_map, count_by}
 use Rattle.std.proofs.lemmas.List.{append-nil, flat_map_more}
 use Rattle.std.proofs.lemmas.List.Concat.{flat_map-append}
@@ -23,16 +23,15 @@ use Rattle.abi_slots.specs.declared.code_numbers.CodeRow.{CodeRow}
 use Rattle.abi_ops.specs.declared.routines.Course.{Course}
 use Rattle.abi_ops.specs.Setups.{Setup, Routine, MainCode, FunctionCode, PlanCode, body_in, owner_of}
 use Rattle.abi_ops.specs.Routines.{has_body, IsRoutine, start_by}
-use Rattle.abi_lower.specs.declared.items.Form.{Form as FormCode}
 use Rattle.abi_lower.specs.declared.items.Item.{Item as ItemCode}
 use Rattle.abi_lower.specs.Blocks.{items}
-use Rattle.abi_lower.specs.invariants.ItemCodes.{form_of, item_codes}
+use Rattle.abi_pointers.specs.declared.plan_sites.ClassPlan.{ClassPlan}
 use Rattle.abi_code.specs.declared.routines.Routine.{Routine as RoutineCode}
 use Rattle.abi_code.specs.declared.routines.Routine.TheVariants.{Main, Plan}
-use Rattle.abi_code.specs.invariants.Numbers.{main_routines, owned_routines, plain_routines, built_routines, ended_routines, plan_routines, class_ids, routines, own_events, blocks_in, block_count, code_rows, number_of}
+use Rattle.abi_code.specs.invariants.Numbers.{main_routines, owned_routines, plain_routines, plan_routines, class_ids, routines, own_events, blocks_in, block_count, code_rows, number_of}
 use Rattle.abi_code.specs.invariants.Codes.{routine_from, routines_from, is_own_code, is_plain}
 use Rattle.abi_code.specs.invariants.Runs.{event_blocks, plan_blocks, statement_blocks, blocks_of_body, run, class_blocks, all_blocks}
-use Rattle.abi_code.specs.invariants.Lowerings.{IsLowering, IsBodySite, RunsAt, IsPlanRun}
+use Rattle.abi_code.specs.invariants.Lowerings.{IsLowering, IsBodySite, RunsAt, IsPlanRun, plan_code, plan_items}
 use Rattle.abi_code.proofs.BodySites.{declares_known}
 use Rattle.abi_code.proofs.Counted.{same_test, plan_counted, blocks_some}
 use Rattle.abi_code.proofs.Placing.{begins_there}
@@ -83,18 +82,16 @@ module _ (x : Setup) (overriders : Overriders) (slots : Slots) (index : BodyInde
   unfolding blocks_in
   own_low r = omega arith
 
-  pub is_plan_run : (course : Course) (form : FormCode) (c : ClassId) (owner : Owner) (first own : ℕ) (has : Bool) (codes : List ItemCode) → IsRoutine x (PlanCode course (form_of form) c) → owner ≡ owner_of (PlanCode course (form_of form) c) →
-      has ≡ is_body (body_of x.program owner) → codes ≡ item_codes (items x course (form_of form) c) → own ≡ count_by (is_own_code has) codes → first ≡ start_by x numbers (PlanCode course (form_of form) c) →
-      IsPlanRun x numbers course (form_of form) c first own has
-  is_plan_run course form c owner first own has codes is of body list counted begins =
-      let plan = PlanCode course (form_of form) c in
-      let all : own ≡ own_events x plan = plan_counted x (Plan course form c) course form c owner own has codes refl of body list counted in
+  pub is_plan_run : (plan : ClassPlan) (owner : Owner) (first own : ℕ) (has : Bool) (codes : List ItemCode) → IsRoutine x (plan_code plan) → owner ≡ owner_of (plan_code plan) → has ≡ is_body (body_of x.program owner) → codes ≡ plan_items x plan →
+      own ≡ count_by (is_own_code has) codes → first ≡ start_by x numbers (plan_code plan) → IsPlanRun x numbers (record { plan = plan; first = first; own = own; has_body = has })
+  is_plan_run plan owner first own has codes is of body list counted begins =
+      let all : own ≡ own_events x (plan_code plan) = plan_counted x (Plan plan.course plan.form plan.class) plan.course plan.form plan.class owner own has codes refl of body list counted in
       record {
         rows = rows;
         begins = begins;
         counted = all;
-        body = body ∙ ap (λ (o : Owner). is_body (body_of x.program o)) of ∙ same_test (body_in x plan);
-        room = (let room = run_room plan is in let low = own_low plan in omega arith);
+        body = body ∙ ap (λ (o : Owner). is_body (body_of x.program o)) of ∙ same_test (body_in x (plan_code plan));
+        room = (let room = run_room (plan_code plan) is in let low = own_low (plan_code plan) in omega arith);
       }
 
 -- `main` and functions have no own events
@@ -137,10 +134,6 @@ run_more x before r old mid new e f = f ∙ ap (λ (l : List Block). l ++ run x 
 -- none yet
 pub run_none : (x : Setup) (old : List Block) → old ≡ old ++ flat_map (run x) []
 run_none x old = sym (append-nil old)
-
--- all plans of a class
-pub class_put : (x : Setup) (c : ClassId) (old mid new : List Block) → mid ≡ old ++ flat_map (run x) (built_routines c) → new ≡ mid ++ flat_map (run x) (ended_routines c) → new ≡ old ++ class_blocks x c
-class_put x c old mid new e f = two_pieces old mid new (flat_map (run x) (built_routines c)) (flat_map (run x) (ended_routines c)) (class_blocks x c) e f (sym (flat_map-append (run x) (built_routines c) (ended_routines c)))
 
 nested : {A B C : Type 0} (f : A → List B) (g : B → List C) (xs : List A) → flat_map (λ (a : A). flat_map g (f a)) xs ≡ flat_map g (flat_map f xs)
 nested f g [] = refl

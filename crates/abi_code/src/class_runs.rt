@@ -2,55 +2,45 @@
 
 ghost use Rattle.std.specs.Prelude.{◌≡◌, ◌<◌, ◌++◌, IfOk, OnOk, length};
 ghost use Rattle.std.specs.List.{flat_map};
-ghost use Rattle.abi_sound.specs.Places.{places_of};
-ghost use Rattle.abi_ops.specs.Setups.{setup, PlanCode};
+ghost use Rattle.abi_ops.specs.Setups.{PlanCode};
 ghost use Rattle.abi_ops.specs.Routines.{IsRoutine};
 ghost use Rattle.abi_lower.specs.Blocks.{items};
-ghost use Rattle.abi_lower.specs.invariants.ItemCodes.{form_of, item_codes};
-ghost use Rattle.abi_pointers.specs.ClassTables.{AreClassTables};
+ghost use Rattle.abi_lower.specs.invariants.ItemCodes.{form_of};
 ghost use Rattle.abi_pointers.specs.Settings.{ArePointers};
-ghost use Rattle.abi_code.specs.invariants.Numbers.{built_routines, ended_routines, class_ids, code_rows};
+ghost use Rattle.abi_code.specs.invariants.Numbers.{class_ids};
 ghost use Rattle.abi_code.specs.invariants.Runs.{run as run_of, class_blocks};
-ghost use Rattle.abi_code.specs.invariants.Lowerings.{IsLowering, IsPlanRun};
+ghost use Rattle.abi_code.specs.invariants.Lowerings.{IsBlockSite, IsPlanRun, block_setup, plan_code, plan_items};
 
+use crate::block_sites::BlockSite;
 use crate::counts::count_own;
-use crate::lowering::Lowering;
 use crate::plan_blocks::{PlanRun, end_of_body, push_events};
 use crate::routines::{Routine, owner};
 use abi_lower::items::{Form, Item};
 use abi_ops::routines::Course;
-use abi_pointers::{ClassPointers, ClassTables, PlanSite};
-use abi_slots::CodeNumbers;
+use abi_pointers::{ClassPlan, ClassPointers, PlanSite};
 use abi_sound::SoundLayout;
 use byte_code::BlockList;
 use cxx_hierarchy::ClassId;
 use foundation::NoMemory;
 
-impl<'a, L: SoundLayout> Lowering<'a, L> {
+impl<'a, L: SoundLayout> BlockSite<'a, L> {
     /// How the virtual pointers of a class are set, for all its plans.
     ///
     /// Errors: want of memory.
-    fn pointers(
-        &self,
-        numbers: &CodeNumbers,
-        tables: &ClassTables,
-        c: ClassId,
-    ) -> Result<ClassPointers, NoMemory>
-        requires layout { L.lays_out self.now.layout.now self.now.h.now }
-        requires lowering { IsLowering (setup self.now.h.now (L.rows self.now.layout.now) self.now.program.now) self.now.overriders.now self.now.slots.now self.now.index.now self.now.orders.now }
-        requires tables { AreClassTables self.now.h.now (places_of self.now.h.now (L.rows self.now.layout.now)) tables.now }
-        requires known { c.0 < length self.now.h.now }
-        ensures { IfOk result (ArePointers (setup self.now.h.now (L.rows self.now.layout.now) self.now.program.now) c) }
+    fn pointers(&self, c: ClassId) -> Result<ClassPointers, NoMemory>
+        requires site { IsBlockSite L.lays_out L.rows self.now }
+        requires known { c.0 < length self.now.lowering.now.h.now }
+        ensures { IfOk result (ArePointers (block_setup L.rows self.now) c) }
     {
         let site = PlanSite {
-            alloc: self.alloc,
-            h: self.h,
-            layout: self.layout,
-            slots: self.slots,
-            numbers,
-            program: self.program,
-            index: self.index,
-            tables,
+            alloc: self.lowering.alloc,
+            h: self.lowering.h,
+            layout: self.lowering.layout,
+            slots: self.lowering.slots,
+            numbers: self.numbers,
+            program: self.lowering.program,
+            index: self.lowering.index,
+            tables: self.tables,
         };
         let pointers = ClassPointers::new(&site, c)?;
         Ok(pointers)
@@ -60,38 +50,34 @@ impl<'a, L: SoundLayout> Lowering<'a, L> {
     fn push_plan_run(
         &self,
         blocks: &mut BlockList,
-        numbers: &CodeNumbers,
-        tables: &ClassTables,
         pointers: &ClassPointers,
         run: PlanRun,
-        plan: &[Item],
+        all: &[Item],
     ) -> Result<(), NoMemory>
-        requires layout { L.lays_out self.now.layout.now self.now.h.now }
-        requires lowering { IsLowering (setup self.now.h.now (L.rows self.now.layout.now) self.now.program.now) self.now.overriders.now self.now.slots.now self.now.index.now self.now.orders.now }
-        requires rows { numbers.now ≡ code_rows (setup self.now.h.now (L.rows self.now.layout.now) self.now.program.now) }
-        requires tables { AreClassTables self.now.h.now (places_of self.now.h.now (L.rows self.now.layout.now)) tables.now }
-        requires pointers { ArePointers (setup self.now.h.now (L.rows self.now.layout.now) self.now.program.now) run.class pointers.now }
-        requires routine { IsRoutine (setup self.now.h.now (L.rows self.now.layout.now) self.now.program.now) (PlanCode run.course (form_of run.form) run.class) }
-        requires run { IsPlanRun (setup self.now.h.now (L.rows self.now.layout.now) self.now.program.now) numbers.now run.course (form_of run.form) run.class run.first run.own run.has_body }
-        requires items { plan.now ≡ item_codes (items (setup self.now.h.now (L.rows self.now.layout.now) self.now.program.now) run.course (form_of run.form) run.class) }
-        ensures { OnOk result (blocks.new ≡ blocks.old ++ run_of (setup self.now.h.now (L.rows self.now.layout.now) self.now.program.now) (PlanCode run.course (form_of run.form) run.class)) }
+        requires site { IsBlockSite L.lays_out L.rows self.now }
+        requires pointers { ArePointers (block_setup L.rows self.now) run.plan.class pointers.now }
+        requires routine { IsRoutine (block_setup L.rows self.now) (plan_code run.plan) }
+        requires run { IsPlanRun (block_setup L.rows self.now) self.now.numbers.now run }
+        requires items { all.now ≡ plan_items (block_setup L.rows self.now) run.plan }
+        ensures { OnOk result (blocks.new ≡ blocks.old ++ run_of (block_setup L.rows self.now) (plan_code run.plan)) }
     {
         let site = PlanSite {
-            alloc: self.alloc,
-            h: self.h,
-            layout: self.layout,
-            slots: self.slots,
-            numbers,
-            program: self.program,
-            index: self.index,
-            tables,
+            alloc: self.lowering.alloc,
+            h: self.lowering.h,
+            layout: self.lowering.layout,
+            slots: self.lowering.slots,
+            numbers: self.numbers,
+            program: self.lowering.program,
+            index: self.lowering.index,
+            tables: self.tables,
         };
-        push_events(blocks, &site, pointers, run, plan)?;
-        match self.body(Routine::Plan(run.course, run.form, run.class)) {
+        push_events(blocks, &site, pointers, run, all)?;
+        let r = Routine::Plan(run.plan.course, run.plan.form, run.plan.class);
+        match self.lowering.body(r) {
             None => Ok(()),
             Some(body) => {
-                let end = end_of_body(&site, pointers, run, plan)?;
-                self.push_body(blocks, numbers, body, run.first + run.own, end)?;
+                let end = end_of_body(&site, pointers, run, all)?;
+                self.push_body(blocks, body, run.first + run.own, end)?;
                 Ok(())
             }
         }
@@ -101,159 +87,58 @@ impl<'a, L: SoundLayout> Lowering<'a, L> {
     fn push_plan(
         &self,
         blocks: &mut BlockList,
-        numbers: &CodeNumbers,
-        tables: &ClassTables,
         pointers: &ClassPointers,
         course: Course,
         form: Form,
         class: ClassId,
     ) -> Result<(), NoMemory>
-        requires layout { L.lays_out self.now.layout.now self.now.h.now }
-        requires lowering { IsLowering (setup self.now.h.now (L.rows self.now.layout.now) self.now.program.now) self.now.overriders.now self.now.slots.now self.now.index.now self.now.orders.now }
-        requires rows { numbers.now ≡ code_rows (setup self.now.h.now (L.rows self.now.layout.now) self.now.program.now) }
-        requires tables { AreClassTables self.now.h.now (places_of self.now.h.now (L.rows self.now.layout.now)) tables.now }
-        requires pointers { ArePointers (setup self.now.h.now (L.rows self.now.layout.now) self.now.program.now) class pointers.now }
-        requires routine { IsRoutine (setup self.now.h.now (L.rows self.now.layout.now) self.now.program.now) (PlanCode course (form_of form) class) }
-        ensures { OnOk result (blocks.new ≡ blocks.old ++ run_of (setup self.now.h.now (L.rows self.now.layout.now) self.now.program.now) (PlanCode course (form_of form) class)) }
+        requires site { IsBlockSite L.lays_out L.rows self.now }
+        requires pointers { ArePointers (block_setup L.rows self.now) class pointers.now }
+        requires routine { IsRoutine (block_setup L.rows self.now) (PlanCode course (form_of form) class) }
+        ensures { OnOk result (blocks.new ≡ blocks.old ++ run_of (block_setup L.rows self.now) (PlanCode course (form_of form) class)) }
     {
         let r = Routine::Plan(course, form, class);
-        let plan = self.items(course, form, class)?;
-        let has_body = self.index.has_body(owner(r));
+        let all = self.lowering.items(course, form, class)?;
+        let has_body = self.lowering.index.has_body(owner(r));
         let run = PlanRun {
-            course,
-            form,
-            class,
-            first: self.first_block(numbers, r),
-            own: count_own(has_body, plan.as_slice()) as u32,
+            plan: ClassPlan {
+                course,
+                form,
+                class,
+            },
+            first: self.lowering.first_block(self.numbers, r),
+            own: count_own(has_body, all.as_slice()) as u32,
             has_body,
         };
-        self.push_plan_run(blocks, numbers, tables, pointers, run, plan.as_slice())?;
+        self.push_plan_run(blocks, pointers, run, all.as_slice())?;
         Ok(())
     }
 
-    /// Puts the blocks of the construction of a class behind others, of a complete object and of a base.
-    fn push_built(
-        &self,
-        blocks: &mut BlockList,
-        numbers: &CodeNumbers,
-        tables: &ClassTables,
-        pointers: &ClassPointers,
-        c: ClassId,
-    ) -> Result<(), NoMemory>
-        requires layout { L.lays_out self.now.layout.now self.now.h.now }
-        requires lowering { IsLowering (setup self.now.h.now (L.rows self.now.layout.now) self.now.program.now) self.now.overriders.now self.now.slots.now self.now.index.now self.now.orders.now }
-        requires rows { numbers.now ≡ code_rows (setup self.now.h.now (L.rows self.now.layout.now) self.now.program.now) }
-        requires tables { AreClassTables self.now.h.now (places_of self.now.h.now (L.rows self.now.layout.now)) tables.now }
-        requires known { c.0 < length self.now.h.now }
-        requires pointers { ArePointers (setup self.now.h.now (L.rows self.now.layout.now) self.now.program.now) c pointers.now }
-        ensures { OnOk result (blocks.new ≡ blocks.old ++ flat_map (run_of (setup self.now.h.now (L.rows self.now.layout.now) self.now.program.now)) (built_routines c)) }
+    /// Puts the blocks of all plans of a class behind others: by which a complete object and a base are constructed, by which both are destroyed, and
+    /// by which an object is deleted. Its virtual pointers are found once.
+    fn push_class(&self, blocks: &mut BlockList, c: ClassId) -> Result<(), NoMemory>
+        requires site { IsBlockSite L.lays_out L.rows self.now }
+        requires known { c.0 < length self.now.lowering.now.h.now }
+        ensures { OnOk result (blocks.new ≡ blocks.old ++ class_blocks (block_setup L.rows self.now) c) }
     {
-        self.push_plan(
-            blocks,
-            numbers,
-            tables,
-            pointers,
-            Course::Constructs,
-            Form::InFull,
-            c,
-        )?;
-        self.push_plan(
-            blocks,
-            numbers,
-            tables,
-            pointers,
-            Course::Constructs,
-            Form::AsBase,
-            c,
-        )?;
-        Ok(())
-    }
-
-    /// Puts the blocks of the destruction of a class behind others, of a complete object, of a base, and of one that is deleted.
-    fn push_ended(
-        &self,
-        blocks: &mut BlockList,
-        numbers: &CodeNumbers,
-        tables: &ClassTables,
-        pointers: &ClassPointers,
-        c: ClassId,
-    ) -> Result<(), NoMemory>
-        requires layout { L.lays_out self.now.layout.now self.now.h.now }
-        requires lowering { IsLowering (setup self.now.h.now (L.rows self.now.layout.now) self.now.program.now) self.now.overriders.now self.now.slots.now self.now.index.now self.now.orders.now }
-        requires rows { numbers.now ≡ code_rows (setup self.now.h.now (L.rows self.now.layout.now) self.now.program.now) }
-        requires tables { AreClassTables self.now.h.now (places_of self.now.h.now (L.rows self.now.layout.now)) tables.now }
-        requires known { c.0 < length self.now.h.now }
-        requires pointers { ArePointers (setup self.now.h.now (L.rows self.now.layout.now) self.now.program.now) c pointers.now }
-        ensures { OnOk result (blocks.new ≡ blocks.old ++ flat_map (run_of (setup self.now.h.now (L.rows self.now.layout.now) self.now.program.now)) (ended_routines c)) }
-    {
-        self.push_plan(
-            blocks,
-            numbers,
-            tables,
-            pointers,
-            Course::Destroys,
-            Form::InFull,
-            c,
-        )?;
-        self.push_plan(
-            blocks,
-            numbers,
-            tables,
-            pointers,
-            Course::Destroys,
-            Form::AsBase,
-            c,
-        )?;
-        self.push_plan(
-            blocks,
-            numbers,
-            tables,
-            pointers,
-            Course::Deletes,
-            Form::InFull,
-            c,
-        )?;
-        Ok(())
-    }
-
-    /// Puts the blocks of all plans of a class behind others. Its virtual pointers are found once.
-    fn push_class(
-        &self,
-        blocks: &mut BlockList,
-        numbers: &CodeNumbers,
-        tables: &ClassTables,
-        c: ClassId,
-    ) -> Result<(), NoMemory>
-        requires layout { L.lays_out self.now.layout.now self.now.h.now }
-        requires lowering { IsLowering (setup self.now.h.now (L.rows self.now.layout.now) self.now.program.now) self.now.overriders.now self.now.slots.now self.now.index.now self.now.orders.now }
-        requires rows { numbers.now ≡ code_rows (setup self.now.h.now (L.rows self.now.layout.now) self.now.program.now) }
-        requires tables { AreClassTables self.now.h.now (places_of self.now.h.now (L.rows self.now.layout.now)) tables.now }
-        requires known { c.0 < length self.now.h.now }
-        ensures { OnOk result (blocks.new ≡ blocks.old ++ class_blocks (setup self.now.h.now (L.rows self.now.layout.now) self.now.program.now) c) }
-    {
-        let pointers = self.pointers(numbers, tables, c)?;
-        self.push_built(blocks, numbers, tables, &pointers, c)?;
-        self.push_ended(blocks, numbers, tables, &pointers, c)?;
+        let pointers = self.pointers(c)?;
+        self.push_plan(blocks, &pointers, Course::Constructs, Form::InFull, c)?;
+        self.push_plan(blocks, &pointers, Course::Constructs, Form::AsBase, c)?;
+        self.push_plan(blocks, &pointers, Course::Destroys, Form::InFull, c)?;
+        self.push_plan(blocks, &pointers, Course::Destroys, Form::AsBase, c)?;
+        self.push_plan(blocks, &pointers, Course::Deletes, Form::InFull, c)?;
         Ok(())
     }
 
     /// Puts the blocks of the plans of all classes behind others.
     ///
     /// Errors: want of memory.
-    pub(crate) fn push_classes(
-        &self,
-        blocks: &mut BlockList,
-        numbers: &CodeNumbers,
-        tables: &ClassTables,
-    ) -> Result<(), NoMemory>
-        requires layout { L.lays_out self.now.layout.now self.now.h.now }
-        requires lowering { IsLowering (setup self.now.h.now (L.rows self.now.layout.now) self.now.program.now) self.now.overriders.now self.now.slots.now self.now.index.now self.now.orders.now }
-        requires rows { numbers.now ≡ code_rows (setup self.now.h.now (L.rows self.now.layout.now) self.now.program.now) }
-        requires tables { AreClassTables self.now.h.now (places_of self.now.h.now (L.rows self.now.layout.now)) tables.now }
-        ensures { OnOk result (blocks.new ≡ blocks.old ++ flat_map (class_blocks (setup self.now.h.now (L.rows self.now.layout.now) self.now.program.now)) (class_ids (length self.now.h.now))) }
+    pub(crate) fn push_classes(&self, blocks: &mut BlockList) -> Result<(), NoMemory>
+        requires site { IsBlockSite L.lays_out L.rows self.now }
+        ensures { OnOk result (blocks.new ≡ blocks.old ++ flat_map (class_blocks (block_setup L.rows self.now)) (class_ids (length self.now.lowering.now.h.now))) }
     {
-        for n in 0..self.h.len() {
-            self.push_class(blocks, numbers, tables, ClassId(n))?;
+        for n in 0..self.lowering.h.len() {
+            self.push_class(blocks, ClassId(n))?;
         }
         Ok(())
     }

@@ -2,12 +2,11 @@
 
 ghost use Rattle.std.specs.Prelude.{◌≡◌, ◌<◌, ◌^◌, IfOk};
 ghost use Rattle.std.specs.List.{count_by};
-ghost use Rattle.path_bodies.specs.Places.{IsIndexOf};
-ghost use Rattle.abi_ops.specs.Setups.{setup};
 ghost use Rattle.abi_ops.specs.Routines.{IsRoutine};
 ghost use Rattle.abi_lower.specs.invariants.ItemCodes.{ArePlans};
 ghost use Rattle.abi_code.specs.invariants.Numbers.{own_events, blocks_in};
 ghost use Rattle.abi_code.specs.invariants.Codes.{routine_from, is_own_code, is_body_kind, is_body_next};
+ghost use Rattle.abi_code.specs.invariants.Lowerings.{lowering_setup};
 
 use crate::lowering::Lowering;
 use crate::routines::{Routine, owner};
@@ -61,8 +60,8 @@ impl<'a, L: SoundLayout> Lowering<'a, L> {
     /// Errors: want of memory.
     pub fn own_events(&self, r: Routine) -> Result<usize, NoMemory>
         requires plans { ArePlans self.now.h.now self.now.program.now self.now.index.now self.now.orders.now }
-        requires routine { IsRoutine (setup self.now.h.now (L.rows self.now.layout.now) self.now.program.now) (routine_from r) }
-        ensures { IfOk result (λ n. n ≡ own_events (setup self.now.h.now (L.rows self.now.layout.now) self.now.program.now) (routine_from r)) }
+        requires routine { IsRoutine (lowering_setup L.rows self.now) (routine_from r) }
+        ensures { IfOk result (λ n. n ≡ own_events (lowering_setup L.rows self.now) (routine_from r)) }
     {
         match r {
             Routine::Main | Routine::Function(_) => Ok(0),
@@ -79,9 +78,9 @@ impl<'a, L: SoundLayout> Lowering<'a, L> {
     /// Errors: want of memory.
     pub fn blocks_in(&self, r: Routine) -> Result<usize, NoMemory>
         requires plans { ArePlans self.now.h.now self.now.program.now self.now.index.now self.now.orders.now }
-        requires routine { IsRoutine (setup self.now.h.now (L.rows self.now.layout.now) self.now.program.now) (routine_from r) }
-        requires room { blocks_in (setup self.now.h.now (L.rows self.now.layout.now) self.now.program.now) (routine_from r) < 2 ^ 32 }
-        ensures { IfOk result (λ n. n ≡ blocks_in (setup self.now.h.now (L.rows self.now.layout.now) self.now.program.now) (routine_from r)) }
+        requires routine { IsRoutine (lowering_setup L.rows self.now) (routine_from r) }
+        requires room { blocks_in (lowering_setup L.rows self.now) (routine_from r) < 2 ^ 32 }
+        ensures { IfOk result (λ n. n ≡ blocks_in (lowering_setup L.rows self.now) (routine_from r)) }
     {
         let own = self.own_events(r)?;
         match self.body(r) {

@@ -9,6 +9,7 @@
 //! are those of the program (`IsLowered` of abi_lower).
 #![tactic(auto)]
 
+pub mod block_sites;
 pub mod class_runs;
 pub mod counts;
 pub mod lowering;

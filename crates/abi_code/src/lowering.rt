@@ -3,10 +3,11 @@
 ghost use Rattle.std.specs.Prelude.{◌≡◌, ◌<◌, IfOk, length};
 ghost use Rattle.std.specs.Option.{option_copied};
 ghost use Rattle.path_bodies.specs.Places.{IsIndexOf};
-ghost use Rattle.abi_ops.specs.Setups.{setup, body_in};
+ghost use Rattle.abi_ops.specs.Setups.{body_in};
 ghost use Rattle.abi_lower.specs.Blocks.{items};
 ghost use Rattle.abi_lower.specs.invariants.ItemCodes.{form_of, item_codes, ArePlans};
 ghost use Rattle.abi_code.specs.invariants.Codes.{routine_from};
+ghost use Rattle.abi_code.specs.invariants.Lowerings.{lowering_setup};
 
 use crate::routines::{Routine, owner};
 use abi_lower::items::{Form, ItemList, Plans};
@@ -38,7 +39,7 @@ impl<'a, L: SoundLayout> Lowering<'a, L> {
     /// The body that a routine runs, if one is declared.
     pub fn body(&self, r: Routine) -> Option<&'a TypedBody>
         requires { IsIndexOf self.now.program.now self.now.index.now }
-        ensures { option_copied result ≡ body_in (setup self.now.h.now (L.rows self.now.layout.now) self.now.program.now) (routine_from r) }
+        ensures { option_copied result ≡ body_in (lowering_setup L.rows self.now) (routine_from r) }
     {
         self.index.body(self.program, owner(r))
     }
@@ -49,7 +50,7 @@ impl<'a, L: SoundLayout> Lowering<'a, L> {
     pub fn items(&self, course: Course, form: Form, c: ClassId) -> Result<ItemList, NoMemory>
         requires plans { ArePlans self.now.h.now self.now.program.now self.now.index.now self.now.orders.now }
         requires known { c.0 < length self.now.h.now }
-        ensures { IfOk result (λ list. list ≡ item_codes (items (setup self.now.h.now (L.rows self.now.layout.now) self.now.program.now) course (form_of form) c)) }
+        ensures { IfOk result (λ list. list ≡ item_codes (items (lowering_setup L.rows self.now) course (form_of form) c)) }
     {
         let plans = Plans {
             alloc: self.alloc,

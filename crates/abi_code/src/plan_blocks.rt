@@ -1,35 +1,31 @@
 //! The blocks of the own events of plans.
 
-ghost use Rattle.std.specs.Prelude.{◌≡◌, ◌<◌, ◌+◌, ◌++◌, ◌∷◌, [], ◌^◌, ◌⊎◌, List, IfOk, OnOk, if◌then◌else◌, length, option_to_list};
+ghost use Rattle.std.specs.Prelude.{◌≡◌, ◌<◌, ◌+◌, ◌++◌, ◌∷◌, [], ◌^◌, ◌⊎◌, List, IfOk, OnOk, if◌then◌else◌, option_to_list};
 ghost use Rattle.std.specs.List.{count_by};
-ghost use Rattle.abi_ops.specs.Setups.{setup, PlanCode};
 ghost use Rattle.abi_lower.specs.Blocks.{behind_body, closing_ops, event_block, items};
 ghost use Rattle.abi_lower.specs.Items.{Item as ItemOf};
 ghost use Rattle.abi_lower.specs.Lowered.{own_block};
 ghost use Rattle.abi_lower.specs.invariants.ItemCodes.{form_of, item_code, item_codes};
-ghost use Rattle.abi_pointers.specs.PlanSites.{IsPlanSite};
+ghost use Rattle.abi_pointers.specs.PlanSites.{plan_setup};
 ghost use Rattle.abi_pointers.specs.Settings.{ArePointers};
-ghost use Rattle.abi_pointers.specs.Tails.{AreLeft};
+ghost use Rattle.abi_pointers.specs.Tails.{IsLeftOf};
 ghost use Rattle.abi_code.specs.invariants.Numbers.{number_of};
 ghost use Rattle.abi_code.specs.invariants.Codes.{is_own_code, is_body_code, own_kind, is_body_next as is_body_next_code};
 ghost use Rattle.abi_code.specs.invariants.Runs.{event_blocks};
-ghost use Rattle.abi_code.specs.invariants.Lowerings.{IsPlanRun};
+ghost use Rattle.abi_code.specs.invariants.Lowerings.{IsRunAt, plan_code, plan_items};
 
 use crate::counts::{count_own, is_body, is_body_next};
-use abi_lower::items::{Form, Item, Kind};
+use abi_lower::items::{Item, Kind};
 use abi_ops::routines::Course;
-use abi_pointers::{ClassPointers, PlanSite, push_block, push_tail};
+use abi_pointers::{ClassPlan, ClassPointers, PlanSite, push_block, push_tail};
 use abi_sound::SoundLayout;
 use byte_code::{Block, BlockList, OpList};
-use cxx_hierarchy::ClassId;
 use foundation::{NoMemory, Sequence};
 
 /// A plan, the block at which it begins, how many own events of it have blocks, and whether a body is declared.
 #[derive(Clone, Copy)]
 pub struct PlanRun {
-    pub course: Course,
-    pub form: Form,
-    pub class: ClassId,
+    pub plan: ClassPlan,
     pub first: u32,
     pub own: u32,
     pub has_body: bool,
@@ -70,20 +66,15 @@ fn push_event_block<L: SoundLayout>(
     left: &[Item],
     done: u32,
 ) -> Result<(), NoMemory>
-    requires layout { L.lays_out site.now.layout.now site.now.h.now }
-    requires site { IsPlanSite (setup site.now.h.now (L.rows site.now.layout.now) site.now.program.now) site.now.slots.now site.now.index.now site.now.tables.now }
-    requires pointers { ArePointers (setup site.now.h.now (L.rows site.now.layout.now) site.now.program.now) run.class pointers.now }
-    requires known { run.class.0 < length site.now.h.now }
-    requires run { IsPlanRun (setup site.now.h.now (L.rows site.now.layout.now) site.now.program.now) site.now.numbers.now run.course (form_of run.form) run.class run.first run.own run.has_body }
-    requires left { AreLeft (setup site.now.h.now (L.rows site.now.layout.now) site.now.program.now) run.course (form_of run.form) run.class left.now }
+    requires pointers { ArePointers (plan_setup L.rows site.now) run.plan.class pointers.now }
+    requires run { IsRunAt L.lays_out L.rows site.now run }
+    requires left { IsLeftOf L.rows site.now run.plan left.now }
     requires done { done + count_by (is_own_code run.has_body) left.now ≡ run.own }
-    ensures { OnOk result ((plan : List ItemOf) → left.now ≡ item_codes plan → blocks.new ≡ blocks.old ++ record { ops = event_block (setup site.now.h.now (L.rows site.now.layout.now) site.now.program.now) (number_of (setup site.now.h.now (L.rows site.now.layout.now) site.now.program.now)) run.course (form_of run.form) run.class kind plan; line = 0 } ∷ []) }
+    ensures { OnOk result ((plan : List ItemOf) → left.now ≡ item_codes plan → blocks.new ≡ blocks.old ++ record { ops = event_block (plan_setup L.rows site.now) (number_of (plan_setup L.rows site.now)) run.plan.course (form_of run.plan.form) run.plan.class kind plan; line = 0 } ∷ []) }
 {
     let mut ops = Sequence::new(site.alloc);
     let next = next_number(run, left, done);
-    push_block(
-        &mut ops, site, pointers, run.course, run.form, run.class, kind, left, next,
-    )?;
+    push_block(&mut ops, site, pointers, run.plan, kind, left, next)?;
     blocks.push(Block { ops, line: 0 })?;
     Ok(())
 }
@@ -98,14 +89,11 @@ fn push_item<L: SoundLayout>(
     left: &[Item],
     done: u32,
 ) -> Result<u32, NoMemory>
-    requires layout { L.lays_out site.now.layout.now site.now.h.now }
-    requires site { IsPlanSite (setup site.now.h.now (L.rows site.now.layout.now) site.now.program.now) site.now.slots.now site.now.index.now site.now.tables.now }
-    requires pointers { ArePointers (setup site.now.h.now (L.rows site.now.layout.now) site.now.program.now) run.class pointers.now }
-    requires known { run.class.0 < length site.now.h.now }
-    requires run { IsPlanRun (setup site.now.h.now (L.rows site.now.layout.now) site.now.program.now) site.now.numbers.now run.course (form_of run.form) run.class run.first run.own run.has_body }
-    requires left { AreLeft (setup site.now.h.now (L.rows site.now.layout.now) site.now.program.now) run.course (form_of run.form) run.class left.now }
+    requires pointers { ArePointers (plan_setup L.rows site.now) run.plan.class pointers.now }
+    requires run { IsRunAt L.lays_out L.rows site.now run }
+    requires left { IsLeftOf L.rows site.now run.plan left.now }
     requires done { done + count_by (is_own_code run.has_body) (item ∷ left.now) ≡ run.own }
-    ensures blocks { OnOk result ((i : ItemOf) (plan : List ItemOf) → item ≡ item_code i → left.now ≡ item_codes plan → blocks.new ≡ blocks.old ++ option_to_list (own_block (setup site.now.h.now (L.rows site.now.layout.now) site.now.program.now) (number_of (setup site.now.h.now (L.rows site.now.layout.now) site.now.program.now)) run.course (form_of run.form) run.class (i ∷ plan))) }
+    ensures blocks { OnOk result ((i : ItemOf) (plan : List ItemOf) → item ≡ item_code i → left.now ≡ item_codes plan → blocks.new ≡ blocks.old ++ option_to_list (own_block (plan_setup L.rows site.now) (number_of (plan_setup L.rows site.now)) run.plan.course (form_of run.plan.form) run.plan.class (i ∷ plan))) }
     ensures done { IfOk result (λ n. n + count_by (is_own_code run.has_body) left.now ≡ run.own) }
 {
     match own_kind(run.has_body, item) {
@@ -127,14 +115,11 @@ pub fn push_events<L: SoundLayout>(
     run: PlanRun,
     items: &[Item],
 ) -> Result<(), NoMemory>
-    requires layout { L.lays_out site.now.layout.now site.now.h.now }
-    requires site { IsPlanSite (setup site.now.h.now (L.rows site.now.layout.now) site.now.program.now) site.now.slots.now site.now.index.now site.now.tables.now }
-    requires pointers { ArePointers (setup site.now.h.now (L.rows site.now.layout.now) site.now.program.now) run.class pointers.now }
-    requires known { run.class.0 < length site.now.h.now }
-    requires run { IsPlanRun (setup site.now.h.now (L.rows site.now.layout.now) site.now.program.now) site.now.numbers.now run.course (form_of run.form) run.class run.first run.own run.has_body }
-    requires left { AreLeft (setup site.now.h.now (L.rows site.now.layout.now) site.now.program.now) run.course (form_of run.form) run.class items.now }
+    requires pointers { ArePointers (plan_setup L.rows site.now) run.plan.class pointers.now }
+    requires run { IsRunAt L.lays_out L.rows site.now run }
+    requires left { IsLeftOf L.rows site.now run.plan items.now }
     requires count { count_by (is_own_code run.has_body) items.now ≡ run.own }
-    ensures { OnOk result ((plan : List ItemOf) → items.now ≡ item_codes plan → blocks.new ≡ blocks.old ++ event_blocks (setup site.now.h.now (L.rows site.now.layout.now) site.now.program.now) (number_of (setup site.now.h.now (L.rows site.now.layout.now) site.now.program.now)) run.course (form_of run.form) run.class plan) }
+    ensures { OnOk result ((plan : List ItemOf) → items.now ≡ item_codes plan → blocks.new ≡ blocks.old ++ event_blocks (plan_setup L.rows site.now) (number_of (plan_setup L.rows site.now)) run.plan.course (form_of run.plan.form) run.plan.class plan) }
 {
     let mut done = 0;
     for (i, item) in items.iter().enumerate() {
@@ -176,27 +161,14 @@ fn end_of_construction<L: SoundLayout>(
     pointers: &ClassPointers,
     run: PlanRun,
 ) -> Result<OpList, NoMemory>
-    requires layout { L.lays_out site.now.layout.now site.now.h.now }
-    requires site { IsPlanSite (setup site.now.h.now (L.rows site.now.layout.now) site.now.program.now) site.now.slots.now site.now.index.now site.now.tables.now }
-    requires pointers { ArePointers (setup site.now.h.now (L.rows site.now.layout.now) site.now.program.now) run.class pointers.now }
-    requires known { run.class.0 < length site.now.h.now }
-    requires run { IsPlanRun (setup site.now.h.now (L.rows site.now.layout.now) site.now.program.now) site.now.numbers.now run.course (form_of run.form) run.class run.first run.own run.has_body }
-    requires course { run.course ≡ Course.Constructs }
-    ensures { IfOk result (λ ops. ops ≡ closing_ops (setup site.now.h.now (L.rows site.now.layout.now) site.now.program.now) (number_of (setup site.now.h.now (L.rows site.now.layout.now) site.now.program.now)) (PlanCode run.course (form_of run.form) run.class)) }
+    requires pointers { ArePointers (plan_setup L.rows site.now) run.plan.class pointers.now }
+    requires run { IsRunAt L.lays_out L.rows site.now run }
+    requires course { run.plan.course ≡ Course.Constructs }
+    ensures { IfOk result (λ ops. ops ≡ closing_ops (plan_setup L.rows site.now) (number_of (plan_setup L.rows site.now)) (plan_code run.plan)) }
 {
     let mut ops = Sequence::new(site.alloc);
     let next = run.first + run.own;
-    push_block(
-        &mut ops,
-        site,
-        pointers,
-        run.course,
-        run.form,
-        run.class,
-        Kind::AtDone,
-        &[],
-        next,
-    )?;
+    push_block(&mut ops, site, pointers, run.plan, Kind::AtDone, &[], next)?;
     Ok(ops)
 }
 
@@ -204,21 +176,18 @@ fn end_of_construction<L: SoundLayout>(
 fn end_of_destruction<L: SoundLayout>(
     site: &PlanSite<L>,
     run: PlanRun,
-    plan: &[Item],
+    all: &[Item],
 ) -> Result<OpList, NoMemory>
-    requires layout { L.lays_out site.now.layout.now site.now.h.now }
-    requires site { IsPlanSite (setup site.now.h.now (L.rows site.now.layout.now) site.now.program.now) site.now.slots.now site.now.index.now site.now.tables.now }
-    requires known { run.class.0 < length site.now.h.now }
-    requires run { IsPlanRun (setup site.now.h.now (L.rows site.now.layout.now) site.now.program.now) site.now.numbers.now run.course (form_of run.form) run.class run.first run.own run.has_body }
-    requires course { (run.course ≡ Course.Destroys) ⊎ (run.course ≡ Course.Deletes) }
-    requires items { plan.now ≡ item_codes (items (setup site.now.h.now (L.rows site.now.layout.now) site.now.program.now) run.course (form_of run.form) run.class) }
-    ensures { IfOk result (λ ops. ops ≡ closing_ops (setup site.now.h.now (L.rows site.now.layout.now) site.now.program.now) (number_of (setup site.now.h.now (L.rows site.now.layout.now) site.now.program.now)) (PlanCode run.course (form_of run.form) run.class)) }
+    requires run { IsRunAt L.lays_out L.rows site.now run }
+    requires course { (run.plan.course ≡ Course.Destroys) ⊎ (run.plan.course ≡ Course.Deletes) }
+    requires items { all.now ≡ plan_items (plan_setup L.rows site.now) run.plan }
+    ensures { IfOk result (λ ops. ops ≡ closing_ops (plan_setup L.rows site.now) (number_of (plan_setup L.rows site.now)) (plan_code run.plan)) }
 {
     let mut ops = Sequence::new(site.alloc);
-    let left = behind_body(plan);
+    let left = behind_body(all);
     let behind = count_own(run.has_body, left) as u32;
     let next = next_number(run, left, run.own - behind);
-    push_tail(&mut ops, site, run.course, run.form, run.class, left, next)?;
+    push_tail(&mut ops, site, run.plan, left, next)?;
     Ok(ops)
 }
 
@@ -229,23 +198,20 @@ pub fn end_of_body<L: SoundLayout>(
     site: &PlanSite<L>,
     pointers: &ClassPointers,
     run: PlanRun,
-    plan: &[Item],
+    all: &[Item],
 ) -> Result<OpList, NoMemory>
-    requires layout { L.lays_out site.now.layout.now site.now.h.now }
-    requires site { IsPlanSite (setup site.now.h.now (L.rows site.now.layout.now) site.now.program.now) site.now.slots.now site.now.index.now site.now.tables.now }
-    requires pointers { ArePointers (setup site.now.h.now (L.rows site.now.layout.now) site.now.program.now) run.class pointers.now }
-    requires known { run.class.0 < length site.now.h.now }
-    requires run { IsPlanRun (setup site.now.h.now (L.rows site.now.layout.now) site.now.program.now) site.now.numbers.now run.course (form_of run.form) run.class run.first run.own run.has_body }
-    requires items { plan.now ≡ item_codes (items (setup site.now.h.now (L.rows site.now.layout.now) site.now.program.now) run.course (form_of run.form) run.class) }
-    ensures { IfOk result (λ ops. ops ≡ closing_ops (setup site.now.h.now (L.rows site.now.layout.now) site.now.program.now) (number_of (setup site.now.h.now (L.rows site.now.layout.now) site.now.program.now)) (PlanCode run.course (form_of run.form) run.class)) }
+    requires pointers { ArePointers (plan_setup L.rows site.now) run.plan.class pointers.now }
+    requires run { IsRunAt L.lays_out L.rows site.now run }
+    requires items { all.now ≡ plan_items (plan_setup L.rows site.now) run.plan }
+    ensures { IfOk result (λ ops. ops ≡ closing_ops (plan_setup L.rows site.now) (number_of (plan_setup L.rows site.now)) (plan_code run.plan)) }
 {
-    match run.course {
+    match run.plan.course {
         Course::Constructs => {
             let ops = end_of_construction(site, pointers, run)?;
             Ok(ops)
         }
         Course::Destroys | Course::Deletes => {
-            let ops = end_of_destruction(site, run, plan)?;
+            let ops = end_of_destruction(site, run, all)?;
             Ok(ops)
         }
     }

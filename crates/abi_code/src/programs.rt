@@ -12,9 +12,10 @@ ghost use Rattle.abi_lower.specs.Lowered.{HasRegisters, IsLowered};
 ghost use Rattle.abi_code.specs.Bounds.{IsSmall};
 ghost use Rattle.abi_code.specs.invariants.Numbers.{routines, code_rows};
 ghost use Rattle.abi_code.specs.invariants.Codes.{routine_from, routines_from};
-ghost use Rattle.abi_code.specs.invariants.Lowerings.{IsLowering};
+ghost use Rattle.abi_code.specs.invariants.Lowerings.{IsLoweringAt, lowering_setup};
 ghost use Rattle.abi_ops.specs.invariants.Fits.{most_locals};
 
+use crate::block_sites::BlockSite;
 use crate::lowering::Lowering;
 use crate::routines::{Routine, list_routines};
 use abi_pointers::ClassTables;
@@ -43,8 +44,8 @@ const OTHER_REGISTERS: u32 = 41;
 impl<'a, L: SoundLayout> Lowering<'a, L> {
     /// How many locals the body of a routine has.
     fn locals(&self, r: Routine) -> u32
-        requires { IsLowering (setup self.now.h.now (L.rows self.now.layout.now) self.now.program.now) self.now.overriders.now self.now.slots.now self.now.index.now self.now.orders.now }
-        ensures count { result ≡ locals_in (body_in (setup self.now.h.now (L.rows self.now.layout.now) self.now.program.now) (routine_from r)) }
+        requires { IsLoweringAt L.rows self.now }
+        ensures count { result ≡ locals_in (body_in (lowering_setup L.rows self.now) (routine_from r)) }
         ensures few { result < most_locals }
     {
         match self.body(r) {
@@ -55,9 +56,9 @@ impl<'a, L: SoundLayout> Lowering<'a, L> {
 
     /// How many registers a frame has.
     fn registers(&self, list: &[Routine]) -> u32
-        requires lowering { IsLowering (setup self.now.h.now (L.rows self.now.layout.now) self.now.program.now) self.now.overriders.now self.now.slots.now self.now.index.now self.now.orders.now }
-        requires routines { routines_from list.now ≡ routines (setup self.now.h.now (L.rows self.now.layout.now) self.now.program.now) }
-        ensures { HasRegisters (setup self.now.h.now (L.rows self.now.layout.now) self.now.program.now) result }
+        requires lowering { IsLoweringAt L.rows self.now }
+        requires routines { routines_from list.now ≡ routines (lowering_setup L.rows self.now) }
+        ensures { HasRegisters (lowering_setup L.rows self.now) result }
     {
         let mut most: u32 = 0;
         for r in list {
@@ -74,13 +75,18 @@ impl<'a, L: SoundLayout> Lowering<'a, L> {
         list: &[Routine],
     ) -> Result<Code, NoMemory>
         requires layout { L.lays_out self.now.layout.now self.now.h.now }
-        requires lowering { IsLowering (setup self.now.h.now (L.rows self.now.layout.now) self.now.program.now) self.now.overriders.now self.now.slots.now self.now.index.now self.now.orders.now }
-        requires rows { numbers.now ≡ code_rows (setup self.now.h.now (L.rows self.now.layout.now) self.now.program.now) }
+        requires lowering { IsLoweringAt L.rows self.now }
+        requires rows { numbers.now ≡ code_rows (lowering_setup L.rows self.now) }
         requires tables { AreClassTables self.now.h.now (places_of self.now.h.now (L.rows self.now.layout.now)) tables.now }
-        requires routines { routines_from list.now ≡ routines (setup self.now.h.now (L.rows self.now.layout.now) self.now.program.now) }
-        ensures { IfOk result (λ code. IsLowered (setup self.now.h.now (L.rows self.now.layout.now) self.now.program.now) code numbers.now) }
+        requires routines { routines_from list.now ≡ routines (lowering_setup L.rows self.now) }
+        ensures { IfOk result (λ code. IsLowered (lowering_setup L.rows self.now) code numbers.now) }
     {
-        let blocks = self.blocks(numbers, tables)?;
+        let site = BlockSite {
+            lowering: self,
+            numbers,
+            tables,
+        };
+        let blocks = site.blocks()?;
         Ok(Code {
             blocks,
             start: 0,
@@ -92,10 +98,10 @@ impl<'a, L: SoundLayout> Lowering<'a, L> {
     /// The code of the program, and the numbers of its functions.
     fn lowered(&self, tables: &ClassTables, list: &[Routine]) -> Result<Lowered, NoMemory>
         requires layout { L.lays_out self.now.layout.now self.now.h.now }
-        requires lowering { IsLowering (setup self.now.h.now (L.rows self.now.layout.now) self.now.program.now) self.now.overriders.now self.now.slots.now self.now.index.now self.now.orders.now }
+        requires lowering { IsLoweringAt L.rows self.now }
         requires tables { AreClassTables self.now.h.now (places_of self.now.h.now (L.rows self.now.layout.now)) tables.now }
-        requires routines { routines_from list.now ≡ routines (setup self.now.h.now (L.rows self.now.layout.now) self.now.program.now) }
-        ensures { IfOk result (λ lowered. IsLowered (setup self.now.h.now (L.rows self.now.layout.now) self.now.program.now) lowered.code lowered.numbers) }
+        requires routines { routines_from list.now ≡ routines (lowering_setup L.rows self.now) }
+        ensures { IfOk result (λ lowered. IsLowered (lowering_setup L.rows self.now) lowered.code lowered.numbers) }
     {
         let numbers = self.numbers(list)?;
         let code = self.code(&numbers, tables, list)?;

@@ -1,13 +1,11 @@
 //! Where the code of routines begins.
 
 ghost use Rattle.std.specs.Prelude.{◌≡◌, ◌<◌, ◌+◌, ◌^◌, ◌++◌, IfOk, OnOk};
-ghost use Rattle.std.specs.Option.{option_copied};
-ghost use Rattle.abi_ops.specs.Setups.{setup};
 ghost use Rattle.abi_ops.specs.Routines.{IsRoutine, function_of, kind_of, start_by};
 ghost use Rattle.abi_lower.specs.invariants.ItemCodes.{ArePlans};
 ghost use Rattle.abi_code.specs.invariants.Numbers.{routines, blocks_in, routine_row, code_rows};
 ghost use Rattle.abi_code.specs.invariants.Codes.{routine_from, routines_from};
-ghost use Rattle.abi_code.specs.invariants.Lowerings.{IsLowering};
+ghost use Rattle.abi_code.specs.invariants.Lowerings.{IsLoweringAt, lowering_setup};
 
 use crate::lowering::Lowering;
 use crate::routines::{Routine, kind, plan_function};
@@ -20,8 +18,8 @@ use foundation::{NoMemory, Sequence};
 impl<'a, L: SoundLayout> Lowering<'a, L> {
     /// The function whose code a routine is.
     fn function(&self, r: Routine) -> Option<FunctionId>
-        requires { IsRoutine (setup self.now.h.now (L.rows self.now.layout.now) self.now.program.now) (routine_from r) }
-        ensures { result ≡ function_of (setup self.now.h.now (L.rows self.now.layout.now) self.now.program.now) (routine_from r) }
+        requires { IsRoutine (lowering_setup L.rows self.now) (routine_from r) }
+        ensures { result ≡ function_of (lowering_setup L.rows self.now) (routine_from r) }
     {
         match r {
             Routine::Main => None,
@@ -32,8 +30,8 @@ impl<'a, L: SoundLayout> Lowering<'a, L> {
 
     /// The block at which a routine begins.
     pub fn first_block(&self, numbers: &CodeNumbers, r: Routine) -> u32
-        requires { IsRoutine (setup self.now.h.now (L.rows self.now.layout.now) self.now.program.now) (routine_from r) }
-        ensures { result ≡ start_by (setup self.now.h.now (L.rows self.now.layout.now) self.now.program.now) numbers.now (routine_from r) }
+        requires { IsRoutine (lowering_setup L.rows self.now) (routine_from r) }
+        ensures { result ≡ start_by (lowering_setup L.rows self.now) numbers.now (routine_from r) }
     {
         match r {
             Routine::Main => 0,
@@ -49,10 +47,10 @@ impl<'a, L: SoundLayout> Lowering<'a, L> {
     /// Errors: want of memory.
     fn push_row(&self, rows: &mut CodeRowList, r: Routine, next: u32) -> Result<u32, NoMemory>
         requires plans { ArePlans self.now.h.now self.now.program.now self.now.index.now self.now.orders.now }
-        requires routine { IsRoutine (setup self.now.h.now (L.rows self.now.layout.now) self.now.program.now) (routine_from r) }
-        requires room { next + blocks_in (setup self.now.h.now (L.rows self.now.layout.now) self.now.program.now) (routine_from r) < 2 ^ 32 }
-        ensures rows { OnOk result (rows.new ≡ rows.old ++ routine_row (kind_of (routine_from r)) next (function_of (setup self.now.h.now (L.rows self.now.layout.now) self.now.program.now) (routine_from r))) }
-        ensures next { IfOk result (λ n. n ≡ next + blocks_in (setup self.now.h.now (L.rows self.now.layout.now) self.now.program.now) (routine_from r)) }
+        requires routine { IsRoutine (lowering_setup L.rows self.now) (routine_from r) }
+        requires room { next + blocks_in (lowering_setup L.rows self.now) (routine_from r) < 2 ^ 32 }
+        ensures rows { OnOk result (rows.new ≡ rows.old ++ routine_row (kind_of (routine_from r)) next (function_of (lowering_setup L.rows self.now) (routine_from r))) }
+        ensures next { IfOk result (λ n. n ≡ next + blocks_in (lowering_setup L.rows self.now) (routine_from r)) }
     {
         let count = self.blocks_in(r)?;
         match self.function(r) {
@@ -70,9 +68,9 @@ impl<'a, L: SoundLayout> Lowering<'a, L> {
     ///
     /// Errors: want of memory.
     fn rows(&self, list: &[Routine]) -> Result<CodeRowList, NoMemory>
-        requires lowering { IsLowering (setup self.now.h.now (L.rows self.now.layout.now) self.now.program.now) self.now.overriders.now self.now.slots.now self.now.index.now self.now.orders.now }
-        requires routines { routines_from list.now ≡ routines (setup self.now.h.now (L.rows self.now.layout.now) self.now.program.now) }
-        ensures { IfOk result (λ rows. rows ≡ code_rows (setup self.now.h.now (L.rows self.now.layout.now) self.now.program.now)) }
+        requires lowering { IsLoweringAt L.rows self.now }
+        requires routines { routines_from list.now ≡ routines (lowering_setup L.rows self.now) }
+        ensures { IfOk result (λ rows. rows ≡ code_rows (lowering_setup L.rows self.now)) }
     {
         let mut rows = Sequence::new(self.alloc);
         let mut next = 0;
@@ -86,9 +84,9 @@ impl<'a, L: SoundLayout> Lowering<'a, L> {
     ///
     /// Errors: want of memory.
     pub fn numbers(&self, list: &[Routine]) -> Result<CodeNumbers, NoMemory>
-        requires lowering { IsLowering (setup self.now.h.now (L.rows self.now.layout.now) self.now.program.now) self.now.overriders.now self.now.slots.now self.now.index.now self.now.orders.now }
-        requires routines { routines_from list.now ≡ routines (setup self.now.h.now (L.rows self.now.layout.now) self.now.program.now) }
-        ensures { IfOk result (λ numbers. numbers ≡ code_rows (setup self.now.h.now (L.rows self.now.layout.now) self.now.program.now)) }
+        requires lowering { IsLoweringAt L.rows self.now }
+        requires routines { routines_from list.now ≡ routines (lowering_setup L.rows self.now) }
+        ensures { IfOk result (λ numbers. numbers ≡ code_rows (lowering_setup L.rows self.now)) }
     {
         let rows = self.rows(list)?;
         let numbers = CodeNumbers::new(self.alloc, rows)?;

@@ -7,22 +7,18 @@ ghost use Rattle.byte_code.specs.declared.op.Finish.TheVariants.{Check as CheckO
 ghost use Rattle.byte_code.specs.declared.op.Op.TheVariants.{Does as DoesOp, End, Return as ReturnOp};
 ghost use Rattle.cxx_overrider.specs.Functions.{return_of};
 ghost use Rattle.path_model.specs.Rules.{returns_value};
-ghost use Rattle.abi_sound.specs.Places.{places_of};
-ghost use Rattle.abi_ops.specs.Setups.{setup, Routine as RoutineOf};
+ghost use Rattle.abi_ops.specs.Setups.{Routine as RoutineOf};
 ghost use Rattle.abi_ops.specs.Routines.{IsRoutine};
 ghost use Rattle.abi_lower.specs.Blocks.{closing_ops};
-ghost use Rattle.abi_pointers.specs.ClassTables.{AreClassTables};
-ghost use Rattle.abi_code.specs.invariants.Numbers.{plain_routines, code_rows, number_of};
+ghost use Rattle.abi_code.specs.invariants.Numbers.{plain_routines, number_of};
 ghost use Rattle.abi_code.specs.invariants.Codes.{routine_from, routines_from, is_plain};
 ghost use Rattle.abi_code.specs.invariants.Runs.{statement_blocks, run as run_of, all_blocks};
-ghost use Rattle.abi_code.specs.invariants.Lowerings.{IsLowering, IsBodySite, RunsAt};
+ghost use Rattle.abi_code.specs.invariants.Lowerings.{IsBlockSite, IsBodySite, RunsAt, block_setup};
 
-use crate::lowering::Lowering;
+use crate::block_sites::BlockSite;
 use crate::routines::{Routine, list_plain};
 use crate::statement_blocks::push_statements;
 use abi_ops::sites::Site;
-use abi_pointers::ClassTables;
-use abi_slots::CodeNumbers;
 use abi_sound::SoundLayout;
 use byte_code::{Block, BlockList, Check, Finish, Op, OpList};
 use cxx_hierarchy::{Hierarchy, ReturnType};
@@ -71,29 +67,28 @@ fn end_of_function(alloc: Global, returns_value: bool) -> Result<OpList, NoMemor
     Ok(ops)
 }
 
-impl<'a, L: SoundLayout> Lowering<'a, L> {
+impl<'a, L: SoundLayout> BlockSite<'a, L> {
     /// Puts the blocks of a body that begins at block `base` behind others; the last one has the ops `end`.
     pub(crate) fn push_body(
         &self,
         blocks: &mut BlockList,
-        numbers: &CodeNumbers,
         body: &TypedBody,
         base: u32,
         end: OpList,
     ) -> Result<(), NoMemory>
-        requires layout { L.lays_out self.now.layout.now self.now.h.now }
-        requires site { IsBodySite (setup self.now.h.now (L.rows self.now.layout.now) self.now.program.now) self.now.slots.now self.now.overriders.now body.now }
+        requires site { IsBlockSite L.lays_out L.rows self.now }
+        requires body { IsBodySite (block_setup L.rows self.now) self.now.lowering.now.slots.now self.now.lowering.now.overriders.now body.now }
         requires room { base + length body.now.statements < 2 ^ 32 }
-        ensures { OnOk result ((r : RoutineOf) → RunsAt (setup self.now.h.now (L.rows self.now.layout.now) self.now.program.now) numbers.now body.now base r → end ≡ closing_ops (setup self.now.h.now (L.rows self.now.layout.now) self.now.program.now) (number_of (setup self.now.h.now (L.rows self.now.layout.now) self.now.program.now)) r → blocks.new ≡ blocks.old ++ statement_blocks (setup self.now.h.now (L.rows self.now.layout.now) self.now.program.now) (number_of (setup self.now.h.now (L.rows self.now.layout.now) self.now.program.now)) r body.now 0 body.now.statements) }
+        ensures { OnOk result ((r : RoutineOf) → RunsAt (block_setup L.rows self.now) self.now.numbers.now body.now base r → end ≡ closing_ops (block_setup L.rows self.now) (number_of (block_setup L.rows self.now)) r → blocks.new ≡ blocks.old ++ statement_blocks (block_setup L.rows self.now) (number_of (block_setup L.rows self.now)) r body.now 0 body.now.statements) }
     {
         let site = Site {
-            alloc: self.alloc,
-            h: self.h,
-            layout: self.layout,
-            overriders: self.overriders,
-            slots: self.slots,
-            numbers,
-            program: self.program,
+            alloc: self.lowering.alloc,
+            h: self.lowering.h,
+            layout: self.lowering.layout,
+            overriders: self.lowering.overriders,
+            slots: self.lowering.slots,
+            numbers: self.numbers,
+            program: self.lowering.program,
             body,
         };
         push_statements(blocks, &site, base)?;
@@ -105,51 +100,36 @@ impl<'a, L: SoundLayout> Lowering<'a, L> {
     }
 
     /// Puts the blocks of `main` or of a function behind others; the last one has the ops `end`.
-    fn push_plain(
-        &self,
-        blocks: &mut BlockList,
-        numbers: &CodeNumbers,
-        r: Routine,
-        end: OpList,
-    ) -> Result<(), NoMemory>
-        requires layout { L.lays_out self.now.layout.now self.now.h.now }
-        requires lowering { IsLowering (setup self.now.h.now (L.rows self.now.layout.now) self.now.program.now) self.now.overriders.now self.now.slots.now self.now.index.now self.now.orders.now }
-        requires rows { numbers.now ≡ code_rows (setup self.now.h.now (L.rows self.now.layout.now) self.now.program.now) }
-        requires routine { IsRoutine (setup self.now.h.now (L.rows self.now.layout.now) self.now.program.now) (routine_from r) }
+    fn push_plain(&self, blocks: &mut BlockList, r: Routine, end: OpList) -> Result<(), NoMemory>
+        requires site { IsBlockSite L.lays_out L.rows self.now }
+        requires routine { IsRoutine (block_setup L.rows self.now) (routine_from r) }
         requires plain { is_plain (routine_from r) ≡ true }
-        requires end { end ≡ closing_ops (setup self.now.h.now (L.rows self.now.layout.now) self.now.program.now) (number_of (setup self.now.h.now (L.rows self.now.layout.now) self.now.program.now)) (routine_from r) }
-        ensures { OnOk result (blocks.new ≡ blocks.old ++ run_of (setup self.now.h.now (L.rows self.now.layout.now) self.now.program.now) (routine_from r)) }
+        requires end { end ≡ closing_ops (block_setup L.rows self.now) (number_of (block_setup L.rows self.now)) (routine_from r) }
+        ensures { OnOk result (blocks.new ≡ blocks.old ++ run_of (block_setup L.rows self.now) (routine_from r)) }
     {
-        let base = self.first_block(numbers, r);
-        match self.body(r) {
+        let base = self.lowering.first_block(self.numbers, r);
+        match self.lowering.body(r) {
             None => {}
-            Some(body) => self.push_body(blocks, numbers, body, base, end)?,
+            Some(body) => self.push_body(blocks, body, base, end)?,
         }
         Ok(())
     }
 
     /// Puts the blocks of `main` or of a function behind others.
-    fn push_run(
-        &self,
-        blocks: &mut BlockList,
-        numbers: &CodeNumbers,
-        r: Routine,
-    ) -> Result<(), NoMemory>
-        requires layout { L.lays_out self.now.layout.now self.now.h.now }
-        requires lowering { IsLowering (setup self.now.h.now (L.rows self.now.layout.now) self.now.program.now) self.now.overriders.now self.now.slots.now self.now.index.now self.now.orders.now }
-        requires rows { numbers.now ≡ code_rows (setup self.now.h.now (L.rows self.now.layout.now) self.now.program.now) }
-        requires routine { IsRoutine (setup self.now.h.now (L.rows self.now.layout.now) self.now.program.now) (routine_from r) }
+    fn push_run(&self, blocks: &mut BlockList, r: Routine) -> Result<(), NoMemory>
+        requires site { IsBlockSite L.lays_out L.rows self.now }
+        requires routine { IsRoutine (block_setup L.rows self.now) (routine_from r) }
         requires plain { is_plain (routine_from r) ≡ true }
-        ensures { OnOk result (blocks.new ≡ blocks.old ++ run_of (setup self.now.h.now (L.rows self.now.layout.now) self.now.program.now) (routine_from r)) }
+        ensures { OnOk result (blocks.new ≡ blocks.old ++ run_of (block_setup L.rows self.now) (routine_from r)) }
     {
         match r {
             Routine::Main => {
-                let end = end_of_main(self.alloc)?;
-                self.push_plain(blocks, numbers, r, end)?;
+                let end = end_of_main(self.lowering.alloc)?;
+                self.push_plain(blocks, r, end)?;
             }
             Routine::Function(f) => {
-                let end = end_of_function(self.alloc, returns_value(self.h, f))?;
-                self.push_plain(blocks, numbers, r, end)?;
+                let end = end_of_function(self.lowering.alloc, returns_value(self.lowering.h, f))?;
+                self.push_plain(blocks, r, end)?;
             }
             Routine::Plan(_, _, _) => unreachable!(),
         }
@@ -157,20 +137,13 @@ impl<'a, L: SoundLayout> Lowering<'a, L> {
     }
 
     /// Puts the blocks of `main` and of the functions behind others.
-    fn push_runs(
-        &self,
-        blocks: &mut BlockList,
-        numbers: &CodeNumbers,
-        list: &[Routine],
-    ) -> Result<(), NoMemory>
-        requires layout { L.lays_out self.now.layout.now self.now.h.now }
-        requires lowering { IsLowering (setup self.now.h.now (L.rows self.now.layout.now) self.now.program.now) self.now.overriders.now self.now.slots.now self.now.index.now self.now.orders.now }
-        requires rows { numbers.now ≡ code_rows (setup self.now.h.now (L.rows self.now.layout.now) self.now.program.now) }
-        requires plain { routines_from list.now ≡ plain_routines self.now.program.now }
-        ensures { OnOk result (blocks.new ≡ blocks.old ++ flat_map (run_of (setup self.now.h.now (L.rows self.now.layout.now) self.now.program.now)) (plain_routines self.now.program.now)) }
+    fn push_runs(&self, blocks: &mut BlockList, list: &[Routine]) -> Result<(), NoMemory>
+        requires site { IsBlockSite L.lays_out L.rows self.now }
+        requires plain { routines_from list.now ≡ plain_routines self.now.lowering.now.program.now }
+        ensures { OnOk result (blocks.new ≡ blocks.old ++ flat_map (run_of (block_setup L.rows self.now)) (plain_routines self.now.lowering.now.program.now)) }
     {
         for r in list {
-            self.push_run(blocks, numbers, *r)?;
+            self.push_run(blocks, *r)?;
         }
         Ok(())
     }
@@ -178,17 +151,14 @@ impl<'a, L: SoundLayout> Lowering<'a, L> {
     /// The blocks of all routines.
     ///
     /// Errors: want of memory.
-    pub fn blocks(&self, numbers: &CodeNumbers, tables: &ClassTables) -> Result<BlockList, NoMemory>
-        requires layout { L.lays_out self.now.layout.now self.now.h.now }
-        requires lowering { IsLowering (setup self.now.h.now (L.rows self.now.layout.now) self.now.program.now) self.now.overriders.now self.now.slots.now self.now.index.now self.now.orders.now }
-        requires rows { numbers.now ≡ code_rows (setup self.now.h.now (L.rows self.now.layout.now) self.now.program.now) }
-        requires tables { AreClassTables self.now.h.now (places_of self.now.h.now (L.rows self.now.layout.now)) tables.now }
-        ensures { IfOk result (λ blocks. blocks ≡ all_blocks (setup self.now.h.now (L.rows self.now.layout.now) self.now.program.now)) }
+    pub fn blocks(&self) -> Result<BlockList, NoMemory>
+        requires site { IsBlockSite L.lays_out L.rows self.now }
+        ensures { IfOk result (λ blocks. blocks ≡ all_blocks (block_setup L.rows self.now)) }
     {
-        let plain = list_plain(self.alloc, self.program)?;
-        let mut blocks = Sequence::new(self.alloc);
-        self.push_runs(&mut blocks, numbers, plain.as_slice())?;
-        self.push_classes(&mut blocks, numbers, tables)?;
+        let plain = list_plain(self.lowering.alloc, self.lowering.program)?;
+        let mut blocks = Sequence::new(self.lowering.alloc);
+        self.push_runs(&mut blocks, plain.as_slice())?;
+        self.push_classes(&mut blocks)?;
         Ok(blocks)
     }
 }

@@ -3,14 +3,12 @@
 ghost use Rattle.std.specs.Prelude.{◌≡◌, ◌<◌, ◌-◌, ◌+◌, ◌^◌, ◌++◌, ◌∷◌, [], IfOk, OnOk, length};
 ghost use Rattle.byte_code.specs.declared.code.Block.{Block};
 ghost use Rattle.cxx_overrider.specs.Overriders.{AreOverriders};
-ghost use Rattle.cxx_program.specs.Typed.{scope_of, IsTypedBody};
-ghost use Rattle.abi_ops.specs.Setups.{setup, Routine};
-ghost use Rattle.abi_ops.specs.Routines.{start_by};
-ghost use Rattle.abi_ops.specs.invariants.Fits.{IsSite};
+ghost use Rattle.abi_ops.specs.Setups.{Routine};
 ghost use Rattle.abi_statements.specs.invariants.Fits.{FitsKind};
 ghost use Rattle.abi_code.specs.invariants.Numbers.{number_of};
 ghost use Rattle.abi_code.specs.invariants.Runs.{made_ops, end_block, statement_blocks};
 ghost use Rattle.abi_code.specs.invariants.Lowerings.{RunsAt, IsBodySite};
+ghost use Rattle.abi_ops.specs.invariants.Sites.{IsLaidSite, site_scope, site_setup, site_start};
 
 use abi_ops::sites::Site;
 use abi_ops::uses::push_check_ops;
@@ -31,12 +29,11 @@ fn statement_block<L: SoundLayout>(
     n: usize,
     statement: &TypedStatement,
 ) -> Result<Block, NoMemory>
-    requires layout { L.lays_out site.now.layout.now site.now.h.now }
-    requires site { IsSite site.now.h.now (L.rows site.now.layout.now) site.now.slots.now site.now.body.now }
+    requires laid { IsLaidSite L.lays_out L.rows site.now }
     requires overriders { AreOverriders site.now.h.now site.now.overriders.now }
     requires room { base + statement.now.next < 2 ^ 32 }
-    requires fits { FitsKind site.now.h.now (scope_of site.now.h.now site.now.program.now.globals site.now.body.now) (2 ^ 32 - (base + 1)) n statement.now.kind }
-    ensures ops { IfOk result (λ block. block.ops ≡ made_ops (setup site.now.h.now (L.rows site.now.layout.now) site.now.program.now) (start_by (setup site.now.h.now (L.rows site.now.layout.now) site.now.program.now) site.now.numbers.now) site.now.body.now base n statement.now) }
+    requires fits { FitsKind site.now.h.now (site_scope site.now) (2 ^ 32 - (base + 1)) n statement.now.kind }
+    ensures ops { IfOk result (λ block. block.ops ≡ made_ops (site_setup L.rows site.now) (site_start L.rows site.now) site.now.body.now base n statement.now) }
     ensures line { IfOk result (λ block. block.line ≡ statement.now.line) }
 {
     let mut ops = Sequence::new(site.alloc);
@@ -65,9 +62,9 @@ pub fn push_statements<L: SoundLayout>(
     base: u32,
 ) -> Result<(), NoMemory>
     requires layout { L.lays_out site.now.layout.now site.now.h.now }
-    requires site { IsBodySite (setup site.now.h.now (L.rows site.now.layout.now) site.now.program.now) site.now.slots.now site.now.overriders.now site.now.body.now }
+    requires site { IsBodySite (site_setup L.rows site.now) site.now.slots.now site.now.overriders.now site.now.body.now }
     requires room { base + length site.now.body.now.statements < 2 ^ 32 }
-    ensures { OnOk result ((r : Routine) → RunsAt (setup site.now.h.now (L.rows site.now.layout.now) site.now.program.now) site.now.numbers.now site.now.body.now base r → blocks.new ++ end_block (setup site.now.h.now (L.rows site.now.layout.now) site.now.program.now) (number_of (setup site.now.h.now (L.rows site.now.layout.now) site.now.program.now)) r site.now.body.now ∷ [] ≡ blocks.old ++ statement_blocks (setup site.now.h.now (L.rows site.now.layout.now) site.now.program.now) (number_of (setup site.now.h.now (L.rows site.now.layout.now) site.now.program.now)) r site.now.body.now 0 site.now.body.now.statements) }
+    ensures { OnOk result ((r : Routine) → RunsAt (site_setup L.rows site.now) site.now.numbers.now site.now.body.now base r → blocks.new ++ end_block (site_setup L.rows site.now) (number_of (site_setup L.rows site.now)) r site.now.body.now ∷ [] ≡ blocks.old ++ statement_blocks (site_setup L.rows site.now) (number_of (site_setup L.rows site.now)) r site.now.body.now 0 site.now.body.now.statements) }
 {
     for (n, statement) in site.body.statements.as_slice().iter().enumerate() {
         let block = statement_block(site, base, n, statement)?;

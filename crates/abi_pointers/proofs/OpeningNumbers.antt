@@ -3,6 +3,10 @@ use Rattle.std.proofs.Common.{◌≡◌, ℕ, Option, Some, ap, ◌∙◌}
 use Rattle.byte_code.specs.declared.op.Opening.{Opening}
 use Rattle.byte_code.specs.declared.op.BaseHand.{BaseHand}
 use Rattle.byte_code.specs.declared.op.Whose.{Whose}
+use Rattle.cxx_hierarchy.specs.declared.records.ClassId.{ClassId}
+use Rattle.abi_ops.specs.Setups.{Routine}
+use Rattle.abi_pointers.specs.declared.plan_sites.ClassPlan.{ClassPlan}
+use Rattle.abi_pointers.specs.invariants.Frames.{base_frame}
 
 abbrev pub opening : ℕ → ℕ → Option BaseHand → ℕ → ℕ → Opening
 opening place block hand count stride = record { place = place; block = block; hand = hand; count = count; stride = stride }
@@ -16,3 +20,6 @@ hand owner class vtt = record { owner = owner; class = class; vtt = vtt }
 
 pub hand_same : (a b : Whose) (class : ℕ) (v w : Option ℕ) → a ≡ b → v ≡ w → Some (hand a class v) ≡ Some (hand b class w)
 hand_same a b class v w owner vtt = ap (λ k. Some (hand k class v)) owner ∙ ap (λ k. Some (hand b class k)) vtt
+
+pub frame_same : (at : Routine → ℕ) (plan : ClassPlan) (d : ClassId) (p q : ℕ) (v w : Option ℕ) (how : Opening) → how ≡ base_frame at plan d p v → p ≡ q → v ≡ w → how ≡ base_frame at plan d q w
+frame_same at plan d p q v w how is place vtt = is ∙ ap (λ k. base_frame at plan d k v) place ∙ ap (λ k. base_frame at plan d q k) vtt

@@ -2,6 +2,7 @@
 use Rattle.std.specs.Prelude.{◌≡◌, ℕ, List}
 use Rattle.cxx_hierarchy.specs.declared.records.ClassId.{ClassId}
 use Rattle.path_plan.specs.Plans.{Form}
+use Rattle.abi_sound.specs.declared.class_layout.ClassLayout.{ClassLayout}
 use Rattle.abi_slots.specs.declared.code_numbers.CodeRow.{CodeRow}
 use Rattle.abi_ops.specs.Setups.{Setup, Routine}
 use Rattle.abi_ops.specs.Routines.{IsRoutine, start_by}
@@ -10,13 +11,19 @@ use Rattle.abi_lower.specs.declared.items.Item.{Item as ItemCode}
 use Rattle.abi_lower.specs.Items.{Item}
 use Rattle.abi_lower.specs.Blocks.{Place, first_place}
 use Rattle.abi_lower.specs.Lowered.{IsEnd}
-use Rattle.abi_lower.specs.invariants.ItemCodes.{item_codes}
+use Rattle.abi_lower.specs.invariants.ItemCodes.{form_of, item_codes}
+use Rattle.abi_pointers.specs.declared.plan_sites.ClassPlan.{ClassPlan}
+use Rattle.abi_pointers.specs.declared.plan_sites.PlanSite.{PlanSite}
+use Rattle.abi_pointers.specs.PlanSites.{plan_setup}
 
 -- the codes are those of an end of a plan
 pub record AreLeft (x : Setup) (course : Course) (form : Form) (c : ClassId) (codes : List ItemCode) : Type 0 where
   pub left : List Item
   pub is : codes ≡ item_codes left
   pub end : IsEnd x course form c left
+
+abbrev pub IsLeftOf : {L : Type 0} → (L → List ClassLayout) → PlanSite L → ClassPlan → List ItemCode → Type 0
+IsLeftOf rows site plan codes = AreLeft (plan_setup rows site) plan.course (form_of plan.form) plan.class codes
 
 -- each routine of the program begins at the block that the numbers of code give
 pub record StartsBy (x : Setup) (at : Place → ℕ) (numbers : List CodeRow) : Type 0 where

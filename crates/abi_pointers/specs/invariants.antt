@@ -2,3 +2,4 @@ pub mod Walks
 pub mod Parts
 pub mod Constants
 pub mod Joins
+pub mod Frames

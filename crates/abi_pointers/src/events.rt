@@ -13,12 +13,12 @@ ghost use Rattle.abi_ops.specs.Operands.{converted_ops};
 ghost use Rattle.abi_sound.specs.declared.class_layout.ClassLayout.{ClassLayout};
 ghost use Rattle.abi_lower.specs.Blocks.{back_then, event_then, init_then, whose_of};
 ghost use Rattle.abi_lower.specs.invariants.ItemCodes.{form_of};
-ghost use Rattle.abi_pointers.specs.PlanSites.{HasFewLocals, IsPlanSite};
+ghost use Rattle.abi_pointers.specs.PlanSites.{HasFewLocals, IsLaidPlanSite, plan_setup};
 ghost use Rattle.abi_pointers.specs.Settings.{ArePointers};
 ghost use Rattle.abi_pointers.specs.invariants.Constants.{IsConstant, IsPlain};
 
 use crate::hands::whose;
-use crate::plan_sites::PlanSite;
+use crate::plan_sites::{ClassPlan, PlanSite};
 use crate::pointers::{ClassPointers, push_pointers};
 use abi_lower::items::{Form, Kind};
 use abi_ops::operands::push_operand;
@@ -52,13 +52,15 @@ fn local_count(body: Option<&TypedBody>) -> usize
 }
 
 /// The first register that is free for the ops of a block of a plan.
-fn free<L>(site: &PlanSite<L>, course: Course, c: ClassId) -> u32
+fn free<L>(site: &PlanSite<L>, plan: ClassPlan) -> u32
     requires index { IsIndexOf site.now.program.now site.now.index.now }
     requires few { HasFewLocals site.now.program.now }
-    ensures is { (rows : List ClassLayout) (form : FormOf) → result ≡ free_register (body_in (setup site.now.h.now rows site.now.program.now) (PlanCode course form c)) 0 }
+    ensures is { (rows : List ClassLayout) (form : FormOf) → result ≡ free_register (body_in (setup site.now.h.now rows site.now.program.now) (PlanCode plan.course form plan.class)) 0 }
     ensures small { result < 2 ^ 31 + 2 }
 {
-    let body = site.index.body(site.program, owner_of(course, c));
+    let body = site
+        .index
+        .body(site.program, owner_of(plan.course, plan.class));
     local_count(body) as u32 + 2
 }
 
@@ -83,31 +85,29 @@ fn converted(conversion: &Conversion, to: u32, from: u32) -> Finish
     }
 }
 
-/// Puts the ops of an initializer behind others, which stores a constant in member `m` of class `c`.
+/// Puts the ops of an initializer behind others, which stores a constant in member `m`.
 ///
 /// Errors: want of memory.
 fn push_constant<L: SoundLayout>(
     ops: &mut OpList,
     site: &PlanSite<L>,
-    course: Course,
-    c: ClassId,
+    plan: ClassPlan,
     m: u32,
     init: &TypedInit,
 ) -> Result<(), NoMemory>
-    requires layout { L.lays_out site.now.layout.now site.now.h.now }
-    requires site { IsPlanSite (setup site.now.h.now (L.rows site.now.layout.now) site.now.program.now) site.now.slots.now site.now.index.now site.now.tables.now }
-    requires known { c.0 < length site.now.h.now }
+    requires site { IsLaidPlanSite L.lays_out L.rows site.now }
+    requires known { plan.class.0 < length site.now.h.now }
     requires constant { IsConstant init.now }
-    ensures { OnOk result ((form : FormOf) → ops.new ≡ ops.old ++ init_then (setup site.now.h.now (L.rows site.now.layout.now) site.now.program.now) course form c m (Some init.now) []) }
+    ensures { OnOk result ((form : FormOf) → ops.new ≡ ops.old ++ init_then (plan_setup L.rows site.now) plan.course form plan.class m (Some init.now) []) }
 {
-    let value = free(site, course, c);
+    let value = free(site, plan);
     push_operand(ops, value, init.operand)?;
     ops.push(Op::Does(converted(&init.conversion, value + 1, value)))?;
     ops.push(Op::Store {
         from: value + 1,
         base: 0,
-        offset: member_place(site.layout, c, m),
-        width: leaf_width(site.h, c, m),
+        offset: member_place(site.layout, plan.class, m),
+        width: leaf_width(site.h, plan.class, m),
     })?;
     Ok(())
 }
@@ -118,18 +118,16 @@ fn push_constant<L: SoundLayout>(
 fn push_init<L: SoundLayout>(
     ops: &mut OpList,
     site: &PlanSite<L>,
-    course: Course,
-    c: ClassId,
+    plan: ClassPlan,
     m: u32,
 ) -> Result<(), NoMemory>
-    requires layout { L.lays_out site.now.layout.now site.now.h.now }
-    requires site { IsPlanSite (setup site.now.h.now (L.rows site.now.layout.now) site.now.program.now) site.now.slots.now site.now.index.now site.now.tables.now }
-    requires known { c.0 < length site.now.h.now }
-    ensures { OnOk result ((form : FormOf) → ops.new ≡ ops.old ++ init_then (setup site.now.h.now (L.rows site.now.layout.now) site.now.program.now) course form c m (init_of site.now.program.now c m) []) }
+    requires site { IsLaidPlanSite L.lays_out L.rows site.now }
+    requires known { plan.class.0 < length site.now.h.now }
+    ensures { OnOk result ((form : FormOf) → ops.new ≡ ops.old ++ init_then (plan_setup L.rows site.now) plan.course form plan.class m (init_of site.now.program.now plan.class m) []) }
 {
-    match site.index.initializer(site.program, c, m) {
+    match site.index.initializer(site.program, plan.class, m) {
         None => {}
-        Some(init) => push_constant(ops, site, course, c, m, init)?,
+        Some(init) => push_constant(ops, site, plan, m, init)?,
     }
     Ok(())
 }
@@ -190,45 +188,42 @@ fn push_ending(ops: &mut OpList, form: Form, c: ClassId) -> Result<(), NoMemory>
     Ok(())
 }
 
-/// Puts the ops of an own event of a plan of class `c` behind others.
+/// Puts the ops of an own event of a plan behind others.
 ///
 /// Errors: want of memory.
 pub fn push_event<L: SoundLayout>(
     ops: &mut OpList,
     site: &PlanSite<L>,
     pointers: &ClassPointers,
-    course: Course,
-    form: Form,
-    c: ClassId,
+    plan: ClassPlan,
     kind: Kind,
 ) -> Result<(), NoMemory>
-    requires layout { L.lays_out site.now.layout.now site.now.h.now }
-    requires site { IsPlanSite (setup site.now.h.now (L.rows site.now.layout.now) site.now.program.now) site.now.slots.now site.now.index.now site.now.tables.now }
-    requires pointers { ArePointers (setup site.now.h.now (L.rows site.now.layout.now) site.now.program.now) c pointers.now }
-    requires known { c.0 < length site.now.h.now }
-    ensures { OnOk result (ops.new ≡ ops.old ++ event_then (setup site.now.h.now (L.rows site.now.layout.now) site.now.program.now) course (form_of form) c kind []) }
+    requires site { IsLaidPlanSite L.lays_out L.rows site.now }
+    requires pointers { ArePointers (plan_setup L.rows site.now) plan.class pointers.now }
+    requires known { plan.class.0 < length site.now.h.now }
+    ensures { OnOk result (ops.new ≡ ops.old ++ event_then (plan_setup L.rows site.now) plan.course (form_of plan.form) plan.class kind []) }
 {
     match kind {
-        Kind::AtBegin => push_begin(ops, form, c)?,
+        Kind::AtBegin => push_begin(ops, plan.form, plan.class)?,
         Kind::AtReady => {
-            push_pointers(ops, pointers, form)?;
-            push_phase(ops, c, Phase::ReadyBuilding)?;
+            push_pointers(ops, pointers, plan.form)?;
+            push_phase(ops, plan.class, Phase::ReadyBuilding)?;
         }
-        Kind::AtInit(m) => push_init(ops, site, course, c, m)?,
+        Kind::AtInit(m) => push_init(ops, site, plan, m)?,
         Kind::AtBody => {}
         Kind::AtDone => {
-            push_phase(ops, c, Phase::Complete)?;
-            push_back(ops, form)?;
-            ops.push(Op::Trace(TraceKind::Built(c.0)))?;
+            push_phase(ops, plan.class, Phase::Complete)?;
+            push_back(ops, plan.form)?;
+            ops.push(Op::Trace(TraceKind::Built(plan.class.0)))?;
         }
         Kind::AtEnding => {
-            push_pointers(ops, pointers, form)?;
-            push_ending(ops, form, c)?;
+            push_pointers(ops, pointers, plan.form)?;
+            push_ending(ops, plan.form, plan.class)?;
         }
-        Kind::AtBases => push_phase(ops, c, Phase::EndingBases)?,
+        Kind::AtBases => push_phase(ops, plan.class, Phase::EndingBases)?,
         Kind::AtEnd => {
-            push_phase(ops, c, Phase::Ended)?;
-            push_back(ops, form)?;
+            push_phase(ops, plan.class, Phase::Ended)?;
+            push_back(ops, plan.form)?;
         }
     }
     Ok(())

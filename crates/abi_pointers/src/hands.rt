@@ -2,13 +2,11 @@
 
 ghost use Rattle.std.specs.Prelude.{◌≡◌, ◌<◌, false, true, if◌then◌else◌, None, Some, length};
 ghost use Rattle.cxx_hierarchy.specs.VirtualBases.{HasVirtualBase, IsDirectBase};
-ghost use Rattle.abi_sound.specs.Places.{places_of};
 ghost use Rattle.abi_vtt.specs.Blocks.{block_distance, shared_distance as shared_distance_of};
 ghost use Rattle.abi_vtt.specs.Vtts.{has_virtual};
-ghost use Rattle.abi_ops.specs.Setups.{setup};
 ghost use Rattle.abi_lower.specs.Blocks.{whose_of};
 ghost use Rattle.abi_lower.specs.invariants.ItemCodes.{form_of};
-ghost use Rattle.abi_pointers.specs.PlanSites.{IsPlanSite};
+ghost use Rattle.abi_pointers.specs.PlanSites.{IsLaidPlanSite, plan_places};
 
 use crate::lengths::{base_before, length_at, shared_before};
 use crate::plan_sites::PlanSite;
@@ -30,11 +28,10 @@ pub(crate) fn whose(form: Form) -> Whose
 
 /// How many words behind the sub-VTT of class `c` that of its direct base `b` begins (Itanium C++ ABI 2.6.2).
 fn base_distance<L: SoundLayout>(site: &PlanSite<L>, c: ClassId, b: ClassId) -> u32
-    requires layout { L.lays_out site.now.layout.now site.now.h.now }
-    requires site { IsPlanSite (setup site.now.h.now (L.rows site.now.layout.now) site.now.program.now) site.now.slots.now site.now.index.now site.now.tables.now }
+    requires site { IsLaidPlanSite L.lays_out L.rows site.now }
     requires known { c.0 < length site.now.h.now }
     requires base { IsDirectBase site.now.h.now c false b }
-    ensures { has_virtual site.now.h.now b ≡ true → result ≡ block_distance site.now.h.now (places_of site.now.h.now (L.rows site.now.layout.now)) c b }
+    ensures { has_virtual site.now.h.now b ≡ true → result ≡ block_distance site.now.h.now (plan_places L.rows site.now) c b }
 {
     site.h.keeps();
     let bases = site.h.class(c).bases.as_slice();
@@ -43,11 +40,10 @@ fn base_distance<L: SoundLayout>(site: &PlanSite<L>, c: ClassId, b: ClassId) -> 
 
 /// At which word of the VTT of class `c` the sub-VTT of its virtual base `v` begins (Itanium C++ ABI 2.6.2).
 fn shared_distance<L: SoundLayout>(site: &PlanSite<L>, c: ClassId, v: ClassId) -> u32
-    requires layout { L.lays_out site.now.layout.now site.now.h.now }
-    requires site { IsPlanSite (setup site.now.h.now (L.rows site.now.layout.now) site.now.program.now) site.now.slots.now site.now.index.now site.now.tables.now }
+    requires site { IsLaidPlanSite L.lays_out L.rows site.now }
     requires known { c.0 < length site.now.h.now }
     requires base { HasVirtualBase site.now.h.now c v }
-    ensures { has_virtual site.now.h.now v ≡ true → result ≡ shared_distance_of site.now.h.now (places_of site.now.h.now (L.rows site.now.layout.now)) c v }
+    ensures { has_virtual site.now.h.now v ≡ true → result ≡ shared_distance_of site.now.h.now (plan_places L.rows site.now) c v }
 {
     site.h.keeps();
     let blocks = site.tables.blocks.as_slice();
@@ -58,11 +54,10 @@ fn shared_distance<L: SoundLayout>(site: &PlanSite<L>, c: ClassId, v: ClassId) -
 
 /// How many words behind the sub-VTT of class `c` that of its direct base `b` begins, where `b` has virtual bases.
 pub(crate) fn base_vtt<L: SoundLayout>(site: &PlanSite<L>, c: ClassId, b: ClassId) -> Option<u32>
-    requires layout { L.lays_out site.now.layout.now site.now.h.now }
-    requires site { IsPlanSite (setup site.now.h.now (L.rows site.now.layout.now) site.now.program.now) site.now.slots.now site.now.index.now site.now.tables.now }
+    requires site { IsLaidPlanSite L.lays_out L.rows site.now }
     requires known { c.0 < length site.now.h.now }
     requires base { IsDirectBase site.now.h.now c false b }
-    ensures { result ≡ (if has_virtual site.now.h.now b then Some (block_distance site.now.h.now (places_of site.now.h.now (L.rows site.now.layout.now)) c b) else None) }
+    ensures { result ≡ (if has_virtual site.now.h.now b then Some (block_distance site.now.h.now (plan_places L.rows site.now) c b) else None) }
 {
     site.h.keeps();
     if has_virtual(site.h, site.layout, b) {
@@ -74,11 +69,10 @@ pub(crate) fn base_vtt<L: SoundLayout>(site: &PlanSite<L>, c: ClassId, b: ClassI
 
 /// At which word of the VTT of class `c` the sub-VTT of its virtual base `v` begins, where `v` has virtual bases.
 pub(crate) fn shared_vtt<L: SoundLayout>(site: &PlanSite<L>, c: ClassId, v: ClassId) -> Option<u32>
-    requires layout { L.lays_out site.now.layout.now site.now.h.now }
-    requires site { IsPlanSite (setup site.now.h.now (L.rows site.now.layout.now) site.now.program.now) site.now.slots.now site.now.index.now site.now.tables.now }
+    requires site { IsLaidPlanSite L.lays_out L.rows site.now }
     requires known { c.0 < length site.now.h.now }
     requires base { HasVirtualBase site.now.h.now c v }
-    ensures { result ≡ (if has_virtual site.now.h.now v then Some (shared_distance_of site.now.h.now (places_of site.now.h.now (L.rows site.now.layout.now)) c v) else None) }
+    ensures { result ≡ (if has_virtual site.now.h.now v then Some (shared_distance_of site.now.h.now (plan_places L.rows site.now) c v) else None) }
 {
     site.h.keeps();
     if has_virtual(site.h, site.layout, v) {

@@ -26,6 +26,6 @@ pub mod walks;
 pub use crate::class_tables::ClassTables;
 pub use crate::events::push_event;
 pub use crate::openings::push_openings;
-pub use crate::plan_sites::PlanSite;
+pub use crate::plan_sites::{ClassPlan, PlanSite};
 pub use crate::pointers::{ClassPointers, push_pointers};
 pub use crate::tails::{push_block, push_tail};

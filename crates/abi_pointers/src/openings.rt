@@ -3,7 +3,6 @@
 ghost use Rattle.std.specs.Prelude.{◌≡◌, ◌≤◌, ◌<◌, ◌++◌, [], false, IfOk, List, OnOk, length};
 ghost use Rattle.cxx_hierarchy.specs.declared.records.Base.{Base};
 ghost use Rattle.cxx_hierarchy.specs.declared.records.ClassId.{ClassId};
-ghost use Rattle.path_plan.specs.Plans.{Form as FormOf};
 ghost use Rattle.abi_sound.specs.declared.class_layout.ClassLayout.{ClassLayout};
 ghost use Rattle.abi_ops.specs.declared.routines.Course.{Course};
 ghost use Rattle.cxx_hierarchy.specs.VirtualBases.{HasVirtualBase, IsDirectBase};
@@ -11,15 +10,16 @@ ghost use Rattle.cxx_hierarchy.specs.declared.records.FieldType.TheVariants.{Obj
 ghost use Rattle.cxx_subobject.specs.Locations.{IsElement};
 ghost use Rattle.abi_ops.specs.Setups.{PlanCode, setup};
 ghost use Rattle.abi_ops.specs.Routines.{plan_kind, start_by};
-ghost use Rattle.abi_lower.specs.Blocks.{base_course, opening_of, openings_then, stride_of};
+ghost use Rattle.abi_lower.specs.Blocks.{base_course, openings_then, stride_of};
 ghost use Rattle.abi_lower.specs.Items.{Holds, Inherits, Item as ItemOf, Shares, first_index};
 ghost use Rattle.abi_lower.specs.invariants.ItemCodes.{form_of, item_code, item_codes};
-ghost use Rattle.abi_pointers.specs.PlanSites.{IsPlanSite};
-ghost use Rattle.abi_pointers.specs.Tails.{AreLeft};
+ghost use Rattle.abi_pointers.specs.PlanSites.{IsLaidPlanSite, plan_setup, plan_start};
+ghost use Rattle.abi_pointers.specs.Tails.{IsLeftOf};
 ghost use Rattle.abi_pointers.specs.invariants.Parts.{IsPartOf, is_event_code};
+ghost use Rattle.abi_pointers.specs.invariants.Frames.{base_frame, plan_opening};
 
 use crate::hands::{base_vtt, shared_vtt, whose};
-use crate::plan_sites::PlanSite;
+use crate::plan_sites::{ClassPlan, PlanSite};
 use abi_lower::items::{Form, Item, Way};
 use abi_ops::routines::{Course, constructor_of, destructor_of, start_of};
 use abi_slots::BlockKind;
@@ -65,38 +65,50 @@ fn part_start<L>(site: &PlanSite<L>, course: Course, form: Form, d: ClassId) -> 
     }
 }
 
+/// How the frame of a base of class `d` is opened, which lies at `place` and is handed this word of a VTT.
+fn frame<L>(
+    site: &PlanSite<L>,
+    plan: ClassPlan,
+    d: ClassId,
+    place: u32,
+    vtt: Option<u32>,
+) -> Opening
+    requires { d.0 < length site.now.h.now }
+    ensures { (rows : List ClassLayout) → result ≡ base_frame (start_by (setup site.now.h.now rows site.now.program.now) site.now.numbers.now) plan d place vtt }
+{
+    Opening {
+        place,
+        block: part_start(site, plan.course, Form::AsBase, d),
+        hand: Some(BaseHand {
+            owner: whose(plan.form),
+            class: plan.class.0,
+            vtt,
+        }),
+        count: 1,
+        stride: 0,
+    }
+}
+
 /// How the frame of a virtual base is opened.
 ///
 /// Errors: want of memory.
 fn shared_opening<L: SoundLayout>(
     site: &PlanSite<L>,
-    course: Course,
-    form: Form,
-    c: ClassId,
+    plan: ClassPlan,
     v: ClassId,
 ) -> Result<Opening, NoMemory>
-    requires layout { L.lays_out site.now.layout.now site.now.h.now }
-    requires site { IsPlanSite (setup site.now.h.now (L.rows site.now.layout.now) site.now.program.now) site.now.slots.now site.now.index.now site.now.tables.now }
-    requires known { c.0 < length site.now.h.now }
-    requires base { HasVirtualBase site.now.h.now c v }
-    ensures { IfOk result (λ how. how ≡ opening_of (setup site.now.h.now (L.rows site.now.layout.now) site.now.program.now) (start_by (setup site.now.h.now (L.rows site.now.layout.now) site.now.program.now) site.now.numbers.now) course (form_of form) c (Shares v)) }
+    requires site { IsLaidPlanSite L.lays_out L.rows site.now }
+    requires known { plan.class.0 < length site.now.h.now }
+    requires base { HasVirtualBase site.now.h.now plan.class v }
+    ensures { IfOk result (λ how. how ≡ plan_opening L.rows site.now plan (Shares v)) }
 {
     site.h.keeps();
     let at = Subobject {
         root: Root::Shared(v),
         path: longer_path(site.alloc, &[v], &[])?,
     };
-    Ok(Opening {
-        place: site.layout.place(site.h, c, &at),
-        block: part_start(site, course, Form::AsBase, v),
-        hand: Some(BaseHand {
-            owner: whose(form),
-            class: c.0,
-            vtt: shared_vtt(site, c, v),
-        }),
-        count: 1,
-        stride: 0,
-    })
+    let place = site.layout.place(site.h, plan.class, &at);
+    Ok(frame(site, plan, v, place, shared_vtt(site, plan.class, v)))
 }
 
 /// How the frame of a direct base is opened that is not virtual.
@@ -104,33 +116,21 @@ fn shared_opening<L: SoundLayout>(
 /// Errors: want of memory.
 fn base_opening<L: SoundLayout>(
     site: &PlanSite<L>,
-    course: Course,
-    form: Form,
-    c: ClassId,
+    plan: ClassPlan,
     b: ClassId,
 ) -> Result<Opening, NoMemory>
-    requires layout { L.lays_out site.now.layout.now site.now.h.now }
-    requires site { IsPlanSite (setup site.now.h.now (L.rows site.now.layout.now) site.now.program.now) site.now.slots.now site.now.index.now site.now.tables.now }
-    requires known { c.0 < length site.now.h.now }
-    requires base { IsDirectBase site.now.h.now c false b }
-    ensures { IfOk result (λ how. (base : Base ClassId) → base.class ≡ b → how ≡ opening_of (setup site.now.h.now (L.rows site.now.layout.now) site.now.program.now) (start_by (setup site.now.h.now (L.rows site.now.layout.now) site.now.program.now) site.now.numbers.now) course (form_of form) c (Inherits base)) }
+    requires site { IsLaidPlanSite L.lays_out L.rows site.now }
+    requires known { plan.class.0 < length site.now.h.now }
+    requires base { IsDirectBase site.now.h.now plan.class false b }
+    ensures { IfOk result (λ how. (base : Base ClassId) → base.class ≡ b → how ≡ plan_opening L.rows site.now plan (Inherits base)) }
 {
     site.h.keeps();
     let at = Subobject {
         root: Root::Whole,
-        path: longer_path(site.alloc, &[c, b], &[])?,
+        path: longer_path(site.alloc, &[plan.class, b], &[])?,
     };
-    Ok(Opening {
-        place: site.layout.place(site.h, c, &at),
-        block: part_start(site, course, Form::AsBase, b),
-        hand: Some(BaseHand {
-            owner: whose(form),
-            class: c.0,
-            vtt: base_vtt(site, c, b),
-        }),
-        count: 1,
-        stride: 0,
-    })
+    let place = site.layout.place(site.h, plan.class, &at);
+    Ok(frame(site, plan, b, place, base_vtt(site, plan.class, b)))
 }
 
 /// The number of the first element, from the first to the last or back.
@@ -157,24 +157,22 @@ fn stride(way: Way, size: u32) -> u64
 /// How the frame of the elements of a member is opened.
 fn member_opening<L: SoundLayout>(
     site: &PlanSite<L>,
-    course: Course,
-    c: ClassId,
+    plan: ClassPlan,
     way: Way,
     m: u32,
     d: ClassId,
     count: u32,
 ) -> Opening
-    requires layout { L.lays_out site.now.layout.now site.now.h.now }
-    requires site { IsPlanSite (setup site.now.h.now (L.rows site.now.layout.now) site.now.program.now) site.now.slots.now site.now.index.now site.now.tables.now }
-    requires known { c.0 < length site.now.h.now }
-    requires element { IsElement site.now.h.now c m (first_index way count) (Object d) }
-    ensures { (form : FormOf) → result ≡ opening_of (setup site.now.h.now (L.rows site.now.layout.now) site.now.program.now) (start_by (setup site.now.h.now (L.rows site.now.layout.now) site.now.program.now) site.now.numbers.now) course form c (Holds way m d count) }
+    requires site { IsLaidPlanSite L.lays_out L.rows site.now }
+    requires known { plan.class.0 < length site.now.h.now }
+    requires element { IsElement site.now.h.now plan.class m (first_index way count) (Object d) }
+    ensures { result ≡ plan_opening L.rows site.now plan (Holds way m d count) }
 {
     site.h.keeps();
     let size = site.layout.layout(d).size;
     Opening {
-        place: member_place(site.layout, c, m) + first_of(way, count) * size,
-        block: part_start(site, course, Form::InFull, d),
+        place: member_place(site.layout, plan.class, m) + first_of(way, count) * size,
+        block: part_start(site, plan.course, Form::InFull, d),
         hand: None,
         count,
         stride: stride(way, size),
@@ -196,49 +194,43 @@ fn is_event(item: Item) -> bool
 /// Errors: want of memory.
 fn opening<L: SoundLayout>(
     site: &PlanSite<L>,
-    course: Course,
-    form: Form,
-    c: ClassId,
+    plan: ClassPlan,
     item: Item,
 ) -> Result<Opening, NoMemory>
-    requires layout { L.lays_out site.now.layout.now site.now.h.now }
-    requires site { IsPlanSite (setup site.now.h.now (L.rows site.now.layout.now) site.now.program.now) site.now.slots.now site.now.index.now site.now.tables.now }
-    requires known { c.0 < length site.now.h.now }
+    requires site { IsLaidPlanSite L.lays_out L.rows site.now }
+    requires known { plan.class.0 < length site.now.h.now }
     requires is_part { is_event_code item ≡ false }
-    requires part { IsPartOf site.now.h.now c item }
-    ensures { IfOk result (λ how. (i : ItemOf) → item ≡ item_code i → how ≡ opening_of (setup site.now.h.now (L.rows site.now.layout.now) site.now.program.now) (start_by (setup site.now.h.now (L.rows site.now.layout.now) site.now.program.now) site.now.numbers.now) course (form_of form) c i) }
+    requires part { IsPartOf site.now.h.now plan.class item }
+    ensures { IfOk result (λ how. (i : ItemOf) → item ≡ item_code i → how ≡ plan_opening L.rows site.now plan i) }
 {
     match item {
         Item::Does(_) => unreachable!(),
-        Item::Shares(v) => shared_opening(site, course, form, c, v),
-        Item::Inherits(b) => base_opening(site, course, form, c, b),
-        Item::Holds(way, m, d, count) => Ok(member_opening(site, course, c, way, m, d, count)),
+        Item::Shares(v) => shared_opening(site, plan, v),
+        Item::Inherits(b) => base_opening(site, plan, b),
+        Item::Holds(way, m, d, count) => Ok(member_opening(site, plan, way, m, d, count)),
     }
 }
 
-/// Puts the ops behind others that open the frames of the parts of class `c` up to its next own event, the last part first.
+/// Puts the ops behind others that open the frames of the parts of a plan up to its next own event, the last part first.
 ///
 /// Errors: want of memory.
 pub fn push_openings<L: SoundLayout>(
     ops: &mut OpList,
     site: &PlanSite<L>,
-    course: Course,
-    form: Form,
-    c: ClassId,
+    plan: ClassPlan,
     left: &[Item],
 ) -> Result<(), NoMemory>
-    requires layout { L.lays_out site.now.layout.now site.now.h.now }
-    requires site { IsPlanSite (setup site.now.h.now (L.rows site.now.layout.now) site.now.program.now) site.now.slots.now site.now.index.now site.now.tables.now }
-    requires known { c.0 < length site.now.h.now }
-    requires left { AreLeft (setup site.now.h.now (L.rows site.now.layout.now) site.now.program.now) course (form_of form) c left.now }
-    ensures { OnOk result ((items : List ItemOf) → left.now ≡ item_codes items → ops.new ≡ ops.old ++ openings_then (setup site.now.h.now (L.rows site.now.layout.now) site.now.program.now) (start_by (setup site.now.h.now (L.rows site.now.layout.now) site.now.program.now) site.now.numbers.now) course (form_of form) c items []) }
+    requires site { IsLaidPlanSite L.lays_out L.rows site.now }
+    requires known { plan.class.0 < length site.now.h.now }
+    requires left { IsLeftOf L.rows site.now plan left.now }
+    ensures { OnOk result ((items : List ItemOf) → left.now ≡ item_codes items → ops.new ≡ ops.old ++ openings_then (plan_setup L.rows site.now) (plan_start L.rows site.now) plan.course (form_of plan.form) plan.class items []) }
 {
     match left {
         [] => {}
         [item, rest @ ..] => {
             if !is_event(*item) {
-                push_openings(ops, site, course, form, c, rest)?;
-                let how = opening(site, course, form, c, *item)?;
+                push_openings(ops, site, plan, rest)?;
+                let how = opening(site, plan, *item)?;
                 ops.push(Op::Open(how))?;
             }
         }

@@ -3,11 +3,9 @@
 ghost use Rattle.std.specs.Prelude.{◌≡◌, ◌<◌, true, All, Some, length};
 ghost use Rattle.cxx_hierarchy.specs.declared.records.ClassId.{ClassId};
 ghost use Rattle.cxx_subobject.specs.Subobjects.{class_of};
-ghost use Rattle.abi_sound.specs.Places.{places_of};
 ghost use Rattle.abi_vtt.specs.Vtts.{needs_word};
-ghost use Rattle.abi_ops.specs.Setups.{setup};
 ghost use Rattle.abi_lower.specs.Blocks.{is_set_apart};
-ghost use Rattle.abi_pointers.specs.PlanSites.{IsPlanSite};
+ghost use Rattle.abi_pointers.specs.PlanSites.{IsLaidPlanSite, plan_places, plan_setup};
 
 use crate::plan_sites::PlanSite;
 use abi_count::{has_virtual, is_dynamic_by};
@@ -30,12 +28,11 @@ pub(crate) fn class_at(s: &Subobject) -> ClassId
 /// Whether a subobject of class `d` has a virtual pointer that no other one sets: it is dynamic, and not the non-virtual primary
 /// base of the subobject that directly derives it.
 pub(crate) fn is_set_apart<L: SoundLayout>(site: &PlanSite<L>, s: &Subobject, d: ClassId) -> bool
-    requires layout { L.lays_out site.now.layout.now site.now.h.now }
-    requires site { IsPlanSite (setup site.now.h.now (L.rows site.now.layout.now) site.now.program.now) site.now.slots.now site.now.index.now site.now.tables.now }
+    requires site { IsLaidPlanSite L.lays_out L.rows site.now }
     requires class { class_of s.now ≡ Some d }
     requires known { d.0 < length site.now.h.now }
     requires path { All (λ (c : ClassId). c.0 < length site.now.h.now) s.now.path }
-    ensures { result ≡ is_set_apart (setup site.now.h.now (L.rows site.now.layout.now) site.now.program.now) s.now }
+    ensures { result ≡ is_set_apart (plan_setup L.rows site.now) s.now }
 {
     if !is_dynamic_by(site.h, site.tables.dynamic.as_slice(), d) {
         return false;
@@ -49,8 +46,8 @@ pub(crate) fn needs_word<L: SoundLayout>(site: &PlanSite<L>, s: &Subobject, d: C
     requires layout { L.lays_out site.now.layout.now site.now.h.now }
     requires class { class_of s.now ≡ Some d }
     requires known { d.0 < length site.now.h.now }
-    requires apart { is_set_apart (setup site.now.h.now (L.rows site.now.layout.now) site.now.program.now) s.now ≡ true }
-    ensures { result ≡ needs_word site.now.h.now (places_of site.now.h.now (L.rows site.now.layout.now)) s.now }
+    requires apart { is_set_apart (plan_setup L.rows site.now) s.now ≡ true }
+    ensures { result ≡ needs_word site.now.h.now (plan_places L.rows site.now) s.now }
 {
     if !is_proper(s) {
         return false;

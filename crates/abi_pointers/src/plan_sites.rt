@@ -1,8 +1,10 @@
 //! What the ops of plans are found by.
 
 use crate::class_tables::ClassTables;
+use abi_lower::items::Form;
+use abi_ops::routines::Course;
 use abi_slots::{CodeNumbers, Slots};
-use cxx_hierarchy::Hierarchy;
+use cxx_hierarchy::{ClassId, Hierarchy};
 use cxx_program::TypedProgram;
 use path_bodies::BodyIndex;
 use std::alloc::Global;
@@ -18,4 +20,12 @@ pub struct PlanSite<'a, L> {
     pub program: &'a TypedProgram,
     pub index: &'a BodyIndex,
     pub tables: &'a ClassTables,
+}
+
+/// A plan: its course, its form, and the class of its part.
+#[derive(Clone, Copy)]
+pub struct ClassPlan {
+    pub course: Course,
+    pub form: Form,
+    pub class: ClassId,
 }

@@ -6,12 +6,11 @@ ghost use Rattle.cxx_subobject.specs.declared.Subobject.{Subobject};
 ghost use Rattle.cxx_subobject.specs.Subobjects.{IsSubobject};
 ghost use Rattle.byte_code.specs.declared.op.Op.TheVariants.{SetTable};
 ghost use Rattle.path_plan.specs.Plans.{AsBase, InFull};
-ghost use Rattle.abi_sound.specs.Places.{places_of};
-ghost use Rattle.abi_ops.specs.Setups.{Setup, setup};
+ghost use Rattle.abi_ops.specs.Setups.{Setup};
 ghost use Rattle.abi_lower.specs.Blocks.{pointers_then};
 ghost use Rattle.abi_lower.specs.invariants.ItemCodes.{form_of};
 ghost use Rattle.abi_pointers.specs.ClassTables.{IsLone};
-ghost use Rattle.abi_pointers.specs.PlanSites.{IsPlanSite};
+ghost use Rattle.abi_pointers.specs.PlanSites.{IsLaidPlanSite, plan_places, plan_setup};
 ghost use Rattle.abi_pointers.specs.Settings.{ArePointers, settings_of};
 ghost use Rattle.abi_pointers.specs.invariants.Walks.{IsAtPart, IsPast};
 
@@ -48,14 +47,13 @@ fn visit<L: SoundLayout>(
     walk: &mut Walk,
     made: &mut ClassPointers,
 ) -> Result<(), NoMemory>
-    requires layout { L.lays_out site.now.layout.now site.now.h.now }
-    requires site { IsPlanSite (setup site.now.h.now (L.rows site.now.layout.now) site.now.program.now) site.now.slots.now site.now.index.now site.now.tables.now }
+    requires site { IsLaidPlanSite L.lays_out L.rows site.now }
     requires known { c.0 < length site.now.h.now }
     requires valid { IsSubobject site.now.h.now c s.now }
-    requires at { IsAtPart site.now.h.now (places_of site.now.h.now (L.rows site.now.layout.now)) c s.now walk.old }
-    ensures in_full { OnOk result (made.new.in_full ≡ made.old.in_full ++ settings_of (setup site.now.h.now (L.rows site.now.layout.now) site.now.program.now) InFull c (s.now ∷ [])) }
-    ensures as_base { OnOk result (made.new.as_base ≡ made.old.as_base ++ settings_of (setup site.now.h.now (L.rows site.now.layout.now) site.now.program.now) AsBase c (s.now ∷ [])) }
-    ensures walk { OnOk result ((before : List Subobject) → IsPast site.now.h.now (places_of site.now.h.now (L.rows site.now.layout.now)) c before walk.old → IsPast site.now.h.now (places_of site.now.h.now (L.rows site.now.layout.now)) c (before ++ s.now ∷ []) walk.new) }
+    requires at { IsAtPart site.now.h.now (plan_places L.rows site.now) c s.now walk.old }
+    ensures in_full { OnOk result (made.new.in_full ≡ made.old.in_full ++ settings_of (plan_setup L.rows site.now) InFull c (s.now ∷ [])) }
+    ensures as_base { OnOk result (made.new.as_base ≡ made.old.as_base ++ settings_of (plan_setup L.rows site.now) AsBase c (s.now ∷ [])) }
+    ensures walk { OnOk result ((before : List Subobject) → IsPast site.now.h.now (plan_places L.rows site.now) c before walk.old → IsPast site.now.h.now (plan_places L.rows site.now) c (before ++ s.now ∷ []) walk.new) }
 {
     let d = class_at(s);
     if is_set_apart(site, s, d) {
@@ -71,11 +69,10 @@ fn visit<L: SoundLayout>(
 ///
 /// Errors: want of memory.
 fn of_whole<L: SoundLayout>(site: &PlanSite<L>, c: ClassId) -> Result<ClassPointers, NoMemory>
-    requires layout { L.lays_out site.now.layout.now site.now.h.now }
-    requires site { IsPlanSite (setup site.now.h.now (L.rows site.now.layout.now) site.now.program.now) site.now.slots.now site.now.index.now site.now.tables.now }
+    requires site { IsLaidPlanSite L.lays_out L.rows site.now }
     requires known { c.0 < length site.now.h.now }
-    requires lone { IsLone site.now.h.now (places_of site.now.h.now (L.rows site.now.layout.now)) c }
-    ensures { IfOk result (ArePointers (setup site.now.h.now (L.rows site.now.layout.now) site.now.program.now) c) }
+    requires lone { IsLone site.now.h.now (plan_places L.rows site.now) c }
+    ensures { IfOk result (ArePointers (plan_setup L.rows site.now) c) }
 {
     let whole = Subobject {
         root: Root::Whole,
@@ -94,10 +91,9 @@ fn of_whole<L: SoundLayout>(site: &PlanSite<L>, c: ClassId) -> Result<ClassPoint
 ///
 /// Errors: want of memory.
 fn of_all<L: SoundLayout>(site: &PlanSite<L>, c: ClassId) -> Result<ClassPointers, NoMemory>
-    requires layout { L.lays_out site.now.layout.now site.now.h.now }
-    requires site { IsPlanSite (setup site.now.h.now (L.rows site.now.layout.now) site.now.program.now) site.now.slots.now site.now.index.now site.now.tables.now }
+    requires site { IsLaidPlanSite L.lays_out L.rows site.now }
     requires known { c.0 < length site.now.h.now }
-    ensures { IfOk result (ArePointers (setup site.now.h.now (L.rows site.now.layout.now) site.now.program.now) c) }
+    ensures { IfOk result (ArePointers (plan_setup L.rows site.now) c) }
 {
     site.h.keeps();
     let list = list_subobjects(site.alloc, site.h, c)?;
@@ -118,10 +114,9 @@ impl ClassPointers {
     ///
     /// Errors: want of memory.
     pub fn new<L: SoundLayout>(site: &PlanSite<L>, c: ClassId) -> Result<ClassPointers, NoMemory>
-        requires layout { L.lays_out site.now.layout.now site.now.h.now }
-        requires site { IsPlanSite (setup site.now.h.now (L.rows site.now.layout.now) site.now.program.now) site.now.slots.now site.now.index.now site.now.tables.now }
+        requires site { IsLaidPlanSite L.lays_out L.rows site.now }
         requires known { c.0 < length site.now.h.now }
-        ensures { IfOk result (ArePointers (setup site.now.h.now (L.rows site.now.layout.now) site.now.program.now) c) }
+        ensures { IfOk result (ArePointers (plan_setup L.rows site.now) c) }
     {
         if flag_of(site.tables.lone.as_slice(), c) {
             let made = of_whole(site, c)?;

@@ -6,13 +6,11 @@ ghost use Rattle.cxx_subobject.specs.declared.Root.TheVariants.{Whole};
 ghost use Rattle.cxx_subobject.specs.Subobjects.{IsSubobject, subobject};
 ghost use Rattle.byte_code.specs.declared.op.PointSource.TheVariants.{Directory, Vtt};
 ghost use Rattle.path_plan.specs.Plans.{AsBase, InFull};
-ghost use Rattle.abi_sound.specs.Places.{places_of};
 ghost use Rattle.abi_slots.specs.Listing.{vbase_number};
 ghost use Rattle.abi_slots.specs.Slots.{word_number};
 ghost use Rattle.abi_vtt.specs.Vtts.{has_virtual};
-ghost use Rattle.abi_ops.specs.Setups.{setup};
 ghost use Rattle.abi_lower.specs.Blocks.{point_distance, setting_by};
-ghost use Rattle.abi_pointers.specs.PlanSites.{IsPlanSite};
+ghost use Rattle.abi_pointers.specs.PlanSites.{IsLaidPlanSite, IsPlanSiteAt, plan_places, plan_setup};
 ghost use Rattle.abi_pointers.specs.invariants.Walks.{number_of};
 
 use crate::plan_sites::PlanSite;
@@ -52,9 +50,9 @@ pub(crate) fn full_setting<L: SoundLayout>(
     requires layout { L.lays_out site.now.layout.now site.now.h.now }
     requires known { c.0 < length site.now.h.now }
     requires valid { IsSubobject site.now.h.now c s.now }
-    requires distance { point.distance ≡ point_distance (setup site.now.h.now (L.rows site.now.layout.now) site.now.program.now) c s.now }
-    requires number { has_virtual site.now.h.now c ≡ true → point.number ≡ number_of (setup site.now.h.now (L.rows site.now.layout.now) site.now.program.now) c s.now }
-    ensures { result ≡ setting_by (setup site.now.h.now (L.rows site.now.layout.now) site.now.program.now) InFull c s.now s.now.root }
+    requires distance { point.distance ≡ point_distance (plan_setup L.rows site.now) c s.now }
+    requires number { has_virtual site.now.h.now c ≡ true → point.number ≡ number_of (plan_setup L.rows site.now) c s.now }
+    ensures { result ≡ setting_by (plan_setup L.rows site.now) InFull c s.now s.now.root }
 {
     Setting {
         source: source(site, c, Whose::Itself, point.number),
@@ -75,7 +73,7 @@ fn place_behind<L: SoundLayout>(
     requires layout { L.lays_out site.now.layout.now site.now.h.now }
     requires known { v.0 < length site.now.h.now }
     requires valid { IsSubobject site.now.h.now v (subobject Whole s.now.path) }
-    ensures { IfOk result (λ place. place ≡ (places_of site.now.h.now (L.rows site.now.layout.now)).place v (subobject Whole s.now.path)) }
+    ensures { IfOk result (λ place. place ≡ (plan_places L.rows site.now).place v (subobject Whole s.now.path)) }
 {
     let path = longer_path(site.alloc, s.path.as_slice(), &[])?;
     let whole = Subobject {
@@ -87,9 +85,9 @@ fn place_behind<L: SoundLayout>(
 
 /// The number of the word that leads from an object of class `c` to its virtual base `v`.
 fn vbase_word<L: SoundLayout>(site: &PlanSite<L>, c: ClassId, v: ClassId) -> i32
-    requires site { IsPlanSite (setup site.now.h.now (L.rows site.now.layout.now) site.now.program.now) site.now.slots.now site.now.index.now site.now.tables.now }
+    requires site { IsPlanSiteAt L.rows site.now }
     requires base { HasVirtualBase site.now.h.now c v }
-    ensures { result ≡ word_number (vbase_number site.now.h.now (places_of site.now.h.now (L.rows site.now.layout.now)) c v) }
+    ensures { result ≡ word_number (vbase_number site.now.h.now (plan_places L.rows site.now) c v) }
 {
     site.slots.vbase(c, v)
 }
@@ -103,13 +101,12 @@ pub(crate) fn base_setting<L: SoundLayout>(
     s: &Subobject,
     point: Point,
 ) -> Result<Setting, NoMemory>
-    requires layout { L.lays_out site.now.layout.now site.now.h.now }
-    requires site { IsPlanSite (setup site.now.h.now (L.rows site.now.layout.now) site.now.program.now) site.now.slots.now site.now.index.now site.now.tables.now }
+    requires site { IsLaidPlanSite L.lays_out L.rows site.now }
     requires known { c.0 < length site.now.h.now }
     requires valid { IsSubobject site.now.h.now c s.now }
-    requires distance { point.distance ≡ point_distance (setup site.now.h.now (L.rows site.now.layout.now) site.now.program.now) c s.now }
-    requires number { has_virtual site.now.h.now c ≡ true → point.number ≡ number_of (setup site.now.h.now (L.rows site.now.layout.now) site.now.program.now) c s.now }
-    ensures { IfOk result (λ setting. setting ≡ setting_by (setup site.now.h.now (L.rows site.now.layout.now) site.now.program.now) AsBase c s.now s.now.root) }
+    requires distance { point.distance ≡ point_distance (plan_setup L.rows site.now) c s.now }
+    requires number { has_virtual site.now.h.now c ≡ true → point.number ≡ number_of (plan_setup L.rows site.now) c s.now }
+    ensures { IfOk result (λ setting. setting ≡ setting_by (plan_setup L.rows site.now) AsBase c s.now s.now.root) }
 {
     let source = source(site, c, Whose::Handed, point.number);
     match s.root {

@@ -1,23 +1,21 @@
 //! How the blocks of plans end, and the blocks of own events as a whole.
 
 ghost use Rattle.std.specs.Prelude.{◌≡◌, ◌<◌, ◌++◌, [], ℕ, List, OnOk, length};
-ghost use Rattle.abi_ops.specs.Setups.{setup};
 ghost use Rattle.abi_lower.specs.Blocks.{Place, event_block, next_place, plan_return, plan_tail};
 ghost use Rattle.abi_lower.specs.Items.{Item as ItemOf};
 ghost use Rattle.abi_lower.specs.invariants.ItemCodes.{form_of, item_codes};
-ghost use Rattle.abi_pointers.specs.PlanSites.{IsPlanSite};
+ghost use Rattle.abi_pointers.specs.PlanSites.{IsLaidPlanSite, plan_setup};
 ghost use Rattle.abi_pointers.specs.Settings.{ArePointers};
-ghost use Rattle.abi_pointers.specs.Tails.{AreLeft, StartsBy};
+ghost use Rattle.abi_pointers.specs.Tails.{IsLeftOf, StartsBy};
 
 use crate::events::push_event;
 use crate::openings::push_openings;
-use crate::plan_sites::PlanSite;
+use crate::plan_sites::{ClassPlan, PlanSite};
 use crate::pointers::ClassPointers;
-use abi_lower::items::{Form, Item, Kind};
+use abi_lower::items::{Item, Kind};
 use abi_ops::routines::Course;
 use abi_sound::SoundLayout;
 use byte_code::{Op, OpList};
-use cxx_hierarchy::ClassId;
 use foundation::NoMemory;
 
 /// The result of a plan: the address of its part, which a `new` takes.
@@ -43,23 +41,20 @@ fn plan_return(course: Course) -> Op
 pub fn push_tail<L: SoundLayout>(
     ops: &mut OpList,
     site: &PlanSite<L>,
-    course: Course,
-    form: Form,
-    c: ClassId,
+    plan: ClassPlan,
     left: &[Item],
     next: u32,
 ) -> Result<(), NoMemory>
-    requires layout { L.lays_out site.now.layout.now site.now.h.now }
-    requires site { IsPlanSite (setup site.now.h.now (L.rows site.now.layout.now) site.now.program.now) site.now.slots.now site.now.index.now site.now.tables.now }
-    requires known { c.0 < length site.now.h.now }
-    requires left { AreLeft (setup site.now.h.now (L.rows site.now.layout.now) site.now.program.now) course (form_of form) c left.now }
-    ensures { OnOk result ((at : Place → ℕ) (items : List ItemOf) → left.now ≡ item_codes items → at (next_place course (form_of form) c items) ≡ next → StartsBy (setup site.now.h.now (L.rows site.now.layout.now) site.now.program.now) at site.now.numbers.now → ops.new ≡ ops.old ++ plan_tail (setup site.now.h.now (L.rows site.now.layout.now) site.now.program.now) at course (form_of form) c items) }
+    requires site { IsLaidPlanSite L.lays_out L.rows site.now }
+    requires known { plan.class.0 < length site.now.h.now }
+    requires left { IsLeftOf L.rows site.now plan left.now }
+    ensures { OnOk result ((at : Place → ℕ) (items : List ItemOf) → left.now ≡ item_codes items → at (next_place plan.course (form_of plan.form) plan.class items) ≡ next → StartsBy (plan_setup L.rows site.now) at site.now.numbers.now → ops.new ≡ ops.old ++ plan_tail (plan_setup L.rows site.now) at plan.course (form_of plan.form) plan.class items) }
 {
     match left {
-        [] => ops.push(plan_return(course))?,
+        [] => ops.push(plan_return(plan.course))?,
         [_, ..] => {
             ops.push(Op::Jump { block: next })?;
-            push_openings(ops, site, course, form, c, left)?;
+            push_openings(ops, site, plan, left)?;
         }
     }
     Ok(())
@@ -72,21 +67,18 @@ pub fn push_block<L: SoundLayout>(
     ops: &mut OpList,
     site: &PlanSite<L>,
     pointers: &ClassPointers,
-    course: Course,
-    form: Form,
-    c: ClassId,
+    plan: ClassPlan,
     kind: Kind,
     left: &[Item],
     next: u32,
 ) -> Result<(), NoMemory>
-    requires layout { L.lays_out site.now.layout.now site.now.h.now }
-    requires site { IsPlanSite (setup site.now.h.now (L.rows site.now.layout.now) site.now.program.now) site.now.slots.now site.now.index.now site.now.tables.now }
-    requires pointers { ArePointers (setup site.now.h.now (L.rows site.now.layout.now) site.now.program.now) c pointers.now }
-    requires known { c.0 < length site.now.h.now }
-    requires left { AreLeft (setup site.now.h.now (L.rows site.now.layout.now) site.now.program.now) course (form_of form) c left.now }
-    ensures { OnOk result ((at : Place → ℕ) (items : List ItemOf) → left.now ≡ item_codes items → at (next_place course (form_of form) c items) ≡ next → StartsBy (setup site.now.h.now (L.rows site.now.layout.now) site.now.program.now) at site.now.numbers.now → ops.new ≡ ops.old ++ event_block (setup site.now.h.now (L.rows site.now.layout.now) site.now.program.now) at course (form_of form) c kind items) }
+    requires site { IsLaidPlanSite L.lays_out L.rows site.now }
+    requires pointers { ArePointers (plan_setup L.rows site.now) plan.class pointers.now }
+    requires known { plan.class.0 < length site.now.h.now }
+    requires left { IsLeftOf L.rows site.now plan left.now }
+    ensures { OnOk result ((at : Place → ℕ) (items : List ItemOf) → left.now ≡ item_codes items → at (next_place plan.course (form_of plan.form) plan.class items) ≡ next → StartsBy (plan_setup L.rows site.now) at site.now.numbers.now → ops.new ≡ ops.old ++ event_block (plan_setup L.rows site.now) at plan.course (form_of plan.form) plan.class kind items) }
 {
-    push_event(ops, site, pointers, course, form, c, kind)?;
-    push_tail(ops, site, course, form, c, left, next)?;
+    push_event(ops, site, pointers, plan, kind)?;
+    push_tail(ops, site, plan, left, next)?;
     Ok(())
 }

@@ -4,13 +4,11 @@ ghost use Rattle.std.specs.Prelude.{◌≡◌, ◌≤◌, ◌<◌, ◌+◌, ◌-
 ghost use Rattle.cxx_hierarchy.specs.declared.records.ClassId.{ClassId};
 ghost use Rattle.cxx_subobject.specs.declared.Subobject.{Subobject};
 ghost use Rattle.cxx_subobject.specs.Subobjects.{class_of};
-ghost use Rattle.abi_sound.specs.Places.{places_of};
 ghost use Rattle.abi_slots.specs.Limits.{most_offsets};
 ghost use Rattle.abi_vtt.specs.Blocks.{before_by_class, words_by_class};
 ghost use Rattle.abi_vtt.specs.Vtts.{has_virtual};
-ghost use Rattle.abi_ops.specs.Setups.{setup};
 ghost use Rattle.abi_lower.specs.Blocks.{is_set_apart, point_distance};
-ghost use Rattle.abi_pointers.specs.PlanSites.{IsPlanSite};
+ghost use Rattle.abi_pointers.specs.PlanSites.{IsLaidPlanSite, IsPlanSiteAt, plan_places, plan_setup};
 ghost use Rattle.abi_pointers.specs.invariants.Walks.{IsAtPart, IsPast, cut, first_or, number_of};
 
 use crate::lengths::base_sum;
@@ -40,10 +38,9 @@ pub(crate) struct Point {
 
 /// The walk before the first subobject of a class.
 pub(crate) fn start<L: SoundLayout>(site: &PlanSite<L>, c: ClassId) -> Walk
-    requires layout { L.lays_out site.now.layout.now site.now.h.now }
-    requires site { IsPlanSite (setup site.now.h.now (L.rows site.now.layout.now) site.now.program.now) site.now.slots.now site.now.index.now site.now.tables.now }
+    requires site { IsLaidPlanSite L.lays_out L.rows site.now }
     requires known { c.0 < length site.now.h.now }
-    ensures { IsPast site.now.h.now (places_of site.now.h.now (L.rows site.now.layout.now)) c [] result }
+    ensures { IsPast site.now.h.now (plan_places L.rows site.now) c [] result }
 {
     let bases = site.h.class(c).bases.as_slice();
     let words = base_sum(site.h, site.layout, site.tables.blocks.as_slice(), bases);
@@ -56,9 +53,9 @@ pub(crate) fn start<L: SoundLayout>(site: &PlanSite<L>, c: ClassId) -> Walk
 
 /// How many words the table of a base of class `d` has before its address point.
 fn before_words<L: SoundLayout>(site: &PlanSite<L>, d: ClassId) -> u32
-    requires site { IsPlanSite (setup site.now.h.now (L.rows site.now.layout.now) site.now.program.now) site.now.slots.now site.now.index.now site.now.tables.now }
+    requires site { IsPlanSiteAt L.rows site.now }
     requires known { d.0 < length site.now.h.now }
-    ensures is { result ≡ before_by_class site.now.h.now (places_of site.now.h.now (L.rows site.now.layout.now)) (Some d) }
+    ensures is { result ≡ before_by_class site.now.h.now (plan_places L.rows site.now) (Some d) }
     ensures small { result ≤ most_offsets + 2 }
 {
     site.slots.offsets(d, false).len() as u32 + 2
@@ -66,9 +63,9 @@ fn before_words<L: SoundLayout>(site: &PlanSite<L>, d: ClassId) -> u32
 
 /// How many words the table of a base of class `d` has.
 fn table_words<L: SoundLayout>(site: &PlanSite<L>, d: ClassId) -> u32
-    requires site { IsPlanSite (setup site.now.h.now (L.rows site.now.layout.now) site.now.program.now) site.now.slots.now site.now.index.now site.now.tables.now }
+    requires site { IsPlanSiteAt L.rows site.now }
     requires known { d.0 < length site.now.h.now }
-    ensures { result ≡ words_by_class site.now.h.now (places_of site.now.h.now (L.rows site.now.layout.now)) (Some d) }
+    ensures { result ≡ words_by_class site.now.h.now (plan_places L.rows site.now) (Some d) }
 {
     before_words(site, d) + site.slots.entries(d).len() as u32
 }
@@ -97,12 +94,11 @@ pub(crate) fn passed<L: SoundLayout>(
     s: &Subobject,
     d: ClassId,
 ) -> Walk
-    requires layout { L.lays_out site.now.layout.now site.now.h.now }
-    requires site { IsPlanSite (setup site.now.h.now (L.rows site.now.layout.now) site.now.program.now) site.now.slots.now site.now.index.now site.now.tables.now }
+    requires site { IsLaidPlanSite L.lays_out L.rows site.now }
     requires class { class_of s.now ≡ Some d }
     requires class_known { d.0 < length site.now.h.now }
-    requires apart { is_set_apart (setup site.now.h.now (L.rows site.now.layout.now) site.now.program.now) s.now ≡ true }
-    ensures { (c : ClassId) (before : List Subobject) → IsPast site.now.h.now (places_of site.now.h.now (L.rows site.now.layout.now)) c before walk → IsPast site.now.h.now (places_of site.now.h.now (L.rows site.now.layout.now)) c (before ++ s.now ∷ []) result }
+    requires apart { is_set_apart (plan_setup L.rows site.now) s.now ≡ true }
+    ensures { (c : ClassId) (before : List Subobject) → IsPast site.now.h.now (plan_places L.rows site.now) c before walk → IsPast site.now.h.now (plan_places L.rows site.now) c (before ++ s.now ∷ []) result }
 {
     let item = item_after(walk.item, needs_word(site, s, d));
     match s.root {
@@ -135,15 +131,14 @@ pub(crate) fn point_of<L: SoundLayout>(
     s: &Subobject,
     d: ClassId,
 ) -> Point
-    requires layout { L.lays_out site.now.layout.now site.now.h.now }
-    requires site { IsPlanSite (setup site.now.h.now (L.rows site.now.layout.now) site.now.program.now) site.now.slots.now site.now.index.now site.now.tables.now }
+    requires site { IsLaidPlanSite L.lays_out L.rows site.now }
     requires known { c.0 < length site.now.h.now }
     requires class { class_of s.now ≡ Some d }
     requires class_known { d.0 < length site.now.h.now }
-    requires at { IsAtPart site.now.h.now (places_of site.now.h.now (L.rows site.now.layout.now)) c s.now walk.now }
-    requires apart { is_set_apart (setup site.now.h.now (L.rows site.now.layout.now) site.now.program.now) s.now ≡ true }
-    ensures distance { result.distance ≡ point_distance (setup site.now.h.now (L.rows site.now.layout.now) site.now.program.now) c s.now }
-    ensures number { has_virtual site.now.h.now c ≡ true → result.number ≡ number_of (setup site.now.h.now (L.rows site.now.layout.now) site.now.program.now) c s.now }
+    requires at { IsAtPart site.now.h.now (plan_places L.rows site.now) c s.now walk.now }
+    requires apart { is_set_apart (plan_setup L.rows site.now) s.now ≡ true }
+    ensures distance { result.distance ≡ point_distance (plan_setup L.rows site.now) c s.now }
+    ensures number { has_virtual site.now.h.now c ≡ true → result.number ≡ number_of (plan_setup L.rows site.now) c s.now }
 {
     match s.root {
         Root::Whole => Point {

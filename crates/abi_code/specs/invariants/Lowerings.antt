@@ -1,13 +1,12 @@
 -- What a program is lowered by, and what is known of a run of blocks.
-use Rattle.std.specs.Prelude.{◌≡◌, ◌≤◌, ◌<◌, ◌+◌, ◌^◌, ◌++◌, ℕ, Bool, List, length}
+use Rattle.std.specs.Prelude.{◌≡◌, ◌≤◌, ◌<◌, ◌+◌, ◌^◌, ◌++◌, ℕ, List, length}
 use Rattle.std.specs.List.{sum_by}
-use Rattle.cxx_hierarchy.specs.declared.records.ClassId.{ClassId}
+use Rattle.cxx_hierarchy.specs.Classes.{Classes}
 use Rattle.cxx_hierarchy.specs.Hierarchies.{IsHierarchy}
 use Rattle.cxx_overrider.specs.declared.pass.Overriders.{Overriders}
 use Rattle.cxx_overrider.specs.Overriders.{AreOverriders}
 use Rattle.cxx_program.specs.declared.program.TypedBody.{TypedBody}
 use Rattle.cxx_program.specs.Typed.{IsTypedProgram, IsTypedBody}
-use Rattle.path_plan.specs.Plans.{Form}
 use Rattle.path_numbers.specs.declared.numbers.ClassNumbers.{ClassNumbers}
 use Rattle.path_numbers.specs.Numbers.{AreNumbers}
 use Rattle.path_bodies.specs.declared.index.BodyIndex.{BodyIndex}
@@ -16,10 +15,20 @@ use Rattle.abi_slots.specs.declared.slots.Slots.{Slots}
 use Rattle.abi_slots.specs.declared.code_numbers.CodeRow.{CodeRow}
 use Rattle.abi_slots.specs.Slots.{AreSlots}
 use Rattle.abi_count.specs.Counts.{all_words, most_words}
-use Rattle.abi_ops.specs.declared.routines.Course.{Course}
-use Rattle.abi_ops.specs.Setups.{Setup, places, Routine, PlanCode, body_in, owner_of}
+use Rattle.abi_sound.specs.declared.class_layout.ClassLayout.{ClassLayout}
+use Rattle.abi_ops.specs.Setups.{Setup, setup, places, Routine, PlanCode, body_in, owner_of}
 use Rattle.abi_ops.specs.Routines.{has_body, start_by}
 use Rattle.abi_ops.specs.invariants.Fits.{most_locals}
+use Rattle.abi_lower.specs.declared.items.Item.{Item as ItemCode}
+use Rattle.abi_lower.specs.Blocks.{items}
+use Rattle.abi_lower.specs.invariants.ItemCodes.{form_of, item_codes}
+use Rattle.abi_pointers.specs.declared.plan_sites.ClassPlan.{ClassPlan}
+use Rattle.abi_pointers.specs.declared.plan_sites.PlanSite.{PlanSite}
+use Rattle.abi_pointers.specs.ClassTables.{AreClassTables}
+use Rattle.abi_pointers.specs.PlanSites.{IsLaidPlanSite, plan_setup}
+use Rattle.abi_code.specs.declared.block_sites.BlockSite.{BlockSite}
+use Rattle.abi_code.specs.declared.lowering.Lowering.{Lowering}
+use Rattle.abi_code.specs.declared.plan_blocks.PlanRun.{PlanRun}
 use Rattle.abi_code.specs.Bounds.{IsSmall}
 use Rattle.abi_code.specs.invariants.Numbers.{own_events, blocks_in, block_count, rows_from, code_rows}
 
@@ -55,10 +64,39 @@ pub record RunsAt (x : Setup) (numbers : List CodeRow) (body : TypedBody) (n : �
   pub rows : numbers ≡ code_rows x
   pub begins : n ≡ start_by x numbers r + own_events x r
 
--- a plan that begins at block n has so many own events, and a body or none
-pub record IsPlanRun (x : Setup) (numbers : List CodeRow) (course : Course) (form : Form) (c : ClassId) (n own : ℕ) (has : Bool) : Type 0 where
+abbrev pub plan_code : ClassPlan → Routine
+plan_code plan = PlanCode plan.course (form_of plan.form) plan.class
+
+abbrev pub plan_items : Setup → ClassPlan → List ItemCode
+plan_items x plan = item_codes (items x plan.course (form_of plan.form) plan.class)
+
+-- a plan begins at its first block, and has so many own events, and a body or none
+pub record IsPlanRun (x : Setup) (numbers : List CodeRow) (run : PlanRun) : Type 0 where
   pub rows : numbers ≡ code_rows x
-  pub begins : n ≡ start_by x numbers (PlanCode course form c)
-  pub counted : own ≡ own_events x (PlanCode course form c)
-  pub body : has ≡ has_body (body_in x (PlanCode course form c))
-  pub room : n + own < 2 ^ 32
+  pub begins : run.first ≡ start_by x numbers (plan_code run.plan)
+  pub counted : run.own ≡ own_events x (plan_code run.plan)
+  pub body : run.has_body ≡ has_body (body_in x (plan_code run.plan))
+  pub room : run.first + run.own < 2 ^ 32
+
+-- the same of a plan of a known class
+pub record IsRunAt {L : Type 0} (lays_out : L → Classes → Type 0) (rows : L → List ClassLayout) (here : PlanSite L) (run : PlanRun) : Type 0 where
+  pub site : IsLaidPlanSite lays_out rows here
+  pub known : run.plan.class.0 < length here.h.now
+  pub plan : IsPlanRun (plan_setup rows here) here.numbers.now run
+
+-- the classes, the rows of the layout and the program of what is lowered
+abbrev pub lowering_setup : {L : Type 0} → (L → List ClassLayout) → Lowering L → Setup
+lowering_setup rows by = setup by.h.now (rows by.layout.now) by.program.now
+
+abbrev pub IsLoweringAt : {L : Type 0} → (L → List ClassLayout) → Lowering L → Type 0
+IsLoweringAt rows by = IsLowering (lowering_setup rows by) by.overriders.now by.slots.now by.index.now by.orders.now
+
+abbrev pub block_setup : {L : Type 0} → (L → List ClassLayout) → BlockSite L → Setup
+block_setup rows here = lowering_setup rows here.lowering.now
+
+-- the numbers are those of its code, and the tables those of its classes
+pub record IsBlockSite {L : Type 0} (lays_out : L → Classes → Type 0) (rows : L → List ClassLayout) (here : BlockSite L) : Type 0 where
+  pub layout : lays_out here.lowering.now.layout.now here.lowering.now.h.now
+  pub lowering : IsLoweringAt rows here.lowering.now
+  pub numbered : here.numbers.now ≡ code_rows (block_setup rows here)
+  pub tables : AreClassTables here.lowering.now.h.now (places (block_setup rows here)) here.tables.now

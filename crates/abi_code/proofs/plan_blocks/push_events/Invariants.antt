@@ -13,5 +13,5 @@ invariant-loop-i g l =
     let x = setup l.site.h.now (g.L.SoundLayout.rows l.site.layout.now) l.site.program.now in
     record {
       done : l.done + count_by (is_own_code l.run.has_body) (drop l.i l.items) ≡ l.run.own;
-      blocks : (plan : List Item) → l.items ≡ item_codes plan → l.blocks ++ event_blocks x (number_of x) l.run.course (form_of l.run.form) l.run.class (drop l.i plan) ≡ l.initial.blocks ++ event_blocks x (number_of x) l.run.course (form_of l.run.form) l.run.class plan;
+      blocks : (plan : List Item) → l.items ≡ item_codes plan → l.blocks ++ event_blocks x (number_of x) l.run.plan.course (form_of l.run.plan.form) l.run.plan.class (drop l.i plan) ≡ l.initial.blocks ++ event_blocks x (number_of x) l.run.plan.course (form_of l.run.plan.form) l.run.plan.class plan;
     }

@@ -6,5 +6,5 @@ pub returns : goal.returns
 returns g c = λ form.
     let rows = g.L.SoundLayout.rows c.args.site.now.layout.now in
     let x = setup c.args.site.now.h.now rows c.args.site.now.program.now in
-    constant_put x c.args.course form c.args.c c.args.m c.args.init.now c.free-value.result c.member_place.result c.leaf_width.result c.converted.result c.args.ops.now c.push_operand.new.ops c.push.new.self c.push-2.new.self
+    constant_put x c.args.plan.course form c.args.plan.class c.args.m c.args.init.now c.free-value.result c.member_place.result c.leaf_width.result c.converted.result c.args.ops.now c.push_operand.new.ops c.push.new.self c.push-2.new.self
     (c.free-value.ensures.is rows form) c.in_ok-push_operand.ensures c.in_ok-push.ensures.ok (c.converted.ensures x) c.member_place.ensures c.leaf_width.ensures c.in_ok-push-2.ensures.ok

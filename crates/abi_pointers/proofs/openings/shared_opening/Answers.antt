@@ -1,31 +1,28 @@
-use Rattle.std.proofs.Common.{◌∷◌, [], Some, ap, ◌∙◌, refl}
+use Rattle.std.proofs.Common.{◌∷◌, [], Some, None, ap, ◌∙◌}
+use Rattle.std.specs.Prelude.{if◌then◌else◌}
 use Rattle.cxx_subobject.specs.declared.Root.TheVariants.{Shared}
 use Rattle.cxx_subobject.specs.Subobjects.{subobject}
-use Rattle.path_plan.specs.Plans.{AsBase}
 use Rattle.abi_sound.specs.Places.{places_of, place_of}
-use Rattle.abi_ops.specs.Setups.{PlanCode, setup}
+use Rattle.abi_ops.specs.Setups.{setup}
 use Rattle.abi_ops.specs.Routines.{start_by}
 use Rattle.abi_vtt.specs.Blocks.{shared_distance}
-use Rattle.abi_lower.specs.Blocks.{base_course, hand_to, whose_of}
-use Rattle.abi_lower.specs.invariants.ItemCodes.{form_of}
+use Rattle.abi_vtt.specs.Vtts.{has_virtual}
 use Rattle.abi_pointers.proofs.Known.{base_shared, virtual_known}
-use Rattle.abi_pointers.proofs.OpeningNumbers.{hand, hand_same, opening_same}
+use Rattle.abi_pointers.proofs.OpeningNumbers.{frame_same}
 use Rattle.abi_pointers.proofs.openings.shared_opening.Goals as goal
 
-pub place-requires-clause-subobject : goal.place-requires-clause-subobject
-place-requires-clause-subobject g c = base_shared c.args.site.now.h.now c.args.c c.args.v c.in_ok-longer_path.field-0 c.requires.base c.in_ok-longer_path.ensures
+pub place-place-requires-clause-subobject : goal.place-place-requires-clause-subobject
+place-place-requires-clause-subobject g c = base_shared c.args.site.now.h.now c.args.plan.class c.args.v c.in_ok-longer_path.field-0 c.requires.base c.in_ok-longer_path.ensures
 
-pub part_start-requires : goal.part_start-requires
-part_start-requires g c = virtual_known c.args.site.now.h.now c.keeps.ensures c.args.c c.args.v c.requires.known c.requires.base
+pub frame-requires : goal.frame-requires
+frame-requires g c = virtual_known c.args.site.now.h.now c.keeps.ensures c.args.plan.class c.args.v c.requires.known c.requires.base
 
 pub returns : goal.returns
 returns g c =
     let h = c.args.site.now.h.now in
     let rows = g.L.SoundLayout.rows c.args.site.now.layout.now in
-    let l = places_of h rows in
-    let x = setup h rows c.args.site.now.program.now in
-    let form = form_of c.args.form in
-    let given = hand c.whose.result c.args.c.0 c.shared_vtt.result in
-    opening_same c.place.result (place_of h rows c.args.c (subobject (Shared c.args.v) (c.args.v ∷ []))) c.part_start.result (start_by x c.args.site.now.numbers.now (PlanCode (base_course c.args.course) AsBase c.args.v))
-    (Some given) (Some (hand_to x form c.args.c c.args.v (shared_distance h l c.args.c c.args.v))) 1 0 0
-    (c.place.ensures ∙ ap (λ path. place_of h rows c.args.c (subobject (Shared c.args.v) path)) c.in_ok-longer_path.ensures) (c.part_start.ensures rows) (hand_same c.whose.result (whose_of form) c.args.c.0 c.shared_vtt.result (hand_to x form c.args.c c.args.v (shared_distance h l c.args.c c.args.v)).vtt c.whose.ensures c.shared_vtt.ensures) refl
+    let at = start_by (setup h rows c.args.site.now.program.now) c.args.site.now.numbers.now in
+    let plan = c.args.plan in
+    let whole = place_of h rows plan.class (subobject (Shared c.args.v) (c.args.v ∷ [])) in
+    frame_same at plan c.args.v c.place-place.result whole c.shared_vtt.result (if has_virtual h c.args.v then Some (shared_distance h (places_of h rows) plan.class c.args.v) else None) c.frame.result (c.frame.ensures rows)
+    (c.place-place.ensures ∙ ap (λ path. place_of h rows plan.class (subobject (Shared c.args.v) path)) c.in_ok-longer_path.ensures) c.shared_vtt.ensures

@@ -13,21 +13,21 @@ returns-in-Whole-clause-distance g c =
     let rows = g.L.SoundLayout.rows c.args.site.now.layout.now in
     let x = setup h rows c.args.site.now.program.now in
     let walk = c.args.walk.now in
-    whole_distance x c.requires.site.keeps c.args.c c.requires.known c.requires.site.few_words c.args.s.now walk c.requires.at c.requires.apart c.in-Whole.is c.distance.result
+    whole_distance x c.requires.site.site.keeps c.args.c c.requires.known c.requires.site.site.few_words c.args.s.now walk c.requires.at c.requires.apart c.in-Whole.is c.distance.result
     (c.distance.ensures ∙ ap (λ b. 8 * (walk.words + b - first_or walk.first b)) (c.before_words.ensures.is ∙ ap (before_by_class h (places_of h rows)) (sym c.requires.class)))
 
 pub returns-in-Whole-clause-number : goal.returns-in-Whole-clause-number
 returns-in-Whole-clause-number g c = λ _.
     let x = setup c.args.site.now.h.now (g.L.SoundLayout.rows c.args.site.now.layout.now) c.args.site.now.program.now in
-    whole_number x c.requires.site.keeps c.args.c c.requires.known c.requires.site.few_words c.args.s.now c.args.walk.now c.requires.at c.requires.apart c.in-Whole.is
+    whole_number x c.requires.site.site.keeps c.args.c c.requires.known c.requires.site.site.few_words c.args.s.now c.args.walk.now c.requires.at c.requires.apart c.in-Whole.is
 
 pub returns-in-Shared-clause-distance : goal.returns-in-Shared-clause-distance
 returns-in-Shared-clause-distance g c =
     let x = setup c.args.site.now.h.now (g.L.SoundLayout.rows c.args.site.now.layout.now) c.args.site.now.program.now in
-    shared_distance_none x c.requires.site.keeps c.args.c c.requires.known c.requires.site.few_words c.args.s.now c.args.walk.now c.requires.at c.requires.apart (ap is_shared_root c.in-Shared.is)
+    shared_distance_none x c.requires.site.site.keeps c.args.c c.requires.known c.requires.site.site.few_words c.args.s.now c.args.walk.now c.requires.at c.requires.apart (ap is_shared_root c.in-Shared.is)
 
 pub returns-in-Shared-clause-number : goal.returns-in-Shared-clause-number
 returns-in-Shared-clause-number g c = λ has.
     let x = setup c.args.site.now.h.now (g.L.SoundLayout.rows c.args.site.now.layout.now) c.args.site.now.program.now in
     let shared = ap is_shared_root c.in-Shared.is in
-    shared_number x c.requires.site.keeps c.args.c c.requires.known c.requires.site.few_words c.args.s.now c.args.walk.now c.requires.at c.requires.apart shared (shared_needs x c.args.s.now c.requires.apart shared) has
+    shared_number x c.requires.site.site.keeps c.args.c c.requires.known c.requires.site.site.few_words c.args.s.now c.args.walk.now c.requires.at c.requires.apart shared (shared_needs x c.args.s.now c.requires.apart shared) has

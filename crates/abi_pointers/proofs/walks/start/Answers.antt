@@ -5,5 +5,5 @@ use Rattle.abi_pointers.proofs.walks.start.Goals as goal
 
 pub base_sum-words-requires-clause-known : goal.base_sum-words-requires-clause-known
 base_sum-words-requires-clause-known g c =
-    bases_below c.args.site.now.h.now c.requires.site.keeps c.args.c c.as_slice-bases.result.now (length c.as_slice.result.now) (c.as_slice-bases.ensures ∙ sym (ap bases_in c.class.ensures))
-    (let size : length c.as_slice.result.now ≡ length c.args.site.now.tables.now.blocks = ap length c.as_slice.ensures in let all = c.requires.site.are_tables.one_block_each in let known = c.requires.known in omega arith)
+    bases_below c.args.site.now.h.now c.requires.site.site.keeps c.args.c c.as_slice-bases.result.now (length c.as_slice.result.now) (c.as_slice-bases.ensures ∙ sym (ap bases_in c.class.ensures))
+    (let size : length c.as_slice.result.now ≡ length c.args.site.now.tables.now.blocks = ap length c.as_slice.ensures in let all = c.requires.site.site.are_tables.one_block_each in let known = c.requires.known in omega arith)

@@ -4,9 +4,9 @@ use Rattle.abi_ops.specs.Setups.{setup}
 use Rattle.abi_code.specs.invariants.Numbers.{plain_routines}
 use Rattle.abi_code.specs.invariants.Codes.{routines_from}
 use Rattle.abi_code.specs.invariants.Runs.{run}
-use Rattle.abi_code.proofs.lowering.Lowering.push_runs.Given as goal
+use Rattle.abi_code.proofs.block_sites.BlockSite.push_runs.Given as goal
 
 abbrev pub invariant-loop-r : goal.invariant-loop-r
 invariant-loop-r g l =
-    let x = setup l.self.h.now (g.L.SoundLayout.rows l.self.layout.now) l.self.program.now in
-    l.blocks ++ flat_map (run x) (routines_from (drop l.r-index l.list)) ≡ l.initial.blocks ++ flat_map (run x) (plain_routines l.self.program.now)
+    let x = setup l.self.lowering.now.h.now (g.L.SoundLayout.rows l.self.lowering.now.layout.now) l.self.lowering.now.program.now in
+    l.blocks ++ flat_map (run x) (routines_from (drop l.r-index l.list)) ≡ l.initial.blocks ++ flat_map (run x) (plain_routines l.self.lowering.now.program.now)

@@ -4,9 +4,9 @@ use Rattle.abi_ops.specs.Routines.{IsRoutine}
 use Rattle.abi_code.specs.declared.routines.Routine.{Routine as RoutineCode}
 use Rattle.abi_code.specs.invariants.Codes.{routine_from}
 use Rattle.abi_code.proofs.RunSteps.{function_known}
-use Rattle.abi_code.proofs.lowering.Lowering.push_run.Goals as goal
+use Rattle.abi_code.proofs.block_sites.BlockSite.push_run.Goals as goal
 
 pub returns_value-requires : goal.returns_value-requires
 returns_value-requires g c =
-    let x = setup c.args.self.now.h.now (g.L.SoundLayout.rows c.args.self.now.layout.now) c.args.self.now.program.now in
-    function_known x c.requires.lowering.typed c.in-Function.f (subst (λ (q : RoutineCode). IsRoutine x (routine_from q)) c.in-Function.is c.requires.routine)
+    let x = setup c.args.self.now.lowering.now.h.now (g.L.SoundLayout.rows c.args.self.now.lowering.now.layout.now) c.args.self.now.lowering.now.program.now in
+    function_known x c.requires.site.lowering.typed c.in-Function.f (subst (λ (q : RoutineCode). IsRoutine x (routine_from q)) c.in-Function.is c.requires.routine)
