@@ -8,8 +8,10 @@ ghost use Rattle.cxx_subobject.specs.Subobjects.{IsSubobject};
 ghost use Rattle.cxx_hierarchy.specs.Classes.{members_of};
 ghost use Rattle.abi_sound.specs.Places.{number_in, places_of};
 ghost use Rattle.abi_print.specs.LayoutTexts.{type_text, length_text, primary_text, class_text, base_text, field_text, fields_text, proper, listed_text, layout_text};
+ghost use Rattle.abi_print.specs.invariants.Writers.{written_place};
 
 use crate::text::{append, append_class, append_number, append_subobject, append_value_type};
+use crate::writer::{Writer, Written};
 use abi_primary::Primary;
 use abi_sound::{ClassLayout, SoundLayout};
 use cxx_hierarchy::{ClassId, FieldType, Hierarchy, Member};
@@ -56,88 +58,77 @@ fn append_primary(text: &mut Vec<u8>, h: &Hierarchy, primary: Primary) -> Result
 }
 
 /// Puts the lines of a class's numbers and of its primary base at the end.
-fn append_row(
-    alloc: Global,
-    text: &mut Vec<u8>,
-    h: &Hierarchy,
-    c: ClassId,
-    row: &ClassLayout,
-) -> Result<(), NoMemory>
-    ensures { OnOk result (text.new.items ≡ text.old.items ++ class_text h.now c row.now) }
+fn append_row<L>(w: &Writer<L>, text: &mut Vec<u8>, c: ClassId, row: &ClassLayout) -> Written
+    ensures { OnOk result (text.new.items ≡ text.old.items ++ class_text w.now.h.now c row.now) }
 {
     append(text, b"class ")?;
-    append_class(text, h, c)?;
+    append_class(text, w.h, c)?;
     append(text, b" size ")?;
-    append_number(alloc, text, row.size)?;
+    append_number(w.alloc, text, row.size)?;
     append(text, b" align ")?;
-    append_number(alloc, text, row.align)?;
+    append_number(w.alloc, text, row.align)?;
     append(text, b" dsize ")?;
-    append_number(alloc, text, row.dsize)?;
+    append_number(w.alloc, text, row.dsize)?;
     append(text, b" nvsize ")?;
-    append_number(alloc, text, row.nvsize)?;
+    append_number(w.alloc, text, row.nvsize)?;
     append(text, b" nvalign ")?;
-    append_number(alloc, text, row.nvalign)?;
+    append_number(w.alloc, text, row.nvalign)?;
     append(text, b"\nprimary ")?;
-    append_primary(text, h, row.primary)?;
+    append_primary(text, w.h, row.primary)?;
     append(text, b"\n")?;
     Ok(())
 }
 
 /// Puts the line of a base subobject at the end.
 fn append_base<L: SoundLayout>(
-    alloc: Global,
+    w: &Writer<L>,
     text: &mut Vec<u8>,
-    h: &Hierarchy,
-    layout: &L,
     c: ClassId,
     s: &Subobject,
-) -> Result<(), NoMemory>
-    requires layout { L.lays_out layout.now h.now }
-    requires known { c.0 < length h.now }
-    requires subobject { IsSubobject h.now c s.now }
-    ensures { OnOk result (text.new.items ≡ text.old.items ++ base_text h.now (places_of h.now (L.rows layout.now)).place c s.now) }
+) -> Written
+    requires layout { L.lays_out w.now.layout.now w.now.h.now }
+    requires known { c.0 < length w.now.h.now }
+    requires subobject { IsSubobject w.now.h.now c s.now }
+    ensures { OnOk result (text.new.items ≡ text.old.items ++ base_text w.now.h.now (written_place L.rows w.now) c s.now) }
 {
-    append_number(alloc, text, layout.place(h, c, s))?;
+    append_number(w.alloc, text, w.layout.place(w.h, c, s))?;
     append(text, b" base ")?;
-    append_subobject(text, h, s)?;
+    append_subobject(text, w.h, s)?;
     append(text, b"\n")?;
     Ok(())
 }
 
 /// Puts the lines of base subobjects at the end.
 fn append_bases<L: SoundLayout>(
-    alloc: Global,
+    w: &Writer<L>,
     text: &mut Vec<u8>,
-    h: &Hierarchy,
-    layout: &L,
     c: ClassId,
     list: &[Subobject],
-) -> Result<(), NoMemory>
-    requires layout { L.lays_out layout.now h.now }
-    requires known { c.0 < length h.now }
-    requires subobjects { (s : Subobject) → Contains list.now s → IsSubobject h.now c s }
-    ensures { OnOk result (text.new.items ≡ text.old.items ++ flat_map (base_text h.now (places_of h.now (L.rows layout.now)).place c) list.now) }
+) -> Written
+    requires layout { L.lays_out w.now.layout.now w.now.h.now }
+    requires known { c.0 < length w.now.h.now }
+    requires subobjects { (s : Subobject) → Contains list.now s → IsSubobject w.now.h.now c s }
+    ensures { OnOk result (text.new.items ≡ text.old.items ++ flat_map (base_text w.now.h.now (written_place L.rows w.now) c) list.now) }
 {
     for s in list {
-        append_base(alloc, text, h, layout, c, s)?;
+        append_base(w, text, c, s)?;
     }
     Ok(())
 }
 
 /// Puts the line of a member at the end.
-fn append_field(
-    alloc: Global,
+fn append_field<L>(
+    w: &Writer<L>,
     text: &mut Vec<u8>,
-    h: &Hierarchy,
     place: u32,
     member: &Member<ClassId>,
-) -> Result<(), NoMemory>
-    ensures { OnOk result (text.new.items ≡ text.old.items ++ field_text h.now place member.now) }
+) -> Written
+    ensures { OnOk result (text.new.items ≡ text.old.items ++ field_text w.now.h.now place member.now) }
 {
-    append_number(alloc, text, place)?;
+    append_number(w.alloc, text, place)?;
     append(text, b" field ")?;
-    append_type(text, h, &member.ty)?;
-    append_length(alloc, text, member.count)?;
+    append_type(text, w.h, &member.ty)?;
+    append_length(w.alloc, text, member.count)?;
     append(text, b" ")?;
     append(text, member.name.as_slice())?;
     append(text, b"\n")?;
@@ -155,22 +146,16 @@ fn place_of(places: &[u32], n: usize) -> u32
 }
 
 /// Puts the lines of the members that a class declares at the end.
-fn append_fields<L: SoundLayout>(
-    alloc: Global,
-    text: &mut Vec<u8>,
-    h: &Hierarchy,
-    layout: &L,
-    c: ClassId,
-) -> Result<(), NoMemory>
-    requires known { c.0 < length h.now }
-    requires laid { c.0 < length (L.rows layout.now) }
-    ensures { OnOk result (text.new.items ≡ text.old.items ++ fields_text h.now (L.rows layout.now) c (length (members_of h.now c))) }
+fn append_fields<L: SoundLayout>(w: &Writer<L>, text: &mut Vec<u8>, c: ClassId) -> Written
+    requires known { c.0 < length w.now.h.now }
+    requires laid { c.0 < length (L.rows w.now.layout.now) }
+    ensures { OnOk result (text.new.items ≡ text.old.items ++ fields_text w.now.h.now (L.rows w.now.layout.now) c (length (members_of w.now.h.now c))) }
 {
-    h.keeps();
-    let members = h.class(c).members.as_slice();
-    let places = layout.layout(c).member_places.as_slice();
+    w.h.keeps();
+    let members = w.h.class(c).members.as_slice();
+    let places = w.layout.layout(c).member_places.as_slice();
     for number in 0..members.len() {
-        append_field(alloc, text, h, place_of(places, number), &members[number])?;
+        append_field(w, text, place_of(places, number), &members[number])?;
     }
     Ok(())
 }
@@ -186,22 +171,20 @@ fn proper_of(list: &[Subobject]) -> &[Subobject]
 
 /// The lines of a class's layout, over a list of its subobjects.
 fn layout_lines<L: SoundLayout>(
-    alloc: Global,
-    h: &Hierarchy,
-    layout: &L,
+    w: &Writer<L>,
     c: ClassId,
     list: &[Subobject],
 ) -> Result<Vec<u8>, NoMemory>
-    requires layout { L.lays_out layout.now h.now }
-    requires known { c.0 < length h.now }
-    requires laid { c.0 < length (L.rows layout.now) }
-    requires subobjects { (s : Subobject) → Contains list.now s → IsSubobject h.now c s }
-    ensures { IfOk result (λ text. text.items ≡ listed_text h.now (L.rows layout.now) (places_of h.now (L.rows layout.now)).place c list.now) }
+    requires layout { L.lays_out w.now.layout.now w.now.h.now }
+    requires known { c.0 < length w.now.h.now }
+    requires laid { c.0 < length (L.rows w.now.layout.now) }
+    requires subobjects { (s : Subobject) → Contains list.now s → IsSubobject w.now.h.now c s }
+    ensures { IfOk result (λ text. text.items ≡ listed_text w.now.h.now (L.rows w.now.layout.now) (written_place L.rows w.now) c list.now) }
 {
-    let mut text = Vec::new(alloc);
-    append_row(alloc, &mut text, h, c, layout.layout(c))?;
-    append_bases(alloc, &mut text, h, layout, c, proper_of(list))?;
-    append_fields(alloc, &mut text, h, layout, c)?;
+    let mut text = Vec::new(w.alloc);
+    append_row(w, &mut text, c, w.layout.layout(c))?;
+    append_bases(w, &mut text, c, proper_of(list))?;
+    append_fields(w, &mut text, c)?;
     Ok(text)
 }
 
@@ -224,7 +207,8 @@ pub fn append_layout<L: SoundLayout>(
     ensures ok { OnOk result (text.new.items ≡ text.old.items ++ listed_text h.now (L.rows layout.now) (places_of h.now (L.rows layout.now)).place c list.now) }
     ensures err { OnErr result (text.new.items ≡ text.old.items) }
 {
-    let lines = layout_lines(alloc, h, layout, c, list)?;
+    let w = Writer { alloc, h, layout };
+    let lines = layout_lines(&w, c, list)?;
     text.extend_from_slice(&lines)?;
     Ok(())
 }
@@ -244,6 +228,7 @@ pub fn layout_text<L: SoundLayout>(
     requires laid { c.0 < length (L.rows layout.now) }
     ensures { IfOk result (λ text. text.items ≡ layout_text h.now (L.rows layout.now) (places_of h.now (L.rows layout.now)).place c) }
 {
+    let w = Writer { alloc, h, layout };
     let list = list_subobjects(alloc, h, c)?;
-    layout_lines(alloc, h, layout, c, list.as_slice())
+    layout_lines(&w, c, list.as_slice())
 }

@@ -13,6 +13,7 @@ pub mod layout_lines;
 pub mod table_lines;
 pub mod text;
 pub mod word_lines;
+pub mod writer;
 
 pub use crate::layout_lines::{append_layout, layout_text};
 pub use crate::table_lines::{append_tables, tables_text};

@@ -1,10 +1,11 @@
 //! The text of a table: its words behind their numbers (Itanium C++ ABI 2.5.2).
 
-ghost use Rattle.std.specs.Prelude.{◌≡◌, ◌++◌, ℕ, pos, ◌-ℤ◌, OnOk, codes};
+ghost use Rattle.std.specs.Prelude.{◌≡◌, ◌++◌, pos, ◌-ℤ◌, OnOk, codes};
 ghost use Rattle.std.specs.Fmt.{signed_decimal};
 ghost use Rattle.abi_print.specs.TableTexts.{vcall_text, this_text, vbase_text, return_text, kind_text, entry_text, word_text, words_text, table_name, table_text};
 
 use crate::text::{append, append_class, append_function, append_number};
+use crate::writer::{Writer, Written};
 use abi_slots::{CodeKind, EntryWord, ReturnAdjust, Table, TableWord, ThisAdjust};
 use cxx_hierarchy::Hierarchy;
 use foundation::NoMemory;
@@ -90,128 +91,96 @@ fn kind_text(kind: CodeKind) -> &'static [u8]
 }
 
 /// Puts the word of an entry at the end of a text.
-fn append_entry(
-    alloc: Global,
-    text: &mut Vec<u8>,
-    h: &Hierarchy,
-    word: &EntryWord,
-) -> Result<(), NoMemory>
-    ensures { OnOk result (text.new.items ≡ text.old.items ++ entry_text h.now word.now) }
+fn append_entry<L>(w: &Writer<L>, text: &mut Vec<u8>, word: &EntryWord) -> Written
+    ensures { OnOk result (text.new.items ≡ text.old.items ++ entry_text w.now.h.now word.now) }
 {
     match word {
         EntryWord::Unused => append(text, b"unused")?,
         EntryWord::Pure(f) => {
             append(text, b"pure ")?;
-            append_function(text, h, *f)?;
+            append_function(text, w.h, *f)?;
         }
         EntryWord::Code(f, kind, this, returns) => {
             append(text, kind_text(*kind))?;
-            append_function(text, h, *f)?;
-            append_this(alloc, text, *this)?;
-            append_return(alloc, text, *returns)?;
+            append_function(text, w.h, *f)?;
+            append_this(w.alloc, text, *this)?;
+            append_return(w.alloc, text, *returns)?;
         }
     }
     Ok(())
 }
 
 /// Puts a word of a table at the end of a text.
-fn append_word(
-    alloc: Global,
-    text: &mut Vec<u8>,
-    h: &Hierarchy,
-    word: &TableWord,
-) -> Result<(), NoMemory>
-    ensures { OnOk result (text.new.items ≡ text.old.items ++ word_text h.now word.now) }
+fn append_word<L>(w: &Writer<L>, text: &mut Vec<u8>, word: &TableWord) -> Written
+    ensures { OnOk result (text.new.items ≡ text.old.items ++ word_text w.now.h.now word.now) }
 {
     match word {
         TableWord::Vcall(distance, f) => {
             append(text, b"vcall ")?;
-            append_signed(alloc, text, *distance)?;
+            append_signed(w.alloc, text, *distance)?;
             append(text, b" ")?;
-            append_function(text, h, *f)?;
+            append_function(text, w.h, *f)?;
         }
         TableWord::Vbase(distance, v) => {
             append(text, b"vbase ")?;
-            append_signed(alloc, text, *distance)?;
+            append_signed(w.alloc, text, *distance)?;
             append(text, b" ")?;
-            append_class(text, h, *v)?;
+            append_class(text, w.h, *v)?;
         }
         TableWord::Top(distance) => {
             append(text, b"top ")?;
-            append_signed(alloc, text, *distance)?;
+            append_signed(w.alloc, text, *distance)?;
         }
         TableWord::Info(c) => {
             append(text, b"typeinfo ")?;
-            append_class(text, h, *c)?;
+            append_class(text, w.h, *c)?;
         }
-        TableWord::Entry(entry) => append_entry(alloc, text, h, entry)?,
+        TableWord::Entry(entry) => append_entry(w, text, entry)?,
     }
     Ok(())
 }
 
 /// Puts the line of a word of a table at the end of a text.
-fn append_word_line(
-    alloc: Global,
-    text: &mut Vec<u8>,
-    h: &Hierarchy,
-    number: i64,
-    word: &TableWord,
-) -> Result<(), NoMemory>
-    ensures { OnOk result (text.new.items ≡ text.old.items ++ signed_decimal number ++ codes " " ++ word_text h.now word.now ++ codes "\n") }
+fn append_word_line<L>(w: &Writer<L>, text: &mut Vec<u8>, number: i64, word: &TableWord) -> Written
+    ensures { OnOk result (text.new.items ≡ text.old.items ++ signed_decimal number ++ codes " " ++ word_text w.now.h.now word.now ++ codes "\n") }
 {
-    append_signed(alloc, text, number)?;
+    append_signed(w.alloc, text, number)?;
     append(text, b" ")?;
-    append_word(alloc, text, h, word)?;
+    append_word(w, text, word)?;
     append(text, b"\n")?;
     Ok(())
 }
 
 /// Puts the words of a table at the end of a text, each behind its number, which counts from the address point.
 /// `before` is the number of words before that.
-fn append_words(
-    alloc: Global,
-    text: &mut Vec<u8>,
-    h: &Hierarchy,
-    before: u32,
-    words: &[TableWord],
-) -> Result<(), NoMemory>
-    ensures { OnOk result (text.new.items ≡ text.old.items ++ words_text h.now (pos 0 -ℤ pos before) words.now) }
+fn append_words<L>(w: &Writer<L>, text: &mut Vec<u8>, before: u32, words: &[TableWord]) -> Written
+    ensures { OnOk result (text.new.items ≡ text.old.items ++ words_text w.now.h.now (pos 0 -ℤ pos before) words.now) }
 {
     let mut number = 0 - i64::from(before);
     for word in words {
-        append_word_line(alloc, text, h, number, word)?;
+        append_word_line(w, text, number, word)?;
         number += 1;
     }
     Ok(())
 }
 
 /// Puts the name of a table at the end of a text: the class of its subobject, and that one's place.
-pub(crate) fn append_table_name(
-    alloc: Global,
-    text: &mut Vec<u8>,
-    h: &Hierarchy,
-    table: &Table,
-) -> Result<(), NoMemory>
-    ensures { OnOk result (text.new.items ≡ text.old.items ++ table_name h.now table.now) }
+pub(crate) fn append_table_name<L>(w: &Writer<L>, text: &mut Vec<u8>, table: &Table) -> Written
+    ensures { OnOk result (text.new.items ≡ text.old.items ++ table_name w.now.h.now table.now) }
 {
-    append_class(text, h, table.class)?;
+    append_class(text, w.h, table.class)?;
     append(text, b"@")?;
-    append_number(alloc, text, table.place)?;
+    append_number(w.alloc, text, table.place)?;
     Ok(())
 }
 
 /// Puts the lines of a table at the end of a text.
-pub(crate) fn append_table(
-    alloc: Global,
-    text: &mut Vec<u8>,
-    h: &Hierarchy,
-    table: &Table,
-) -> Result<(), NoMemory>
-    ensures { OnOk result (text.new.items ≡ text.old.items ++ table_text h.now table.now) }
+pub(crate) fn append_table<L>(w: &Writer<L>, text: &mut Vec<u8>, table: &Table) -> Written
+    ensures { OnOk result (text.new.items ≡ text.old.items ++ table_text w.now.h.now table.now) }
 {
     append(text, b"table ")?;
-    append_table_name(alloc, text, h, table)?;
+    append_table_name(w, text, table)?;
     append(text, b"\n")?;
-    append_words(alloc, text, h, table.before, table.words.as_slice())?;
+    append_words(w, text, table.before, table.words.as_slice())?;
     Ok(())
 }

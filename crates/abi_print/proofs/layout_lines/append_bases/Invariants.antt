@@ -6,4 +6,4 @@ use Rattle.abi_print.proofs.layout_lines.append_bases.Given as goal
 
 -- the lines so far stand behind the text
 abbrev pub invariant-loop-s : goal.invariant-loop-s
-invariant-loop-s g l = l.text.items ≡ l.fn.text.items ++ flat_map (base_text l.h (places_of l.h (g.L.SoundLayout.rows l.layout)).place l.fn.c) (take l.s-index l.list)
+invariant-loop-s g l = l.text.items ≡ l.fn.text.items ++ flat_map (base_text l.w.h.now (places_of l.w.h.now (g.L.SoundLayout.rows l.w.layout.now)).place l.fn.c) (take l.s-index l.list)

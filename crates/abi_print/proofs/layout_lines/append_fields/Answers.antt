@@ -19,8 +19,8 @@ line_more text old lines line whole a b = ap (λ (x : List ℕ). x ++ line) a �
 
 pub loop-number-preserved : goal.loop-number-preserved
 loop-number-preserved g c =
-    let h = c.args.h.now in
-    let rows = g.L.SoundLayout.rows c.args.layout.now in
+    let h = c.args.w.now.h.now in
+    let rows = g.L.SoundLayout.rows c.args.w.now.layout.now in
     let k = c.args.c in
     let n = c.loop-number.number in
     let member = c.index-members-number.result in

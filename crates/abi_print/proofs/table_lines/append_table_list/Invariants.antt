@@ -5,4 +5,4 @@ use Rattle.abi_print.proofs.table_lines.append_table_list.Given as goal
 
 -- the lines so far stand behind the text
 abbrev pub invariant-loop-table : goal.invariant-loop-table
-invariant-loop-table l = l.text.items ≡ l.fn.text.items ++ flat_map (table_text l.h) (take l.table-index l.tables)
+invariant-loop-table g l = l.text.items ≡ l.fn.text.items ++ flat_map (table_text l.w.h.now) (take l.table-index l.tables)

@@ -9,5 +9,5 @@ returns-then-is_same_name g c =
     let same = c.is_same_name.ensures c.if-is_same_name.true in
     record {
       number = c.requires.number ∙ same_group c.args.groups.now c.args.before.now c.args.word.now same;
-      name = c.requires.name ∙ ap (group_name c.args.h.now (places_of c.args.h.now (g.L.SoundLayout.rows c.args.layout.now)).place) same;
+      name = c.requires.name ∙ ap (group_name c.args.w.now.h.now (places_of c.args.w.now.h.now (g.L.SoundLayout.rows c.args.w.now.layout.now)).place) same;
     }
