@@ -5,7 +5,7 @@ use Rattle.foundation.proofs.Truth.{split}
 use Rattle.byte_memory.specs.declared.memory.MemoryFault.{MemoryFault}
 use Rattle.byte_memory.specs.Store.{Store, load_of}
 use Rattle.byte_code.specs.Numbers.{signed_of}
-use Rattle.byte_code.specs.Records.{HasSmall, IsInfoAt, IsBaseAt}
+use Rattle.byte_code.specs.Records.{HasSmall, IsInfoAt, IsBaseAt, IsTableWord}
 use Rattle.byte_code.specs.declared.image.InfoRecord.{InfoRecord}
 use Rattle.byte_code.specs.declared.image.BaseRecord.{BaseRecord}
 use Rattle.abi_dyncast.specs.declared.parts.Part.{Part}
@@ -128,6 +128,18 @@ base_read image at base there =
     let b : signed_of 8 true (word_in (image (at + 8))) ≡ base.offset_flags = ap (λ o. signed_of 8 true (word_in o)) there.offset_flags.there ∙ sym there.offset_flags.is in
     rw (a, b) refl
 
+table_kept : (image other : ℕ → Option ℕ) → ((at word : ℕ) → image at ≡ Some word → other at ≡ Some word) → (at : ℕ) → IsTableWord image at → IsTableWord other at
+table_kept image other words at t = record {
+  infos = t.infos;
+  some = t.some;
+  clear = λ a has. let c = t.clear a has in record {
+    info = c.info;
+    there = info_kept image other words a c.info c.there;
+    bases = λ i lt. let b = c.bases i lt in (b.0, base_kept image other words (c.info.first + 16 * i) b.0 b.1, b.2);
+    apart = c.apart;
+  };
+}
+
 -- an edge is the same where its base is not virtual, and where pointer and word are
 edge_kept : (image other : ℕ → Option ℕ) (memory next : Store) (at : ℕ) (base : BaseRecord) → (is_virtual base ≡ true → pointer_at next at ≡ pointer_at memory at) → (is_virtual base ≡ true → other (vbase_at memory at base) ≡ image (vbase_at memory at base)) → edge_by other next at base ≡ edge_by image memory at base
 edge_kept image other memory next at base pointer word =
@@ -167,6 +179,10 @@ step_kept image other memory next part i words load info s =
           let old : is_virtual (base_of image part i) ≡ true = ap is_virtual (sym base) ∙ v in
           let where_is : vbase_at next part.at (base_of other part i) ≡ vbase_at memory part.at (base_of image part i) = ap (λ b. vbase_at next part.at b) base ∙ ap (λ r. moved (loaded r) (offset_word (base_of image part i))) load in
           subst (λ o. IsSome o) (sym (ap other where_is ∙ kept image other words (vbase_at memory part.at (base_of image part i)) (s.word old))) (s.word old);
+      table = λ v.
+          let old : is_virtual (base_of image part i) ≡ true = ap is_virtual (sym base) ∙ v in
+          let where_is : vbase_at next part.at (base_of other part i) ≡ vbase_at memory part.at (base_of image part i) = ap (λ b. vbase_at next part.at b) base ∙ ap (λ r. moved (loaded r) (offset_word (base_of image part i))) load in
+          subst (λ n. IsTableWord other n) (sym where_is) (table_kept image other words (vbase_at memory part.at (base_of image part i)) (s.table old));
     }
 
 read_kept : (image other : ℕ → Option ℕ) (memory next : Store) (parts : List Part) → AreRead image memory parts → KeepsReads image other memory next parts → AreRead other next parts
@@ -201,6 +217,8 @@ can_kept image other memory next room at can load keeps =
       pointer = subst (λ (r : Result ℕ MemoryFault). IsOk r) (sym load) can.pointer;
       top = subst (λ o. IsSome o) (sym (ap (λ p. other (p - 16)) pointer ∙ kept image other keeps.words (pointer_at memory at - 16) can.top)) can.top;
       info = subst (λ o. IsSome o) (sym (ap (λ p. other (p - 8)) pointer ∙ kept image other keeps.words (pointer_at memory at - 8) can.info)) can.info;
+      top_word = subst (λ p. IsTableWord other (p - 16)) (sym pointer) (table_kept image other keeps.words (pointer_at memory at - 16) can.top_word);
+      info_word = subst (λ p. IsTableWord other (p - 8)) (sym pointer) (table_kept image other keeps.words (pointer_at memory at - 8) can.info_word);
       walk = subst (λ part. CanWalk other next room part) (sym (view_kept image other memory next at keeps.words load can.top can.info)) walk;
     }
 

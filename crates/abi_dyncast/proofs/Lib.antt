@@ -8,6 +8,10 @@ pub mod Ways
 pub mod Choosing
 pub mod Ruling
 pub mod OneAnswer
+pub mod Reading
+pub mod Hinting
+pub mod Edges
+pub mod Containing
 pub mod Transfer
 pub mod Keeping
 pub mod Distances

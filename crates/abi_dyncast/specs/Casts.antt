@@ -1,12 +1,14 @@
 -- What a cast and a test of containment answer, over the words of an image and a memory. For the layers above:
 --   CastsTo image memory at class target result        the answer of a cast of the part of `class` at `at`, an address or none
 --   CanCast image memory parts at                      it can be had: all that is read stands there, and there is room for it
+--   CanCastHinted image memory parts at class target hint    it can be had with a hint: besides, the hint is true
+--   CountsVisits graph view at target hint old new     how far a cast with a hint raises the count of records of bases read
 --   TellsWithin image base memory view_at view_class at class result    whether the view has a part of `class` at `at`
 --   CanTellWithin image base memory parts view_at view_class            it can be had
 -- `image` has the word at each address, `base` is where its directory begins, and a work list is reserved for so many `parts`.
-use Rattle.std.specs.Prelude.{◌≡◌, ◌↔◌, ℕ, ◌+◌, ◌-◌, ◌*◌, ◌<◌, ◌≤◌, ◌^◌, Bool, true, Option, Some, None, IsSome, IsOk, IsTrue, List, length, Contains}
+use Rattle.std.specs.Prelude.{◌≡◌, ◌↔◌, ℕ, ◌+◌, ◌-◌, ◌*◌, ◌<◌, ◌≤◌, ◌^◌, Bool, true, Option, Some, None, IsSome, IsOk, IsTrue, List, length, sum_by, Contains, ℤ, pos, negsuc}
 use Rattle.byte_memory.specs.Store.{Store, load_of}
-use Rattle.byte_code.specs.Records.{IsInfoAt, IsBaseAt}
+use Rattle.byte_code.specs.Records.{IsInfoAt, IsBaseAt, IsTableWord}
 use Rattle.abi_dyncast.specs.declared.parts.Part.{Part}
 use Rattle.abi_dyncast.specs.declared.work.WorkList.{WorkList}
 use Rattle.abi_dyncast.specs.Rule.{Parts, IsCast}
@@ -18,12 +20,14 @@ room work = work.parts
 
 -- what is read
 
--- the record of the i-th base of a part, and where the base is virtual the part's virtual pointer and the word that it leads to
+-- the record of the i-th base of a part, and where the base is virtual the part's virtual pointer and the word that it leads to,
+-- which is one of a table
 pub record CanStep (image : ℕ → Option ℕ) (memory : Store) (part : Part) (i : ℕ) : Type 0 where
   pub low : record_at image part i < 2 ^ 64
   pub base : IsBaseAt image (record_at image part i) (base_of image part i)
   pub pointer : is_virtual (base_of image part i) ≡ true → IsOk (load_of memory part.at 8)
   pub word : is_virtual (base_of image part i) ≡ true → IsSome (image (vbase_at memory part.at (base_of image part i)))
+  pub table : is_virtual (base_of image part i) ≡ true → IsTableWord image (vbase_at memory part.at (base_of image part i))
 
 -- the type information of parts, and all that leads from them to their bases
 pub record AreRead (image : ℕ → Option ℕ) (memory : Store) (parts : List Part) : Type 0 where
@@ -84,7 +88,36 @@ pub record CanCast (image : ℕ → Option ℕ) (memory : Store) (parts at : ℕ
   pub pointer : IsOk (load_of memory at 8)
   pub top : IsSome (image (pointer_at memory at - 16))
   pub info : IsSome (image (pointer_at memory at - 8))
+  pub top_word : IsTableWord image (pointer_at memory at - 16)
+  pub info_word : IsTableWord image (pointer_at memory at - 8)
   pub walk : CanWalk image memory parts (view_of image memory at)
+
+-- hints
+
+-- what is asked of a hint: where it is at least 0, each part of the target class below the view has a part of the source's class
+-- so many bytes behind itself, along public edges; of other hints nothing is asked
+abbrev pub IsTrueHint : Graph → Part → (class target : ℕ) → ℤ → Type 0
+IsTrueHint g view class target (pos n) = (part : Part) → IsTarget g target view part → LeadsToSome g public_edge (IsNamed g (part.at + n) class) part
+IsTrueHint g view class target (negsuc n) = Unit {0}
+
+pub record CanCastHinted (image : ℕ → Option ℕ) (memory : Store) (parts at class target : ℕ) (hint : ℤ) : Type 0 where
+  pub can : CanCast image memory parts at
+  pub truth : IsTrueHint (graph_of image memory) (view_of image memory at) class target hint
+
+-- a list has all parts below a view
+abbrev pub HasAllBelow : Graph → Part → List Part → Type 0
+HasAllBelow g view parts = (part : Part) → Leads g any_edge view part → Contains parts part
+
+-- how many edges leave parts: of all parts below a view, the pairs of a subobject and a direct base
+abbrev pub edges_of : Graph → List Part → ℕ
+edges_of g parts = sum_by g.count parts
+
+-- how far the count of records of bases is raised: by at most two for each edge of the view, and not at all where the view is of
+-- the target class and the source lies so many bytes behind it as the hint says
+pub record CountsVisits (g : Graph) (view : Part) (at target : ℕ) (hint : ℤ) (old new : ℕ) : Type 0 where
+  pub more : old ≤ new
+  pub few : (parts : List Part) → HasAllBelow g view parts → new ≤ old + 2 * edges_of g parts
+  pub hinted : (n : ℕ) → hint ≡ pos n → g.class view ≡ target → view.at + n ≡ at → new ≡ old
 
 -- containment
 

@@ -1,12 +1,14 @@
 //! The parts of an object, and the edges from a part to those of its direct bases.
 
-ghost use Rattle.std.specs.Prelude.{◌≡◌, ℕ, ◌<◌};
+ghost use Rattle.std.specs.Prelude.{◌≡◌, ℕ, ◌<◌, true, IsSome};
 ghost use Rattle.byte_memory.specs.Store.{Store};
 ghost use Rattle.byte_code.specs.Images.{word_at};
-ghost use Rattle.abi_dyncast.specs.Graph.{graph_of, word_in, pointer_at, moved, info_at, is_virtual, is_public, offset_word, distance_word, edge_by};
+ghost use Rattle.byte_code.specs.Readers.{image_of, visits_of, raised};
+ghost use Rattle.byte_code.specs.Records.{IsTableWord};
+ghost use Rattle.abi_dyncast.specs.Graph.{graph_of, word_in, pointer_at, moved, info_at, is_virtual, is_public, offset_word, distance_word, vbase_at, edge_by};
 ghost use Rattle.abi_dyncast.specs.Casts.{CanStep};
 
-use byte_code::{BaseRecord, ImageBytes, InfoRecord};
+use byte_code::{BaseReader, BaseRecord, ImageBytes, InfoRecord};
 use byte_memory::Memory;
 
 /// A part of an object: its address, and the address of the type information of its class.
@@ -43,6 +45,15 @@ pub(crate) fn word(image: &ImageBytes, at: u64) -> u64
     }
 }
 
+/// The word of a table at an address.
+pub(crate) fn table_word(reader: &BaseReader<'_>, at: u64) -> u64
+    requires there { IsSome (word_at (image_of reader.now) at) }
+    requires table { IsTableWord (word_at (image_of reader.now)) at }
+    ensures { result ≡ word_in (word_at (image_of reader.now) at) }
+{
+    reader.word(at).cast_unsigned()
+}
+
 /// An address moved by the word of a distance, as addresses wrap.
 pub(crate) fn moved(at: u64, word: u64) -> u64
     ensures { result ≡ moved at word }
@@ -70,12 +81,14 @@ fn offset_word(base: BaseRecord) -> u64
 }
 
 /// How far a base lies from the part at an address, as a word.
-fn distance_word<M: Memory>(image: &ImageBytes, memory: &M, at: u64, base: BaseRecord) -> u64
-    ensures { result ≡ distance_word (word_at image.now) (M.meaning memory.now) at base }
+fn distance_word<M: Memory>(reader: &BaseReader<'_>, memory: &M, at: u64, base: BaseRecord) -> u64
+    requires there { is_virtual base ≡ true → IsSome (word_at (image_of reader.now) (vbase_at (M.meaning memory.now) at base)) }
+    requires table { is_virtual base ≡ true → IsTableWord (word_at (image_of reader.now)) (vbase_at (M.meaning memory.now) at base) }
+    ensures { result ≡ distance_word (word_at (image_of reader.now)) (M.meaning memory.now) at base }
 {
     let offset = offset_word(base);
     if is_virtual(base) {
-        word(image, moved(pointer(memory, at), offset))
+        table_word(reader, moved(pointer(memory, at), offset))
     } else {
         offset
     }
@@ -83,20 +96,23 @@ fn distance_word<M: Memory>(image: &ImageBytes, memory: &M, at: u64, base: BaseR
 
 /// The edge to the base of this number, by the type information of the class of a part.
 pub(crate) fn edge_at<M: Memory>(
-    image: &ImageBytes,
+    reader: &mut BaseReader<'_>,
     memory: &M,
     part: Part,
     info: InfoRecord,
     number: u32,
 ) -> Edge
-    requires info { info ≡ info_at (word_at image.now) part.info }
-    requires step { CanStep (word_at image.now) (M.meaning memory.now) part number }
-    ensures { result ≡ (graph_of (word_at image.now) (M.meaning memory.now)).edge part number }
+    requires info { info ≡ info_at (word_at (image_of reader.old)) part.info }
+    requires number { number < info.bases }
+    requires step { CanStep (word_at (image_of reader.old)) (M.meaning memory.now) part number }
+    ensures edge { result ≡ (graph_of (word_at (image_of reader.old)) (M.meaning memory.now)).edge part number }
+    ensures visits { visits_of reader.new ≡ raised (visits_of reader.old) }
+    ensures image { image_of reader.new ≡ image_of reader.old }
 {
-    let base = image.base(info.first + 16 * number as u64);
+    let base = reader.base(&info, number);
     Edge {
         part: Part {
-            at: moved(part.at, distance_word(image, memory, part.at, base)),
+            at: moved(part.at, distance_word(reader, memory, part.at, base)),
             info: base.info,
         },
         is_public: is_public(base),

@@ -2,13 +2,14 @@
 
 ghost use Rattle.std.specs.Prelude.{◌≡◌};
 ghost use Rattle.byte_code.specs.Images.{word_at};
+ghost use Rattle.byte_code.specs.Readers.{image_of, visits_of};
 ghost use Rattle.abi_dyncast.specs.Graph.{graph_of};
 ghost use Rattle.abi_dyncast.specs.invariants.Finding.{found_at, joined, Tells};
-ghost use Rattle.abi_dyncast.specs.invariants.Walks.{IsReady, Visited};
+ghost use Rattle.abi_dyncast.specs.invariants.Walks.{IsReady, Visited, HasRead};
 
 use crate::parts::{Part, edge_at};
 use crate::work::{Found, Goal, WorkList};
-use byte_code::ImageBytes;
+use byte_code::BaseReader;
 use byte_memory::Memory;
 
 /// What a part of a class at an address tells by itself.
@@ -34,27 +35,30 @@ fn joined(own: Found, below: Found, is_public: bool) -> Found
     }
 }
 
-/// Visits a part and all parts below it that were not met before, bases first, and says what was found there.
+/// Visits a part and all parts below it that were not met before, bases first, and says what was found there. The record of each
+/// edge of these is read once.
 pub(crate) fn visit<M: Memory>(
-    image: &ImageBytes,
+    reader: &mut BaseReader<'_>,
     memory: &M,
     work: &mut WorkList,
     goal: Goal,
     part: Part,
 ) -> Found
-    requires { IsReady (word_at image.now) (M.meaning memory.now) goal work.old.parts work.old.entries.items part }
-    ensures tells { Tells (graph_of (word_at image.now) (M.meaning memory.now)) goal part result }
-    ensures visited { Visited (graph_of (word_at image.now) (M.meaning memory.now)) goal part work.old.entries.items work.new.entries.items }
+    requires { IsReady (word_at (image_of reader.old)) (M.meaning memory.now) goal work.old.parts work.old.entries.items part }
+    ensures tells { Tells (graph_of (word_at (image_of reader.old)) (M.meaning memory.now)) goal part result }
+    ensures visited { Visited (graph_of (word_at (image_of reader.old)) (M.meaning memory.now)) goal part work.old.entries.items work.new.entries.items }
+    ensures read { HasRead (graph_of (word_at (image_of reader.old)) (M.meaning memory.now)) work.old.entries.items work.new.entries.items (visits_of reader.old) (visits_of reader.new) }
+    ensures image { image_of reader.new ≡ image_of reader.old }
     ensures parts { work.new.parts ≡ work.old.parts }
 {
     if let Some(entry) = work.find(part) {
         return entry.found;
     }
-    let info = image.info(part.info);
+    let info = reader.info(part.info);
     let mut found = found_at(goal, part.at, info.class);
     for number in 0..info.bases {
-        let way = edge_at(image, memory, part, info, number);
-        let below = visit(image, memory, work, goal, way.part);
+        let way = edge_at(reader, memory, part, info, number);
+        let below = visit(reader, memory, work, goal, way.part);
         found = joined(found, below, way.is_public);
     }
     work.add(part, info.class, found);

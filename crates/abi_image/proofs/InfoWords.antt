@@ -1,4 +1,4 @@
-use Rattle.std.proofs.Common.{◌≡◌, ℕ, ◌+◌, ◌*◌, ◌<◌, ◌^◌, Some, List, [], ◌∷◌, ◌++◌, length, refl, ap, sym, ◌∙◌, subst, arith}
+use Rattle.std.proofs.Common.{◌≡◌, ℕ, zero, suc, ◌+◌, ◌*◌, ◌<◌, ◌≤◌, ◌^◌, Some, List, [], ◌∷◌, ◌++◌, length, refl, ap, sym, ◌∙◌, subst, arith}
 use Rattle.cxx_hierarchy.specs.declared.records.ClassId.{ClassId}
 use Rattle.byte_code.specs.Numbers.{word_of}
 use Rattle.abi_slots.specs.declared.words.InfoBase.{InfoBase}
@@ -58,6 +58,10 @@ puts_head a b c d e id info v w x y class flags count first vs ws xs b1 b2 b3 c1
           };
     }
 
+first_behind : (at n : ℕ) → 0 < n → at ≤ first_base at n
+first_behind at zero some = absurd (omega arith)
+first_behind at (suc n) some = omega arith
+
 bases_behind : (image : Image) (info : ClassId → ℕ) (bases : List InfoBase) (at : ℕ) → HasBasesAt image info bases (at + 32) → HasBases image info bases (first_base at (length bases))
 bases_behind image info [] at h = refl
 bases_behind image info (base ∷ bases) at h = (omega arith, λ i b e. h i b e)
@@ -75,5 +79,6 @@ puts_info a b c info_at id info head bases = puts_as a c (4 + 2 * length (info_b
       count_fits = h.0.count_fits;
       first = first_base at (length (info_bases info));
       at_first = h.0.first;
+      behind = first_behind at (length (info_bases info));
       bases = bases_behind image info_at (info_bases info) at h.1;
     })

@@ -1,17 +1,17 @@
-use Rattle.std.proofs.Common.{◌≡◌, ℕ, suc, ◌+◌, ◌*◌, ◌<◌, Some, List, [], ◌∷◌, map, length, refl, ap, sym, ◌∙◌, subst, arith}
+use Rattle.std.proofs.Common.{◌≡◌, ℕ, zero, suc, ◌+◌, ◌*◌, ◌<◌, ◌≤◌, Some, List, [], ◌∷◌, map, length, refl, ap, sym, ◌∙◌, subst, arith}
 use Rattle.std.specs.List.{slice_get, slice_index_or}
 use Rattle.std.proofs.lemmas.Option.{slice_get_within}
 use Rattle.abi_slots.specs.declared.code_numbers.CodeRow.{CodeRow}
 use Rattle.abi_slots.specs.declared.words.Group.{Group}
 use Rattle.abi_slots.specs.declared.words.VttWord.{VttWord}
 use Rattle.abi_slots.specs.declared.words.TypeInfo.{TypeInfo}
-use Rattle.abi_slots.specs.Images.{HasInfo, StandsAt, vtt_address}
+use Rattle.abi_slots.specs.Images.{AreBelow, HasInfo, StandsAt, all_words, vtt_address}
 use Rattle.abi_image.specs.declared.TheConstants.{BASE}
 use Rattle.abi_image.specs.declared.draft.Draft.{Draft}
 use Rattle.abi_image.specs.declared.parts.Parts.{Parts}
 use Rattle.abi_image.specs.declared.regions.Region.{Region}
 use Rattle.abi_image.specs.invariants.Drafts.{AllAt, AllBySize, HaveClassWords, Puts, address_in, address_of, class_id, class_in, group_size, info_size, total, vtt_size}
-use Rattle.abi_image.specs.invariants.Parts.{AreAt, AreParts, IsDraftOf, IsRegion, groups_start, infos_start, vtts_start}
+use Rattle.abi_image.specs.invariants.Parts.{AreAt, AreParts, IsDraftOf, addresses_of, IsRegion, groups_start, infos_start, vtts_start}
 use Rattle.abi_image.specs.invariants.Points.{AreFirstPoints, AreGroupPoints, HasPointAt}
 use Rattle.abi_image.proofs.Filling.{length_after, puts_both}
 
@@ -29,6 +29,48 @@ stood size P xs at start list e are all i x there =
     let b : i < length xs = slice_get_within xs i x there in
     let less : i < length (map size xs) = omega arith in
     subst (λ n. P i x n) (ap (λ s. address_of (map size xs) s i) e ∙ sym (are.each i less)) (all i x there)
+
+-- an item lies between the start and the end of the region
+lies_above : (sizes : List ℕ) (at i : ℕ) → at ≤ address_of sizes at i
+lies_above [] at i = omega arith
+lies_above (size ∷ sizes) at zero = omega arith
+lies_above (size ∷ sizes) at (suc i) = let more = lies_above sizes (at + 8 * size) i in omega arith
+
+lies_below : {A : Type 0} (size : A → ℕ) (xs : List A) (at i : ℕ) (x : A) → slice_get xs i ≡ Some x → address_of (map size xs) at i + 8 * size x ≤ at + 8 * total (map size xs)
+lies_below size [] at i x there = absurd (cc)
+lies_below size (y ∷ xs) at zero x there = let same : size y ≡ size x = ap size (cc (there)) in omega arith
+lies_below size (y ∷ xs) at (suc i) x there = let more = lies_below size xs (at + 8 * size y) i x there in omega arith
+
+-- so does each at the addresses of a list
+in_region : {A : Type 0} (size : A → ℕ) (xs : List A) (start : ℕ) (list : List ℕ) → AreAt start (map size xs) list → (i : ℕ) (x : A) → slice_get xs i ≡ Some x → address_in list i + 8 * size x ≤ start + 8 * total (map size xs)
+in_region size xs start list are i x there =
+    let l : length (map size xs) ≡ length xs = length_map size xs in
+    let b : i < length xs = slice_get_within xs i x there in
+    let less : i < length (map size xs) = omega arith in
+    subst (λ n. n + 8 * size x ≤ start + 8 * total (map size xs)) (sym (are.each i less)) (lies_below size xs start i x there)
+
+-- the records of classes stand behind all others
+parts_below : (groups : List Group) (vtts : List (List VttWord)) (infos : List TypeInfo) (parts : Parts) → AreParts groups vtts infos parts → AreBelow groups vtts infos (addresses_of parts) BASE
+parts_below groups vtts infos parts are =
+    let end_is : parts.vtts.end ≡ infos_start groups vtts = are.vtts_at.end_is in
+    record {
+      group = λ i k group word there inner.
+          let region = in_region group_size groups (groups_start vtts) parts.groups.at.items are.groups_at i group there in
+          let less : k < length (all_words group.tables) = slice_get_within (all_words group.tables) k word inner in
+          omega arith;
+      vtt = λ c words k word there inner.
+          let region = in_region vtt_size vtts (vtts_start groups vtts) parts.vtts.at.items are.vtts_at.each c.0 words there in
+          let less : k < length words = slice_get_within words k word inner in
+          omega arith;
+      directory = λ c words there. let less : c.0 < length vtts = slice_get_within vtts c.0 words there in omega arith;
+      info = λ c info there.
+          let l : length (map info_size infos) ≡ length infos = length_map info_size infos in
+          let b : c.0 < length infos = slice_get_within infos c.0 info there in
+          let less : c.0 < length (map info_size infos) = omega arith in
+          let is : address_in parts.infos.at.items c.0 ≡ address_of (map info_size infos) (infos_start groups vtts) c.0 = are.infos_at.each.each c.0 less in
+          let above : infos_start groups vtts ≤ address_of (map info_size infos) (infos_start groups vtts) c.0 = lies_above (map info_size infos) (infos_start groups vtts) c.0 in
+          omega arith;
+    }
 
 -- what was put for all parts is what the image has
 pub together : (codes : List CodeRow) (groups : List Group) (vtts : List (List VttWord)) (infos : List TypeInfo) (parts : Parts) (a b c d e : Draft) → AreParts groups vtts infos parts → a.words.items ≡ [] → a.records_at ≡ parts.infos.end →
@@ -62,7 +104,7 @@ together codes groups vtts infos parts a b c d e are nothing_yet place first sec
           let info_place : at + 8 * (m1 + m2 + m3) ≡ infos_start groups vtts = omega arith in
           record {
             each_group = λ i group there. stood group_size (λ j g k. StandsAt image codes (class_in parts.infos.at.items) g k) groups (at + 8 * m1) (groups_start vtts) parts.groups.at.items group_place are.groups_at h.0.0.1 i group there;
-            each_vtt = λ id words i word there inner. stood vtt_size (λ j vtt k. AllAt (HasPointAt image groups (address_in parts.groups.at.items)) vtt k) vtts (at + 8 * (m1 + m2)) (vtts_start groups vtts) parts.vtts.at.items vtt_place are.vtts_at h.0.1 id.0 words there i word inner;
+            each_vtt = λ id words i word there inner. stood vtt_size (λ j vtt k. AllAt (HasPointAt image groups (address_in parts.groups.at.items)) vtt k) vtts (at + 8 * (m1 + m2)) (vtts_start groups vtts) parts.vtts.at.items vtt_place are.vtts_at.each h.0.1 id.0 words there i word inner;
             each_info = λ id info there. stood info_size (λ j t k. HasInfo image (class_in parts.infos.at.items) (class_id j) t k) infos (at + 8 * (m1 + m2 + m3)) (infos_start groups vtts) parts.infos.at.items info_place are.infos_at.each h.1 id.0 info there;
             directory = λ id words there.
                 let pair = h.0.0.0 id.0 words there in
@@ -76,9 +118,10 @@ together codes groups vtts infos parts a b c d e are nothing_yet place first sec
             above = record {
               above_zero = omega arith;
               groups = are.groups_at.above;
-              vtts = λ id. are.vtts_at.above id.0;
+              vtts = λ id. are.vtts_at.each.above id.0;
               infos = λ id. are.infos_at.each.above id.0;
             };
+            below = parts_below groups vtts infos parts are;
           };
     }
 
@@ -94,7 +137,7 @@ parts_are groups vtts infos p half start gs vs is gr vr ir half_is start_is gs_i
     let v_end : vr.end ≡ infos_start groups vtts = v.end_is ∙ ap (λ n. n + 8 * total vs) g_end ∙ ap (λ l. vtts_start groups vtts + 8 * total l) vs_is in
     record {
       groups_at = subst (λ l. AreAt (groups_start vtts) (map group_size groups) l) (sym at_is) (subst (λ l. AreAt (groups_start vtts) l gr.at.items) gs_is (subst (λ n. AreAt n gs gr.at.items) s1 g.each));
-      vtts_at = subst (λ (r : Region). AreAt (vtts_start groups vtts) (map vtt_size vtts) r.at.items) (sym vtts_is) (subst (λ l. AreAt (vtts_start groups vtts) l vr.at.items) vs_is (subst (λ n. AreAt n vs vr.at.items) g_end v.each));
+      vtts_at = subst (λ (r : Region). IsRegion (vtts_start groups vtts) (map vtt_size vtts) r) (sym vtts_is) (subst (λ l. IsRegion (vtts_start groups vtts) l vr) vs_is (subst (λ n. IsRegion n vs vr) g_end v));
       infos_at = subst (λ (r : Region). IsRegion (infos_start groups vtts) (map info_size infos) r) (sym infos_is) (subst (λ l. IsRegion (infos_start groups vtts) l ir) is_is (subst (λ n. IsRegion n is ir) v_end i));
       points = points;
       firsts = firsts;

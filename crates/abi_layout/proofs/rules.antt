@@ -2,6 +2,7 @@ pub mod AgreeingClasses
 pub mod AgreeingFirst
 pub mod AgreeingParts
 pub mod AgreeingRows
+pub mod AlignedRows
 pub mod BroughtLemmas
 pub mod Existence
 pub mod HoldingLemmas

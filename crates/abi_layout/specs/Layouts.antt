@@ -23,7 +23,7 @@ use Rattle.abi_layout.specs.Kinds.{is_empty, is_pod}
 use Rattle.cxx_hierarchy.specs.Declarations.{is_plain_base}
 use Rattle.abi_sound.specs.Places.{members_in}
 pub use Rattle.abi_sound.specs.Places.{virtual_places_in, virtual_bases_in, virtual_place, place_from, root_place, place_of}
-use Rattle.abi_layout.specs.Placements.{IsNext, ArePlaced, after_all, part_at, parts_at, member_component}
+use Rattle.abi_layout.specs.Placements.{IsNext, ArePlaced, after_all, bits_at, part_at, parts_at, member_component}
 use Rattle.cxx_subobject.specs.VirtualBases.{virtual_bases}
 use Rattle.abi_layout.specs.Brought.{brought_by}
 use Rattle.abi_layout.specs.Repeats.{HasRepeat}
@@ -64,7 +64,7 @@ object_parts h rows primaries c = object_parts_within h rows primaries (c.0 + 1)
 
 -- before the first component: the class itself is at 0, and so is its own virtual pointer, if it has one
 abbrev pub start_stage : ClassId → Bool → Stage
-start_stage c has_pointer = record { dsize = if has_pointer then 8 else 0; size = if has_pointer then 8 else 0; align = if has_pointer then 8 else 1; parts = part_at c 0 ∷ [] }
+start_stage c has_pointer = record { dsize = if has_pointer then 8 else 0; free_bit = if has_pointer then 64 else 0; size = if has_pointer then 8 else 0; align = if has_pointer then 8 else 1; parts = part_at c 0 ∷ [] }
 
 -- the layout of class c by its components: they lie one after the other, and the size is the least multiple of the
 -- alignment that they fit in and that is not 0. Without the virtual bases that no subobject holds, the class ends where
@@ -72,6 +72,7 @@ start_stage c has_pointer = record { dsize = if has_pointer then 8 else 0; size 
 pub record IsLayoutBy (first : Stage) (fronts members frees : List Component) (front_places free_places : List ℕ) (is_pod : Bool) (row : ClassLayout) : Type 0 where
   pub fronts_placed : ArePlaced first fronts front_places
   pub members_placed : ArePlaced (after_all first fronts front_places) members row.member_places
+  pub bits : row.member_bits ≡ bits_at (after_all first fronts front_places) members row.member_places
   pub frees_placed : ArePlaced (after_all (after_all first fronts front_places) members row.member_places) frees free_places
   pub nvalign : row.nvalign ≡ (after_all (after_all first fronts front_places) members row.member_places).align
   pub nvsize : row.nvsize ≡ (if is_pod then row.size else (after_all (after_all first fronts front_places) members row.member_places).size)

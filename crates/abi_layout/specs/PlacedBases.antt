@@ -58,7 +58,7 @@ free_bases h primaries c = map (λ v. VirtualBase v) (filter (λ v. is_free (hol
 
 -- what a base is to its class, by its row: it takes its size without virtual bases, and an empty one its size
 abbrev pub component_of_row : ClassLayout → Bool → List Part → Component
-component_of_row row is_empty parts = record { is_empty = is_empty; align = row.nvalign; takes = if is_empty then row.size else row.nvsize; parts = parts }
+component_of_row row is_empty parts = record { is_empty = is_empty; align = row.nvalign; takes = if is_empty then row.size else row.nvsize; width = None; parts = parts }
 
 -- what a placed base is to its class c, where `empties` and `parts` tell which earlier classes are empty and which class
 -- subobjects a complete object has: it takes its size without virtual bases, and an empty one its size
@@ -67,6 +67,7 @@ placed_component empties h rows primaries parts c base = record {
   is_empty = empties (class_of_placed base);
   align = nvalign_in (slice_get rows (class_of_placed base).0);
   takes = if empties (class_of_placed base) then size_in (slice_get rows (class_of_placed base).0) else nvsize_in (slice_get rows (class_of_placed base).0);
+  width = None;
   parts = brought_by h rows primaries parts c (subobject_of c base) (class_of_placed base);
 }
 

@@ -1,5 +1,5 @@
 -- Which layout the rules of the ABI give (Itanium C++ ABI 2.4, and 2.2 for a class that is POD).
-use Rattle.std.specs.Prelude.{◌≡◌, ℕ, zero, suc, ◌+◌, ◌*◌, ◌≤◌, true, false, if◌then◌else◌, max, Option, Some, None, List, [], ◌∷◌, ◌++◌, map, slice_get}
+use Rattle.std.specs.Prelude.{◌≡◌, ℕ, zero, suc, ◌+◌, ◌-◌, ◌*◌, ◌/◌, ◌≤◌, ◌<◌, true, false, if◌then◌else◌, max, Option, Some, None, List, [], ◌∷◌, ◌++◌, map, slice_get}
 use Rattle.cxx_hierarchy.specs.declared.records.ClassId.{ClassId}
 use Rattle.cxx_hierarchy.specs.declared.records.Member.{Member}
 use Rattle.cxx_hierarchy.specs.declared.records.FieldType.{FieldType}
@@ -10,6 +10,7 @@ use Rattle.abi_emptybase.specs.Table.{moved, has_conflict}
 use Rattle.abi_layout.specs.Limits.{size_limit}
 use Rattle.abi_layout.specs.declared.component.Component.{Component}
 use Rattle.abi_layout.specs.declared.component.Stage.{Stage}
+use Rattle.abi_sound.specs.declared.class_layout.Bits.{Bits}
 use Rattle.abi_sound.specs.declared.class_layout.ClassLayout.{ClassLayout}
 use Rattle.abi_sound.specs.Places.{size_of_value, size_in, align_in}
 use Rattle.abi_sound.specs.Sound.{Divides}
@@ -34,11 +35,54 @@ pub record IsPlace (stage : Stage) (component : Component) (place : ℕ) : Type 
   pub free : has_conflict stage.parts component.parts place ≡ false
   pub least : (other : ℕ) → IsCandidate stage component other → has_conflict stage.parts component.parts other ≡ false → place ≤ other
 
+-- so many bits from one on lie in one unit: the bits of so many bytes, at a multiple of these
+pub record IsInUnit (bytes width bit : ℕ) : Type 0 where
+  pub unit : ℕ
+  pub behind : unit * (8 * bytes) ≤ bit
+  pub before : bit + width ≤ (unit + 1) * (8 * bytes)
+
+-- the first free bit in the byte at a place
+abbrev pub bit_in : Stage → ℕ → ℕ
+bit_in stage place = max stage.free_bit (8 * place)
+
+-- a bit-field begins at the least free bit from which on it lies in one unit of its type, and the place is that of this bit's byte
+-- (Itanium C++ ABI 2.4, II.1)
+pub record IsBitPlace (stage : Stage) (bytes width place : ℕ) : Type 0 where
+  pub byte : stage.free_bit < 8 * place + 8
+  pub fits : IsInUnit bytes width (bit_in stage place)
+  pub least : (other : ℕ) → stage.free_bit ≤ other → IsInUnit bytes width other → bit_in stage place ≤ other
+
+abbrev pub IsPlacedBy : Option ℕ → Stage → Component → ℕ → Type 0
+IsPlacedBy None stage component place = IsPlace stage component place
+IsPlacedBy (Some width) stage component place = IsBitPlace stage component.align width place
+
+-- the component lies at this place: a bit-field by bits, each other one by bytes
+abbrev pub IsPlaced : Stage → Component → ℕ → Type 0
+IsPlaced stage component place = IsPlacedBy component.width stage component place
+
+-- how many bytes hold so many bits
+abbrev pub bytes_of : ℕ → ℕ
+bytes_of bits = (bits + 7) / 8
+
+-- where the component ends: a bit-field with the byte of its last bit
+abbrev pub end_by : Option ℕ → Stage → Component → ℕ → ℕ
+end_by None stage component place = place + component.takes
+end_by (Some width) stage component place = bytes_of (bit_in stage place + width)
+
+abbrev pub end_of : Stage → Component → ℕ → ℕ
+end_of stage component place = end_by component.width stage component place
+
+-- the free bit behind the component: a bit-field alone leaves the rest of its last byte free
+abbrev pub free_bit_by : Option ℕ → Stage → Component → ℕ → ℕ
+free_bit_by None stage component place = 8 * (if component.is_empty then stage.dsize else place + component.takes)
+free_bit_by (Some width) stage component place = bit_in stage place + width
+
 -- what the stage is once the component is placed: an empty base takes no data
 abbrev pub after : Stage → Component → ℕ → Stage
 after stage component place = record {
-  dsize = if component.is_empty then stage.dsize else place + component.takes;
-  size = max stage.size (place + component.takes);
+  dsize = if component.is_empty then stage.dsize else end_of stage component place;
+  free_bit = free_bit_by component.width stage component place;
+  size = max stage.size (end_of stage component place);
   align = max stage.align component.align;
   parts = stage.parts ++ map (moved place) component.parts;
 }
@@ -48,7 +92,18 @@ abbrev pub ArePlaced : Stage → List Component → List ℕ → Type 0
 ArePlaced stage [] [] = Unit {0}
 ArePlaced stage [] (place ∷ places) = ⊥
 ArePlaced stage (component ∷ components) [] = ⊥
-ArePlaced stage (component ∷ components) (place ∷ places) = IsPlace stage component place × ArePlaced (after stage component place) components places
+ArePlaced stage (component ∷ components) (place ∷ places) = IsPlaced stage component place × ArePlaced (after stage component place) components places
+
+-- which bits of the bytes at its place hold the component: all that it takes, or those of a bit-field
+abbrev pub bits_by : Option ℕ → Stage → Component → ℕ → Bits
+bits_by None stage component place = record { first = 0; width = 8 * component.takes }
+bits_by (Some width) stage component place = record { first = bit_in stage place - 8 * place; width = width }
+
+-- the bits of components that lie one after the other
+abbrev pub bits_at : Stage → List Component → List ℕ → List Bits
+bits_at stage [] places = []
+bits_at stage (component ∷ components) [] = []
+bits_at stage (component ∷ components) (place ∷ places) = bits_by component.width stage component place ∷ bits_at (after stage component place) components places
 
 -- the stage once all of them are placed
 abbrev pub after_all : Stage → List Component → List ℕ → Stage
@@ -82,12 +137,13 @@ abbrev pub parts_of_type : (ClassId → List Part) → FieldType ClassId → Lis
 parts_of_type parts (Value type) = []
 parts_of_type parts (Object d) = parts d
 
--- what a member is to its class: it takes its whole size, an array that of all elements
+-- what a member is to its class: it takes its whole size, an array that of all elements, and a bit-field has a width
 abbrev pub member_component : List ClassLayout → (ClassId → List Part) → Member ClassId → Component
 member_component rows parts member = record {
   is_empty = false;
   align = align_of_type rows member.ty;
   takes = elements_of member.count * size_of_type rows member.ty;
+  width = member.width;
   parts = copies (elements_of member.count) (size_of_type rows member.ty) (parts_of_type parts member.ty);
 }
 
@@ -102,7 +158,7 @@ parts_at (component ∷ components) (place ∷ places) = map (moved place) compo
 
 -- before the first component: the class itself is at 0
 abbrev pub first_stage : ClassId → Stage
-first_stage c = record { dsize = 0; size = 0; align = 1; parts = part_at c 0 ∷ [] }
+first_stage c = record { dsize = 0; free_bit = 0; size = 0; align = 1; parts = part_at c 0 ∷ [] }
 
 -- no size of the rows is above the limit
 pub record AreSmall (rows : List ClassLayout) : Type 0 where

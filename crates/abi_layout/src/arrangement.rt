@@ -9,15 +9,15 @@ ghost use Rattle.abi_layout.specs.Layouts.{start_stage};
 ghost use Rattle.abi_layout.specs.invariants.Arrangements.{stage_with, IsArranged, IsWithinLimit, IsTooLargeBy};
 
 use crate::component::{Component, PartList, Stage, push_placed};
-use crate::placing::{Placing, place_all, round_up};
+use crate::placing::{Placing, Positions, place_all, place_bases, round_up};
 use crate::rows::first_placing;
-use abi_sound::PlaceList;
+use abi_sound::{BitList, PlaceList};
 use cxx_hierarchy::{ClassId, Stop};
 use foundation::{NoMemory, Sequence};
 use std::alloc::Global;
 
 /// A class whose components are placed: the sizes and alignments of its row, in bytes; the places of the bases before
-/// the members, of the members, and of the virtual bases behind them; all class subobjects, by their places; and those
+/// the members, of the members, with their bits, and of the virtual bases behind them; all class subobjects, by their places; and those
 /// in the members alone.
 #[derive(Drop)]
 pub struct Arrangement {
@@ -28,6 +28,7 @@ pub struct Arrangement {
     pub nvalign: u32,
     pub front_places: PlaceList,
     pub member_places: PlaceList,
+    pub member_bits: BitList,
     pub free_places: PlaceList,
     pub parts: PartList,
     pub member_parts: PartList,
@@ -39,6 +40,7 @@ fn behind_pointer(stage: Stage, has_pointer: bool) -> Stage
 {
     let Stage {
         dsize: _,
+        free_bit: _,
         size: _,
         align: _,
         parts,
@@ -46,6 +48,7 @@ fn behind_pointer(stage: Stage, has_pointer: bool) -> Stage
     if has_pointer {
         Stage {
             dsize: 8,
+            free_bit: 64,
             size: 8,
             align: 8,
             parts,
@@ -53,6 +56,7 @@ fn behind_pointer(stage: Stage, has_pointer: bool) -> Stage
     } else {
         Stage {
             dsize: 0,
+            free_bit: 0,
             size: 0,
             align: 1,
             parts,
@@ -115,11 +119,14 @@ pub(crate) fn arrange(
     ensures limit { IfErr result (λ e. (e ≡ Stop.NoMemory) ⊎ ((e ≡ Stop.Limit LimitNo.L6) × IsTooLargeBy (start_stage c has_pointer) fronts.now members.now frees.now is_pod)) }
 {
     let mut placing = start(alloc, c, has_pointer)?;
-    let front_places = place_all(alloc, &mut placing, fronts)?;
-    let member_places = place_all(alloc, &mut placing, members)?;
+    let front_places = place_bases(alloc, &mut placing, fronts)?;
+    let Positions {
+        places: member_places,
+        bits: member_bits,
+    } = place_all(alloc, &mut placing, members)?;
     let end = placing.stage.size;
     let nvalign = placing.stage.align;
-    let free_places = place_all(alloc, &mut placing, frees)?;
+    let free_places = place_bases(alloc, &mut placing, frees)?;
     let size = whole_size(&placing.stage);
     let dsize = size_of_kind(is_pod, size, placing.stage.dsize);
     let nvsize = size_of_kind(is_pod, size, end);
@@ -138,6 +145,7 @@ pub(crate) fn arrange(
         nvalign,
         front_places,
         member_places,
+        member_bits,
         free_places,
         parts: stage.parts,
         member_parts,

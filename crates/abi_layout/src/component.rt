@@ -13,20 +13,22 @@ use foundation::{NoMemory, Sequence};
 pub type PartList = Sequence<Part>;
 
 /// A base or a member that is to be placed in a class: whether it is an empty base, its alignment and how many bytes
-/// it takes, and the class subobjects in it, by their places in it.
+/// it takes, for a bit-field its width in bits, and the class subobjects in it, by their places in it.
 #[derive(Debug, Drop)]
 pub struct Component {
     pub is_empty: bool,
     pub align: u32,
     pub takes: u32,
+    pub width: Option<u32>,
     pub parts: PartList,
 }
 
-/// How far the layout of a class has come: where its data end, its size and alignment in bytes, and the class
-/// subobjects that were placed.
+/// How far the layout of a class has come: where its data end, in bytes, the first bit that a bit-field may take, its size
+/// and alignment in bytes, and the class subobjects that were placed.
 #[derive(Debug, Drop)]
 pub struct Stage {
     pub dsize: u32,
+    pub free_bit: u32,
     pub size: u32,
     pub align: u32,
     pub parts: PartList,

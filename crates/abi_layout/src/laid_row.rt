@@ -115,6 +115,7 @@ fn push_row(
         nvalign,
         front_places: _,
         member_places,
+        member_bits,
         free_places,
         parts,
         member_parts,
@@ -131,6 +132,7 @@ fn push_row(
         virtual_places: Sequence::new(alloc),
         holders: Sequence::new(alloc),
         member_places,
+        member_bits,
     })?;
     Ok(PushedRow {
         free_places,

@@ -2,10 +2,10 @@
 //!
 //! This crate owns the definition of the layout that the rules of the ABI give to every hierarchy (`IsLaid`): primary
 //! bases and virtual pointers, the places of bases, members and virtual bases, and which subobject holds a virtual base;
-//! which classes are refused, for their size or for a shared place (`Refusals`); and the laws of any layout
-//! (`IsSoundLayout`): leaves and virtual pointers are disjoint and lie inside, subobjects of one class lie at
-//! different places, all lie aligned, and a virtual base that is held lies at its holder. `lay_out` gives the layout
-//! or the first refusal, and its contract says that the layout is sound.
+//! and which classes are refused, for their size or for a shared place (`Refusals`). `lay_out` gives the layout or the
+//! first refusal, and its contract says that the layout is sound (`IsSoundLayout` of abi_sound): leaves and virtual pointers
+//! have disjoint bits and lie inside, subobjects of one class lie at different places, all but bit-fields lie aligned, and a
+//! virtual base that is held lies at its holder. Bit-fields lie by bits (`IsBitPlace`), and each alignment is 1, 2, 4 or 8.
 //!
 //! The layers above may rely on the trait `SoundLayout` and its laws alone, over `Places`: sizes of classes, and places
 //! of subobjects in their complete object and of members in their class, in bytes.
@@ -13,6 +13,7 @@
 
 pub mod arrangement;
 mod base_places;
+mod bit_places;
 mod brought;
 mod brought_plainly;
 pub mod class_layout;

@@ -161,6 +161,7 @@ fn component_of_row(row: &ClassLayout, is_empty: bool, parts: PartList) -> Compo
         is_empty,
         align: row.nvalign,
         takes: if is_empty { row.size } else { row.nvsize },
+        width: None,
         parts,
     }
 }

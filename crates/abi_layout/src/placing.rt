@@ -1,15 +1,16 @@
 //! Components of a class, placed one after the other (Itanium C++ ABI 2.4).
 
-ghost use Rattle.std.specs.Prelude.{◌≡◌, ◌+◌, ◌^◌, ◌<◌, ◌≤◌, ◌⊎◌, All, map, if◌then◌else◌, IfOk, IfErr, IfSome, IfNone, OnOk};
+ghost use Rattle.std.specs.Prelude.{◌≡◌, ◌+◌, ◌^◌, ◌<◌, ◌≤◌, ◌⊎◌, All, map, if◌then◌else◌, IfOk, IfErr, IfSome, IfNone, OnOk, None};
 ghost use Rattle.abi_emptybase.specs.Table.{has_conflict, moved};
 ghost use Rattle.cxx_hierarchy.specs.declared.stop.LimitNo.{LimitNo};
 ghost use Rattle.abi_layout.specs.Limits.{size_limit};
-ghost use Rattle.abi_layout.specs.Placements.{IsNext, IsPlace, ArePlaced, after, after_all};
+ghost use Rattle.abi_layout.specs.Placements.{IsNext, IsPlace, IsPlaced, ArePlaced, end_of, after, after_all, bits_at};
 ghost use Rattle.abi_layout.specs.invariants.Alignments.{IsAlignment, IsFit, AreFit, HasTable, IsReady, with_parts, IsPlacing, HasNoPlace, IsPastLimit};
 
+use crate::bit_places::{bit_place, bits_of, end_of, free_after};
 use crate::component::{Component, Stage, push_moved};
 use abi_emptybase::{Part, PlaceTable, is_among};
-use abi_sound::PlaceList;
+use abi_sound::{BitList, PlaceList};
 use cxx_hierarchy::{LimitNo, Stop};
 use foundation::{NoMemory, Sequence};
 use std::alloc::Global;
@@ -53,11 +54,12 @@ fn is_taken(placing: &Placing, component: &Component, at: u32) -> bool
     placing.table.conflicts(component.parts.as_slice(), at)
 }
 
-/// The place of the next component, and None where it lies behind the largest size.
+/// The place of the next component, which is no bit-field, and None where it lies behind the largest size.
 fn find_place(placing: &Placing, component: &Component) -> Option<u32>
     requires placing { IsPlacing placing.now }
     requires ready { IsReady placing.now component.now }
     requires component { IsFit component.now }
+    requires whole { component.now.width ≡ None }
     ensures place { IfSome result (λ at. IsPlace placing.now.stage component.now at) }
     ensures within { IfSome result (λ at. at ≤ size_limit) }
     ensures past { IfNone result (HasNoPlace placing.now.stage component.now) }
@@ -111,24 +113,83 @@ fn data_end(stage: &Stage, component: &Component, end: u32) -> u32
     if component.is_empty { stage.dsize } else { end }
 }
 
-/// Puts a component at its place.
+/// The place of the next component, and None where it lies behind the largest size.
+fn place_of(placing: &Placing, component: &Component) -> Option<u32>
+    requires placing { IsPlacing placing.now }
+    requires ready { IsReady placing.now component.now }
+    requires component { IsFit component.now }
+    ensures place { IfSome result (λ at. IsPlaced placing.now.stage component.now at) }
+    ensures within { IfSome result (λ at. at ≤ size_limit + 8) }
+    ensures past { IfNone result (HasNoPlace placing.now.stage component.now) }
+{
+    match component.width {
+        None => find_place(placing, component),
+        Some(width) => Some(bit_place(&placing.stage, component.align, width)),
+    }
+}
+
+/// Puts a component at its place, where it ends at this byte.
 fn put(placing: &mut Placing, component: &Component, at: u32) -> Result<(), NoMemory>
     requires placing { IsPlacing placing.old }
     requires component { IsFit component.now }
-    requires bounded { at + component.now.takes ≤ size_limit }
+    requires place { IsPlaced placing.old.stage component.now at }
+    requires bounded { end_of placing.old.stage component.now at ≤ size_limit }
     ensures after { IfOk result (λ _. placing.new.stage ≡ after placing.old.stage component.now at) }
     ensures placing { IfOk result (λ _. IsPlacing placing.new) }
 {
+    let end = end_of(&placing.stage, component, at);
+    let data_end = data_end(&placing.stage, component, end);
+    let free_bit = free_after(&placing.stage, component, at, data_end);
     add_parts(placing, component.parts.as_slice(), at)?;
-    let end = at + component.takes;
-    placing.stage.dsize = data_end(&placing.stage, component, end);
+    placing.stage.dsize = data_end;
+    placing.stage.free_bit = free_bit;
     placing.stage.size = placing.stage.size.max(end);
     placing.stage.align = placing.stage.align.max(component.align);
     Ok(())
 }
 
-/// Places the components one after the other, and gives their places.
+/// Where components lie: their places, in bytes, and the bits there that hold them.
+#[derive(Drop)]
+pub struct Positions {
+    pub places: PlaceList,
+    pub bits: BitList,
+}
+
+/// Places the components one after the other, and gives their places and bits.
 pub(crate) fn place_all(
+    alloc: Global,
+    placing: &mut Placing,
+    components: &[Component],
+) -> Result<Positions, Stop>
+    requires placing { IsPlacing placing.old }
+    requires components { AreFit components.now }
+    ensures placed { IfOk result (λ all. ArePlaced placing.old.stage components.now all.places) }
+    ensures bits { IfOk result (λ all. all.bits ≡ bits_at placing.old.stage components.now all.places) }
+    ensures after { IfOk result (λ all. placing.new.stage ≡ after_all placing.old.stage components.now all.places) }
+    ensures placing { IfOk result (λ _. IsPlacing placing.new) }
+    ensures limit { IfErr result (λ e. (e ≡ Stop.NoMemory) ⊎ ((e ≡ Stop.Limit LimitNo.L6) × IsPastLimit placing.old.stage components.now)) }
+{
+    let mut places = Sequence::new(alloc);
+    let mut bits = Sequence::new(alloc);
+    for component in components {
+        make_ready(placing, component)?;
+        match place_of(placing, component) {
+            None => return Err(Stop::Limit(LimitNo::L6)),
+            Some(at) => {
+                if end_of(&placing.stage, component, at) > SIZE_LIMIT {
+                    return Err(Stop::Limit(LimitNo::L6));
+                }
+                bits.push(bits_of(&placing.stage, component, at))?;
+                put(placing, component, at)?;
+                places.push(at)?;
+            }
+        }
+    }
+    Ok(Positions { places, bits })
+}
+
+/// Places bases one after the other, and gives their places.
+pub(crate) fn place_bases(
     alloc: Global,
     placing: &mut Placing,
     components: &[Component],
@@ -140,19 +201,6 @@ pub(crate) fn place_all(
     ensures placing { IfOk result (λ _. IsPlacing placing.new) }
     ensures limit { IfErr result (λ e. (e ≡ Stop.NoMemory) ⊎ ((e ≡ Stop.Limit LimitNo.L6) × IsPastLimit placing.old.stage components.now)) }
 {
-    let mut places = Sequence::new(alloc);
-    for component in components {
-        make_ready(placing, component)?;
-        match find_place(placing, component) {
-            None => return Err(Stop::Limit(LimitNo::L6)),
-            Some(at) => {
-                if at + component.takes > SIZE_LIMIT {
-                    return Err(Stop::Limit(LimitNo::L6));
-                }
-                put(placing, component, at)?;
-                places.push(at)?;
-            }
-        }
-    }
+    let Positions { places, bits: _ } = place_all(alloc, placing, components)?;
     Ok(places)
 }

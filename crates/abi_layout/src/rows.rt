@@ -113,6 +113,7 @@ fn member_component(
         is_empty: false,
         align: align_of_type(rows, &member.ty),
         takes: takes as u32,
+        width: member.width,
         parts,
     })
 }
@@ -147,6 +148,7 @@ fn empty_placing(alloc: Global) -> Placing
     Placing {
         stage: Stage {
             dsize: 0,
+            free_bit: 0,
             size: 0,
             align: 1,
             parts: Sequence::new(alloc),

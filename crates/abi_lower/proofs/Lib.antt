@@ -1,1 +1,15 @@
-pub mod MemberTurns
+pub mod Starts
+pub mod ListedRoutines
+pub mod Blocks
+pub mod Placing
+pub mod Fits
+pub mod FitsStatements
+pub mod ClassSteps
+pub mod Counted
+pub mod RowSteps
+pub mod SameOps
+pub mod BodySites
+pub mod PlanRuns
+pub mod RunSteps
+pub mod FrameRegisters
+pub mod FewBlocks

@@ -1,4 +1,2 @@
-pub mod Items
-pub mod Blocks
-pub mod Lowered
+pub mod Bounds
 pub mod invariants

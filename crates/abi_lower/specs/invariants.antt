@@ -1,1 +1,4 @@
-pub mod ItemCodes
+pub mod Numbers
+pub mod Codes
+pub mod Runs
+pub mod Lowerings

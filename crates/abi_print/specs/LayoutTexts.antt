@@ -19,7 +19,7 @@ use Rattle.cxx_subobject.specs.Preorder.{preorder}
 use Rattle.abi_primary.specs.declared.Primary.{Primary}
 use Rattle.abi_primary.specs.declared.Primary.TheVariants.{None as NoPrimary, Direct, Virtual}
 use Rattle.abi_sound.specs.declared.class_layout.ClassLayout.{ClassLayout}
-use Rattle.abi_sound.specs.Places.{number_in, members_in}
+use Rattle.abi_sound.specs.Places.{number_in, members_in, first_bit}
 
 abbrev pub name_in : Option Class → List ℕ
 name_in None = []
@@ -69,6 +69,15 @@ abbrev pub type_text : Classes → FieldType ClassId → List ℕ
 type_text h (Value t) = value_text h t
 type_text h (Object d) = name_of h d
 
+-- the first bit of a bit-field in the byte at its place, and its width
+abbrev pub bits_text : ℕ → ℕ → List ℕ
+bits_text first width = codes "bits " ++ decimal first ++ codes " " ++ decimal width
+
+-- how a member lies at its place: in whole bytes, or as a bit-field (ISO C++03 9.6)
+abbrev pub kind_text : Option ℕ → ℕ → List ℕ
+kind_text None first = codes "field"
+kind_text (Some width) first = bits_text first width
+
 abbrev pub length_text : Option ℕ → List ℕ
 length_text None = []
 length_text (Some n) = codes "[" ++ decimal n ++ codes "]"
@@ -93,13 +102,13 @@ row_text h c (Some row) = class_text h c row
 abbrev pub base_text : Classes → (ClassId → Subobject → ℕ) → ClassId → Subobject → List ℕ
 base_text h place c s = decimal (place c s) ++ codes " base " ++ subobject_text h s ++ codes "\n"
 
--- a member and its place
-abbrev pub field_text : Classes → ℕ → Member ClassId → List ℕ
-field_text h place member = decimal place ++ codes " field " ++ type_text h member.ty ++ length_text member.count ++ codes " " ++ member.name ++ codes "\n"
+-- a member, its place, and the first bit of its value in the byte there
+abbrev pub field_text : Classes → ℕ → ℕ → Member ClassId → List ℕ
+field_text h place first member = decimal place ++ codes " " ++ kind_text member.width first ++ codes " " ++ type_text h member.ty ++ length_text member.count ++ codes " " ++ member.name ++ codes "\n"
 
-abbrev pub field_in : Classes → ℕ → Option (Member ClassId) → List ℕ
-field_in h place None = []
-field_in h place (Some member) = field_text h place member
+abbrev pub field_in : Classes → ℕ → ℕ → Option (Member ClassId) → List ℕ
+field_in h place first None = []
+field_in h place first (Some member) = field_text h place first member
 
 abbrev pub member_place : List ClassLayout → ClassId → ℕ → ℕ
 member_place rows c n = number_in (slice_get (members_in (slice_get rows c.0)) n)
@@ -107,7 +116,7 @@ member_place rows c n = number_in (slice_get (members_in (slice_get rows c.0)) n
 -- the first members, as many as are asked for
 abbrev pub fields_text : Classes → List ClassLayout → ClassId → ℕ → List ℕ
 fields_text h rows c zero = []
-fields_text h rows c (suc n) = fields_text h rows c n ++ field_in h (member_place rows c n) (slice_get (members_of h c) n)
+fields_text h rows c (suc n) = fields_text h rows c n ++ field_in h (member_place rows c n) (first_bit rows c n) (slice_get (members_of h c) n)
 
 -- all but the whole, which stands first
 abbrev pub proper : List Subobject → List Subobject

@@ -6,14 +6,16 @@ ghost use Rattle.cxx_hierarchy.specs.declared.records.ClassId.{ClassId};
 ghost use Rattle.cxx_subobject.specs.declared.Subobject.{Subobject};
 ghost use Rattle.cxx_subobject.specs.Subobjects.{IsSubobject};
 ghost use Rattle.cxx_hierarchy.specs.Classes.{members_of};
-ghost use Rattle.abi_sound.specs.Places.{number_in, places_of};
-ghost use Rattle.abi_print.specs.LayoutTexts.{type_text, length_text, primary_text, class_text, base_text, field_text, fields_text, proper, listed_text, layout_text};
+ghost use Rattle.abi_sound.specs.Places.{first_in, number_in, places_of};
+ghost use Rattle.abi_print.specs.LayoutTexts.{type_text, kind_text, length_text, primary_text, class_text, base_text, field_text, fields_text, proper, listed_text, layout_text};
 ghost use Rattle.abi_print.specs.invariants.Writers.{written_place};
 
-use crate::text::{append, append_class, append_number, append_subobject, append_value_type};
+use crate::text::{
+    append, append_bits, append_class, append_number, append_subobject, append_value_type,
+};
 use crate::writer::{Writer, Written};
 use abi_primary::Primary;
-use abi_sound::{ClassLayout, SoundLayout};
+use abi_sound::{Bits, ClassLayout, SoundLayout};
 use cxx_hierarchy::{ClassId, FieldType, Hierarchy, Member};
 use cxx_subobject::{Subobject, list_subobjects};
 use foundation::NoMemory;
@@ -27,6 +29,21 @@ fn append_type(text: &mut Vec<u8>, h: &Hierarchy, ty: &FieldType<ClassId>) -> Re
         FieldType::Object(class) => append_class(text, h, *class)?,
     }
     Ok(())
+}
+
+/// Puts how a member lies at its place at the end of a text: in whole bytes, or as a bit-field.
+fn append_kind(
+    alloc: Global,
+    text: &mut Vec<u8>,
+    width: Option<u32>,
+    first: u8,
+) -> Result<(), NoMemory>
+    ensures { OnOk result (text.new.items ≡ text.old.items ++ kind_text width first) }
+{
+    match width {
+        None => append(text, b"field"),
+        Some(width) => append_bits(alloc, text, first, width),
+    }
 }
 
 fn append_length(alloc: Global, text: &mut Vec<u8>, count: Option<u32>) -> Result<(), NoMemory>
@@ -116,17 +133,20 @@ fn append_bases<L: SoundLayout>(
     Ok(())
 }
 
-/// Puts the line of a member at the end.
+/// Puts the line of a member at the end; `first` is the first bit of its value in the byte at its place.
 fn append_field<L>(
     w: &Writer<L>,
     text: &mut Vec<u8>,
     place: u32,
+    first: u8,
     member: &Member<ClassId>,
 ) -> Written
-    ensures { OnOk result (text.new.items ≡ text.old.items ++ field_text w.now.h.now place member.now) }
+    ensures { OnOk result (text.new.items ≡ text.old.items ++ field_text w.now.h.now place first member.now) }
 {
     append_number(w.alloc, text, place)?;
-    append(text, b" field ")?;
+    append(text, b" ")?;
+    append_kind(w.alloc, text, member.width, first)?;
+    append(text, b" ")?;
     append_type(text, w.h, &member.ty)?;
     append_length(w.alloc, text, member.count)?;
     append(text, b" ")?;
@@ -145,6 +165,16 @@ fn place_of(places: &[u32], n: usize) -> u32
     }
 }
 
+/// The first bit of the member of a number, 0 past the last one.
+fn first_bit_of(bits: &[Bits], n: usize) -> u8
+    ensures { result ≡ first_in (slice_get bits.now n) }
+{
+    match bits.get(n) {
+        Some(bits) => bits.first,
+        None => 0,
+    }
+}
+
 /// Puts the lines of the members that a class declares at the end.
 fn append_fields<L: SoundLayout>(w: &Writer<L>, text: &mut Vec<u8>, c: ClassId) -> Written
     requires known { c.0 < length w.now.h.now }
@@ -153,9 +183,12 @@ fn append_fields<L: SoundLayout>(w: &Writer<L>, text: &mut Vec<u8>, c: ClassId) 
 {
     w.h.keeps();
     let members = w.h.class(c).members.as_slice();
-    let places = w.layout.layout(c).member_places.as_slice();
+    let row = w.layout.layout(c);
+    let places = row.member_places.as_slice();
+    let bits = row.member_bits.as_slice();
     for number in 0..members.len() {
-        append_field(w, text, place_of(places, number), &members[number])?;
+        let place = place_of(places, number);
+        append_field(w, text, place, first_bit_of(bits, number), &members[number])?;
     }
     Ok(())
 }

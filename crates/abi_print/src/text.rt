@@ -5,7 +5,7 @@ ghost use Rattle.std.specs.Fmt.{decimal};
 ghost use Rattle.std.specs.Option.{option_copied};
 ghost use Rattle.cxx_overrider.specs.Functions.{declaration_of};
 ghost use Rattle.cxx_subobject.specs.Subobjects.{tail_of};
-ghost use Rattle.abi_print.specs.LayoutTexts.{name_of, slashed, joined, subobject_text, scalar_text, value_text};
+ghost use Rattle.abi_print.specs.LayoutTexts.{bits_text, name_of, slashed, joined, subobject_text, scalar_text, value_text};
 ghost use Rattle.abi_print.specs.TableTexts.{name_behind, function_text};
 
 use cxx_hierarchy::{ClassId, Function, Hierarchy, Scalar, ValueType};
@@ -29,6 +29,17 @@ pub fn append_number(alloc: Global, text: &mut Vec<u8>, number: u32) -> Result<(
 {
     let digits = number.to_string(alloc)?;
     append(text, digits.as_bytes())?;
+    Ok(())
+}
+
+/// Puts the first bit and the width of a bit-field at the end of a text. Errors: want of memory.
+pub fn append_bits(alloc: Global, text: &mut Vec<u8>, first: u8, width: u32) -> Result<(), NoMemory>
+    ensures { OnOk result (text.new.items ≡ text.old.items ++ bits_text first width) }
+{
+    append(text, b"bits ")?;
+    append_number(alloc, text, first as u32)?;
+    append(text, b" ")?;
+    append_number(alloc, text, width)?;
     Ok(())
 }
 

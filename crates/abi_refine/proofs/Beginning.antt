@@ -6,9 +6,9 @@ use Rattle.byte_memory.specs.Store.{Store, empty}
 use Rattle.byte_machine.specs.Running.{Fixed}
 use Rattle.byte_machine.specs.Turn.{State as Bytes, begun, fixed_of}
 use Rattle.path_model.specs.Runs.{start}
-use Rattle.abi_ops.specs.Setups.{Setup}
+use Rattle.code_ops.specs.Setups.{Setup}
 use Rattle.abi_slots.specs.declared.code_numbers.CodeRow.{CodeRow}
-use Rattle.abi_stands.specs.Stands.{StandsFor}
+use Rattle.agree_relation.specs.Stands.{StandsFor}
 use Rattle.abi_world.specs.Worlds.{HasWorld, IsWorldOf}
 use Rattle.abi_refine.specs.Standing.{StandsIn, state_after}
 use Rattle.abi_refine.proofs.Starting.{stands_at_start}

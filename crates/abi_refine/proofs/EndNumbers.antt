@@ -5,9 +5,9 @@ use Rattle.cxx_hierarchy.specs.declared.stop.LimitNo.{LimitNo}
 use Rattle.cxx_hierarchy.specs.declared.stop.LimitNo.TheVariants.{L1, L2, L3, L4, L5, L6, L7, L8, L9, L10}
 use Rattle.cxx_hierarchy.specs.Stops.{limit_no}
 use Rattle.path_rules.specs.Rules.{undefined_no}
-use Rattle.abi_steps.proofs.Tests.{one_number}
-use Rattle.abi_told.specs.declared.ending.End.{End}
-use Rattle.abi_told.specs.declared.ending.End.TheVariants.{Done, Undefined as UndefinedEnd, OutOfSteps, Limit}
+use Rattle.agree_statements.proofs.Tests.{one_number}
+use Rattle.text_told.specs.declared.ending.End.{End}
+use Rattle.text_told.specs.declared.ending.End.TheVariants.{Done, Undefined as UndefinedEnd, OutOfSteps, Limit}
 use Rattle.abi_refine.specs.Endings.{turn_of}
 
 abbrev limit_with : ℕ → Option LimitNo

@@ -12,13 +12,13 @@ use Rattle.byte_machine.specs.Running.{Fixed}
 use Rattle.byte_machine.specs.Turn.{State as Bytes, Turns, fixed_of, kept_answer}
 use Rattle.byte_machine.proofs.TurnLeads.{answer_kept}
 use Rattle.foundation.proofs.Members.{Has}
-use Rattle.abi_lines.specs.RawTexts.{HasText, raw_texts, shown}
-use Rattle.abi_ops.specs.Setups.{Setup, places}
+use Rattle.text_bytes.specs.RawTexts.{HasText, raw_texts, shown}
+use Rattle.code_ops.specs.Setups.{Setup, places}
 use Rattle.abi_slots.specs.declared.code_numbers.CodeRow.{CodeRow}
-use Rattle.abi_told.specs.declared.ending.End.{End}
-use Rattle.abi_told.specs.declared.ending.End.TheVariants.{Done, Undefined, OutOfSteps, Limit}
-use Rattle.abi_told.specs.Told.{IsRun, text_limit}
-use Rattle.abi_told.proofs.Lines.{AreLinesOf, IsTextOf, lines_pass, lines_stand}
+use Rattle.text_told.specs.declared.ending.End.{End}
+use Rattle.text_told.specs.declared.ending.End.TheVariants.{Done, Undefined, OutOfSteps, Limit}
+use Rattle.text_told.specs.Told.{IsRun, text_limit}
+use Rattle.text_told.proofs.Lines.{AreLinesOf, IsTextOf, lines_pass, lines_stand}
 use Rattle.abi_refine.specs.Agreed.{Agreed, move_after}
 use Rattle.abi_refine.specs.Endings.{counted_by, turn_of}
 use Rattle.abi_refine.specs.Executions.{lines_in}

@@ -16,13 +16,13 @@ use Rattle.byte_machine.specs.declared.turn.MachineTurn.TheVariants.{Went, Ended
 use Rattle.byte_machine.specs.declared.turn.RawOut.{RawOut}
 use Rattle.byte_machine.specs.Running.{Fixed}
 use Rattle.byte_machine.specs.Turn.{State as Bytes}
-use Rattle.abi_ops.specs.Setups.{Setup, places}
+use Rattle.code_ops.specs.Setups.{Setup, places}
 use Rattle.abi_slots.specs.declared.code_numbers.CodeRow.{CodeRow}
-use Rattle.abi_told.specs.declared.ending.End.{End}
-use Rattle.abi_told.specs.declared.ending.End.TheVariants.{Done, Undefined, OutOfSteps, Limit}
-use Rattle.abi_told.specs.Told.{IsRun, ending_of}
-use Rattle.abi_told.proofs.Lines.{IsTextOf, ends_with}
-use Rattle.abi_told.proofs.Texts.{text_none}
+use Rattle.text_told.specs.declared.ending.End.{End}
+use Rattle.text_told.specs.declared.ending.End.TheVariants.{Done, Undefined, OutOfSteps, Limit}
+use Rattle.text_told.specs.Told.{IsRun, ending_of}
+use Rattle.text_told.proofs.Lines.{IsTextOf, ends_with}
+use Rattle.text_told.proofs.Texts.{text_none}
 use Rattle.abi_refine.specs.Standing.{StandsIn, state_after}
 use Rattle.abi_refine.specs.Agreed.{move_after, Agreed, AgreesBy, CountsOn, WentTo}
 use Rattle.abi_refine.specs.Endings.{turn_of, counted_by}

@@ -6,3 +6,7 @@ pub mod Going
 pub mod TurnLines
 pub mod Executing
 pub mod RawLines
+pub mod Statements
+pub mod StatementKinds
+pub mod Ends
+pub mod Turns

@@ -10,7 +10,7 @@ use Rattle.byte_machine.specs.declared.heap.Opened.{Opened}
 use Rattle.byte_machine.specs.declared.turn.RawOut.{RawOut}
 use Rattle.abi_sound.specs.Places.{Places}
 use Rattle.abi_slots.specs.declared.code_numbers.CodeRow.{CodeRow}
-use Rattle.abi_lines.specs.RawTexts.{is_traced, printed, raw_text, raw_texts, shown}
+use Rattle.text_bytes.specs.RawTexts.{is_traced, printed, raw_text, raw_texts, shown}
 
 module _ (h : Classes) (l : Places) (rows : List CodeRow) (memory : Store) (objects : List Opened) where
   abbrev one_text : RawOut → List ℕ

@@ -12,19 +12,19 @@ use Rattle.cxx_program.specs.declared.program.TypedBody.{TypedBody}
 use Rattle.path_model.specs.Values.{Value, Unset}
 use Rattle.path_model.specs.States.{Running, InBody, is_body, entered}
 use Rattle.path_model.specs.Runs.{first_value, main_frames, no_objects, open_count, opened_for, start}
-use Rattle.byte_memory.specs.Cells.{byte_of}
+use Rattle.byte_machine.specs.Frames.{register_of}
 use Rattle.byte_memory.specs.Store.{empty}
 use Rattle.byte_shadow.specs.Shadows.{no_notes}
 use Rattle.byte_machine.specs.Turn.{State as Bytes, begun, main_frame}
 use Rattle.foundation.proofs.Members.{has_from_contains}
-use Rattle.abi_parts.specs.Heaps.{Heap}
-use Rattle.abi_stands.specs.Worlds.{World, IsWorld}
-use Rattle.abi_stands.specs.Words.{heap_of, register_of}
-use Rattle.abi_stands.specs.Columns.{ColumnsStand}
-use Rattle.abi_stands.specs.Goings.{ArePlanned}
-use Rattle.abi_stands.specs.Frames.{Numbers, BodyStands, StandOver}
-use Rattle.abi_stands.specs.Stands.{StandsFor}
-use Rattle.abi_lower.specs.Lowered.{start_of}
+use Rattle.agree_parts.specs.Heaps.{Heap}
+use Rattle.agree_relation.specs.Worlds.{World, IsWorld}
+use Rattle.agree_relation.specs.Words.{heap_of, register_word}
+use Rattle.agree_relation.specs.Columns.{ColumnsStand}
+use Rattle.agree_relation.specs.Goings.{ArePlanned}
+use Rattle.agree_relation.specs.Frames.{Numbers, BodyStands, StandOver}
+use Rattle.agree_relation.specs.Stands.{StandsFor}
+use Rattle.code_blocks.specs.Lowered.{start_of}
 
 module _ (w : World) (world : IsWorld w) where
   abbrev at : Numbers
@@ -63,20 +63,20 @@ module _ (w : World) (world : IsWorld w) where
   }
 
   -- globals are 0 or null
-  first_global : (t : ValueType ClassId) → register_of w g (first_value t) ≡ Some 0
+  first_global : (t : ValueType ClassId) → register_word w g (first_value t) ≡ Some 0
   first_global (NumberType t) = refl
   first_global (PointerType c) = refl
 
-  first_globals : (types : List (ValueType ClassId)) → replicate (length types) (Some 0) ≡ map (register_of w g) (map first_value types)
+  first_globals : (types : List (ValueType ClassId)) → replicate (length types) (Some 0) ≡ map (register_word w g) (map first_value types)
   first_globals [] = refl
-  first_globals (t ∷ types) = ap (λ (o : Option ℕ). o ∷ replicate (length types) (Some 0)) (sym (first_global t)) ∙ ap (λ (os : List (Option ℕ)). register_of w g (first_value t) ∷ os) (first_globals types)
+  first_globals (t ∷ types) = ap (λ (o : Option ℕ). o ∷ replicate (length types) (Some 0)) (sym (first_global t)) ∙ ap (λ (os : List (Option ℕ)). register_word w g (first_value t) ∷ os) (first_globals types)
 
   -- the body of `main` at its first statement
 
   abbrev first_running : TypedBody → Running
   first_running body = entered body Unset [] ToSame None
 
-  unset_in : (n i : ℕ) → byte_of (replicate n None) i ≡ None
+  unset_in : (n i : ℕ) → register_of (replicate n None) i ≡ None
   unset_in zero i = refl
   unset_in (suc n) zero = refl
   unset_in (suc n) (suc i) = unset_in n i
@@ -86,8 +86,8 @@ module _ (w : World) (world : IsWorld w) where
   unset_local (suc k) zero v e = cc (e)
   unset_local (suc k) (suc n) v e = unset_local k n v e
 
-  local_unset : (n : ℕ) (v : Value) → v ≡ Unset → byte_of (replicate w.code.registers None) n ≡ register_of w g v
-  local_unset n v e = unset_in w.code.registers n ∙ ap (register_of w g) (sym e)
+  local_unset : (n : ℕ) (v : Value) → v ≡ Unset → register_of (replicate w.code.registers None) n ≡ register_word w g v
+  local_unset n v e = unset_in w.code.registers n ∙ ap (register_word w g) (sym e)
 
   main_stands : (body : TypedBody) → w.setup.program.main ≡ Some body → body.owner ≡ Main → StandOver w at g None (InBody (first_running body) ∷ []) [] (main_frame w.code ∷ [])
   main_stands body there owner =

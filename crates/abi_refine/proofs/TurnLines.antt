@@ -14,22 +14,22 @@ use Rattle.byte_code.specs.declared.code.Code.{Code}
 use Rattle.byte_machine.specs.declared.turn.RawOut.{RawOut}
 use Rattle.byte_machine.specs.Running.{Fixed}
 use Rattle.byte_machine.specs.Turn.{State as Bytes}
-use Rattle.abi_ops.specs.Routines.{has_body}
-use Rattle.abi_ops.specs.Setups.{Setup, places}
+use Rattle.code_ops.specs.Routines.{has_body}
+use Rattle.code_ops.specs.Setups.{Setup, places}
 use Rattle.path_model.specs.Outs.{is_traced}
-use Rattle.abi_out.specs.OutTexts.{IsTold, shown as shown_outs, text_of}
+use Rattle.text_told.specs.OutTexts.{IsTold, shown as shown_outs, text_of}
 use Rattle.abi_slots.specs.declared.code_numbers.CodeRow.{CodeRow}
-use Rattle.abi_stands.specs.Worlds.{World, IsWorld, classes_in, places_in}
-use Rattle.abi_stands.specs.Agrees.{ReadAs}
-use Rattle.abi_stands.specs.Stands.{StandsFor}
-use Rattle.abi_stands.specs.Words.{heap_of}
-use Rattle.abi_lines.specs.RawTexts.{HasText}
-use Rattle.abi_lines.specs.Reads.{AreShownOf, HasTypedLeaves, IsOf}
-use Rattle.abi_lines.proofs.RawReads.{shown_read, texts_there}
-use Rattle.abi_reached.proofs.Accepted.{world_accepted}
-use Rattle.abi_reached.proofs.Dumps.{dumps_are_of_the_state}
-use Rattle.abi_reached.proofs.Tops.{state_typed}
-use Rattle.abi_told.proofs.Telling.{HasBody, steps_told}
+use Rattle.agree_relation.specs.Worlds.{World, IsWorld, classes_in, places_in}
+use Rattle.agree_relation.specs.Agrees.{ReadAs}
+use Rattle.agree_relation.specs.Stands.{StandsFor}
+use Rattle.agree_relation.specs.Words.{heap_of}
+use Rattle.text_bytes.specs.RawTexts.{HasText}
+use Rattle.text_bytes.specs.Reads.{AreShownOf, HasTypedLeaves, IsOf}
+use Rattle.text_bytes.proofs.RawReads.{shown_read, texts_there}
+use Rattle.agree_runs.proofs.Accepted.{world_accepted}
+use Rattle.agree_runs.proofs.Dumps.{dumps_are_of_the_state}
+use Rattle.agree_runs.proofs.Tops.{state_typed}
+use Rattle.text_told.proofs.Telling.{HasBody, steps_told}
 use Rattle.abi_refine.specs.Agreed.{move_after, WentTo}
 use Rattle.abi_refine.specs.Executions.{lines_in}
 use Rattle.abi_refine.specs.Standing.{StandsIn, state_after}
@@ -51,7 +51,7 @@ module _ (w : World) (world : IsWorld w) (n : ℕ) (new : PathState) (outs : Lis
       let e : suc n ≡ n + 1 = omega arith in
       let here : state_after w.setup (suc n) ≡ new = ap (λ (m : Move). state_behind m (state_after w.setup n)) moves in
       let typed : IsTypedState (classes_in w) w.setup.program new = subst (λ (s : PathState). IsTypedState (classes_in w) w.setup.program s) here (state_typed (classes_in w) (places_in w).size w.setup.program (suc n) (world_accepted w world)) in
-      record { leaf = λ a t made. typed.leaves a t made }
+      record { leaf = λ a t made. typed.leaves a t made; held = λ a t made. typed.held a t made }
 
   -- what is told names parts and bodies that are there
   all_told : (out : Out) → Has outs out → IsTold (classes_in w) out × HasBody w.setup.program out

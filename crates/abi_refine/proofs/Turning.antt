@@ -10,18 +10,18 @@ use Rattle.byte_machine.specs.declared.turn.RawOut.{RawOut}
 use Rattle.byte_machine.specs.Running.{Fixed, Running}
 use Rattle.byte_machine.specs.Turn.{State as Bytes, HasTurn, Turns, after_block}
 use Rattle.byte_machine.proofs.TurnLeads.{HasTurn-leads, HasTurn-spent, Turns-leads, IsNext}
-use Rattle.abi_ops.specs.Setups.{Setup}
+use Rattle.code_ops.specs.Setups.{Setup}
 use Rattle.abi_slots.specs.declared.code_numbers.CodeRow.{CodeRow}
-use Rattle.abi_stands.specs.Worlds.{World, IsWorld, fixed}
-use Rattle.abi_stands.specs.Stands.{StandsFor}
+use Rattle.agree_relation.specs.Worlds.{World, IsWorld, fixed}
+use Rattle.agree_relation.specs.Stands.{StandsFor}
 use Rattle.byte_memory.specs.declared.memory.Region.{Region}
-use Rattle.abi_stands.specs.Agrees.{Agrees, ReadAs}
-use Rattle.abi_stands.specs.Words.{heap_of}
+use Rattle.agree_relation.specs.Agrees.{Agrees, ReadAs}
+use Rattle.agree_relation.specs.Words.{heap_of}
 use Rattle.abi_world.specs.Worlds.{IsWorldOf}
 use Rattle.abi_refine.specs.Standing.{StandsIn, state_after}
 use Rattle.abi_refine.specs.Agreed.{move_after, Agreed, AgreesBy, AgreesTurn, CountsOn}
-use Rattle.abi_turns.specs.Blocks.{BlockLeads}
-use Rattle.abi_turns.proofs.Turns.{block_leads}
+use Rattle.abi_refine.specs.Blocks.{BlockLeads}
+use Rattle.abi_refine.proofs.Turns.{block_leads}
 
 module _ (w : World) (world : IsWorld w) (b : Bytes) where
   abbrev x : Setup

@@ -11,10 +11,10 @@ use Rattle.byte_machine.specs.declared.turn.MachineTurn.TheVariants.{Went, Ended
 use Rattle.byte_machine.specs.declared.turn.RawOut.{RawOut}
 use Rattle.byte_machine.specs.Running.{Fixed}
 use Rattle.byte_machine.specs.Turn.{State as Bytes}
-use Rattle.abi_ops.specs.Setups.{Setup, places}
+use Rattle.code_ops.specs.Setups.{Setup, places}
 use Rattle.abi_slots.specs.declared.code_numbers.CodeRow.{CodeRow}
-use Rattle.abi_stands.specs.Words.{heap_of}
-use Rattle.abi_stands.specs.Agrees.{ReadAs}
+use Rattle.agree_relation.specs.Words.{heap_of}
+use Rattle.agree_relation.specs.Agrees.{ReadAs}
 use Rattle.abi_refine.specs.Standing.{StandsIn, state_after}
 
 -- one step was taken

@@ -4,8 +4,8 @@ use Rattle.cxx_hierarchy.specs.Stops.{limit_no}
 use Rattle.path_rules.specs.Rules.{undefined_no}
 use Rattle.byte_machine.specs.declared.turn.MachineTurn.{MachineTurn}
 use Rattle.byte_machine.specs.declared.turn.MachineTurn.TheVariants.{Ended, Refused, OutOfSteps as NoSteps, Limit as LimitTurn}
-use Rattle.abi_told.specs.declared.ending.End.{End}
-use Rattle.abi_told.specs.declared.ending.End.TheVariants.{Done, Undefined, OutOfSteps, Limit}
+use Rattle.text_told.specs.declared.ending.End.{End}
+use Rattle.text_told.specs.declared.ending.End.TheVariants.{Done, Undefined, OutOfSteps, Limit}
 
 -- the answer of the turn that ended the run
 abbrev pub turn_of : End → MachineTurn

@@ -6,12 +6,12 @@ use Rattle.byte_code.specs.declared.code.Code.{Code}
 use Rattle.byte_code.specs.declared.code.ImageBytes.{ImageBytes}
 use Rattle.byte_memory.specs.Store.{empty}
 use Rattle.byte_machine.specs.Turn.{State, begun, fixed_of}
-use Rattle.abi_lower.specs.Lowered.{IsLowered}
-use Rattle.abi_lines.specs.RawTexts.{raw_texts, shown}
-use Rattle.abi_ops.specs.Setups.{Setup, places}
+use Rattle.code_blocks.specs.Lowered.{IsLowered}
+use Rattle.text_bytes.specs.RawTexts.{raw_texts, shown}
+use Rattle.code_ops.specs.Setups.{Setup, places}
 use Rattle.abi_slots.specs.declared.code_numbers.CodeRow.{CodeRow}
-use Rattle.abi_told.specs.declared.ending.End.{End}
-use Rattle.abi_told.specs.declared.ending.End.TheVariants.{Limit}
+use Rattle.text_told.specs.declared.ending.End.{End}
+use Rattle.text_told.specs.declared.ending.End.TheVariants.{Limit}
 use Rattle.abi_world.specs.Made.{HasImage}
 use Rattle.abi_refine.specs.Endings.{turn_of}
 use Rattle.abi_refine.specs.Reaches.{Lines, Executes}

@@ -3,3 +3,4 @@ pub mod Agreed
 pub mod Endings
 pub mod Reaches
 pub mod Executions
+pub mod Blocks

@@ -5,9 +5,9 @@ use Rattle.byte_machine.specs.declared.turn.MachineTurn.TheVariants.{Went}
 use Rattle.byte_machine.specs.declared.turn.RawOut.{RawOut}
 use Rattle.byte_machine.specs.Running.{Fixed}
 use Rattle.byte_machine.specs.Turn.{State, Turns}
-use Rattle.abi_told.specs.Told.{text_limit}
-use Rattle.abi_told.specs.declared.ending.End.{End}
-use Rattle.abi_told.specs.declared.ending.End.TheVariants.{Limit}
+use Rattle.text_told.specs.Told.{text_limit}
+use Rattle.text_told.specs.declared.ending.End.{End}
+use Rattle.text_told.specs.declared.ending.End.TheVariants.{Limit}
 use Rattle.cxx_hierarchy.specs.declared.stop.LimitNo.TheVariants.{L9}
 use Rattle.abi_refine.specs.Endings.{turn_of}
 

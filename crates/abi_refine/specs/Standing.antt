@@ -5,10 +5,10 @@ use Rattle.path_model.specs.Runs.{state_at}
 use Rattle.byte_code.specs.declared.code.Code.{Code}
 use Rattle.byte_machine.specs.Running.{Fixed}
 use Rattle.byte_machine.specs.Turn.{State as Bytes}
-use Rattle.abi_ops.specs.Setups.{Setup, places}
+use Rattle.code_ops.specs.Setups.{Setup, places}
 use Rattle.abi_slots.specs.declared.code_numbers.CodeRow.{CodeRow}
-use Rattle.abi_stands.specs.Worlds.{World}
-use Rattle.abi_stands.specs.Stands.{StandsFor}
+use Rattle.agree_relation.specs.Worlds.{World}
+use Rattle.agree_relation.specs.Stands.{StandsFor}
 use Rattle.abi_world.specs.Worlds.{IsWorldOf}
 
 -- a byte state stands for a state, in some such world

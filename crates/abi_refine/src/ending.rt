@@ -6,13 +6,13 @@ ghost use Rattle.cxx_hierarchy.specs.Stops.{limit_no};
 ghost use Rattle.path_rules.specs.declared.Undefined.{Undefined};
 ghost use Rattle.path_rules.specs.Rules.{undefined_no};
 ghost use Rattle.byte_machine.specs.declared.turn.MachineTurn.{MachineTurn};
-ghost use Rattle.abi_told.specs.declared.ending.End.{End};
+ghost use Rattle.text_told.specs.declared.ending.End.{End};
 ghost use Rattle.abi_refine.specs.Endings.{turn_of};
 
-use abi_told::End;
 use byte_machine::MachineTurn;
 use cxx_hierarchy::LimitNo;
 use path_rules::Undefined;
+use text_told::End;
 
 /// The rule with a number.
 fn rule_of(number: u8) -> Undefined

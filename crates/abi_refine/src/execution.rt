@@ -7,25 +7,25 @@ ghost use Rattle.cxx_program.specs.Typed.{IsTypedProgram};
 ghost use Rattle.path_model.specs.States.{is_body};
 ghost use Rattle.path_model.specs.Runs.{run_of};
 ghost use Rattle.abi_sound.specs.Places.{places_of};
-ghost use Rattle.abi_count.specs.Counts.{all_words, most_words};
-ghost use Rattle.abi_ops.specs.Setups.{setup};
-ghost use Rattle.abi_code.specs.Bounds.{IsSmall};
-ghost use Rattle.abi_told.specs.Told.{told, ending_of};
+ghost use Rattle.abi_tables.specs.Counts.{all_words, most_words};
+ghost use Rattle.code_ops.specs.Setups.{setup};
+ghost use Rattle.abi_lower.specs.Bounds.{IsSmall};
+ghost use Rattle.text_told.specs.Told.{told, ending_of};
 ghost use Rattle.byte_machine.specs.MachineState.{code_of, image_of, state_of};
 ghost use Rattle.abi_refine.specs.Executions.{IsExecution};
 
 use crate::run::{Ran, run_machine};
 use abi_slots::CodeNumbers;
 use abi_sound::SoundLayout;
-use abi_told::End;
 use abi_world::{Built, build};
 use byte_machine::Machine;
-use byte_memory::FlatMemory;
+use byte_memory::PageMemory;
 use cxx_hierarchy::Hierarchy;
 use cxx_overrider::Overriders;
 use cxx_program::TypedProgram;
 use foundation::{NoMemory, Sequence};
 use std::alloc::Global;
+use text_told::End;
 
 /// The most inheritance subobjects that a class may have: a cast has room for so many.
 const MOST_SUBOBJECTS: usize = 1024;
@@ -37,7 +37,7 @@ pub struct Execution {
     pub steps: u32,
     pub end: End,
     pub numbers: CodeNumbers,
-    pub machine: Machine<FlatMemory>,
+    pub machine: Machine<PageMemory>,
 }
 
 /// Builds a typed program that has a `main`, and runs it on the byte machine for at most so many steps.
@@ -72,7 +72,7 @@ pub fn execute<L: SoundLayout>(
         numbers,
         image,
     } = build(alloc, h, overriders, layout, program)?;
-    let memory = FlatMemory::new(alloc);
+    let memory = PageMemory::new(alloc);
     let mut machine = Machine::new(alloc, memory, image, code, MOST_SUBOBJECTS, steps)?;
     let Ran { text, steps, end } = run_machine(
         alloc,

@@ -2,7 +2,7 @@
 
 ghost use Rattle.std.specs.Prelude.{◌≡◌, IfOk, OnOk, OnErr, [], false, true};
 ghost use Rattle.path_model.specs.Runs.{move};
-ghost use Rattle.abi_ops.specs.Setups.{setup, places};
+ghost use Rattle.code_ops.specs.Setups.{setup, places};
 ghost use Rattle.byte_machine.specs.Turn.{Turns};
 ghost use Rattle.byte_machine.specs.MachineState.{code_of, image_of, parts_of, fixed_in, state_of, has_failed};
 ghost use Rattle.abi_refine.specs.Standing.{StandsIn, state_after};

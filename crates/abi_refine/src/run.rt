@@ -4,10 +4,10 @@ ghost use Rattle.std.specs.Prelude.{◌≡◌, ◌≤◌, ◌++◌, ◌∷◌, �
 ghost use Rattle.cxx_hierarchy.specs.declared.stop.LimitNo.TheVariants.{L9};
 ghost use Rattle.path_model.specs.Runs.{run_of};
 ghost use Rattle.byte_machine.specs.MachineState.{code_of, image_of, parts_of, fixed_in, state_of, has_failed};
-ghost use Rattle.abi_lines.specs.RawTexts.{HasText, is_traced, raw_texts, shown};
+ghost use Rattle.text_bytes.specs.RawTexts.{HasText, is_traced, raw_texts, shown};
 ghost use Rattle.abi_sound.specs.Places.{places_of};
-ghost use Rattle.abi_ops.specs.Setups.{setup, places};
-ghost use Rattle.abi_told.specs.Told.{IsRun};
+ghost use Rattle.code_ops.specs.Setups.{setup, places};
+ghost use Rattle.text_told.specs.Told.{IsRun};
 ghost use Rattle.abi_refine.specs.Endings.{counted_by, turn_of};
 ghost use Rattle.abi_refine.specs.Executions.{lines_in};
 ghost use Rattle.abi_refine.specs.Reaches.{Executes};
@@ -15,16 +15,16 @@ ghost use Rattle.abi_refine.specs.Standing.{StandsIn, state_after};
 
 use crate::ending::end_of;
 use crate::law::turn;
-use abi_lines::{CalledFunctions, append_raw, is_traced};
 use abi_slots::CodeNumbers;
 use abi_sound::SoundLayout;
-use abi_told::End;
 use byte_machine::{Machine, RawOut};
 use byte_memory::Memory;
 use cxx_hierarchy::{Hierarchy, LimitNo};
 use cxx_program::TypedProgram;
 use foundation::{NoMemory, Sequence};
 use std::alloc::Global;
+use text_bytes::{CalledFunctions, append_raw, is_traced};
+use text_told::End;
 
 /// The bytes that the text of a run may have.
 const TEXT_LIMIT: usize = 16777216;

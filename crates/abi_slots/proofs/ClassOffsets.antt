@@ -32,7 +32,7 @@ use Rattle.abi_slots.proofs.OffsetBounds.{few_offsets}
 use Rattle.abi_slots.proofs.PushSteps.{any_same, base_told, name_told}
 
 pub primaries_of : (h : Classes) (rows : List ClassLayout) → IsSoundLayout h rows → ArePrimaries h (places_of h rows)
-primaries_of h rows sound = record { direct = sound.primaries.direct; virtual = sound.primaries.virtual }
+primaries_of h rows sound = record { direct = λ c b known e. (sound.each c known).direct b e; virtual = λ c v known e. (sound.each c known).virtual v e }
 
 place_same : {A : Type 0} (p q : A → Bool) (xs : List A) → ((x : A) → p x ≡ q x) → place_in p xs ≡ place_in q xs
 place_same p q [] same = refl

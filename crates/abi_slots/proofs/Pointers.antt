@@ -137,4 +137,4 @@ pointers_apart h rows x s t c d keeps sound view of_s of_t e f dyn also =
     let two = to_subobject x.complete d (seen x t) (seen_valid h l x set t of_t) (seen_class h l x set t d of_t f) in
     ⊎_elim (λ share. inl (shares h l x set s t c d of_s of_t e f dyn also (Inherit (seen x s) ∷ []) (Inherit (seen x t) ∷ []) share refl refl))
     (λ apart. inr (⊎_elim (λ less. inl (omega arith)) (λ more. inr (omega arith)) apart))
-    (sound.pointers.apart x.complete c d (Inherit (seen x s) ∷ []) (Inherit (seen x t) ∷ []) view.known dyn also one two)
+    ((sound.each x.complete view.known).pointers_apart c d (Inherit (seen x s) ∷ []) (Inherit (seen x t) ∷ []) dyn also one two)

@@ -11,7 +11,7 @@ use Rattle.abi_slots.proofs.Chains.{Setting}
 pub setting_of : (h : Classes) (rows : List ClassLayout) → IsHierarchy h → IsSoundLayout h rows → (x : View) → IsView h x → Setting h (places_of h rows) x
 setting_of h rows keeps sound x view = record {
   keeps = keeps;
-  primaries = record { direct = sound.primaries.direct; virtual = sound.primaries.virtual };
-  one_place = λ s t. sound.primaries.one_place x.complete s t view.known;
+  primaries = record { direct = λ c b known e. (sound.each c known).direct b e; virtual = λ c v known e. (sound.each c known).virtual v e };
+  one_place = λ s t. (sound.each x.complete view.known).one_place s t;
   view = view;
 }

@@ -48,7 +48,7 @@ h = record { name = 86 ∷ []; at = 0; bases = []; members = []; functions = f �
     ∷ []
 
 abbrev row : Primary → List ClassId → List ℕ → List (Option Subobject) → ClassLayout
-row primary bases places holders = record { size = 32; align = 8; dsize = 32; nvsize = 16; nvalign = 8; primary = primary; base_places = []; virtual_bases = bases; virtual_places = places; holders = holders; member_places = [] }
+row primary bases places holders = record { size = 32; align = 8; dsize = 32; nvsize = 16; nvalign = 8; primary = primary; base_places = []; virtual_bases = bases; virtual_places = places; holders = holders; member_places = []; member_bits = [] }
 
 abbrev apart : List ClassLayout
 apart = row NoPrimary [] [] [] ∷ row NoPrimary (v ∷ []) (16 ∷ []) (None ∷ []) ∷ []

@@ -126,7 +126,8 @@ abbrev pub HasBases : Image → (info : ClassId → ℕ) → List InfoBase → �
 HasBases image info [] at = at ≡ 0
 HasBases image info (base ∷ bases) at = (0 < at) × ((i : ℕ) (b : InfoBase) → slice_get (base ∷ bases) i ≡ Some b → HasBase image info b (at + 16 * i))
 
--- the four words of a class's record: its number, its flags, how many bases it has, each below 2 ^ 32, and where these stand
+-- the four words of a class's record: its number, its flags, how many bases it has, each below 2 ^ 32, and where these stand, which is
+-- behind the record
 pub record HasInfo (image : Image) (info : ClassId → ℕ) (c : ClassId) (type_info : TypeInfo) (at : ℕ) : Type 0 where
   pub class : image at ≡ Some c.0
   pub flags : image (at + 8) ≡ Some (info_flags type_info)
@@ -136,15 +137,17 @@ pub record HasInfo (image : Image) (info : ClassId → ℕ) (c : ClassId) (type_
   pub count_fits : length (info_bases type_info) < 2 ^ 32
   pub first : ℕ
   pub at_first : image (at + 24) ≡ Some first
+  pub behind : 0 < length (info_bases type_info) → at ≤ first
   pub bases : HasBases image info (info_bases type_info) first
 
 -- the whole image
 
--- where groups by their numbers, the VTTs of classes and the records of classes stand
+-- where groups by their numbers, the VTTs of classes and the records of classes stand, and where the first of these records does
 pub record Addresses : Type 0 where
   pub group : ℕ → ℕ
   pub vtt : ClassId → ℕ
   pub info : ClassId → ℕ
+  pub records : ℕ
 
 abbrev pub whole_name : ClassId → GroupName
 whole_name c = record { complete = c; view = whole_of c }
@@ -181,6 +184,13 @@ pub record AreAbove (a : Addresses) (base : ℕ) : Type 0 where
   pub vtts : (c : ClassId) → base ≤ a.vtt c
   pub infos : (c : ClassId) → base ≤ a.info c
 
+-- the directory, the tables and the VTTs stand below the records of classes
+pub record AreBelow (groups : List Group) (vtts : List (List VttWord)) (infos : List TypeInfo) (a : Addresses) (base : ℕ) : Type 0 where
+  pub group : (i k : ℕ) (group : Group) (word : TableWord) → slice_get groups i ≡ Some group → slice_get (all_words group.tables) k ≡ Some word → a.group i + 8 * k + 8 ≤ a.records
+  pub vtt : (c : ClassId) (words : List VttWord) (k : ℕ) (word : VttWord) → slice_get vtts c.0 ≡ Some words → slice_get words k ≡ Some word → a.vtt c + 8 * k + 8 ≤ a.records
+  pub directory : (c : ClassId) (words : List VttWord) → slice_get vtts c.0 ≡ Some words → base + 16 * c.0 + 16 ≤ a.records
+  pub info : (c : ClassId) (type_info : TypeInfo) → slice_get infos c.0 ≡ Some type_info → a.records ≤ a.info c
+
 -- an image has these groups, and the VTT and the type information of each class, at these addresses, behind its directory
 pub record HasTables (codes : List CodeRow) (groups : List Group) (vtts : List (List VttWord)) (infos : List TypeInfo) (a : Addresses) (base : ℕ) (image : Image) : Type 0 where
   pub each_group : (i : ℕ) (group : Group) → slice_get groups i ≡ Some group → StandsAt image codes a.info group (a.group i)
@@ -189,3 +199,4 @@ pub record HasTables (codes : List CodeRow) (groups : List Group) (vtts : List (
   pub each_info : (c : ClassId) (type_info : TypeInfo) → slice_get infos c.0 ≡ Some type_info → HasInfo image a.info c type_info (a.info c)
   pub directory : (c : ClassId) (words : List VttWord) → slice_get vtts c.0 ≡ Some words → HasDirectory image groups a c words (base + 16 * c.0)
   pub above : AreAbove a base
+  pub below : AreBelow groups vtts infos a base

@@ -4,7 +4,6 @@ use Rattle.std.specs.Prelude.{if◌then◌else◌, Contains, ◌↔◌}
 use Rattle.std.specs.List.{find}
 use Rattle.cxx_hierarchy.specs.declared.records.ClassId.{ClassId}
 use Rattle.cxx_hierarchy.specs.Classes.{Classes}
-use Rattle.cxx_hierarchy.specs.VirtualBases.{HasVirtualBase}
 use Rattle.cxx_hierarchy.specs.Hierarchies.{IsHierarchy}
 use Rattle.cxx_subobject.specs.declared.locations.Hop.{Hop}
 use Rattle.cxx_subobject.specs.declared.locations.Hop.TheVariants.{Inherit, Member as MemberHop}
@@ -71,7 +70,7 @@ chain_stays h rows keeps sound c x s t lt valid inside chain = inside_through h 
 pub chain_place : (h : Classes) (rows : List ClassLayout) → IsHierarchy h → IsSoundLayout h rows → (c : ClassId) (s t : Subobject) → c.0 < length h → IsSubobject h c s → IsInChain (places_of h rows) c s t → (places_of h rows).place c t ≡ (places_of h rows).place c s
 chain_place h rows keeps sound c _ _ lt valid (itself s) = refl
 chain_place h rows keeps sound c _ _ lt valid (further s t u first rest) =
-    chain_place h rows keeps sound c t u lt (primary_valid h rows keeps sound c s t lt valid first) rest ∙ sound.primaries.one_place c s t lt valid first
+    chain_place h rows keeps sound c t u lt (primary_valid h rows keeps sound c s t lt valid first) rest ∙ (sound.each c lt).one_place s t valid first
 
 -- all of the chain of a dynamic subobject is dynamic
 pub chain_dynamic : (h : Classes) (rows : List ClassLayout) → IsHierarchy h → IsSoundLayout h rows → (c d e : ClassId) (s t : Subobject) → c.0 < length h → IsSubobject h c s → class_of s ≡ Some d → IsDynamic h d → IsInChain (places_of h rows) c s t → class_of t ≡ Some e → IsDynamic h e
@@ -186,7 +185,7 @@ above_valid h rows sound c s t lt valid e = by_cases s t valid (primary_cases (p
     by_cases _ _ is (by_direct y d b class primary) = by_path (subobject y.root (y.path ++ b ∷ [])) d b y.root y.path is refl class
     by_cases _ _ is (by_holder y d v class primary held) =
         let has = base_of_shared h c v (shared_base v) is refl in
-        has_preorder h c y (find_has (λ (z : Subobject). is_primary_of (places_of h rows) v (class_of z)) (preorder h c) y (sym (sound.primaries.holder c v lt has) ∙ held))
+        has_preorder h c y (find_has (λ (z : Subobject). is_primary_of (places_of h rows) v (class_of z)) (preorder h c) y (sym ((sound.each c lt).holder v has) ∙ held))
 
 -- no subobject that the test picks stands above this one
 abbrev pub IsTop : Places → (Subobject → Bool) → ClassId → Subobject → Type 0
@@ -361,7 +360,7 @@ heads_apart h rows keeps sound within c d e s t lt closed valid other picked als
     (λ chain. differ (sym (heads_same h rows keeps sound within c t s lt other also closed chain)))
     (share_cases h l c s t (Inherit s ∷ []) (Inherit t ∷ []) shares refl refl)))
     (λ apart. ⊎_elim (λ x. inl (omega (arith, a, b, x))) (λ x. inr (omega (arith, a, b, x))) apart)
-    (sound.pointers.apart c d e (Inherit s ∷ []) (Inherit t ∷ []) lt moves moves_other (to_subobject c d s valid class) (to_subobject c e t other class_other))
+    ((sound.each c lt).pointers_apart d e (Inherit s ∷ []) (Inherit t ∷ []) moves moves_other (to_subobject c d s valid class) (to_subobject c e t other class_other))
 
 -- the test picks what lies in the subobject x
 pub record Picks (h : Classes) (c : ClassId) (x : Subobject) (within : Subobject → Bool) : Type 0 where

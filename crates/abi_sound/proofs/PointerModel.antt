@@ -1,6 +1,6 @@
 -- A small layout with a virtual pointer at 12: `struct N { int n; }; struct V { virtual void f(); int v; }; struct D : N, V {};`,
 -- all aligned to 4. It keeps the laws.
-use Rattle.std.proofs.Common.{◌≡◌, ℕ, zero, suc, ◌+◌, ◌<◌, ◌≤◌, ◌⊎◌, inl, inr, ⊎_elim, Bool, true, false, Some, None, List, [], ◌∷◌, ◌++◌, refl, ap, subst, sym, ◌∙◌, arith}
+use Rattle.std.proofs.Common.{◌≡◌, ℕ, zero, suc, ◌+◌, ◌*◌, ◌<◌, ◌≤◌, ◌⊎◌, inl, inr, ⊎_elim, Bool, true, false, Option, Some, None, List, [], ◌∷◌, ◌++◌, refl, ap, subst, sym, ◌∙◌, arith}
 use Rattle.std.specs.Prelude.{Contains}
 use Rattle.std.specs.List.{slice_get}
 use Rattle.cxx_hierarchy.specs.declared.records.ClassId.{ClassId}
@@ -14,7 +14,7 @@ use Rattle.cxx_hierarchy.specs.declared.records.ValueType.{ValueType}
 use Rattle.cxx_hierarchy.specs.declared.records.ValueType.TheVariants.{Number}
 use Rattle.cxx_hierarchy.specs.declared.records.FieldType.{FieldType}
 use Rattle.cxx_hierarchy.specs.declared.records.FieldType.TheVariants.{Value, Object}
-use Rattle.cxx_hierarchy.specs.Classes.{Class, Classes, bases_in, members_in}
+use Rattle.cxx_hierarchy.specs.Classes.{Class, Classes, bases_in, members_in, width_of_member}
 use Rattle.cxx_hierarchy.specs.Declarations.{elements_of, has_virtual_function}
 use Rattle.cxx_hierarchy.specs.VirtualBases.{IsDirectBase, HasVirtualBase, direct, further}
 use Rattle.cxx_subobject.specs.declared.locations.Hop.{Hop}
@@ -26,11 +26,13 @@ use Rattle.cxx_subobject.specs.Subobjects.{Leads, whole, shared, subobject, whol
 use Rattle.foundation.proofs.Places.{place_of as listed_at}
 use Rattle.abi_primary.specs.declared.Primary.TheVariants.{None as NoPrimary, Direct, Virtual}
 use Rattle.abi_primary.specs.Kinds.{IsDynamic, declares, shares, inherits}
+use Rattle.abi_sound.specs.declared.class_layout.Bits.{Bits}
 use Rattle.abi_sound.specs.declared.class_layout.ClassLayout.{ClassLayout}
 use Rattle.abi_sound.specs.Places.{places_of, size_of_value}
-use Rattle.abi_sound.specs.Locations.{place_at}
+use Rattle.abi_sound.specs.Locations.{place_at, last_member, Span, AreDisjoint, leaf_span}
 use Rattle.abi_sound.specs.Chains.{primary_part, itself, ShareChain, downwards}
-use Rattle.abi_sound.specs.Sound.{Divides, IsFullRow, IsSoundLayout}
+use Rattle.abi_sound.specs.Sound.{Divides, IsAligned, IsFullRow, IsSoundLayout}
+use Rattle.abi_sound.proofs.LeafSpans.{last_element, one_member}
 
 abbrev id : ℕ → ClassId
 id n = record { 0 = n }
@@ -39,7 +41,7 @@ abbrev int : ValueType ClassId
 int = Number Int
 
 abbrev an_int : Member ClassId
-an_int = record { name = []; ty = Value int; count = None; is_public = true; at = 0 }
+an_int = record { name = []; ty = Value int; count = None; width = None; width_at = 0; is_public = true; at = 0 }
 
 abbrev a_function : Function ClassId
 a_function = record { name = []; params = []; ret = Void; is_virtual = true; is_pure = false; at = 0 }
@@ -53,12 +55,15 @@ class_with bases members functions = record { name = []; at = 0; bases = bases; 
 abbrev pub n_v_d : Classes
 n_v_d = class_with [] (an_int ∷ []) [] ∷ class_with [] (an_int ∷ []) (a_function ∷ []) ∷ class_with (base_of 0 ∷ base_of 1 ∷ []) [] [] ∷ []
 
-abbrev row_of : ℕ → List ℕ → List ℕ → ClassLayout
-row_of size bases members = record { size = size; align = 4; dsize = size; nvsize = size; nvalign = 4; primary = NoPrimary; base_places = bases; virtual_bases = []; virtual_places = []; holders = []; member_places = members }
+abbrev int_bits : Bits
+int_bits = record { first = 0; width = 32 }
+
+abbrev row_of : ℕ → List ℕ → List ℕ → List Bits → ClassLayout
+row_of size bases members bits = record { size = size; align = 4; dsize = size; nvsize = size; nvalign = 4; primary = NoPrimary; base_places = bases; virtual_bases = []; virtual_places = []; holders = []; member_places = members; member_bits = bits }
 
 -- N of 4 bytes; V of 12, its pointer first; D of 24: its pointer, N at 8, V at 12
 abbrev pub packed : List ClassLayout
-packed = row_of 4 [] (0 ∷ []) ∷ row_of 12 [] (8 ∷ []) ∷ row_of 24 (8 ∷ 12 ∷ []) [] ∷ []
+packed = row_of 4 [] (0 ∷ []) (int_bits ∷ []) ∷ row_of 12 [] (8 ∷ []) (int_bits ∷ []) ∷ row_of 24 (8 ∷ 12 ∷ []) [] [] ∷ []
 
 -- D's bases are the only edges
 data IsEdge : ClassId → Bool → ClassId → Type 0 where
@@ -345,6 +350,56 @@ object_at c d hops x = ap (at c) x.hops_are ∙ spot_place c x.at d x.place x.sp
 width : (c : ClassId) (hops : List Hop) (type : ValueType ClassId) → IsLeafAt c hops type → size_of_value type ≡ 4
 width c hops type x = ap size_of_value x.type_is
 
+-- the bits of so many bytes
+abbrev bytes : ℕ → ℕ → Span
+bytes place size = record { start = 8 * place; length = 8 * size }
+
+bytes_apart : (a width b other : ℕ) → Apart a width b other → AreDisjoint (bytes a width) (bytes b other)
+bytes_apart a width b other apart = ⊎_elim (λ x. inl (omega (arith, x))) (λ x. inr (omega (arith, x))) apart
+
+int_span : (c : ClassId) (s : Subobject) (d : ClassId) (n : ℕ) → IsSpot c s d n → d.0 < 2 → leaf_span n_v_d (places_of n_v_d packed) c (Inherit s ∷ MemberHop 0 0 ∷ []) ≡ bytes (n + int_offset d.0) 4
+int_span _ _ _ _ whole_n lt = refl
+int_span _ _ _ _ whole_v lt = refl
+int_span _ _ _ _ whole_d lt = absurd (omega arith)
+int_span _ _ _ _ n_in_d lt = refl
+int_span _ _ _ _ v_in_d lt = refl
+
+span_at : (c : ClassId) (hops : List Hop) (type : ValueType ClassId) (x : IsLeafAt c hops type) → leaf_span n_v_d (places_of n_v_d packed) c hops ≡ bytes (x.place + int_offset x.class.0) 4
+span_at c hops type x = ap (leaf_span n_v_d (places_of n_v_d packed) c) x.hops_are ∙ int_span c x.at x.class x.place x.spot x.small
+
+spans_apart : (a b r s : Span) → a ≡ r → b ≡ s → AreDisjoint r s → AreDisjoint a b
+spans_apart a b r s e f apart = subst (λ (k : Span). AreDisjoint k b) (sym e) (subst (AreDisjoint r) (sym f) apart)
+
+-- the `int` is no bit-field
+no_width : (d : ClassId) → d.0 < 2 → width_of_member n_v_d d 0 ≡ None
+no_width d lt = by_number d.0 lt
+  where
+    by_number : (n : ℕ) → n < 2 → width_of_member n_v_d (id n) 0 ≡ None
+    by_number zero lt = refl
+    by_number (suc zero) lt = refl
+    by_number (suc (suc n)) lt = absurd (omega arith)
+
+no_first : (d : ClassId) → d.0 < 2 → (places_of n_v_d packed).first d 0 ≡ 0
+no_first d lt = by_number d.0 lt
+  where
+    by_number : (n : ℕ) → n < 2 → (places_of n_v_d packed).first (id n) 0 ≡ 0
+    by_number zero lt = refl
+    by_number (suc zero) lt = refl
+    by_number (suc (suc n)) lt = absurd (omega arith)
+
+leaf_aligned : (c : ClassId) (hops : List Hop) (type : ValueType ClassId) (d : ClassId) (m : ℕ) → IsLeafAt c hops type → last_member n_v_d (Some c) hops ≡ Some (d, m) → IsAligned (width_of_member n_v_d d m) type (at c hops) ((places_of n_v_d packed).first d m)
+leaf_aligned c hops type d m x last =
+    let known = ap (last_member n_v_d (Some c)) x.hops_are ∙ last_element n_v_d (Some c) x.class x.at 0 0 (class_is c x.at x.class x.place x.spot) in
+    let pair = one_member (last_member n_v_d (Some c) hops) x.class d 0 m known last in
+    let class : x.class ≡ d = pair.0 in
+    let number : 0 ≡ m = pair.1 in
+    subst (λ (q : ClassId). IsAligned (width_of_member n_v_d q m) type (at c hops) ((places_of n_v_d packed).first q m)) class
+    (subst (λ n. IsAligned (width_of_member n_v_d x.class n) type (at c hops) ((places_of n_v_d packed).first x.class n)) number
+    (subst (λ (w : Option ℕ). IsAligned w type (at c hops) ((places_of n_v_d packed).first x.class 0)) (sym (no_width x.class x.small)) (
+      subst (λ w. Divides w (at c hops)) (sym (width c hops type x)) (subst (Divides 4) (sym (leaf_at c hops type x)) (leaf_multiple c x.at x.class x.place x.spot x.small)),
+      no_first x.class x.small,
+    )))
+
 row_full : (n : ℕ) (c : ClassId) (row : ClassLayout) → c.0 ≡ n → slice_get packed n ≡ Some row → IsFullRow n_v_d c row
 row_full n c row e there = let first : id n ≡ c = ap id (sym e) in subst (λ (x : ClassId). IsFullRow n_v_d x row) first (by_number n there)
   where
@@ -352,75 +407,64 @@ row_full n c row e there = let first : id n ≡ c = ap id (sym e) in subst (λ (
     of k x same is = subst (IsFullRow n_v_d (id k)) same is
 
     by_number : (k : ℕ) → slice_get packed k ≡ Some row → IsFullRow n_v_d (id k) row
-    by_number zero f = of 0 (row_of 4 [] (0 ∷ [])) (let same : row_of 4 [] (0 ∷ []) ≡ row = cc in same) (record { each_base = refl; virtuals = refl; each_virtual = refl; each_holder = refl; each_member = refl })
-    by_number (suc zero) f = of 1 (row_of 12 [] (8 ∷ [])) (let same : row_of 12 [] (8 ∷ []) ≡ row = cc in same) (record { each_base = refl; virtuals = refl; each_virtual = refl; each_holder = refl; each_member = refl })
-    by_number (suc (suc zero)) f = of 2 (row_of 24 (8 ∷ 12 ∷ []) []) (let same : row_of 24 (8 ∷ 12 ∷ []) [] ≡ row = cc in same) (record { each_base = refl; virtuals = refl; each_virtual = refl; each_holder = refl; each_member = refl })
+    by_number zero f = of 0 (row_of 4 [] (0 ∷ []) (int_bits ∷ [])) (let same : row_of 4 [] (0 ∷ []) (int_bits ∷ []) ≡ row = cc in same) (record { each_base = refl; virtuals = refl; each_virtual = refl; each_holder = refl; each_member = refl; each_bits = refl })
+    by_number (suc zero) f = of 1 (row_of 12 [] (8 ∷ []) (int_bits ∷ [])) (let same : row_of 12 [] (8 ∷ []) (int_bits ∷ []) ≡ row = cc in same) (record { each_base = refl; virtuals = refl; each_virtual = refl; each_holder = refl; each_member = refl; each_bits = refl })
+    by_number (suc (suc zero)) f = of 2 (row_of 24 (8 ∷ 12 ∷ []) [] []) (let same : row_of 24 (8 ∷ 12 ∷ []) [] [] ≡ row = cc in same) (record { each_base = refl; virtuals = refl; each_virtual = refl; each_holder = refl; each_member = refl; each_bits = refl })
     by_number (suc (suc (suc k))) f = let g : None ≡ Some row = f in cc
 
 -- the layout with a virtual pointer at 12 is sound
 pub pointer_at_twelve : IsSoundLayout n_v_d packed
 pointer_at_twelve = record {
   full = record { one_each = refl; each = λ c row there. row_full c.0 c row refl there };
-  sizes = record {
-    positive = λ c lt. each_class (λ (c : ClassId). 1 ≤ (places_of n_v_d packed).size c) (omega arith) (omega arith) (omega arith) c lt;
-    bounded = λ c lt. each_class (λ (c : ClassId). (places_of n_v_d packed).size c ≤ 1048576) (omega arith) (omega arith) (omega arith) c lt;
-  };
-  leaves = record {
-    inside = λ c type hops lt leads. let x = leaves c hops (Value type) type lt leads refl in let p = leaf_at c hops type x in let w = width c hops type x in let i = leaf_inside c x.at x.class x.place x.spot x.small in omega (arith, p, w, i);
-    multiple = λ c type hops lt leads.
-        let x = leaves c hops (Value type) type lt leads refl in
-        let m = leaf_multiple c x.at x.class x.place x.spot x.small in
-        subst (λ w. Divides w (at c hops)) (sym (width c hops type x)) (subst (Divides 4) (sym (leaf_at c hops type x)) m);
-    apart = λ c type other hops others lt leads also differ.
-        let x = leaves c hops (Value type) type lt leads refl in
-        let y = leaves c others (Value other) other lt also refl in
-        let p = leaf_at c hops type x in
-        let q = leaf_at c others other y in
-        let w = width c hops type x in
-        let v = width c others other y in
-        ⊎_elim (λ a. inl (omega (arith, p, q, w, a))) (λ a. inr (omega (arith, p, q, v, a)))
-        (leaf_apart c x.at x.class x.place c y.at y.class y.place x.spot y.spot refl x.small y.small
-        (λ same. differ (x.hops_are ∙ (ap (λ (s : Subobject). Inherit s ∷ MemberHop 0 0 ∷ []) same ∙ sym y.hops_are))));
-  };
-  subobjects = record {
-    begins_inside = λ c d hops lt leads. let x = objects c d hops (Object d) lt leads refl in let p = object_at c d hops x in let i = begins_inside c x.at d x.place x.spot in omega (arith, p, i);
-    distinct = λ c d hops others lt leads also same.
-        let x = objects c d hops (Object d) lt leads refl in
-        let y = objects c d others (Object d) lt also refl in
-        x.hops_are ∙ (ap (λ (s : Subobject). Inherit s ∷ []) (one_spot c x.at d x.place c y.at d y.place x.spot y.spot refl refl) ∙ sym y.hops_are);
-    base_multiple = λ c d front s lt leads proper.
+  each = λ c lt. record {
+    direct = λ b e. absurd (each_class (λ (c : ClassId). (places_of n_v_d packed).primary c ≡ Direct b → ⊥) (λ g. cc) (λ g. cc) (λ g. cc) c lt e);
+    virtual = λ v e. absurd (each_class (λ (c : ClassId). (places_of n_v_d packed).primary c ≡ Virtual v → ⊥) (λ g. cc) (λ g. cc) (λ g. cc) c lt e);
+    holder = λ v has. absurd (no_virtual c v has);
+    positive = each_class (λ (c : ClassId). 1 ≤ (places_of n_v_d packed).size c) (omega arith) (omega arith) (omega arith) c lt;
+    bounded = each_class (λ (c : ClassId). (places_of n_v_d packed).size c ≤ 1048576) (omega arith) (omega arith) (omega arith) c lt;
+    one_place = λ s t valid e. let x = spot c s lt valid in let g : None ≡ Some t = sym (no_primary c s x.class x.place x.is) ∙ e in cc;
+    aligned = λ type hops d m leads last. leaf_aligned c hops type d m (leaves c hops (Value type) type lt leads refl) last;
+    base_multiple = λ d front s leads proper.
         let x = objects c d (front ++ Inherit s ∷ []) (Object d) lt leads refl in
         subst (Divides ((places_of n_v_d packed).base_align d)) (sym (object_at c d (front ++ Inherit s ∷ []) x)) (base_multiple c x.at d x.place x.spot);
-    object_multiple = λ c d front lt leads.
+    object_multiple = λ d front leads.
         let x = objects c d (front ++ Inherit (whole_of d) ∷ []) (Object d) lt leads refl in
         subst (Divides ((places_of n_v_d packed).align d)) (sym (object_at c d (front ++ Inherit (whole_of d) ∷ []) x)) (object_multiple c x.at d x.place x.spot);
-  };
-  pointers = record {
-    inside = λ c d hops lt dynamic leads. let x = objects c d hops (Object d) lt leads refl in let p = object_at c d hops x in let i = pointer_inside c x.at d x.place x.spot (not_n d dynamic) in omega (arith, p, i);
-    leaf_apart = λ c d type hops others lt dynamic leads also.
+    leaf_inside = λ type hops leads.
+        let x = leaves c hops (Value type) type lt leads refl in
+        let i = leaf_inside c x.at x.class x.place x.spot x.small in
+        subst (λ (s : Span). s.start + s.length ≤ 8 * (places_of n_v_d packed).size c) (sym (span_at c hops type x)) (omega (arith, i));
+    pointer_inside = λ d hops dynamic leads. let x = objects c d hops (Object d) lt leads refl in let p = object_at c d hops x in let i = pointer_inside c x.at d x.place x.spot (not_n d dynamic) in omega (arith, p, i);
+    begins_inside = λ d hops leads. let x = objects c d hops (Object d) lt leads refl in let p = object_at c d hops x in let i = begins_inside c x.at d x.place x.spot in omega (arith, p, i);
+    leaves_apart = λ type other hops others leads also differ.
+        let x = leaves c hops (Value type) type lt leads refl in
+        let y = leaves c others (Value other) other lt also refl in
+        spans_apart (leaf_span n_v_d (places_of n_v_d packed) c hops) (leaf_span n_v_d (places_of n_v_d packed) c others) (bytes (x.place + int_offset x.class.0) 4) (bytes (y.place + int_offset y.class.0) 4)
+        (span_at c hops type x) (span_at c others other y)
+        (bytes_apart (x.place + int_offset x.class.0) 4 (y.place + int_offset y.class.0) 4
+        (leaf_apart c x.at x.class x.place c y.at y.class y.place x.spot y.spot refl x.small y.small
+        (λ same. differ (x.hops_are ∙ (ap (λ (s : Subobject). Inherit s ∷ MemberHop 0 0 ∷ []) same ∙ sym y.hops_are)))));
+    leaf_and_pointer = λ d type hops others dynamic leads also.
         let x = objects c d hops (Object d) lt leads refl in
         let y = leaves c others (Value type) type lt also refl in
-        let p = object_at c d hops x in
-        let q = leaf_at c others type y in
-        let w = width c others type y in
-        ⊎_elim (λ a. inl (omega (arith, p, q, a))) (λ a. inr (omega (arith, p, q, w, a)))
-        (pointer_and_leaf c x.at d x.place c y.at y.class y.place x.spot y.spot refl (not_n d dynamic) y.small);
-    apart = λ c d e hops others lt dynamic moves leads also.
+        spans_apart (bytes (at c hops) 8) (leaf_span n_v_d (places_of n_v_d packed) c others) (bytes x.place 8) (bytes (y.place + int_offset y.class.0) 4)
+        (ap (λ n. bytes n 8) (object_at c d hops x)) (span_at c others type y)
+        (bytes_apart x.place 8 (y.place + int_offset y.class.0) 4
+        (pointer_and_leaf c x.at d x.place c y.at y.class y.place x.spot y.spot refl (not_n d dynamic) y.small));
+    pointers_apart = λ d e hops others dynamic moves leads also.
         let x = objects c d hops (Object d) lt leads refl in
         let y = objects c e others (Object e) lt also refl in
-        let p = object_at c d hops x in
-        let q = object_at c e others y in
         ⊎_elim
         (λ same. inl (subst (λ (a : List Hop). ShareChain n_v_d (places_of n_v_d packed) c a others) (sym x.hops_are)
         (subst (λ (b : List Hop). ShareChain n_v_d (places_of n_v_d packed) c (Inherit x.at ∷ []) b) (ap (λ (s : Subobject). Inherit s ∷ []) same ∙ sym y.hops_are)
         (downwards c x.at x.at (itself x.at)))))
-        (λ apart. inr (⊎_elim (λ a. inl (omega (arith, p, q, a))) (λ a. inr (omega (arith, p, q, a))) apart))
+        (λ apart. inr (spans_apart (bytes (at c hops) 8) (bytes (at c others) 8) (bytes x.place 8) (bytes y.place 8)
+        (ap (λ n. bytes n 8) (object_at c d hops x)) (ap (λ n. bytes n 8) (object_at c e others y))
+        (bytes_apart x.place 8 y.place 8 apart)))
         (pointers c x.at d x.place c y.at e y.place x.spot y.spot refl (not_n d dynamic) (not_n e moves));
-  };
-  primaries = record {
-    direct = λ c b lt e. absurd (each_class (λ (c : ClassId). (places_of n_v_d packed).primary c ≡ Direct b → ⊥) (λ g. cc) (λ g. cc) (λ g. cc) c lt e);
-    virtual = λ c v lt e. absurd (each_class (λ (c : ClassId). (places_of n_v_d packed).primary c ≡ Virtual v → ⊥) (λ g. cc) (λ g. cc) (λ g. cc) c lt e);
-    one_place = λ c s t lt valid e. let x = spot c s lt valid in let g : None ≡ Some t = sym (no_primary c s x.class x.place x.is) ∙ e in cc;
-    holder = λ c v lt has. absurd (no_virtual c v has);
+    distinct = λ d hops others leads also same.
+        let x = objects c d hops (Object d) lt leads refl in
+        let y = objects c d others (Object d) lt also refl in
+        x.hops_are ∙ (ap (λ (s : Subobject). Inherit s ∷ []) (one_spot c x.at d x.place c y.at d y.place x.spot y.spot refl refl) ∙ sym y.hops_are);
   };
 }

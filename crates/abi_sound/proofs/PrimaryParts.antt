@@ -70,7 +70,7 @@ primary_base h rows keeps sound c s t lt valid e = by_cases s t valid (primary_c
 
     by_cases : (x y : Subobject) → IsSubobject h c x → IsPrimaryPart (places_of h rows) c x y → IsPrimaryBase h x y
     by_cases _ _ is (by_direct x d b f p) =
-        let base = sound.primaries.direct d b (within x d is f) p in
+        let base = (sound.each d (within x d is f)).direct b p in
         record {
           of = d;
           of_is = f;
@@ -81,7 +81,7 @@ primary_base h rows keeps sound c s t lt valid e = by_cases s t valid (primary_c
           inside = record { class = d; of_class = f; part = subobject Whole (d ∷ b ∷ []); valid = whole (b ∷ []) (base.0, tt); joined = refl };
         }
     by_cases _ _ is (by_holder x d v f p held) =
-        let base = sound.primaries.virtual d v (within x d is f) p in
+        let base = (sound.each d (within x d is f)).virtual v p in
         record {
           of = d;
           of_is = f;

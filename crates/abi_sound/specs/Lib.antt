@@ -2,4 +2,3 @@ pub mod Places
 pub mod Locations
 pub mod Chains
 pub mod Sound
-pub mod Leaves

@@ -13,16 +13,18 @@ use Rattle.cxx_subobject.specs.declared.Subobject.{Subobject}
 use Rattle.abi_primary.specs.declared.Primary.{Primary}
 use Rattle.abi_primary.specs.declared.Primary.TheVariants.{None as NoPrimary}
 use Rattle.abi_sound.specs.declared.class_layout.ClassLayout.{ClassLayout}
+use Rattle.abi_sound.specs.declared.class_layout.Bits.{Bits}
 
 -- the size of a class, its alignment, its alignment as a base, the place of a subobject in an object of the class,
--- and the place of a member in an object of the class that declares it; the primary base of a class, and the subobject
--- of a class that holds a virtual base of it
+-- and the place of a member in an object of the class that declares it, with the first bit of its value in the byte there; the
+-- primary base of a class, and the subobject of a class that holds a virtual base of it
 pub record Places : Type 0 where
   pub size : ClassId → ℕ
   pub align : ClassId → ℕ
   pub base_align : ClassId → ℕ
   pub place : ClassId → Subobject → ℕ
   pub member : ClassId → ℕ → ℕ
+  pub first : ClassId → ℕ → ℕ
   pub primary : ClassId → Primary
   pub holder : ClassId → ClassId → Option Subobject
 
@@ -114,6 +116,18 @@ place_of h rows c s = root_place rows c s.root + place_from h rows s.path
 abbrev pub member_place : List ClassLayout → ClassId → ℕ → ℕ
 member_place rows d m = number_in (slice_get (members_in (slice_get rows d.0)) m)
 
+abbrev pub bits_in : Option ClassLayout → List Bits
+bits_in None = []
+bits_in (Some row) = row.member_bits
+
+abbrev pub first_in : Option Bits → ℕ
+first_in None = 0
+first_in (Some bits) = bits.first
+
+-- the first bit of the value of a member, in the byte at its place
+abbrev pub first_bit : List ClassLayout → ClassId → ℕ → ℕ
+first_bit rows d m = first_in (slice_get (bits_in (slice_get rows d.0)) m)
+
 -- the places that rows give
 abbrev pub places_of : Classes → List ClassLayout → Places
 places_of h rows = record {
@@ -122,6 +136,7 @@ places_of h rows = record {
   base_align = λ c. nvalign_in (slice_get rows c.0);
   place = λ c s. place_of h rows c s;
   member = λ d m. member_place rows d m;
+  first = λ d m. first_bit rows d m;
   primary = λ c. primary_in (slice_get rows c.0);
   holder = λ c v. holder_in (slice_get rows c.0) v;
 }

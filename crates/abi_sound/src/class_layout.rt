@@ -8,6 +8,17 @@ use foundation::Sequence;
 /// Places in bytes.
 pub type PlaceList = Sequence<u32>;
 
+/// Which bits of a member hold its value, from the bit `first` of its first byte on, the lowest bit first: in a bit-field as many as
+/// its width, and in any other member all of its bytes, from bit 0 on.
+#[derive(Clone, Copy, Debug, PartialEq, Eq)]
+pub struct Bits {
+    pub first: u8,
+    pub width: u32,
+}
+
+/// The bits of the members of a class.
+pub type BitList = Sequence<Bits>;
+
 /// Virtual bases of a class.
 pub type ClassList = Sequence<ClassId>;
 
@@ -17,7 +28,7 @@ pub type HolderList = Sequence<Option<Subobject>>;
 /// The layout of one class. All numbers are bytes.
 ///
 /// `dsize` is the size without tail padding, `nvsize` and `nvalign` are the size and alignment of the part
-/// without virtual bases. `base_places` follows the direct non-virtual bases, `member_places` the members.
+/// without virtual bases. `base_places` follows the direct non-virtual bases, `member_places` and `member_bits` the members.
 /// `virtual_bases` has the virtual bases in preorder, and `virtual_places` and `holders` follow them.
 #[derive(Debug, Drop)]
 pub struct ClassLayout {
@@ -32,4 +43,5 @@ pub struct ClassLayout {
     pub virtual_places: PlaceList,
     pub holders: HolderList,
     pub member_places: PlaceList,
+    pub member_bits: BitList,
 }

@@ -2,17 +2,17 @@
 //!
 //! This crate owns the record of a class's layout (`ClassLayout`), where things lie by the rows of a layout (`Places`,
 //! `Locations`), which subobjects share a virtual pointer (`Chains`), and the laws of any layout, whatever rules made it
-//! (`IsSoundLayout`): leaves and virtual pointers are disjoint and lie inside, subobjects of one class lie at different
-//! places, all lie aligned, and a virtual base that is held lies at its holder.
+//! (`IsSoundLayout`, class by class `IsSoundClass`): leaves and virtual pointers have disjoint bits and lie inside, subobjects
+//! of one class lie at different places, all but bit-fields lie aligned, and a virtual base that is held lies at its holder.
 //!
 //! The layers above may rely on the trait `SoundLayout` and its laws alone: sizes of classes, and places of subobjects
-//! in their complete object and of members in their class, in bytes.
+//! in their complete object and of members in their class, in bytes, with the first bit of a member in the byte there.
 #![tactic(auto)]
 
 pub mod class_layout;
 pub mod places;
 pub mod sound_layout;
 
-pub use crate::class_layout::{ClassLayout, ClassList, HolderList, PlaceList};
-pub use crate::places::member_place;
+pub use crate::class_layout::{BitList, Bits, ClassLayout, ClassList, HolderList, PlaceList};
+pub use crate::places::{first_bit, member_place};
 pub use crate::sound_layout::SoundLayout;

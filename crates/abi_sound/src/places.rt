@@ -5,9 +5,9 @@ ghost use Rattle.std.specs.Option.{option_copied};
 ghost use Rattle.cxx_hierarchy.specs.declared.records.Base.{Base};
 ghost use Rattle.cxx_hierarchy.specs.declared.records.ClassId.{ClassId};
 ghost use Rattle.cxx_hierarchy.specs.Declarations.{is_plain_base};
-ghost use Rattle.abi_sound.specs.Places.{base_place, number_in, place_along, nth_place, place_from, nth_holder, holder_in, root_place_in, virtual_place_in, member_place};
+ghost use Rattle.abi_sound.specs.Places.{base_place, number_in, place_along, nth_place, place_from, nth_holder, holder_in, root_place_in, virtual_place_in, member_place, first_in, first_bit};
 
-use crate::class_layout::ClassLayout;
+use crate::class_layout::{Bits, ClassLayout};
 use crate::sound_layout::SoundLayout;
 use cxx_hierarchy::{Base, ClassId, Hierarchy};
 use cxx_subobject::{Root, Subobject};
@@ -28,6 +28,16 @@ fn place_at(places: &[u32], n: usize) -> u32
 {
     match places.get(n) {
         Some(place) => *place,
+        None => 0,
+    }
+}
+
+/// The first bit of a number, 0 past the last one.
+fn first_at(bits: &[Bits], n: usize) -> u8
+    ensures { result ≡ first_in (slice_get bits.now n) }
+{
+    match bits.get(n) {
+        Some(bits) => bits.first,
         None => 0,
     }
 }
@@ -131,4 +141,13 @@ pub fn member_place<L: SoundLayout>(layout: &L, d: ClassId, m: u32) -> u32
     ensures { result ≡ member_place (L.rows layout.now) d m }
 {
     place_at(layout.layout(d).member_places.as_slice(), m as usize)
+}
+
+/// The first bit of the value of a member, in the byte at its place: 0 where the member is no bit-field, and where there is no such
+/// member. It takes no memory.
+pub fn first_bit<L: SoundLayout>(layout: &L, d: ClassId, m: u32) -> u8
+    requires { d.0 < length (L.rows layout.now) }
+    ensures { result ≡ first_bit (L.rows layout.now) d m }
+{
+    first_at(layout.layout(d).member_bits.as_slice(), m as usize)
 }

@@ -23,7 +23,7 @@ use Rattle.abi_slots.proofs.Bases.{item_preorder, item_virtual}
 use Rattle.abi_slots.proofs.Chains.{same_some, down_valid}
 use Rattle.abi_slots.proofs.Heads.{test_dynamic}
 use Rattle.abi_vtt.specs.Vtts.{Item as VttItem, item, has_virtual, class_has_virtual, is_built_base, built_bases, is_proper_at, ends_in_primary, needs_word, words_of_bases, below, sub_items, shared_items, items, sub_views, shared_views, views}
-use Rattle.abi_count.specs.Counts.{group_views}
+use Rattle.abi_tables.specs.Counts.{group_views}
 use Rattle.abi_tables.specs.Tables.{class_items}
 use Rattle.abi_vtt.proofs.MarkLemmas.{some_has}
 use Rattle.abi_vtt.proofs.ValidViews.{built_edge, built_virtual}

@@ -16,7 +16,7 @@ use Rattle.abi_slots.proofs.Heads.{part_item, some_head}
 use Rattle.abi_slots.proofs.Settings.{setting_of}
 use Rattle.abi_vtt.specs.Vtts.{Item as VttItem, IsVttWord}
 use Rattle.abi_rtti.specs.TypeInfos.{type_info}
-use Rattle.abi_count.specs.Counts.{group_views}
+use Rattle.abi_tables.specs.Counts.{group_views}
 use Rattle.abi_tables.specs.declared.tables.ClassTables.{ClassTables}
 use Rattle.abi_tables.specs.Tables.{IsNamed, group_name, names_of, class_items, AreClassTables}
 use Rattle.abi_tables.proofs.Along.{some_along}

@@ -12,7 +12,7 @@ use Rattle.abi_sound.specs.Places.{Places}
 use Rattle.abi_slots.specs.declared.words.Group.{Group}
 use Rattle.abi_slots.specs.declared.words.GroupName.{GroupName}
 use Rattle.abi_slots.specs.Groups.{GoAlong, IsGroup}
-use Rattle.abi_count.specs.Counts.{group_views}
+use Rattle.abi_tables.specs.Counts.{group_views}
 use Rattle.abi_tables.specs.Tables.{group_name, IsNamed, names_of, names_to, AreGroups}
 use Rattle.abi_tables.specs.invariants.Growing.{Grows}
 use Rattle.abi_tables.proofs.GroupViews.{IsDynamicPart, group_part, part_class}

@@ -9,7 +9,7 @@ use Rattle.abi_slots.specs.declared.words.GroupName.{GroupName}
 use Rattle.abi_slots.specs.Groups.{GoAlong, IsGroup}
 use Rattle.abi_vtt.specs.Vtts.{Item, has_virtual, items, IsVttWord}
 use Rattle.abi_rtti.specs.TypeInfos.{type_info}
-use Rattle.abi_count.specs.Counts.{group_views}
+use Rattle.abi_tables.specs.Counts.{group_views}
 use Rattle.abi_tables.specs.declared.tables.ClassTables.{ClassTables}
 
 -- the name of the group of a view

@@ -4,11 +4,11 @@ ghost use Rattle.std.specs.Prelude.{◌≡◌, ◌≤◌, ◌<◌, ◌⊎◌, If
 ghost use Rattle.cxx_overrider.specs.Overriders.{AreOverriders};
 ghost use Rattle.abi_sound.specs.Places.{places_of};
 ghost use Rattle.abi_slots.specs.Slots.{AreSlots};
-ghost use Rattle.abi_count.specs.Counts.{all_words, most_words};
+ghost use Rattle.abi_tables.specs.Counts.{all_words, most_words};
 ghost use Rattle.abi_tables.specs.Tables.{AreGroups};
 
+use crate::check_words;
 use crate::group_list::push_groups;
-use abi_count::check_words;
 use abi_slots::{GroupList, Slots};
 use abi_sound::SoundLayout;
 use cxx_hierarchy::{ClassId, Hierarchy, LimitNo, Stop};

@@ -7,7 +7,7 @@ ghost use Rattle.abi_slots.specs.Slots.{AreSlots};
 ghost use Rattle.abi_tables.specs.Tables.{IsNamed, group_name, names_of};
 ghost use Rattle.abi_tables.specs.invariants.Growing.{Grows};
 
-use abi_count::group_views;
+use crate::group_views;
 use abi_slots::{GroupList, GroupName, Slots};
 use abi_sound::SoundLayout;
 use abi_vtable::group;

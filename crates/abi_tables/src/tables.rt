@@ -9,7 +9,7 @@ ghost use Rattle.abi_vtt.specs.Vtts.{IsVttWord};
 ghost use Rattle.abi_tables.specs.Tables.{AreClassTables, class_items};
 
 use crate::group_list::push_groups;
-use abi_count::has_virtual;
+use crate::has_virtual;
 use abi_rtti::type_info;
 use abi_slots::{GroupList, Slots, TypeInfo, VttList};
 use abi_sound::SoundLayout;

@@ -5,7 +5,8 @@
 //! the entry's function returns. Each adjustment is a constant, or a constant and a word of a table.
 //!
 //! This crate owns no definition: `this_adjust` and `return_adjust` are those of abi_slots, and `adjustments_lead` says that
-//! they lead to the target's place. The layer above may rely on: None comes exactly where nothing is to be added.
+//! they lead to the target's place. The layer above may rely on: None comes exactly where no word of a table is
+//! given and nothing is to be added.
 #![tactic(auto)]
 
 pub mod adjust;

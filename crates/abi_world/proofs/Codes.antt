@@ -19,9 +19,9 @@ use Rattle.abi_slots.specs.declared.words.CodeKind.TheVariants.{Plain, Complete,
 use Rattle.abi_slots.specs.CodeRows.{code_of, block_kind}
 use Rattle.abi_slots.specs.Listing.{kinds_in}
 use Rattle.abi_slots.proofs.Lists.{Item, item_none, item_split}
-use Rattle.abi_ops.specs.Routines.{IsRoutine, function_of, has_body, kind_of}
-use Rattle.abi_ops.specs.Setups.{Setup, Routine, FunctionCode, PlanCode}
-use Rattle.abi_ops.specs.declared.routines.Course.TheVariants.{Destroys, Deletes}
+use Rattle.code_ops.specs.Routines.{IsRoutine, function_of, has_body, kind_of}
+use Rattle.code_ops.specs.Setups.{Setup, Routine, FunctionCode, PlanCode}
+use Rattle.code_ops.specs.declared.routines.Course.TheVariants.{Destroys, Deletes}
 use Rattle.abi_world.specs.Made.{AreNumbered}
 
 module _ (x : Setup) (codes : List CodeRow) (typed : IsTypedProgram x.h x.program) (numbered : AreNumbered x codes) where

@@ -33,7 +33,7 @@ use Rattle.abi_slots.proofs.Lists.{Item}
 use Rattle.abi_slots.proofs.WordPlaces.{reversed_at}
 use Rattle.abi_vtable.proofs.Parts.{class_known}
 use Rattle.abi_tables.specs.Tables.{AreGroups, names_to}
-use Rattle.abi_ops.specs.Setups.{Setup, places}
+use Rattle.code_ops.specs.Setups.{Setup, places}
 use Rattle.abi_image.specs.Conditions.{HasCode, IsKnownWord, IsKnownTable, AreKnownTables, AreKnownGroups}
 use Rattle.abi_world.specs.Made.{AreNumbered}
 use Rattle.abi_world.proofs.Codes.{code_there}

@@ -21,9 +21,9 @@ use Rattle.abi_slots.specs.Groups.{GoAlong, IsGroup, view_of}
 use Rattle.abi_slots.specs.Views.{View, heads, is_dynamic}
 use Rattle.abi_slots.proofs.WordPlaces.{partner}
 use Rattle.abi_vtt.specs.Vtts.{Item, item, items, has_virtual, built_bases, below, needs_word, sub_items, shared_items, sub_views, shared_views, views, words_of_bases, IsVttWord}
-use Rattle.abi_count.specs.Counts.{group_views}
+use Rattle.abi_tables.specs.Counts.{group_views}
 use Rattle.abi_tables.specs.Tables.{AreGroups, IsNamed, group_name, names_to, class_items}
-use Rattle.abi_plans.proofs.Names.{has_names}
+use Rattle.agree_events.proofs.Names.{has_names}
 use Rattle.abi_slots.specs.declared.words.TypeInfo.{TypeInfo}
 use Rattle.abi_image.specs.Conditions.{HasTable, NameTables, AllNameTables}
 use Rattle.abi_world.specs.Made.{AreAllTables}

@@ -11,9 +11,9 @@ use Rattle.abi_sound.specs.Sound.{IsSoundLayout}
 use Rattle.byte_code.specs.declared.code.Code.{Code}
 use Rattle.byte_code.specs.declared.code.ImageBytes.{ImageBytes}
 use Rattle.abi_slots.specs.declared.code_numbers.CodeRow.{CodeRow}
-use Rattle.abi_ops.specs.Setups.{Setup, places}
-use Rattle.abi_lower.specs.Lowered.{IsLowered}
-use Rattle.abi_stands.specs.Worlds.{World}
+use Rattle.code_ops.specs.Setups.{Setup, places}
+use Rattle.code_blocks.specs.Lowered.{IsLowered}
+use Rattle.agree_relation.specs.Worlds.{World}
 use Rattle.abi_world.specs.Made.{AreNumbered, HasImage}
 use Rattle.abi_world.specs.Worlds.{HasWorld}
 

@@ -15,8 +15,8 @@ use Rattle.abi_rtti.specs.TypeInfos.{type_info}
 use Rattle.abi_vtt.specs.Vtts.{IsVttWord}
 use Rattle.cxx_overrider.specs.declared.FunctionId.{FunctionId}
 use Rattle.abi_slots.specs.CodeRows.{code_of}
-use Rattle.abi_ops.specs.Routines.{IsRoutine, function_of, kind_of}
-use Rattle.abi_ops.specs.Setups.{Setup, Routine}
+use Rattle.code_ops.specs.Routines.{IsRoutine, function_of, kind_of}
+use Rattle.code_ops.specs.Setups.{Setup, Routine}
 use Rattle.abi_tables.specs.Tables.{IsNamed, names_to, class_items}
 
 -- the tables of the first n classes, in their order

@@ -4,9 +4,9 @@ use Rattle.byte_code.specs.declared.code.Code.{Code}
 use Rattle.byte_code.specs.declared.code.ImageBytes.{ImageBytes}
 use Rattle.byte_machine.specs.Running.{Fixed}
 use Rattle.byte_machine.specs.Turn.{fixed_of}
-use Rattle.abi_ops.specs.Setups.{Setup}
+use Rattle.code_ops.specs.Setups.{Setup}
 use Rattle.abi_slots.specs.declared.code_numbers.CodeRow.{CodeRow}
-use Rattle.abi_stands.specs.Worlds.{World, IsWorld, fixed}
+use Rattle.agree_relation.specs.Worlds.{World, IsWorld, fixed}
 
 -- the world of a program, with this code and these numbers of its functions, and what no op of its machine changes
 pub record IsWorldOf (x : Setup) (code : Code) (numbers : List CodeRow) (f : Fixed) (w : World) : Type 0 where

@@ -5,7 +5,7 @@ ghost use Rattle.cxx_overrider.specs.Overriders.{AreOverriders};
 ghost use Rattle.cxx_program.specs.Typed.{IsTypedProgram};
 ghost use Rattle.abi_sound.specs.Places.{places_of};
 ghost use Rattle.abi_slots.specs.Slots.{AreSlots};
-ghost use Rattle.abi_ops.specs.Setups.{setup};
+ghost use Rattle.code_ops.specs.Setups.{setup};
 ghost use Rattle.abi_world.specs.Made.{AreNumbered, HasImage};
 
 use crate::tables::program_tables;

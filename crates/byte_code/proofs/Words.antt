@@ -5,22 +5,27 @@ use Rattle.std.proofs.lemmas.Bool.Decides.{nat_tests}
 use Rattle.std.proofs.Math.Nat.{mod-eq_of_lt, div-add-mod, mod-lt, mul-pos, div-lt_iff_lt-mul}
 use Rattle.std.proofs.lemmas.Nat.{mod-mul-add, pow-add}
 use Rattle.byte_code.specs.declared.width.Width.{Width}
-use Rattle.byte_code.specs.Numbers.{signed_of, low_of, word_of, number_of, extended, IsInBytes, IsInRange}
-use Rattle.byte_code.proofs.Pow.{pow_pos}
+use Rattle.byte_code.specs.declared.width.BitWidth.{BitWidth}
+use Rattle.byte_code.specs.Numbers.{signed_in, low_in, IsWithin, signed_of, low_of, word_of, number_of, extended, IsInBytes, IsInRange, low_bits, number_of_bits, extended_bits, IsInBits}
+use Rattle.byte_code.proofs.Pow.{pow_pos, bit_pos}
 
--- the low bytes of a number in range read back as it
-pub signed_of-low_of : (n : ℕ) (signed : Bool) (number : ℤ) → IsInBytes n signed number → signed_of n signed (low_of n number) ≡ number
-signed_of-low_of n false (pos a) fits = ap pos (mod-eq_of_lt fits)
-signed_of-low_of n false (negsuc a) fits = absurd fits
-signed_of-low_of n true (pos a) fits =
-    let same : a % 256 ^ n ≡ a = mod-eq_of_lt (omega arith) in
-    let test : nat_lt (2 * a) (256 ^ n) ≡ true = grind (arith, nat_tests) in
+-- a number modulo a range reads back as it, where it is within the range
+signed_in-low_in : (range : ℕ) (signed : Bool) (number : ℤ) → IsWithin range signed number → signed_in range signed (low_in range number) ≡ number
+signed_in-low_in range false (pos a) fits = ap pos (mod-eq_of_lt fits)
+signed_in-low_in range false (negsuc a) fits = absurd fits
+signed_in-low_in range true (pos a) fits =
+    let same : a % range ≡ a = mod-eq_of_lt (omega arith) in
+    let test : nat_lt (2 * a) range ≡ true = grind (arith, nat_tests) in
     rw (same, test) refl
-signed_of-low_of n true (negsuc a) fits =
-    let same : a % 256 ^ n ≡ a = mod-eq_of_lt (omega arith) in
-    let back : 256 ^ n - 1 - a + (a + 1) ≡ 256 ^ n = omega arith in
-    let test : nat_lt (2 * (256 ^ n - 1 - a)) (256 ^ n) ≡ false = grind (arith, nat_tests) in
+signed_in-low_in range true (negsuc a) fits =
+    let same : a % range ≡ a = mod-eq_of_lt (omega arith) in
+    let back : range - 1 - a + (a + 1) ≡ range = omega arith in
+    let test : nat_lt (2 * (range - 1 - a)) range ≡ false = grind (arith, nat_tests) in
     rw (same, test) (omega (arith, ints))
+
+-- so do the low bytes of a number in range
+pub signed_of-low_of : (n : ℕ) (signed : Bool) (number : ℤ) → IsInBytes n signed number → signed_of n signed (low_of n number) ≡ number
+signed_of-low_of n signed number fits = signed_in-low_in (256 ^ n) signed number fits
 
 -- a remainder by a multiple keeps the remainder
 mod_of_multiple : (k m a : ℕ) → 0 < m → 0 < k → a % (k * m) % m ≡ a % m
@@ -64,6 +69,26 @@ number_of-word_of width number small fits =
 -- loaded bytes of a number in range are extended to its word
 pub extended-low_of : (width : Width) (number : ℤ) → IsInRange width number → extended width (low_of width.bytes number) ≡ word_of number
 extended-low_of width number fits = ap word_of (signed_of-low_of width.bytes width.signed number fits)
+
+-- 2 ^ 64 is a multiple of the range of each number of bits
+bits_split : (n : ℕ) → n ≤ 64 → 2 ^ (64 - n) * 2 ^ n ≡ 2 ^ 64
+bits_split n small = let e : 64 - n + n ≡ 64 = omega arith in sym (pow-add 2 (64 - n) n) ∙ ap (λ k. 2 ^ k) e
+
+-- the low bits of a number's word are its low bits
+pub word_of-low_bits : (n : ℕ) (number : ℤ) → n ≤ 64 → word_of number % 2 ^ n ≡ low_bits n number
+word_of-low_bits n (pos a) small =
+    subst (λ w. a % w % 2 ^ n ≡ a % 2 ^ n) (bits_split n small) (mod_of_multiple (2 ^ (64 - n)) (2 ^ n) a (bit_pos n) (bit_pos (64 - n)))
+word_of-low_bits n (negsuc a) small =
+    subst (λ w. (w - 1 - a % w) % 2 ^ n ≡ 2 ^ n - 1 - a % 2 ^ n) (bits_split n small) (rest_of_multiple (2 ^ (64 - n)) (2 ^ n) a (bit_pos n) (bit_pos (64 - n)))
+
+-- the low bits of a word read as the number in range that it stands for
+pub number_of_bits-word_of : (width : BitWidth) (number : ℤ) → width.bits ≤ 64 → IsInBits width number → number_of_bits width (word_of number) ≡ number
+number_of_bits-word_of width number small fits =
+    ap (λ low. signed_in (2 ^ width.bits) width.signed low) (word_of-low_bits width.bits number small) ∙ signed_in-low_in (2 ^ width.bits) width.signed number fits
+
+-- loaded bits of a number in range are extended to its word
+pub extended-low_bits : (width : BitWidth) (number : ℤ) → IsInBits width number → extended_bits width (low_bits width.bits number) ≡ word_of number
+extended-low_bits width number fits = ap word_of (signed_in-low_in (2 ^ width.bits) width.signed number fits)
 
 -- a number's word fits 64 bits
 pub word_of-fits : (number : ℤ) → word_of number < 2 ^ 64

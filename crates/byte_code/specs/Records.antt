@@ -1,5 +1,5 @@
 -- The records of an image: entries of virtual tables, their thunks, and type information (Itanium C++ ABI 2.5.2, 2.9.5).
-use Rattle.std.specs.Prelude.{◌≡◌, ℕ, zero, suc, ◌+◌, ◌<◌, ◌^◌, true, Option, Some, None, ℤ}
+use Rattle.std.specs.Prelude.{◌≡◌, ℕ, zero, suc, ◌+◌, ◌*◌, ◌<◌, ◌≤◌, ◌^◌, ◌⊎◌, true, Option, Some, None, ℤ, List, length, Contains}
 use Rattle.byte_code.specs.Numbers.{signed_of}
 use Rattle.byte_code.specs.declared.image.EntryRecord.{EntryRecord}
 use Rattle.byte_code.specs.declared.image.InfoRecord.{InfoRecord}
@@ -46,3 +46,18 @@ pub record IsThunkAt (image : ℕ → Option ℕ) (at : ℕ) (thunk : ThunkRecor
   pub this_vcall : HasSigned image (at + 8) thunk.this_vcall
   pub ret_vbase : HasSigned image (at + 16) thunk.ret_vbase
   pub ret_add : HasSigned image (at + 24) thunk.ret_add
+
+-- the record of a class stands there, the classes of its bases have theirs at addresses of the list, and none of the records of its
+-- bases has a byte of the word at an address
+pub record IsClearOf (image : ℕ → Option ℕ) (infos : List ℕ) (at info_at : ℕ) : Type 0 where
+  pub info : InfoRecord
+  pub there : IsInfoAt image info_at info
+  pub bases : (i : ℕ) → i < info.bases → (base : BaseRecord) × IsBaseAt image (info.first + 16 * i) base × Contains infos base.info
+  pub apart : (i : ℕ) → i < info.bases → (at + 8 ≤ info.first + 16 * i) ⊎ (info.first + 16 * i + 16 ≤ at)
+
+-- a word of the directory, of a table or of a VTT: no record of a base has a byte of it, where the records of classes stand at the
+-- addresses of a list
+pub record IsTableWord (image : ℕ → Option ℕ) (at : ℕ) : Type 0 where
+  pub infos : List ℕ
+  pub some : 0 < length infos
+  pub clear : (info_at : ℕ) → Contains infos info_at → IsClearOf image infos at info_at

@@ -1,7 +1,7 @@
 //! What stands in an image: words, entries of virtual tables with their thunks, and type information.
 
 ghost use Rattle.std.specs.Prelude.{◌≡◌, ◌<◌, ◌^◌, ◌+◌, ℕ, Some, true};
-ghost use Rattle.byte_code.specs.Numbers.{signed_of};
+ghost use Rattle.byte_code.specs.Numbers.{signed_of, word_of};
 ghost use Rattle.byte_code.specs.Images.{number_at, word_at};
 ghost use Rattle.byte_code.specs.Records.{IsEntryAt, IsInfoAt, IsBaseAt, IsThunkAt, not_zero};
 ghost use Rattle.byte_code.specs.declared.image.EntryRecord.{EntryRecord};
@@ -63,7 +63,8 @@ fn number_at(bytes: &[u8], at: u128) -> Option<u64>
 
 /// The signed number of a word.
 fn signed(word: u64) -> i64
-    ensures { result ≡ signed_of 8 true word }
+    ensures number { result ≡ signed_of 8 true word }
+    ensures word { word_of result ≡ word }
 {
     if word < 0x8000_0000_0000_0000 {
         word as i64
@@ -125,7 +126,8 @@ impl ImageBytes {
 
     /// The word at an address, read as two's complement; 0 outside of the image.
     pub fn word(&self, at: u64) -> i64
-        ensures { (w : ℕ) → word_at self.now at ≡ Some w → result ≡ signed_of 8 true w }
+        ensures number { (w : ℕ) → word_at self.now at ≡ Some w → result ≡ signed_of 8 true w }
+        ensures word { (w : ℕ) → word_at self.now at ≡ Some w → word_of result ≡ w }
     {
         signed(self.number_or_zero(at, 0))
     }

@@ -1,6 +1,6 @@
 //! The kinds of op.
 
-use crate::width::Width;
+use crate::width::{BitWidth, Width};
 use foundation::Sequence;
 
 /// What an `Arith` op computes: a comparison gives 1 where it holds, else 0.
@@ -22,6 +22,8 @@ pub enum NumberKind {
     Truth,
     /// The number that its low bytes stand for.
     Bytes(Width),
+    /// The number that its low bits stand for.
+    Bits(BitWidth),
 }
 
 /// How a `Print` op reads its register.
@@ -87,6 +89,13 @@ pub enum Check {
         base: u32,
         offset: u32,
         width: Width,
+    },
+    /// 5: a bit of the leaf is unset that stands from the bit `first` on of the byte at the address in `base` plus `offset`.
+    SetBits {
+        base: u32,
+        offset: u32,
+        first: u8,
+        width: BitWidth,
     },
     /// 6: the entry of this number in the table of the address has no code.
     HasCode {
@@ -276,6 +285,32 @@ pub enum Op {
         offset: u32,
         bytes: u8,
     },
+    /// Puts the bits from the bit `first` on of the byte at the address in `base` plus `offset` into a register, the lowest first; a
+    /// signed width is sign-extended.
+    LoadBits {
+        to: u32,
+        base: u32,
+        offset: u32,
+        first: u8,
+        width: BitWidth,
+    },
+    /// Stores the low bits of a register there, and changes no other bit.
+    StoreBits {
+        from: u32,
+        base: u32,
+        offset: u32,
+        first: u8,
+        width: BitWidth,
+    },
+    /// Gives so many bits, from the bit `first` on of the byte at the address in `to` plus `offset`, the values and the set state of
+    /// those at the address in `from` plus `offset`.
+    CopyBits {
+        to: u32,
+        from: u32,
+        offset: u32,
+        first: u8,
+        bits: u8,
+    },
     /// Computes a word from two, read in a width.
     Arith {
         kind: ArithKind,
@@ -295,12 +330,14 @@ pub enum Op {
         base: u32,
     },
     /// Puts the answer of a dynamic_cast of the subobject of `class` at the address in `base` to the class `target` into a
-    /// register; the address 0 stays 0, and the unset state is passed on.
+    /// register; the address 0 stays 0, and the unset state is passed on. The hint is that of `__dynamic_cast` (Itanium C++ ABI
+    /// 2.9.7): where it is at least 0, each part of the target class has its only part of `class` so many bytes behind itself.
     Cast {
         to: u32,
         base: u32,
         class: u32,
         target: u32,
+        hint: i64,
     },
     /// Tells what a register has.
     Print {

@@ -1,12 +1,19 @@
-//! How many bytes a number takes, and how they are read.
+//! How many bytes or bits a number takes, and how they are read.
 
 ghost use Rattle.std.specs.Prelude.{◌≡◌, ◌<◌, ◌≤◌, ◌^◌};
-ghost use Rattle.byte_code.specs.Numbers.{number_of, extended};
+ghost use Rattle.byte_code.specs.Numbers.{number_of, extended, extended_bits};
 
 /// A width of 1, 2, 4 or 8 bytes, read as two's complement or as an unsigned number.
 #[derive(Clone, Copy, Debug, PartialEq, Eq)]
 pub struct Width {
     pub bytes: u8,
+    pub signed: bool,
+}
+
+/// A width of 1 to 64 bits, read as two's complement or as an unsigned number.
+#[derive(Clone, Copy, Debug, PartialEq, Eq)]
+pub struct BitWidth {
+    pub bits: u8,
     pub signed: bool,
 }
 
@@ -53,6 +60,23 @@ impl Width {
         ensures { result ≡ extended self low }
     {
         let range = range_of(self.bytes);
+        if self.signed && 2 * (low as u128) >= range {
+            (low as u128 + (0x1_0000_0000_0000_0000 - range)) as u64
+        } else {
+            low
+        }
+    }
+}
+
+impl BitWidth {
+    /// The word of the number that these bits stand for: a signed width is sign-extended to 64 bits.
+    #[tactic(auto, using(crate::proofs::Pow::bits_word, crate::proofs::Pow::bit_pos))]
+    pub fn extend(self, low: u64) -> u64
+        requires width { self.bits ≤ 64 }
+        requires fits { low < 2 ^ self.bits }
+        ensures { result ≡ extended_bits self low }
+    {
+        let range = 1u128 << self.bits;
         if self.signed && 2 * (low as u128) >= range {
             (low as u128 + (0x1_0000_0000_0000_0000 - range)) as u64
         } else {

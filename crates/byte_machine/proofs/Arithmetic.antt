@@ -8,7 +8,8 @@ use Rattle.std.proofs.lemmas.Bool.Decides.{nat_tests}
 use Rattle.std.proofs.Math.IntN.{negsuc-*ℤ-pos, pos-*ℤ-negsuc}
 use Rattle.std.proofs.Math.Nat.{mod-lt, mod-eq_of_lt, div-add-mod, add-mod-mod, mod-add-mod, mul-add-mod_self_left, mul_comm, pow-le-pow_right}
 use Rattle.byte_code.specs.declared.width.Width.{Width}
-use Rattle.byte_code.specs.Numbers.{signed_of, low_of, word_of, number_of, extended}
+use Rattle.byte_code.specs.declared.width.BitWidth.{BitWidth}
+use Rattle.byte_code.specs.Numbers.{signed_in, signed_of, low_of, word_of, number_of, extended, extended_bits}
 use Rattle.byte_code.proofs.Pow.{pow_pos}
 use Rattle.byte_code.proofs.Words.{word_of-low}
 
@@ -109,15 +110,21 @@ low_product width a b small =
     let n = width.bytes in
     word_of-low n (pos (a * b)) small ∙ sym (product_mod a b (256 ^ n)) ∙ sym (product_by n (a % 256 ^ n) (b % 256 ^ n) (number_of width a) (number_of width b) (mod-lt a (pow_pos n)) (mod-lt b (pow_pos n)) (number_read width a) (number_read width b))
 
+-- a word below half of a range stands for itself
+low_half : (range : ℕ) (signed : Bool) (word : ℕ) → 2 * word < range → signed_in range signed word ≡ pos word
+low_half range false word low = refl
+low_half range true word low = let half : nat_lt (2 * word) range ≡ true = grind (arith, nat_tests) in rw half refl
+
 -- a width of more than eight bytes keeps each word
 pub wide_word : (width : Width) (word : ℕ) → 8 < width.bytes → word < 2 ^ 64 → word ≡ extended width (word % 256 ^ width.bytes)
 wide_word width word wide fits =
     let range : 256 ^ 9 ≤ 256 ^ width.bytes = pow-le-pow_right (lit< tt) wide in
     let low : word % 256 ^ width.bytes ≡ word = mod-eq_of_lt (omega arith) in
-    let half : nat_lt (2 * word) (256 ^ width.bytes) ≡ true = grind (arith, nat_tests) in
-    let read : signed_of width.bytes width.signed word ≡ pos word = by_sign width.signed half in
-    sym (ap (extended width) low ∙ ap word_of read ∙ mod-eq_of_lt fits)
-  where
-    by_sign : (signed : Bool) → nat_lt (2 * word) (256 ^ width.bytes) ≡ true → signed_of width.bytes signed word ≡ pos word
-    by_sign false e = refl
-    by_sign true e = rw e refl
+    sym (ap (extended width) low ∙ ap word_of (low_half (256 ^ width.bytes) width.signed word (omega arith)) ∙ mod-eq_of_lt fits)
+
+-- and so does one of more than 64 bits
+pub wide_bits : (width : BitWidth) (word : ℕ) → 64 < width.bits → word < 2 ^ 64 → word ≡ extended_bits width (word % 2 ^ width.bits)
+wide_bits width word wide fits =
+    let range : 2 ^ 65 ≤ 2 ^ width.bits = pow-le-pow_right (lit< tt) wide in
+    let low : word % 2 ^ width.bits ≡ word = mod-eq_of_lt (omega arith) in
+    sym (ap (extended_bits width) low ∙ ap word_of (low_half (2 ^ width.bits) width.signed word (omega arith)) ∙ mod-eq_of_lt fits)

@@ -1,14 +1,16 @@
 -- One lemma for each check and outcome.
-use Rattle.std.proofs.Common.{◌≡◌, ℕ, zero, suc, ◌*◌, ◌<◌, Bool, true, false, Option, Some, None, List, ◌∷◌, subst, sym, refl, arith}
+use Rattle.std.proofs.Common.{◌≡◌, ℕ, zero, suc, ◌+◌, ◌*◌, ◌<◌, ◌≤◌, Bool, true, false, Option, Some, None, List, ◌∷◌, subst, sym, refl, arith}
 use Rattle.std.proofs.lemmas.Bool.Decides.{nat_tests}
-use Rattle.std.specs.Prelude.{nat_eq, nat_lt, ◌&&◌, if◌then◌else◌}
-use Rattle.byte_memory.specs.Bytes.{number_from}
+use Rattle.std.specs.Prelude.{nat_eq, nat_lt, nat_le, ◌&&◌, if◌then◌else◌}
+use Rattle.byte_memory.specs.Bits.{number_from}
+use Rattle.byte_memory.specs.Store.{byte_span}
 use Rattle.byte_memory.specs.Regions.{fault_at}
 use Rattle.byte_memory.specs.declared.memory.MemoryFault.TheVariants.{Closed}
 use Rattle.byte_code.specs.declared.width.Width.{Width}
+use Rattle.byte_code.specs.declared.width.BitWidth.{BitWidth}
 use Rattle.byte_code.specs.declared.op.ArithKind.{ArithKind}
 use Rattle.byte_code.specs.declared.op.Check.{Check}
-use Rattle.byte_code.specs.declared.op.Check.TheVariants.{NotNull, Open, Ready, InView, SetRegister, SetLeaf, HasCode, Derived, Whole, HeapObject, Complete, Never, Fits}
+use Rattle.byte_code.specs.declared.op.Check.TheVariants.{NotNull, Open, Ready, InView, SetRegister, SetLeaf, SetBits, HasCode, Derived, Whole, HeapObject, Complete, Never, Fits}
 use Rattle.byte_code.specs.declared.op.Finish.TheVariants.{Check as CheckOp}
 use Rattle.byte_code.specs.declared.op.Op.{Op}
 use Rattle.byte_code.specs.declared.op.Op.TheVariants.{Does}
@@ -23,7 +25,7 @@ use Rattle.byte_machine.specs.Heap.{object_at}
 use Rattle.byte_machine.specs.Running.{Fixed, Running, Stop, Answers, Effect, Goes, moved, register, table_word}
 use Rattle.byte_machine.specs.Checks.{of_address, same_pair, is_complete_phase, exact, is_number_of, checked}
 use Rattle.byte_machine.specs.Leads.{LeadsBy, LeadsIn, Leads}
-use Rattle.byte_machine.proofs.Leads.{below, not_zero, IsIdle}
+use Rattle.byte_machine.proofs.Leads.{below, within, not_zero, IsIdle}
 
 -- the register of whose address a check asks more than that it is no null
 abbrev pub asks_of : Check → Option ℕ
@@ -33,6 +35,7 @@ asks_of (Ready r offset class) = Some r
 asks_of (InView r offset class) = Some r
 asks_of (SetRegister r) = None
 asks_of (SetLeaf base offset width) = Some base
+asks_of (SetBits base offset first width) = Some base
 asks_of (HasCode r entry) = Some r
 asks_of (Derived r offset class) = Some r
 asks_of (Whole r class) = Some r
@@ -58,6 +61,7 @@ idle_check f (Ready x offset class) r s e i = idle_at s x r _ e i
 idle_check f (InView x offset class) r s e i = idle_at s x r _ e i
 idle_check f (SetRegister x) r s e i = cc
 idle_check f (SetLeaf x offset width) r s e i = idle_at s x r _ e i
+idle_check f (SetBits x offset first width) r s e i = idle_at s x r _ e i
 idle_check f (HasCode x entry) r s e i = idle_at s x r _ e i
 idle_check f (Derived x offset class) r s e i = idle_at s x r _ e i
 idle_check f (Whole x class) r s e i = idle_at s x r _ e i
@@ -145,11 +149,27 @@ pub record Reached (s : Running) (at bytes : ℕ) : Type 0 where
 pub width_is : (bytes : ℕ) → 0 < bytes → bytes < 9 → (nat_lt 0 bytes && nat_lt bytes 9) ≡ true
 width_is bytes some narrow = rw (below 0 bytes some, below bytes 9 narrow) refl
 
-pub leads_set_leaf : (f : Fixed) {ops : List Op} {s : Running} {P : Running → Stop → Type 0} (base offset : ℕ) (width : Width) (at low : ℕ) → register s base ≡ Some at → Reached s (moved at offset) width.bytes → number_from s.memory.byte (moved at offset) width.bytes ≡ Some low → Leads f ops s P → Leads f (Does (CheckOp (SetLeaf base offset width)) ∷ ops) s P
+pub leads_set_leaf : (f : Fixed) {ops : List Op} {s : Running} {P : Running → Stop → Type 0} (base offset : ℕ) (width : Width) (at low : ℕ) → register s base ≡ Some at → Reached s (moved at offset) width.bytes → number_from s.memory.bit (8 * moved at offset) (8 * width.bytes) ≡ Some low → Leads f ops s P → Leads f (Does (CheckOp (SetLeaf base offset width)) ∷ ops) s P
 leads_set_leaf f {ops} {s} {P} base offset width at low e reach number h = record { run = passes f s ops P (register s base) at _ e h.run (rw (width_is width.bytes reach.some reach.narrow, reach.there, number) h.run) }
 
-pub leads_unset_leaf : (f : Fixed) {ops : List Op} {s : Running} {P : Running → Stop → Type 0} (base offset : ℕ) (width : Width) (at : ℕ) → register s base ≡ Some at → (at ≡ 0 → ⊥) → Reached s (moved at offset) width.bytes → number_from s.memory.byte (moved at offset) width.bytes ≡ None → P s (Answers (Refused 5 s.line)) → Leads f (Does (CheckOp (SetLeaf base offset width)) ∷ ops) s P
+pub leads_unset_leaf : (f : Fixed) {ops : List Op} {s : Running} {P : Running → Stop → Type 0} (base offset : ℕ) (width : Width) (at : ℕ) → register s base ≡ Some at → (at ≡ 0 → ⊥) → Reached s (moved at offset) width.bytes → number_from s.memory.bit (8 * moved at offset) (8 * width.bytes) ≡ None → P s (Answers (Refused 5 s.line)) → Leads f (Does (CheckOp (SetLeaf base offset width)) ∷ ops) s P
 leads_unset_leaf f {ops} {s} {P} base offset width at e some reach number h = record { run = fails f s ops P (register s base) at _ e some (rw (width_is width.bytes reach.some reach.narrow, reach.there, number) h) }
+
+-- so many bits can be reached there, from this one of a byte on
+pub record BitsReached (s : Running) (at first bits : ℕ) : Type 0 where
+  pub inside : first < 8
+  pub some : 0 < bits
+  pub narrow : first + bits ≤ 64
+  pub there : fault_at s.memory.regions at (byte_span first bits) ≡ None
+
+pub bits_are : (first bits : ℕ) → first < 8 → 0 < bits → first + bits ≤ 64 → (nat_lt first 8 && (nat_lt 0 bits && nat_le (first + bits) 64)) ≡ true
+bits_are first bits inside some narrow = rw (below first 8 inside, below 0 bits some, within (first + bits) 64 narrow) refl
+
+pub leads_set_bits : (f : Fixed) {ops : List Op} {s : Running} {P : Running → Stop → Type 0} (base offset first : ℕ) (width : BitWidth) (at low : ℕ) → register s base ≡ Some at → BitsReached s (moved at offset) first width.bits → number_from s.memory.bit (8 * moved at offset + first) width.bits ≡ Some low → Leads f ops s P → Leads f (Does (CheckOp (SetBits base offset first width)) ∷ ops) s P
+leads_set_bits f {ops} {s} {P} base offset first width at low e reach number h = record { run = passes f s ops P (register s base) at _ e h.run (rw (bits_are first width.bits reach.inside reach.some reach.narrow, reach.there, number) h.run) }
+
+pub leads_unset_bits : (f : Fixed) {ops : List Op} {s : Running} {P : Running → Stop → Type 0} (base offset first : ℕ) (width : BitWidth) (at : ℕ) → register s base ≡ Some at → (at ≡ 0 → ⊥) → BitsReached s (moved at offset) first width.bits → number_from s.memory.bit (8 * moved at offset + first) width.bits ≡ None → P s (Answers (Refused 5 s.line)) → Leads f (Does (CheckOp (SetBits base offset first width)) ∷ ops) s P
+leads_unset_bits f {ops} {s} {P} base offset first width at e some reach number h = record { run = fails f s ops P (register s base) at _ e some (rw (bits_are first width.bits reach.inside reach.some reach.narrow, reach.there, number) h) }
 
 -- 6
 pub leads_has_code : (f : Fixed) {ops : List Op} {s : Running} {P : Running → Stop → Type 0} (r entry at record_at : ℕ) → register s r ≡ Some at → table_word f.image s.memory at (8 * entry) ≡ Some record_at → (record_at ≡ 0 → ⊥) → Leads f ops s P → Leads f (Does (CheckOp (HasCode r entry)) ∷ ops) s P

@@ -13,7 +13,7 @@ use Rattle.byte_machine.specs.Leads.{LeadsBy, LeadsIn, Leads, Ends, LeadsBlock}
 allows : (f : Fixed) (e : Effect) (s : Running) (next next' : Running → Type 0) (P : Running → Stop → Type 0) → ((new : Running) → next new → next' new) → LeadsBy f e s next P → Allows f e s next'
 allows f (Goes new) s next next' P g h = g new h
 allows f (Asks size then) s next next' P g h = (h.0, λ at room. allows f (then at) s next next' P g (h.1 at room))
-allows f (Casts at class target then) s next next' P g h = (h.0, λ answer casts. allows f (then answer) s next next' P g (h.1 answer casts))
+allows f (Casts at class target hint then) s next next' P g h = (h.0, λ answer casts. allows f (then answer) s next next' P g (h.1 answer casts))
 allows f (Tells view_at view_class at class then) s next next' P g h = (h.0, λ inside tells. allows f (then inside) s next next' P g (h.1 inside tells))
 allows f (Stops new stop) s next next' P g h = tt
 allows f Stuck s next next' P g h = h
@@ -25,7 +25,7 @@ IsDefined-leads f (op ∷ ops) s P h = allows f (effect_of f op s) s (λ new. Le
 follows : (f : Fixed) (e : Effect) (s new : Running) (stop : Stop) (next rest : Running → Type 0) (P : Running → Stop → Type 0) → ((mid : Running) → next mid → rest mid → P new stop) → LeadsBy f e s next P → Follows f e s new stop rest → P new stop
 follows f (Goes mid) s new stop next rest P g h r = g mid h r
 follows f (Asks size then) s new stop next rest P g h r = follows f (then r.0) s new stop next rest P g (h.1 r.0 r.1.0) r.1.1
-follows f (Casts at class target then) s new stop next rest P g h r = follows f (then r.0) s new stop next rest P g (h.1 r.0 r.1.0) r.1.1
+follows f (Casts at class target hint then) s new stop next rest P g h r = follows f (then r.0) s new stop next rest P g (h.1 r.0 r.1.0) r.1.1
 follows f (Tells view_at view_class at class then) s new stop next rest P g h r = follows f (then r.0) s new stop next rest P g (h.1 r.0 r.1.0) r.1.1
 follows f (Stops at reason) s new stop next rest P g h r = subst (λ t. P new t) (sym r.1) (subst (λ a. P a reason) (sym r.0) h)
 follows f Stuck s new stop next rest P g h r = absurd h
@@ -60,7 +60,7 @@ leads_end f {s} {P} h = record { run = h }
 weaker : (f : Fixed) (e : Effect) (s : Running) (next next' : Running → Type 0) (P Q : Running → Stop → Type 0) → ((new : Running) → next new → next' new) → ((new : Running) (stop : Stop) → P new stop → Q new stop) → LeadsBy f e s next P → LeadsBy f e s next' Q
 weaker f (Goes new) s next next' P Q g p h = g new h
 weaker f (Asks size then) s next next' P Q g p h = (h.0, λ at room. weaker f (then at) s next next' P Q g p (h.1 at room))
-weaker f (Casts at class target then) s next next' P Q g p h = (h.0, λ answer casts. weaker f (then answer) s next next' P Q g p (h.1 answer casts))
+weaker f (Casts at class target hint then) s next next' P Q g p h = (h.0, λ answer casts. weaker f (then answer) s next next' P Q g p (h.1 answer casts))
 weaker f (Tells view_at view_class at class then) s next next' P Q g p h = (h.0, λ inside tells. weaker f (then inside) s next next' P Q g p (h.1 inside tells))
 weaker f (Stops new stop) s next next' P Q g p h = p new stop h
 weaker f Stuck s next next' P Q g p h = h

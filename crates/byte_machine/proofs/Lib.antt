@@ -15,3 +15,4 @@ pub mod Allowed
 pub mod Results
 pub mod BlockRuns
 pub mod KeptTwice
+pub mod Tables

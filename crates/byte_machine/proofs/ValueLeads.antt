@@ -1,19 +1,20 @@
 -- One lemma for each op on words, globals and memory, and each outcome.
-use Rattle.std.proofs.Common.{◌≡◌, ℕ, ◌+◌, ◌<◌, ◌≤◌, Bool, true, false, Option, Some, None, List, [], ◌∷◌, ◌++◌, length, refl, inl, inr, ⊎_elim, ◌^◌}
+use Rattle.std.proofs.Common.{◌≡◌, ℕ, ◌+◌, ◌*◌, ◌<◌, ◌≤◌, Bool, true, false, Option, Some, None, List, [], ◌∷◌, ◌++◌, length, refl, inl, inr, ⊎_elim, ◌^◌}
 use Rattle.std.proofs.Math.Nat.{mod-eq_of_lt}
 use Rattle.std.specs.Prelude.{ℤ, nat_eq, nat_le, ◌||◌, ◌⊎◌, slice_get, slice_set}
-use Rattle.byte_memory.specs.Bytes.{number_from}
-use Rattle.byte_memory.specs.Store.{store_of, copy_of}
+use Rattle.byte_memory.specs.Bits.{number_from}
+use Rattle.byte_memory.specs.Store.{store_of, store_bits_of, copy_of, copy_bits_of}
 use Rattle.byte_code.specs.declared.width.Width.{Width}
+use Rattle.byte_code.specs.declared.width.BitWidth.{BitWidth}
 use Rattle.byte_code.specs.declared.op.ArithKind.{ArithKind}
 use Rattle.byte_code.specs.declared.op.NumberKind.{NumberKind}
 use Rattle.byte_code.specs.declared.op.PrintAs.TheVariants.{Number as AsNumber, Address as AsAddress, Class as AsClass}
 use Rattle.byte_code.specs.declared.op.Finish.TheVariants.{Add, AddVbase, Convert, Move, WriteGlobal}
 use Rattle.byte_code.specs.declared.op.Op.{Op}
-use Rattle.byte_code.specs.declared.op.Op.TheVariants.{Does, Const, ReadGlobal, Load, Store as StoreOp, Copy, Arith, TypeOf, Top, Cast, Print, Dump}
+use Rattle.byte_code.specs.declared.op.Op.TheVariants.{Does, Const, ReadGlobal, Load, Store as StoreOp, Copy, LoadBits, StoreBits, CopyBits, Arith, TypeOf, Top, Cast, Print, Dump}
 use Rattle.byte_code.specs.Images.{word_at}
-use Rattle.byte_code.specs.Numbers.{number_of, extended}
-use Rattle.abi_dyncast.specs.Casts.{CastsTo, CanCast}
+use Rattle.byte_code.specs.Numbers.{number_of, extended, extended_bits}
+use Rattle.abi_dyncast.specs.Casts.{CastsTo, CanCastHinted}
 use Rattle.byte_machine.specs.declared.turn.RawOut.TheVariants.{Number, Address, Class, Dump as DumpOut}
 use Rattle.byte_machine.specs.Running.{Fixed, Running, Stop, moved, register, with_register, table_word}
 use Rattle.byte_machine.specs.Values.{converted_word, calculated, are_equal_or_apart}
@@ -21,7 +22,7 @@ use Rattle.byte_machine.specs.Plans.{word_bytes}
 use Rattle.byte_machine.specs.Effects.{bytes_before, or_null}
 use Rattle.byte_machine.specs.Leads.{Leads}
 use Rattle.byte_machine.proofs.Leads.{below, within, not_zero, same_number}
-use Rattle.byte_machine.proofs.CheckLeads.{Reached, width_is}
+use Rattle.byte_machine.proofs.CheckLeads.{Reached, BitsReached, width_is, bits_are}
 
 -- Add to an address, to 0 and to the unset state
 pub leads_add : (f : Fixed) {ops : List Op} {s : Running} {P : Running → Stop → Type 0} (to base offset at : ℕ) → register s base ≡ Some at → (at ≡ 0 → ⊥) → to < length s.top.registers → Leads f ops (with_register s to (Some (moved at offset))) P → Leads f (Does (Add to base offset) ∷ ops) s P
@@ -66,7 +67,7 @@ pub leads_read_global : (f : Fixed) {ops : List Op} {s : Running} {P : Running �
 leads_read_global f {ops} {s} {P} to global word there inside h = record { run = rw (there, below to (length s.top.registers) inside) h.run }
 
 -- Load of set bytes
-pub leads_load : (f : Fixed) {ops : List Op} {s : Running} {P : Running → Stop → Type 0} (to base offset : ℕ) (width : Width) (at low : ℕ) → register s base ≡ Some at → Reached s (moved at offset) width.bytes → number_from s.memory.byte (moved at offset) width.bytes ≡ Some low → to < length s.top.registers → Leads f ops (with_register s to (Some (extended width low))) P → Leads f (Load to base offset width ∷ ops) s P
+pub leads_load : (f : Fixed) {ops : List Op} {s : Running} {P : Running → Stop → Type 0} (to base offset : ℕ) (width : Width) (at low : ℕ) → register s base ≡ Some at → Reached s (moved at offset) width.bytes → number_from s.memory.bit (8 * moved at offset) (8 * width.bytes) ≡ Some low → to < length s.top.registers → Leads f ops (with_register s to (Some (extended width low))) P → Leads f (Load to base offset width ∷ ops) s P
 leads_load f {ops} {s} {P} to base offset width at low e reach number inside h = record { run = rw (e, width_is width.bytes reach.some reach.narrow, reach.there, number, below to (length s.top.registers) inside) h.run }
 
 -- Store
@@ -76,6 +77,18 @@ leads_store f {ops} {s} {P} from base offset width at word e e' reach h = record
 -- Copy, of bytes that are one or apart
 pub leads_copy : (f : Fixed) {ops : List Op} {s : Running} {P : Running → Stop → Type 0} (to from offset bytes source target : ℕ) → register s from ≡ Some source → register s to ≡ Some target → Reached s (moved source offset) bytes → Reached s (moved target offset) bytes → are_equal_or_apart (moved source offset) (moved target offset) bytes ≡ true → Leads f ops (record s { memory = copy_of s.memory (moved source offset) (moved target offset) bytes }) P → Leads f (Copy to from offset bytes ∷ ops) s P
 leads_copy f {ops} {s} {P} to from offset bytes source target e e' reach reach' apart h = record { run = rw (e, e', width_is bytes reach.some reach.narrow, reach.there, apart, reach'.there) h.run }
+
+-- LoadBits of set bits
+pub leads_load_bits : (f : Fixed) {ops : List Op} {s : Running} {P : Running → Stop → Type 0} (to base offset first : ℕ) (width : BitWidth) (at low : ℕ) → register s base ≡ Some at → BitsReached s (moved at offset) first width.bits → number_from s.memory.bit (8 * moved at offset + first) width.bits ≡ Some low → to < length s.top.registers → Leads f ops (with_register s to (Some (extended_bits width low))) P → Leads f (LoadBits to base offset first width ∷ ops) s P
+leads_load_bits f {ops} {s} {P} to base offset first width at low e reach number inside h = record { run = rw (e, bits_are first width.bits reach.inside reach.some reach.narrow, reach.there, number, below to (length s.top.registers) inside) h.run }
+
+-- StoreBits
+pub leads_store_bits : (f : Fixed) {ops : List Op} {s : Running} {P : Running → Stop → Type 0} (from base offset first : ℕ) (width : BitWidth) (at word : ℕ) → register s base ≡ Some at → register s from ≡ Some word → BitsReached s (moved at offset) first width.bits → Leads f ops (record s { memory = store_bits_of s.memory (moved at offset) first width.bits word }) P → Leads f (StoreBits from base offset first width ∷ ops) s P
+leads_store_bits f {ops} {s} {P} from base offset first width at word e e' reach h = record { run = rw (e, e', bits_are first width.bits reach.inside reach.some reach.narrow, reach.there) h.run }
+
+-- CopyBits, of bits that are one or apart
+pub leads_copy_bits : (f : Fixed) {ops : List Op} {s : Running} {P : Running → Stop → Type 0} (to from offset first bits source target : ℕ) → register s from ≡ Some source → register s to ≡ Some target → BitsReached s (moved source offset) first bits → BitsReached s (moved target offset) first bits → are_equal_or_apart (8 * moved source offset) (8 * moved target offset) bits ≡ true → Leads f ops (record s { memory = copy_bits_of s.memory (moved source offset) (moved target offset) first bits }) P → Leads f (CopyBits to from offset first bits ∷ ops) s P
+leads_copy_bits f {ops} {s} {P} to from offset first bits source target e e' reach reach' apart h = record { run = rw (e, e', bits_are first bits reach.inside reach.some reach.narrow, reach.there, apart, reach'.there) h.run }
 
 -- Arith of two numbers
 pub leads_arith : (f : Fixed) {ops : List Op} {s : Running} {P : Running → Stop → Type 0} (kind : ArithKind) (width : Width) (to left right a b : ℕ) → 0 < width.bytes → width.bytes < 9 → register s left ≡ Some a → register s right ≡ Some b → to < length s.top.registers → Leads f ops (with_register s to (Some (calculated kind width (number_of width a) (number_of width b)))) P → Leads f (Arith kind width to left right ∷ ops) s P
@@ -96,14 +109,14 @@ pub leads_top_unset : (f : Fixed) {ops : List Op} {s : Running} {P : Running →
 leads_top_unset f {ops} {s} {P} to base e inside h = record { run = rw (e, below to (length s.top.registers) inside) h.run }
 
 -- Cast, whatever the answer is
-pub leads_cast : (f : Fixed) {ops : List Op} {s : Running} {P : Running → Stop → Type 0} (to base class target at : ℕ) → register s base ≡ Some at → (at ≡ 0 → ⊥) → CanCast (word_at f.image) s.memory f.parts at → to < length s.top.registers → ((answer : Option ℕ) → CastsTo (word_at f.image) s.memory at class target answer → Leads f ops (with_register s to (Some (or_null answer))) P) → Leads f (Cast to base class target ∷ ops) s P
-leads_cast f {ops} {s} {P} to base class target at e some can inside h = record { run = rw (e, not_zero at some) (can, λ answer casts. rw (below to (length s.top.registers) inside) (h answer casts).run) }
+pub leads_cast : (f : Fixed) {ops : List Op} {s : Running} {P : Running → Stop → Type 0} (to base class target : ℕ) (hint : ℤ) (at : ℕ) → register s base ≡ Some at → (at ≡ 0 → ⊥) → CanCastHinted (word_at f.image) s.memory f.parts at class target hint → to < length s.top.registers → ((answer : Option ℕ) → CastsTo (word_at f.image) s.memory at class target answer → Leads f ops (with_register s to (Some (or_null answer))) P) → Leads f (Cast to base class target hint ∷ ops) s P
+leads_cast f {ops} {s} {P} to base class target hint at e some can inside h = record { run = rw (e, not_zero at some) (can, λ answer casts. rw (below to (length s.top.registers) inside) (h answer casts).run) }
 
-pub leads_cast_null : (f : Fixed) {ops : List Op} {s : Running} {P : Running → Stop → Type 0} (to base class target : ℕ) → register s base ≡ Some 0 → to < length s.top.registers → Leads f ops (with_register s to (Some 0)) P → Leads f (Cast to base class target ∷ ops) s P
-leads_cast_null f {ops} {s} {P} to base class target e inside h = record { run = rw (e, below to (length s.top.registers) inside) h.run }
+pub leads_cast_null : (f : Fixed) {ops : List Op} {s : Running} {P : Running → Stop → Type 0} (to base class target : ℕ) (hint : ℤ) → register s base ≡ Some 0 → to < length s.top.registers → Leads f ops (with_register s to (Some 0)) P → Leads f (Cast to base class target hint ∷ ops) s P
+leads_cast_null f {ops} {s} {P} to base class target hint e inside h = record { run = rw (e, below to (length s.top.registers) inside) h.run }
 
-pub leads_cast_unset : (f : Fixed) {ops : List Op} {s : Running} {P : Running → Stop → Type 0} (to base class target : ℕ) → register s base ≡ None → to < length s.top.registers → Leads f ops (with_register s to None) P → Leads f (Cast to base class target ∷ ops) s P
-leads_cast_unset f {ops} {s} {P} to base class target e inside h = record { run = rw (e, below to (length s.top.registers) inside) h.run }
+pub leads_cast_unset : (f : Fixed) {ops : List Op} {s : Running} {P : Running → Stop → Type 0} (to base class target : ℕ) (hint : ℤ) → register s base ≡ None → to < length s.top.registers → Leads f ops (with_register s to None) P → Leads f (Cast to base class target hint ∷ ops) s P
+leads_cast_unset f {ops} {s} {P} to base class target hint e inside h = record { run = rw (e, below to (length s.top.registers) inside) h.run }
 
 -- Print of a number, of an address, and of the number of a class
 pub leads_print_number : (f : Fixed) {ops : List Op} {s : Running} {P : Running → Stop → Type 0} (from word : ℕ) (width : Width) → register s from ≡ Some word → 0 < width.bytes → width.bytes < 9 → Leads f ops (record s { outs = s.outs ++ Number (number_of width word) ∷ [] }) P → Leads f (Print from (AsNumber width) ∷ ops) s P

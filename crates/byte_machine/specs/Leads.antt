@@ -3,7 +3,7 @@ use Rattle.std.specs.Prelude.{ℕ, Bool, Option, List, [], ◌∷◌}
 use Rattle.byte_memory.specs.Store.{IsRoom}
 use Rattle.byte_code.specs.declared.op.Op.{Op}
 use Rattle.byte_code.specs.Images.{word_at}
-use Rattle.abi_dyncast.specs.Casts.{CastsTo, CanCast, TellsWithin, CanTellWithin}
+use Rattle.abi_dyncast.specs.Casts.{CastsTo, CanCastHinted, TellsWithin, CanTellWithin}
 use Rattle.byte_machine.specs.declared.turn.MachineTurn.{MachineTurn}
 use Rattle.byte_machine.specs.declared.turn.MachineTurn.TheVariants.{Went}
 use Rattle.byte_machine.specs.Running.{Fixed, Running, Stop, Answers, Returned, Effect, Goes, Asks, Casts, Tells, Stops, Stuck}
@@ -14,7 +14,7 @@ use Rattle.byte_machine.specs.Runs.{MayAsk, finishing}
 abbrev pub LeadsBy : Fixed → Effect → Running → (Running → Type 0) → (Running → Stop → Type 0) → Type 0
 LeadsBy f (Goes next) s rest P = rest next
 LeadsBy f (Asks size next) s rest P = MayAsk s size × ((at : ℕ) → IsRoom s.memory at size → LeadsBy f (next at) s rest P)
-LeadsBy f (Casts at class target next) s rest P = CanCast (word_at f.image) s.memory f.parts at × ((answer : Option ℕ) → CastsTo (word_at f.image) s.memory at class target answer → LeadsBy f (next answer) s rest P)
+LeadsBy f (Casts at class target hint next) s rest P = CanCastHinted (word_at f.image) s.memory f.parts at class target hint × ((answer : Option ℕ) → CastsTo (word_at f.image) s.memory at class target answer → LeadsBy f (next answer) s rest P)
 LeadsBy f (Tells view_at view_class at class next) s rest P = CanTellWithin (word_at f.image) f.image.base s.memory f.parts view_at view_class × ((inside : Bool) → TellsWithin (word_at f.image) f.image.base s.memory view_at view_class at class inside → LeadsBy f (next inside) s rest P)
 LeadsBy f (Stops new stop) s rest P = P new stop
 LeadsBy f Stuck s rest P = ⊥

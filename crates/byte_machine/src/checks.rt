@@ -75,6 +75,21 @@ fn check_memory<M: Memory>(setup: &Setup, running: &Running<M>, check: Check) ->
                 5,
             ),
         },
+        Check::SetBits {
+            base,
+            offset,
+            first,
+            width,
+        } => match running.register(base) {
+            None | Some(0) => None,
+            Some(at) => unless(
+                running
+                    .heap
+                    .load_bits(moved(at, offset as u64), first, width.bits)
+                    .is_ok(),
+                5,
+            ),
+        },
         Check::HasCode { register, entry } => match running.register(register) {
             None | Some(0) => None,
             Some(at) => {
@@ -201,9 +216,10 @@ pub fn run_check<M: Memory>(setup: &Setup, running: &mut Running<M>, check: Chec
         Check::NotNull { .. } | Check::SetRegister { .. } | Check::Never | Check::Fits { .. } => {
             check_words(setup, running, check)
         }
-        Check::Open { .. } | Check::SetLeaf { .. } | Check::HasCode { .. } => {
-            check_memory(setup, running, check)
-        }
+        Check::Open { .. }
+        | Check::SetLeaf { .. }
+        | Check::SetBits { .. }
+        | Check::HasCode { .. } => check_memory(setup, running, check),
         Check::Ready { .. } | Check::Derived { .. } | Check::Complete { .. } => {
             check_phases(setup, running, check)
         }

@@ -38,8 +38,8 @@ fn round_up(size: u32) -> u64
 
 impl<M: Memory> Heap<M> {
     ghost use Rattle.std.specs.Prelude.{[], IfOk, MatchResult, Some, None, nat_lt};
-    ghost use Rattle.byte_memory.specs.Bytes.{AreOneOrApart};
-    ghost use Rattle.byte_memory.specs.Store.{IsRoom, open_of, store_of, load_of, copy_of, Closes};
+    ghost use Rattle.byte_memory.specs.Bits.{AreOneOrApart};
+    ghost use Rattle.byte_memory.specs.Store.{IsRoom, byte_span, open_of, store_of, store_bits_of, load_of, load_bits_of, copy_of, copy_bits_of, Closes};
     ghost use Rattle.byte_memory.specs.Regions.{total_of, fault_at, copy_fault, close_fault};
     ghost use Rattle.byte_machine.specs.Heap.{made, heap_limit};
 
@@ -160,6 +160,56 @@ impl<M: Memory> Heap<M> {
         ensures total { self.new.total ≡ self.old.total }
     {
         self.memory.copy(from, to, bytes)
+    }
+
+    /// The number whose bits, the lowest first, stand from a bit of the byte there on.
+    pub fn load_bits(&self, at: u64, first: u8, bits: u8) -> Result<u64, MemoryFault>
+        requires inside { first < 8 }
+        requires some { 0 < bits }
+        requires word { first + bits ≤ 64 }
+        ensures value { result ≡ load_bits_of (M.meaning self.now.memory) at first bits }
+        ensures fits { IfOk result (λ number. number < 2 ^ bits) }
+    {
+        self.memory.load_bits(at, first, bits)
+    }
+
+    /// Stores the low bits of a value.
+    pub fn store_bits(
+        &mut self,
+        at: u64,
+        first: u8,
+        bits: u8,
+        value: u64,
+    ) -> Result<(), MemoryFault>
+        requires inside { first < 8 }
+        requires some { 0 < bits }
+        requires word { first + bits ≤ 64 }
+        ensures result { MatchResult result
+            (λ _. (fault_at (M.meaning self.old.memory).regions at (byte_span first bits) ≡ None)
+            × (M.meaning self.new.memory ≡ store_bits_of (M.meaning self.old.memory) at first bits value))
+            (λ fault. (fault_at (M.meaning self.old.memory).regions at (byte_span first bits) ≡ Some fault)
+            × (M.meaning self.new.memory ≡ M.meaning self.old.memory)) }
+        ensures objects { self.new.objects.items ≡ self.old.objects.items }
+        ensures total { self.new.total ≡ self.old.total }
+    {
+        self.memory.store_bits(at, first, bits, value)
+    }
+
+    /// Copies bits, set or unset, from the same bit of both bytes on.
+    pub fn copy_bits(&mut self, from: u64, to: u64, first: u8, bits: u8) -> Result<(), MemoryFault>
+        requires inside { first < 8 }
+        requires some { 0 < bits }
+        requires word { first + bits ≤ 64 }
+        requires apart { AreOneOrApart (8 * from) (8 * to) bits }
+        ensures result { MatchResult result
+            (λ _. (copy_fault (M.meaning self.old.memory).regions from to (byte_span first bits) ≡ None)
+            × (M.meaning self.new.memory ≡ copy_bits_of (M.meaning self.old.memory) from to first bits))
+            (λ fault. (copy_fault (M.meaning self.old.memory).regions from to (byte_span first bits) ≡ Some fault)
+            × (M.meaning self.new.memory ≡ M.meaning self.old.memory)) }
+        ensures objects { self.new.objects.items ≡ self.old.objects.items }
+        ensures total { self.new.total ≡ self.old.total }
+    {
+        self.memory.copy_bits(from, to, first, bits)
     }
 
     /// The heap object whose region has the address, open or closed: a binary search.

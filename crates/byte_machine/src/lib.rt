@@ -4,12 +4,13 @@
 //! meaning of one turn: `specs/Effects.antt` says what each kind of op does, one line a kind, over `specs/Checks.antt`,
 //! `Values.antt`, `Calls.antt` and `Plans.antt`; `specs/Runs.antt` what the ops of a block lead to, with what follows a return;
 //! `specs/Turn.antt` what a turn is: once an answer ended the run it changes nothing and gives that answer again, with no step
-//! left it answers OutOfSteps, else it runs the block of the innermost frame. `Machine` is proved to be moved by these turns alone.
+//! left it answers OutOfSteps, else it runs the block of the innermost frame. `Machine` is proved to be moved by these turns
+//! alone.
 //!
 //! The layer above may rely on `Machine::step`, over `state_of` (`specs/MachineState.antt`), and on the lemmas of `proofs/`, one
 //! for each op and outcome, from which what a block leads to is composed: `Leads.antt` and `TurnLeads.antt` for whole blocks,
 //! `CheckLeads`, `ValueLeads`, `CallLeads`, `ReturnLeads`, `PlanLeads` and `ControlLeads` for ops, and `Registers`, `Ranges`,
-//! `Objects` and `Counted` for what they ask.
+//! `Tables`, `Objects` and `Counted` for what they ask.
 #![tactic(auto)]
 
 mod block;

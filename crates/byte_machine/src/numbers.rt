@@ -6,7 +6,7 @@ ghost use Rattle.byte_code.specs.Numbers.{number_of, signed_of};
 ghost use Rattle.byte_machine.specs.Checks.{exact, is_number_of};
 ghost use Rattle.byte_machine.specs.Values.{calculated, converted_word, truth_word};
 
-use byte_code::{ArithKind, NumberKind, Width};
+use byte_code::{ArithKind, BitWidth, NumberKind, Width};
 
 /// The low bytes of a word.
 fn low_bytes(width: Width, word: u64) -> u64
@@ -24,6 +24,19 @@ fn low_bytes(width: Width, word: u64) -> u64
         6 => word % 0x1_0000_0000_0000,
         7 => word % 0x100_0000_0000_0000,
         _ => word,
+    }
+}
+
+/// The low bits of a word.
+fn low_bits(width: BitWidth, word: u64) -> u64
+    requires { width.bits ≤ 64 }
+    ensures value { result ≡ word % 2 ^ width.bits }
+    ensures fits { result < 2 ^ width.bits }
+{
+    if width.bits == 64 {
+        word
+    } else {
+        word % (1 << width.bits)
     }
 }
 
@@ -59,6 +72,13 @@ pub fn convert(kind: NumberKind, word: u64) -> u64
         NumberKind::Bytes(width) => {
             if width.bytes <= 8 {
                 width.extend(low_bytes(width, word))
+            } else {
+                word
+            }
+        }
+        NumberKind::Bits(width) => {
+            if width.bits <= 64 {
+                width.extend(low_bits(width, word))
             } else {
                 word
             }

@@ -71,6 +71,9 @@ fn run_plain<M: Memory>(setup: &Setup, running: &mut Running<M>, op: &Op) -> Res
         | Op::Load { .. }
         | Op::Store { .. }
         | Op::Copy { .. }
+        | Op::LoadBits { .. }
+        | Op::StoreBits { .. }
+        | Op::CopyBits { .. }
         | Op::Arith { .. } => run_value(setup, running, op),
         Op::Jump { .. } | Op::JumpIf { .. } => run_jump(setup, running, op),
         Op::TypeOf { .. } | Op::Top { .. } | Op::Cast { .. } => run_view(setup, running, op),

@@ -1,8 +1,8 @@
 //! Ops on words, globals and memory.
 
-ghost use Rattle.std.specs.Prelude.{◌≡◌, None};
+ghost use Rattle.std.specs.Prelude.{◌≡◌, None, true};
 ghost use Rattle.byte_machine.specs.Effects.{effect_of};
-ghost use Rattle.byte_machine.specs.invariants.OpKinds.{op_kind, OfValues};
+ghost use Rattle.byte_machine.specs.invariants.OpKinds.{op_kind, moves_bits, OfValues};
 ghost use Rattle.byte_machine.specs.invariants.States.{CanDo, DidAs, Keeps};
 
 use crate::numbers::calculate;
@@ -10,6 +10,60 @@ use crate::running::{Running, Setup};
 use crate::words::moved;
 use byte_code::Op;
 use byte_memory::Memory;
+
+/// Runs an op on the bits of a bit-field.
+fn run_bits<M: Memory>(_setup: &Setup, running: &mut Running<M>, op: &Op)
+    requires kind { moves_bits op.now ≡ true }
+    requires allowed { CanDo _setup.now (λ f s. effect_of f op.now s) running.old }
+    ensures did { DidAs _setup.now (λ f s. effect_of f op.now s) running.old running.new None }
+    ensures kept { Keeps running.old running.new }
+{
+    match op {
+        Op::LoadBits {
+            to,
+            base,
+            offset,
+            first,
+            width,
+        } => {
+            let at = running.register(*base).unwrap();
+            let number = running
+                .heap
+                .load_bits(moved(at, *offset as u64), *first, width.bits)
+                .unwrap();
+            running.put(*to, Some(width.extend(number)));
+        }
+        Op::StoreBits {
+            from,
+            base,
+            offset,
+            first,
+            width,
+        } => {
+            let at = running.register(*base).unwrap();
+            let word = running.register(*from).unwrap();
+            running
+                .heap
+                .store_bits(moved(at, *offset as u64), *first, width.bits, word)
+                .unwrap();
+        }
+        Op::CopyBits {
+            to,
+            from,
+            offset,
+            first,
+            bits,
+        } => {
+            let source = moved(running.register(*from).unwrap(), *offset as u64);
+            let target = moved(running.register(*to).unwrap(), *offset as u64);
+            running
+                .heap
+                .copy_bits(source, target, *first, *bits)
+                .unwrap();
+        }
+        _ => unreachable!(),
+    }
+}
 
 /// Runs an op on words, globals or memory.
 pub fn run_value<M: Memory>(_setup: &Setup, running: &mut Running<M>, op: &Op)
@@ -59,6 +113,9 @@ pub fn run_value<M: Memory>(_setup: &Setup, running: &mut Running<M>, op: &Op)
             let source = moved(running.register(*from).unwrap(), *offset as u64);
             let target = moved(running.register(*to).unwrap(), *offset as u64);
             running.heap.copy(source, target, *bytes).unwrap();
+        }
+        Op::LoadBits { .. } | Op::StoreBits { .. } | Op::CopyBits { .. } => {
+            run_bits(_setup, running, op)
         }
         Op::Arith {
             kind,

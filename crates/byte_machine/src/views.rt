@@ -9,8 +9,8 @@ ghost use Rattle.byte_machine.specs.invariants.States.{CanDo, DidAs, Keeps};
 
 use crate::running::{Running, Setup};
 use crate::words::{moved, table_word};
-use abi_dyncast::cast;
-use byte_code::Op;
+use abi_dyncast::cast_hinted;
+use byte_code::{BaseReader, Op};
 use byte_memory::Memory;
 
 /// Where the offset to top stands, in bytes behind an address point modulo 2^64 (Itanium C++ ABI 2.5.2).
@@ -55,19 +55,22 @@ fn put_cast<M: Memory>(
     at: u64,
     class: u32,
     target: u32,
+    hint: i64,
 )
-    requires allowed { CanDo setup.now (λ f s. Casts at class target (λ answer. put to (Some (or_null answer)) s)) running.old }
+    requires allowed { CanDo setup.now (λ f s. Casts at class target hint (λ answer. put to (Some (or_null answer)) s)) running.old }
     requires room { room running.old.work ≡ setup.now.parts }
-    ensures did { DidAs setup.now (λ f s. Casts at class target (λ answer. put to (Some (or_null answer)) s)) running.old running.new None }
+    ensures did { DidAs setup.now (λ f s. Casts at class target hint (λ answer. put to (Some (or_null answer)) s)) running.old running.new None }
     ensures kept { Keeps running.old running.new }
 {
-    let found = cast(
-        &setup.image,
+    let mut reader = BaseReader::new(&setup.image);
+    let found = cast_hinted(
+        &mut reader,
         running.heap.memory(),
         &mut running.work,
         at,
         class,
         target,
+        hint,
     );
     running.put(to, Some(or_null(found)));
 }
@@ -93,10 +96,11 @@ pub fn run_view<M: Memory>(setup: &Setup, running: &mut Running<M>, op: &Op)
             base,
             class,
             target,
+            hint,
         } => match running.register(*base) {
             None => running.put(*to, None),
             Some(0) => running.put(*to, Some(0)),
-            Some(at) => put_cast(setup, running, *to, at, *class, *target),
+            Some(at) => put_cast(setup, running, *to, at, *class, *target, *hint),
         },
         _ => unreachable!(),
     }

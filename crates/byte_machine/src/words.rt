@@ -49,6 +49,7 @@ pub fn word_behind(image: &ImageBytes, at: u64, bytes: u64) -> Option<u64>
 }
 
 /// The word that stands so many bytes behind the address point to which the virtual pointer at an address leads.
+#[tactic(auto, unfolding(crate::specs::Running::table_of))]
 pub fn table_word<M: Memory>(image: &ImageBytes, heap: &Heap<M>, at: u64, bytes: u64) -> Option<u64>
     ensures { result ≡ table_word image.now (M.meaning heap.now.memory) at bytes }
 {

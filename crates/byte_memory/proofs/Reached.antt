@@ -1,11 +1,12 @@
 use Rattle.std.proofs.Common.{◌≡◌, ◌≢◌, ℕ, zero, suc, ◌+◌, ◌<◌, ◌≤◌, ⊎_elim, Some, None, List, [], ◌∷◌, cond, set, map, refl, ap, sym, ◌∙◌, subst, arith, Bool, true, false}
-use Rattle.std.specs.Prelude.{nat_eq, All}
+use Rattle.std.specs.Prelude.{nat_eq, All, Option, if◌then◌else◌}
 use Rattle.std.specs.List.{slice_get, find}
 use Rattle.std.proofs.lemmas.Bool.Decides.{nat_tests}
 use Rattle.std.proofs.lemmas.List.Elements.{All-head, All-tail, All-map, All-weaker}
 use Rattle.std.proofs.lemmas.List.Sums.{sum_by-cons}
 use Rattle.std.proofs.lemmas.Option.{slice_get_within, get_or_from_slice_get}
 use Rattle.byte_memory.specs.declared.memory.Region.{Region}
+use Rattle.byte_memory.specs.declared.memory.MemoryFault.TheVariants.{Unset, Closed}
 use Rattle.byte_memory.specs.Regions.{fault_at, fault_in, holds, starts, shut, total_of, rounded, IsAscending}
 use Rattle.byte_memory.proofs.Ascending.{HasAddress, IsAscendingBy-apart, find-last}
 
@@ -120,3 +121,15 @@ pub fault_at-inside : (rs : List Region) (k : ℕ) (r : Region) (at n : ℕ) →
 fault_at-inside rs k r at n up here is_open some low high =
     let pass : holds at n r ≡ true = grind (arith, nat_tests) in
     rw (find-last (λ (q : Region). q.start) (λ q. q.size) rs at (holds at n) k r up (holds-address rs at n some) here pass, is_open) refl
+
+-- bytes that can't be reached are not said to be unset
+pub fault_at-reached : (rs : List Region) (at n a : ℕ) → fault_at rs at n ≡ Some (Unset a) → ⊥
+fault_at-reached rs at n a e = by_case (find (holds at n) rs) e
+  where
+    by_open : (z : Bool) → (if z then None else Some (Closed at)) ≡ Some (Unset a) → ⊥
+    by_open true e = cc
+    by_open false e = cc
+
+    by_case : (found : Option Region) → fault_in at found ≡ Some (Unset a) → ⊥
+    by_case None e = cc
+    by_case (Some r) e = by_open r.is_open e

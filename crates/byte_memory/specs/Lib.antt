@@ -1,4 +1,7 @@
+pub mod Bits
 pub mod Bytes
 pub mod Regions
 pub mod Store
+pub mod Words
+pub mod Pages
 pub mod Cells

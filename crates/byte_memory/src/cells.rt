@@ -1,54 +1,125 @@
-//! Cells, one for each address, and the little-endian numbers in them.
+//! Cells, one for each address, and the bits in them.
 
-ghost use Rattle.std.specs.Prelude.{◌≡◌, ℕ, ◌+◌, ◌*◌, ◌<◌, ◌≤◌, ◌^◌, length, IfSome};
-ghost use Rattle.byte_memory.specs.Bytes.{number_from, stored, cleared, copied, AreOneOrApart};
-ghost use Rattle.byte_memory.specs.Cells.{byte_of};
+ghost use Rattle.std.specs.Prelude.{◌≡◌, ℕ, ◌+◌, ◌-◌, ◌*◌, ◌<◌, ◌≤◌, ◌^◌, length, if◌then◌else◌, IfSome};
+ghost use Rattle.byte_memory.specs.Bits.{has_bit, number_from, cleared, is_among};
+ghost use Rattle.byte_memory.specs.Words.{word_bit, bits_in, with_word};
 
-/// Unsets n cells.
-pub fn clear_cells(cells: &mut Vec<Option<u8>>, at: usize, n: usize)
+/// A byte, with a mask of those of its bits that are set.
+#[derive(Clone, Copy)]
+pub struct Cell {
+    pub value: u8,
+    pub set: u8,
+}
+
+/// Up to eight bytes as one number, the lowest first, with a mask of those of its bits that are set.
+#[derive(Clone, Copy)]
+pub struct Word {
+    pub value: u64,
+    pub set: u64,
+}
+
+/// The word of a value, with each of its bits set.
+pub fn all_set(value: u64) -> Word
+    ensures { result ≡ record { value = value; set = 18446744073709551615 } }
+{
+    Word {
+        value,
+        set: u64::MAX,
+    }
+}
+
+/// A number with so many of its bits, from one on, as the lowest of another number are.
+fn replaced(word: u64, first: u8, bits: u8, from: u64) -> u64
+    requires some { 0 < bits }
+    requires word { first + bits ≤ 64 }
+    ensures { (place : ℕ) → place < 64 → has_bit result place ≡ (if is_among first bits place then has_bit from (place - first) else has_bit word place) }
+{
+    let mask = u64::MAX >> (64 - bits);
+    (word & !(mask << first)) | ((from & mask) << first)
+}
+
+/// The word with so many of its bits, from one on, as the lowest of another word are.
+pub fn with_bits(word: Word, first: u8, bits: u8, from: Word) -> Word
+    requires some { 0 < bits }
+    requires word { first + bits ≤ 64 }
+    ensures { (place : ℕ) → place < 64 → word_bit result place ≡ (if is_among first bits place then word_bit from (place - first) else word_bit word place) }
+{
+    Word {
+        value: replaced(word.value, first, bits, from.value),
+        set: replaced(word.set, first, bits, from.set),
+    }
+}
+
+/// The number in so many bits of a word, from one on, or None where one of them is unset.
+pub fn number_in(word: Word, first: u8, bits: u8) -> Option<u64>
+    requires some { 0 < bits }
+    requires word { first + bits ≤ 64 }
+    ensures value { result ≡ number_from (word_bit word) first bits }
+    ensures fits { IfSome result (λ number. number < 2 ^ bits) }
+{
+    let mask = u64::MAX >> (64 - bits);
+    if (word.set >> first) & mask == mask {
+        Some((word.value >> first) & mask)
+    } else {
+        None
+    }
+}
+
+/// The bits of a word from one on, as the lowest of a word.
+pub fn from_bit(word: Word, first: u8) -> Word
+    requires { first < 8 }
+    ensures { (place : ℕ) → word_bit result place ≡ word_bit word (first + place) }
+{
+    Word {
+        value: word.value >> first,
+        set: word.set >> first,
+    }
+}
+
+/// The word in n cells from one on.
+pub fn read_word(cells: &[Cell], at: usize, n: u8) -> Word
+    requires within { at + n ≤ length cells.now }
+    requires small { n ≤ 8 }
+    ensures bits { (place : ℕ) → place < 8 * n → word_bit result place ≡ bits_in cells.now (8 * at + place) }
+    ensures value { result.value < 256 ^ n }
+    ensures set { result.set < 256 ^ n }
+{
+    if n == 0 {
+        return Word { value: 0, set: 0 };
+    }
+    let low = cells[at];
+    let high = read_word(cells, at + 1, n - 1);
+    Word {
+        value: low.value as u64 + 256 * high.value,
+        set: low.set as u64 + 256 * high.set,
+    }
+}
+
+/// Writes the low n bytes of a word into the cells from one on.
+pub fn write_word(cells: &mut [Cell], at: usize, n: u8, word: Word)
+    requires { at + n ≤ length cells.old }
+    ensures { bits_in cells.new ≡ with_word (bits_in cells.old) at n word }
+{
+    if n > 0 {
+        cells[at] = Cell {
+            value: (word.value % 256) as u8,
+            set: (word.set % 256) as u8,
+        };
+        let high = Word {
+            value: word.value / 256,
+            set: word.set / 256,
+        };
+        write_word(cells, at + 1, n - 1, high);
+    }
+}
+
+/// Unsets the bits of n cells.
+pub fn clear_cells(cells: &mut Vec<Cell>, at: usize, n: usize)
     requires { at + n ≤ length cells.old.items }
-    ensures cleared { byte_of cells.new.items ≡ cleared (byte_of cells.old.items) at n }
+    ensures cleared { bits_in cells.new.items ≡ cleared (bits_in cells.old.items) (8 * at) (8 * n) }
     ensures len { length cells.new.items ≡ length cells.old.items }
 {
     for i in 0..n {
-        cells[at + i] = None;
-    }
-}
-
-/// The number whose n little-endian bytes stand from a cell on, or None where one of them is unset.
-pub fn read_cells(cells: &[Option<u8>], at: usize, n: u8) -> Option<u64>
-    requires within { at + n ≤ length cells.now }
-    requires small { n ≤ 8 }
-    ensures value { result ≡ number_from (byte_of cells.now) at n }
-    ensures fits { IfSome result (λ v. v < 256 ^ n) }
-{
-    if n == 0 {
-        return Some(0);
-    }
-    let low = cells[at]?;
-    let high = read_cells(cells, at + 1, n - 1)?;
-    Some(low as u64 + 256 * high)
-}
-
-/// Writes the low n bytes of a value from a cell on.
-pub fn write_cells(cells: &mut [Option<u8>], at: usize, n: u8, value: u64)
-    requires { at + n ≤ length cells.old }
-    ensures { byte_of cells.new ≡ stored (byte_of cells.old) at n value }
-{
-    if n > 0 {
-        cells[at] = Some((value % 256) as u8);
-        write_cells(cells, at + 1, n - 1, value / 256);
-    }
-}
-
-/// Gives n cells what those from another one on have, set or unset.
-pub fn copy_cells(cells: &mut [Option<u8>], from: usize, to: usize, n: usize)
-    requires source { from + n ≤ length cells.old }
-    requires target { to + n ≤ length cells.old }
-    requires apart { AreOneOrApart from to n }
-    ensures { byte_of cells.new ≡ copied (byte_of cells.old) from to n }
-{
-    for i in 0..n {
-        cells[to + i] = cells[from + i];
+        cells[at + i] = Cell { value: 0, set: 0 };
     }
 }

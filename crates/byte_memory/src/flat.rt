@@ -2,10 +2,12 @@
 
 ghost use Rattle.std.specs.Prelude.{◌≡◌, ℕ, ◌+◌, ◌*◌, ◌<◌, ◌≤◌, All, length};
 ghost use Rattle.byte_memory.specs.Regions.{total_of, rounded, IsAscending};
-ghost use Rattle.byte_memory.specs.Cells.{byte_of};
+ghost use Rattle.byte_memory.specs.Words.{bits_in};
 
-use crate::cells::{clear_cells, copy_cells, read_cells, write_cells};
-use crate::memory::{Memory, MemoryFault, Region};
+use crate::cells::{
+    Cell, all_set, clear_cells, from_bit, number_in, read_word, with_bits, write_word,
+};
+use crate::memory::{Memory, MemoryFault, Region, byte_span};
 use crate::regions::{check, region_from, shut_region};
 use std::alloc::Global;
 
@@ -15,7 +17,7 @@ use std::alloc::Global;
 #[derive(Drop)]
 pub struct FlatMemory {
     regions: Vec<Region>,
-    cells: Vec<Option<u8>>,
+    cells: Vec<Cell>,
     ghost ascending: { IsAscending regions.items },
     ghost sizes: { All (λ region. 0 < region.size) regions.items },
     ghost ends: { All (λ region. region.start + region.size ≤ length cells.items) regions.items },
@@ -37,7 +39,7 @@ impl FlatMemory {
 }
 
 impl Memory for FlatMemory {
-    ghost meaning = { λ m. record { regions = m.regions.items; byte = byte_of m.cells.items } };
+    ghost meaning = { λ m. record { regions = m.regions.items; bit = bits_in m.cells.items } };
 
     ghost ascends = { λ m. m.ascending };
 
@@ -47,7 +49,11 @@ impl Memory for FlatMemory {
         if self.regions.try_reserve(1).is_err() {
             return Err(MemoryFault::NoMemory);
         }
-        if self.cells.resize(start + size as usize, None).is_err() {
+        if self
+            .cells
+            .resize(start + size as usize, Cell { value: 0, set: 0 })
+            .is_err()
+        {
             return Err(MemoryFault::NoMemory);
         }
         let region = Region {
@@ -74,26 +80,30 @@ impl Memory for FlatMemory {
         Ok(())
     }
 
-    fn is_set(&self, at: u64) -> Result<bool, MemoryFault> {
-        check(&self.regions, at, 1)?;
-        Ok(self.cells[at as usize].is_some())
+    fn load_bits(&self, at: u64, first: u8, bits: u8) -> Result<u64, MemoryFault> {
+        let span = byte_span(first, bits);
+        check(&self.regions, at, span as u64)?;
+        let word = read_word(&self.cells, at as usize, span);
+        number_in(word, first, bits).ok_or(MemoryFault::Unset(at))
     }
 
-    fn load(&self, at: u64, bytes: u8) -> Result<u64, MemoryFault> {
-        check(&self.regions, at, bytes as u64)?;
-        read_cells(&self.cells, at as usize, bytes).ok_or(MemoryFault::Unset(at))
-    }
-
-    fn store(&mut self, at: u64, bytes: u8, value: u64) -> Result<(), MemoryFault> {
-        check(&self.regions, at, bytes as u64)?;
-        write_cells(&mut self.cells, at as usize, bytes, value);
+    fn store_bits(&mut self, at: u64, first: u8, bits: u8, value: u64) -> Result<(), MemoryFault> {
+        let span = byte_span(first, bits);
+        check(&self.regions, at, span as u64)?;
+        let word = read_word(&self.cells, at as usize, span);
+        let new = with_bits(word, first, bits, all_set(value));
+        write_word(&mut self.cells, at as usize, span, new);
         Ok(())
     }
 
-    fn copy(&mut self, from: u64, to: u64, bytes: u8) -> Result<(), MemoryFault> {
-        check(&self.regions, from, bytes as u64)?;
-        check(&self.regions, to, bytes as u64)?;
-        copy_cells(&mut self.cells, from as usize, to as usize, bytes as usize);
+    fn copy_bits(&mut self, from: u64, to: u64, first: u8, bits: u8) -> Result<(), MemoryFault> {
+        let span = byte_span(first, bits);
+        check(&self.regions, from, span as u64)?;
+        check(&self.regions, to, span as u64)?;
+        let source = read_word(&self.cells, from as usize, span);
+        let word = read_word(&self.cells, to as usize, span);
+        let new = with_bits(word, first, bits, from_bit(source, first));
+        write_word(&mut self.cells, to as usize, span, new);
         Ok(())
     }
 }

@@ -1,9 +1,10 @@
 //! The trait of all memories.
 
-ghost use Rattle.std.specs.Prelude.{◌≡◌, ◌+◌, ◌<◌, ◌≤◌, ◌^◌, Some, None, MatchResult, IfOk, is_some};
-ghost use Rattle.byte_memory.specs.Bytes.{AreOneOrApart};
+ghost use Rattle.std.specs.Prelude.{◌≡◌, ◌+◌, ◌*◌, ◌/◌, ◌<◌, ◌≤◌, ◌^◌, Some, None, MatchResult, IfOk, is_some};
+ghost use Rattle.byte_memory.specs.Bits.{AreOneOrApart};
 ghost use Rattle.byte_memory.specs.Regions.{fault_at, close_fault, copy_fault, total_of, rounded, IsAscending};
-ghost use Rattle.byte_memory.specs.Store.{Store, IsRoom, open_of, store_of, copy_of, load_of, Closes};
+ghost use Rattle.byte_memory.specs.Store.{Store, IsRoom, open_of, byte_at, byte_span, set_of};
+ghost use Rattle.byte_memory.specs.Store.{load_of, load_bits_of, store_of, store_bits_of, copy_of, copy_bits_of, Closes};
 
 use thiserror::Error;
 
@@ -18,7 +19,7 @@ pub struct Region {
 /// Why a call of a memory was refused, with the address that the call named.
 #[derive(Clone, Copy, Debug, PartialEq, Eq, Error)]
 pub enum MemoryFault {
-    /// A byte was never stored since its region was opened.
+    /// A bit was never stored since its region was opened.
     #[error("a byte at {0} is unset")]
     Unset(u64),
     /// The region was closed.
@@ -32,12 +33,34 @@ pub enum MemoryFault {
     NoMemory,
 }
 
-/// A memory of regions. Sizes and widths are in bytes.
+/// How many bytes hold one of so many bits, from a bit of the first of them on.
+pub fn byte_span(first: u8, bits: u8) -> u8
+    requires inside { first < 8 }
+    requires word { first + bits ≤ 64 }
+    ensures { result ≡ (first + bits + 7) / 8 }
+{
+    (first + bits + 7) / 8
+}
+
+/// Whether bits are set, by what a load of them answered.
+fn set_by(loaded: Result<u64, MemoryFault>) -> Result<bool, MemoryFault>
+    ensures { result ≡ set_of loaded }
+{
+    match loaded {
+        Ok(_) => Ok(true),
+        Err(MemoryFault::Unset(_)) => Ok(false),
+        Err(fault) => Err(fault),
+    }
+}
+
+/// A memory of regions. Sizes and widths are in bytes, where a call does not name bits.
+///
+/// Bit 0 of a byte is its lowest. A stored byte has all its bits set.
 pub trait Memory {
     /// What it is, however it is kept.
     ghost meaning: { Self → Store };
 
-    /// Opens a new region of unset bytes, at a multiple of 16 above all earlier regions and below 2^41.
+    /// Opens a new region of unset bits, at a multiple of 16 above all earlier regions and below 2^41.
     ///
     /// Its one refusal is `NoMemory`, after which all is as before.
     fn open(&mut self, size: u64) -> Result<u64, MemoryFault>
@@ -49,7 +72,7 @@ pub trait Memory {
             × (meaning self.new ≡ open_of (meaning self.old) at size))
             (λ fault. (fault ≡ MemoryFault.NoMemory) × (meaning self.new ≡ meaning self.old)) };
 
-    /// Closes the region that starts there, and unsets its bytes.
+    /// Closes the region that starts there, and unsets its bits.
     ///
     /// Range where no region starts there, else Closed where it is closed; then all is as before.
     fn close(&mut self, at: u64) -> Result<(), MemoryFault>
@@ -58,22 +81,77 @@ pub trait Memory {
             (λ fault. (close_fault (meaning self.old).regions at ≡ Some fault)
             × (meaning self.new ≡ meaning self.old)) };
 
-    /// Whether the byte was stored. Range where no region holds it, else Closed where that is closed.
+    /// The number whose bits, the lowest first, stand from the bit `first` of the byte at `at` on.
+    ///
+    /// Range where the bytes that hold one of them do not all lie in one region, else Closed where that is closed, else
+    /// Unset where one of the bits was never stored.
+    fn load_bits(&self, at: u64, first: u8, bits: u8) -> Result<u64, MemoryFault>
+        requires inside { first < 8 }
+        requires some { 0 < bits }
+        requires word { first + bits ≤ 64 }
+        ensures value { result ≡ load_bits_of (meaning self.now) at first bits }
+        ensures fits { IfOk result (λ number. number < 2 ^ bits) };
+
+    /// Stores the low bits of a value there, and changes no other bit. Refusals are those of `load_bits` but Unset.
+    fn store_bits(&mut self, at: u64, first: u8, bits: u8, value: u64) -> Result<(), MemoryFault>
+        requires inside { first < 8 }
+        requires some { 0 < bits }
+        requires word { first + bits ≤ 64 }
+        ensures { MatchResult result
+            (λ _. (fault_at (meaning self.old).regions at (byte_span first bits) ≡ None)
+            × (meaning self.new ≡ store_bits_of (meaning self.old) at first bits value))
+            (λ fault. (fault_at (meaning self.old).regions at (byte_span first bits) ≡ Some fault)
+            × (meaning self.new ≡ meaning self.old)) };
+
+    /// Gives the bits from the bit `first` of the byte at `to` on the values of those of the byte at `from`, and unsets
+    /// each whose bit at `from` is unset; it changes no other bit, and takes no memory. The two ranges are equal or have
+    /// no bit in common.
+    ///
+    /// Refusals are those of `store_bits`, of `from` before `to`, each with its address; then all is as before.
+    fn copy_bits(&mut self, from: u64, to: u64, first: u8, bits: u8) -> Result<(), MemoryFault>
+        requires inside { first < 8 }
+        requires some { 0 < bits }
+        requires word { first + bits ≤ 64 }
+        requires apart { AreOneOrApart (8 * from) (8 * to) bits }
+        ensures { MatchResult result
+            (λ _. (copy_fault (meaning self.old).regions from to (byte_span first bits) ≡ None)
+            × (meaning self.new ≡ copy_bits_of (meaning self.old) from to first bits))
+            (λ fault. (copy_fault (meaning self.old).regions from to (byte_span first bits) ≡ Some fault)
+            × (meaning self.new ≡ meaning self.old)) };
+
+    /// Whether the bit was stored. Range where no region holds its byte, else Closed where that is closed.
+    fn bit_set(&self, at: u64, bit: u8) -> Result<bool, MemoryFault>
+        requires { bit < 8 }
+        ensures { MatchResult result
+            (λ set. (fault_at (meaning self.now).regions at 1 ≡ None)
+            × (set ≡ is_some ((meaning self.now).bit (8 * at + bit))))
+            (λ fault. fault_at (meaning self.now).regions at 1 ≡ Some fault) }
+    {
+        set_by(self.load_bits(at, bit, 1))
+    }
+
+    /// Whether all eight bits of the byte were stored. Refusals are those of `bit_set`.
     fn is_set(&self, at: u64) -> Result<bool, MemoryFault>
         ensures { MatchResult result
             (λ set. (fault_at (meaning self.now).regions at 1 ≡ None)
-            × (set ≡ is_some ((meaning self.now).byte at)))
-            (λ fault. fault_at (meaning self.now).regions at 1 ≡ Some fault) };
+            × (set ≡ is_some (byte_at (meaning self.now) at)))
+            (λ fault. fault_at (meaning self.now).regions at 1 ≡ Some fault) }
+    {
+        set_by(self.load_bits(at, 0, 8))
+    }
 
     /// The number whose little-endian bytes stand there.
     ///
-    /// Range where they do not all lie in one region, else Closed where that is closed, else Unset where one of them
+    /// Range where they do not all lie in one region, else Closed where that is closed, else Unset where a bit of them
     /// was never stored.
     fn load(&self, at: u64, bytes: u8) -> Result<u64, MemoryFault>
         requires some { 0 < bytes }
         requires word { bytes ≤ 8 }
         ensures value { result ≡ load_of (meaning self.now) at bytes }
-        ensures fits { IfOk result (λ number. number < 256 ^ bytes) };
+        ensures fits { IfOk result (λ number. number < 256 ^ bytes) }
+    {
+        self.load_bits(at, 0, 8 * bytes)
+    }
 
     /// Stores the low bytes of a value, and changes nothing else. Refusals are those of `load` but Unset.
     fn store(&mut self, at: u64, bytes: u8, value: u64) -> Result<(), MemoryFault>
@@ -83,10 +161,13 @@ pub trait Memory {
             (λ _. (fault_at (meaning self.old).regions at bytes ≡ None)
             × (meaning self.new ≡ store_of (meaning self.old) at bytes value))
             (λ fault. (fault_at (meaning self.old).regions at bytes ≡ Some fault)
-            × (meaning self.new ≡ meaning self.old)) };
+            × (meaning self.new ≡ meaning self.old)) }
+    {
+        self.store_bits(at, 0, 8 * bytes, value)
+    }
 
-    /// Gives the bytes at `to` the values of those at `from`, and unsets each whose byte at `from` is unset; it changes
-    /// nothing else, and takes no memory. The two ranges are equal or have no byte in common.
+    /// Gives the bits of the bytes at `to` the values of those at `from`, and unsets each whose bit at `from` is unset;
+    /// it changes nothing else, and takes no memory. The two ranges are equal or have no byte in common.
     ///
     /// Refusals are those of `store`, of `from` before `to`, each with its address; then all is as before.
     fn copy(&mut self, from: u64, to: u64, bytes: u8) -> Result<(), MemoryFault>
@@ -97,7 +178,10 @@ pub trait Memory {
             (λ _. (copy_fault (meaning self.old).regions from to bytes ≡ None)
             × (meaning self.new ≡ copy_of (meaning self.old) from to bytes))
             (λ fault. (copy_fault (meaning self.old).regions from to bytes ≡ Some fault)
-            × (meaning self.new ≡ meaning self.old)) };
+            × (meaning self.new ≡ meaning self.old)) }
+    {
+        self.copy_bits(from, to, 0, 8 * bytes)
+    }
 
     // No address is given out twice.
     ghost ascends: { (memory : Self) → IsAscending (meaning memory).regions };

@@ -3,14 +3,15 @@
 ghost use Rattle.std.specs.Prelude.{◌≡◌, ◌≤◌, ◌∷◌, ◌++◌, [], List, Bool, true, false, length, IfOk};
 ghost use Rattle.cxx_hierarchy.specs.declared.stop.Stop.{Stop};
 ghost use Rattle.cxx_hierarchy.specs.declared.records.FieldType.{FieldType};
+ghost use Rattle.cxx_hierarchy.specs.declared.records.Scalar.{Scalar};
 ghost use Rattle.cxx_hierarchy.specs.declared.records.ValueType.{ValueType};
 ghost use Rattle.cxx_grammar.specs.declared.sort.Lexeme.{Lexeme};
 ghost use Rattle.cxx_grammar.specs.declared.sort.Sort.{Sort};
 ghost use Rattle.cxx_grammar.specs.Sorts.{is_name};
 ghost use Rattle.cxx_grammar.specs.Front.{IsName};
 ghost use Rattle.cxx_grammar.specs.invariants.Run.{Follows};
-ghost use Rattle.cxx_grammar.specs.Table.{Only, AName, ABlock, ParamsEnd, AfterDeclared, AfterType, AfterOwnName, PartsEnd, is_scalar_word, scalar_rest};
-ghost use Rattle.cxx_syntax.specs.Statements.{IsFirst, ValueReads};
+ghost use Rattle.cxx_grammar.specs.Table.{Only, AName, ABlock, ParamsEnd, AfterDeclared, AfterScalar, AfterType, AfterOwnName, PartsEnd, is_scalar_word, scalar_rest};
+ghost use Rattle.cxx_syntax.specs.Statements.{IsFirst, ScalarReads, ValueReads};
 ghost use Rattle.cxx_syntax.specs.declared.part.Part.{Part};
 ghost use Rattle.cxx_syntax.specs.Parts.{access_of, PartReads, PartsRead};
 ghost use Rattle.cxx_record_parser.specs.invariants.Readers.{outside, max_lexemes, IsDraft};
@@ -18,9 +19,9 @@ ghost use Rattle.cxx_record_parser.specs.invariants.Readers.{outside, max_lexeme
 use crate::function::{FunctionHead, constructor, destructor, plain_function, virtual_part};
 use cxx_body_parser::{Reading, Text};
 use cxx_grammar::{Lexeme, Sort, is_same, name_of, next, refusal, take, take_name};
-use cxx_hierarchy::{FieldType, Name, ReturnType, Stop, ValueType};
+use cxx_hierarchy::{FieldType, Name, ReturnType, Scalar, Stop, ValueType};
 use cxx_record_parser::draft::{Draft, public_after};
-use cxx_record_parser::member::{field_end, label};
+use cxx_record_parser::member::{bit_field_end, field_end, label};
 use cxx_syntax::Part;
 use cxx_syntax::scalar::scalar;
 
@@ -56,8 +57,8 @@ fn after_declared<'a>(
     Ok((part, after))
 }
 
-// name and the rest of a field or of a function after its value
-fn value_part<'a>(
+// name and the rest of a field or of a function after a pointer
+fn pointer_part<'a>(
     text: &Text,
     front: PartFront,
     ty: ValueType<Name>,
@@ -72,16 +73,41 @@ fn value_part<'a>(
     Ok((part, rest))
 }
 
+// the rest of a field or of a function after a scalar and its name
+fn after_scalar<'a>(
+    text: &Text,
+    front: PartFront,
+    ty: Scalar,
+    word: Lexeme,
+    rest: &'a [Lexeme],
+) -> Reading<'a, Part>
+    ensures reads { IfOk result (λ x. (ts a : List Lexeme) → IsFirst front.first ts → ScalarReads ty ts a → IsName word a rest.now → PartReads text.now.bytes.now front.is_public x.0 ts x.1.now) }
+    ensures shorter { IfOk result (λ x. length x.1.now ≤ length rest.now) }
+    ensures follows { (m : Bool) → Follows (λ x. x.1.now) (outside m) (AfterScalar ∷ []) rest.now (outside m) [] result }
+{
+    let PartFront { is_public, first } = front;
+    let (sign, _) = next(rest)?;
+    if is_same(sign.sort, Sort::Colon) {
+        let (part, after) = bit_field_end(
+            text.alloc, text.bytes, is_public, first, ty, word, rest,
+        )?;
+        return Ok((part, after));
+    }
+    let ty = ValueType::Number(ty);
+    let (part, after) = after_declared(text, front, ty, word, rest)?;
+    Ok((part, after))
+}
+
 // a field or a function that begins with a scalar
 fn scalar_part<'a>(text: &Text, front: PartFront, rest: &'a [Lexeme]) -> Reading<'a, Part>
     requires { is_scalar_word front.first.sort ≡ true }
     ensures reads { IfOk result (λ x. PartReads text.now.bytes.now front.is_public x.0 (front.first ∷ rest.now) x.1.now) }
     ensures shorter { IfOk result (λ x. length x.1.now ≤ length rest.now) }
-    ensures follows { (m : Bool) → Follows (λ x. x.1.now) (outside m) (scalar_rest front.first.sort ++ (AfterDeclared ∷ [])) rest.now (outside m) [] result }
+    ensures follows { (m : Bool) → Follows (λ x. x.1.now) (outside m) (scalar_rest front.first.sort ++ (AfterScalar ∷ [])) rest.now (outside m) [] result }
 {
-    let (number, rest) = scalar(front.first, rest)?;
-    let ty = ValueType::Number(number);
-    let (part, rest) = value_part(text, front, ty, rest)?;
+    let (ty, rest) = scalar(front.first, rest)?;
+    let (word, rest) = take_name(rest)?;
+    let (part, rest) = after_scalar(text, front, ty, word, rest)?;
     Ok((part, rest))
 }
 
@@ -97,7 +123,7 @@ fn name_part<'a>(text: &Text, front: PartFront, rest: &'a [Lexeme]) -> Reading<'
     if is_same(sign.sort, Sort::Star) {
         let class = name_of(text.alloc, text.bytes, &first)?;
         let ty = ValueType::Pointer(class);
-        let (part, after) = value_part(text, front, ty, after)?;
+        let (part, after) = pointer_part(text, front, ty, after)?;
         return Ok((part, after));
     }
     let (word, after) = take_name(rest)?;

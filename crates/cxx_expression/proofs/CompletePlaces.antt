@@ -1,5 +1,5 @@
 -- Places and calls are refused, or typed.
-use Rattle.std.proofs.Common.{ℕ, ◌+◌, nat_eq, nat_lt, Option, Some, None, List, [], ◌∷◌, length, slice_get}
+use Rattle.std.proofs.Common.{ℕ, ◌+◌, nat_eq, nat_lt, Option, Some, None, List, [], ◌∷◌, length, slice_get, refl}
 use Rattle.cxx_hierarchy.specs.declared.records.ClassId.{ClassId}
 use Rattle.cxx_hierarchy.specs.declared.records.ValueType.{ValueType}
 use Rattle.cxx_hierarchy.specs.declared.records.FieldType.{FieldType}
@@ -26,13 +26,14 @@ use Rattle.cxx_expression.specs.declared.scene.Setting.{Setting}
 use Rattle.cxx_expression.specs.declared.typed.FieldPlace.{FieldPlace}
 use Rattle.cxx_expression.specs.declared.typed.FoundFunction.{FoundFunction}
 use Rattle.cxx_expression.specs.declared.typed.Reached.{Reached}
-use Rattle.cxx_expression.specs.Checked.{pure, warn}
+use Rattle.cxx_expression.specs.Checked.{pure, warn, ◌>>=◌, both, beside, kept}
 use Rattle.cxx_expression.specs.Lookups.{looked_up, member_record, function_record}
+use Rattle.cxx_expression.specs.Values.{class_of}
 use Rattle.cxx_expression.specs.Places.{as_found, member_in, as_member, member_of, index_of, object_of, step_of, steps_of, begun, with_last, ended, place_of, as_leaf, leaf_of, as_object, object_place_of}
 use Rattle.cxx_expression.specs.Calls as calls
-use Rattle.cxx_expression.specs.Calls.{function_in, as_function, function_of, counted, target_of, plain_operand, argument_of, arguments_of, parameters_in, dispatched, plain_call, defined, named_function, receiver_of, parameters_of, qualified, qualified_call, call_by, call_of}
+use Rattle.cxx_expression.specs.Calls.{function_in, as_function, function_of, counted, target_of, plain_operand, argument_of, arguments_of, parameters_in, plain_value, plain_call, defined, named_function, receiver_of, parameters_of, qualified_value, qualified_call, call_by, call_of, whole_call}
 use Rattle.cxx_expression.specs.Laws.{IsComplete}
-use Rattle.cxx_expression.proofs.Complete.{complete_pure, complete_fail, complete_warn, complete_bind, complete_along, complete_both, complete_if}
+use Rattle.cxx_expression.proofs.Complete.{complete_pure, complete_fail, complete_warn, complete_bind, complete_both, complete_if, complete_nested, beside_whole}
 use Rattle.cxx_expression.proofs.CompleteValues.{c_class_of, c_operand, c_pointer, c_path, c_converted_operand}
 
 c_found : (name_at : ℕ) (s : Subobject) (n : ℕ) (o : Option (Member ClassId)) → IsComplete (as_found name_at s n o)
@@ -140,10 +141,12 @@ unfolding arguments_of
 c_arguments h e s at ps n [] = complete_pure _
 c_arguments h e s at ps n (x ∷ xs) = complete_bind _ _ (complete_both _ _ (c_argument h e s at (slice_get ps n) x) (c_arguments h e s at ps (n + 1) xs)) (λ r. complete_pure _)
 
-c_plain_call : (h : Classes) (e : Setting) (s : Scene) (at : ℕ) (call : CallText) → IsComplete (plain_call h e s at call)
+c_plain_call : (h : Classes) (e : Setting) (s : Scene) (at : ℕ) (call : CallText) → IsComplete (plain_call h e s at call >>= (λ v. kept v.call))
 unfolding plain_call
-c_plain_call h e s at call = complete_bind _ _ (complete_along _ _ (c_target h e s at call) (λ t. c_arguments h e s at (parameters_in t) 0 call.arguments))
-    (λ r. complete_pure (dispatched r.0 (is_virtual h r.0.found.function) r.1))
+c_plain_call h e s at call =
+    complete_nested (beside (target_of h e s at call) (λ t. arguments_of h e s at (parameters_in t) 0 call.arguments)) (λ r. pure (plain_value r.0 (is_virtual h r.0.found.function) r.1)) (λ v. kept v.call)
+    (beside_whole (target_of h e s at call) (λ t. arguments_of h e s at (parameters_in t) 0 call.arguments) (λ t o. plain_value t (is_virtual h t.found.function) o) (λ v. v.call) (λ t list. refl)
+    (c_target h e s at call) (λ t. c_arguments h e s at (parameters_in t) 0 call.arguments))
 
 pub c_defined : (at : ℕ) (f : FoundFunction) → IsComplete (defined at f)
 c_defined at f = complete_if f.is_pure (warn rule.Abstract at f) (pure f) (complete_warn _ _ _) (complete_pure _)
@@ -156,15 +159,25 @@ c_receiver : (h : Classes) (e : Setting) (s : Scene) (at : ℕ) (k : ClassId) (x
 unfolding receiver_of
 c_receiver h e s at k x = complete_bind _ _ (c_pointer e s at x) (λ p. complete_bind _ _ (c_path h at p.class k) (λ path. complete_pure _))
 
-c_qualified : (h : Classes) (e : Setting) (s : Scene) (at : ℕ) (call : CallText) (x : Spot) → IsComplete (qualified_call h e s at call x)
-unfolding qualified_call
-c_qualified h e s at call x = complete_bind _ _ (c_class_of h x) (λ k. complete_bind _ _ (complete_both _ _ (c_receiver h e s at k call.pointer)
-    (complete_along _ _ (c_named h at k call) (λ f. c_arguments h e s at (parameters_of f) 0 call.arguments))) (λ r. complete_pure (qualified r.0 r.1.0 r.1.1)))
+c_passed : (h : Classes) (e : Setting) (s : Scene) (at : ℕ) (k : ClassId) (call : CallText) (f : Option FoundFunction) → IsComplete (both (receiver_of h e s at k call.pointer) (arguments_of h e s at (parameters_of f) 0 call.arguments))
+c_passed h e s at k call f = complete_both _ _ (c_receiver h e s at k call.pointer) (c_arguments h e s at (parameters_of f) 0 call.arguments)
 
-c_call_by : (h : Classes) (e : Setting) (s : Scene) (at : ℕ) (call : CallText) (o : Option Spot) → IsComplete (call_by h e s at call o)
+c_qualified : (h : Classes) (e : Setting) (s : Scene) (at : ℕ) (call : CallText) (x : Spot) → IsComplete (qualified_call h e s at call x >>= (λ v. kept v.call))
+unfolding qualified_call
+c_qualified h e s at call x = complete_nested (class_of h x) _ (λ v. kept v.call) (complete_bind _ _ (c_class_of h x) (λ k.
+    let passed = λ (f : Option FoundFunction). both (receiver_of h e s at k call.pointer) (arguments_of h e s at (parameters_of f) 0 call.arguments) in
+    complete_nested (beside (named_function h at k call) passed) (λ r. pure (qualified_value r.0 r.1)) (λ v. kept v.call)
+    (beside_whole (named_function h at k call) passed (λ f o. qualified_value f o) (λ v. v.call) (λ f r. refl) (c_named h at k call) (c_passed h e s at k call))))
+
+c_call_by : (h : Classes) (e : Setting) (s : Scene) (at : ℕ) (call : CallText) (o : Option Spot) → IsComplete (call_by h e s at call o >>= (λ v. kept v.call))
 c_call_by h e s at call None = c_plain_call h e s at call
 c_call_by h e s at call (Some x) = c_qualified h e s at call x
 
-pub c_call : (h : Classes) (e : Setting) (s : Scene) (at : ℕ) (call : CallText) → IsComplete (call_of h e s at call)
+-- a call has a fault, or its receiver and its arguments are typed
+pub c_call : (h : Classes) (e : Setting) (s : Scene) (at : ℕ) (call : CallText) → IsComplete (call_of h e s at call >>= (λ v. kept v.call))
 unfolding call_of
 c_call h e s at call = c_call_by h e s at call call.class
+
+pub c_whole_call : (h : Classes) (e : Setting) (s : Scene) (at : ℕ) (call : CallText) → IsComplete (whole_call h e s at call)
+unfolding whole_call
+c_whole_call h e s at call = c_call h e s at call

@@ -5,3 +5,4 @@ pub mod Complete
 pub mod CompleteValues
 pub mod CompletePlaces
 pub mod CompleteRights
+pub mod Results

@@ -1,5 +1,5 @@
 -- Calls. `at` is the place of the statement's first token.
-use Rattle.std.specs.Prelude.{ℕ, ◌+◌, Bool, false, nat_eq, if◌then◌else◌, Option, Some, None, List, [], ◌∷◌, length, map, slice_get}
+use Rattle.std.specs.Prelude.{ℕ, ◌+◌, Bool, false, nat_eq, if◌then◌else◌, Option, Some, None, List, [], ◌∷◌, length, map, slice_get, option_map}
 use Rattle.cxx_hierarchy.specs.declared.records.ClassId.{ClassId}
 use Rattle.cxx_hierarchy.specs.declared.records.ValueType.{ValueType}
 use Rattle.cxx_hierarchy.specs.declared.records.Param.{Param}
@@ -16,6 +16,7 @@ use Rattle.cxx_syntax.specs.declared.tree.CallText.{CallText}
 use Rattle.cxx_syntax.specs.declared.tree.PointerText.{PointerText}
 use Rattle.cxx_program.specs.declared.operand.Argument.{Argument}
 use Rattle.cxx_program.specs.declared.operand.Conversion.TheVariants as conversion
+use Rattle.cxx_program.specs.declared.statement.TypedCall.{TypedCall}
 use Rattle.cxx_expression.specs.declared.look_up.Looked.{Looked}
 use Rattle.cxx_expression.specs.declared.look_up.Looked.TheVariants as looked
 use Rattle.cxx_expression.specs.declared.scene.Scene.{Scene}
@@ -25,7 +26,7 @@ use Rattle.cxx_expression.specs.declared.typed.FoundFunction.{FoundFunction}
 use Rattle.cxx_expression.specs.declared.typed.Target.{Target}
 use Rattle.cxx_expression.specs.declared.typed.Receiver.{Receiver}
 use Rattle.cxx_expression.specs.declared.typed.CallValue.{CallValue}
-use Rattle.cxx_expression.specs.Checked.{Checked, pure, fail, warn, ◌>>=◌, along, both}
+use Rattle.cxx_expression.specs.Checked.{Checked, pure, fail, warn, ◌>>=◌, both, beside, kept}
 use Rattle.cxx_expression.specs.Lookups.{looked_up, function_record}
 use Rattle.cxx_expression.specs.Values.{operand_of, pointer_of, class_of, path_to, converted_operand, argument}
 
@@ -97,26 +98,27 @@ abbrev pub parameters_in : Option Target → List (ValueType ClassId)
 parameters_in None = []
 parameters_in (Some t) = t.found.parameters
 
--- the final overrider runs where the function is virtual (ISO C++03 10.3 p6)
-abbrev pub dispatched : Target → Bool → List Argument → CallValue
+-- a call in the class of the pointer: the final overrider runs where the function is virtual (ISO C++03 10.3 p6)
+abbrev pub dispatched : Target → Bool → List Argument → TypedCall
 dispatched t virtual arguments = record {
-  call = record {
-    pointer = t.pointer.operand;
-    class = t.pointer.class;
-    qualifier = None;
-    base = t.found.base;
-    function = t.found.function;
-    is_dispatched = virtual;
-    arguments = arguments;
-  };
-  returns = t.found.returns;
+  pointer = t.pointer.operand;
+  class = t.pointer.class;
+  qualifier = None;
+  base = t.found.base;
+  function = t.found.function;
+  is_dispatched = virtual;
+  arguments = arguments;
 }
+
+-- what it returns rests on the function alone
+abbrev pub plain_value : Target → Bool → Option (List Argument) → CallValue
+plain_value t virtual arguments = record { call = option_map (dispatched t virtual) arguments; returns = t.found.returns }
 
 -- the arguments are asked also where the function is none
 unfoldable pub plain_call : Classes → Setting → Scene → ℕ → CallText → Checked CallValue
 plain_call h e s at call = do
-  r ← along (target_of h e s at call) (λ t. arguments_of h e s at (parameters_in t) 0 call.arguments)
-  pure (dispatched r.0 (is_virtual h r.0.found.function) r.1)
+  r ← beside (target_of h e s at call) (λ t. arguments_of h e s at (parameters_in t) 0 call.arguments)
+  pure (plain_value r.0 (is_virtual h r.0.found.function) r.1)
 
 -- E14: a qualified call of a pure function
 abbrev pub defined : ℕ → FoundFunction → Checked FoundFunction
@@ -145,33 +147,40 @@ abbrev pub parameters_of : Option FoundFunction → List (ValueType ClassId)
 parameters_of None = []
 parameters_of (Some f) = f.parameters
 
--- the function itself runs (ISO C++03 10.3 p12)
-abbrev pub qualified : Receiver → FoundFunction → List Argument → CallValue
-qualified r f arguments = record {
-  call = record {
-    pointer = r.pointer.operand;
-    class = r.pointer.class;
-    qualifier = r.path;
-    base = f.base;
-    function = f.function;
-    is_dispatched = false;
-    arguments = arguments;
-  };
-  returns = f.returns;
+-- a call with a class before `::`: the function itself runs (ISO C++03 10.3 p12)
+abbrev pub qualified : FoundFunction → Receiver × List Argument → TypedCall
+qualified f passed = record {
+  pointer = passed.0.pointer.operand;
+  class = passed.0.pointer.class;
+  qualifier = passed.0.path;
+  base = f.base;
+  function = f.function;
+  is_dispatched = false;
+  arguments = passed.1;
 }
 
--- a call with a class before `::` (ISO C++03 5.2.2 p1, 10.3 p12)
+-- what it returns rests on the function alone
+abbrev pub qualified_value : FoundFunction → Option (Receiver × List Argument) → CallValue
+qualified_value f passed = record { call = option_map (qualified f) passed; returns = f.returns }
+
+-- the receiver and the arguments are asked also where the function is none (ISO C++03 5.2.2 p1)
 unfoldable pub qualified_call : Classes → Setting → Scene → ℕ → CallText → Spot → Checked CallValue
 qualified_call h e s at call x = do
   k ← class_of h x
-  r ← both (receiver_of h e s at k call.pointer) (along (named_function h at k call) (λ f. arguments_of h e s at (parameters_of f) 0 call.arguments))
-  pure (qualified r.0 r.1.0 r.1.1)
+  r ← beside (named_function h at k call) (λ f. both (receiver_of h e s at k call.pointer) (arguments_of h e s at (parameters_of f) 0 call.arguments))
+  pure (qualified_value r.0 r.1)
 
 -- a call with a class before `::`, or without one
 abbrev pub call_by : Classes → Setting → Scene → ℕ → CallText → Option Spot → Checked CallValue
 call_by h e s at call None = plain_call h e s at call
 call_by h e s at call (Some x) = qualified_call h e s at call x
 
--- a call, and what it returns (ISO C++03 5.2.2)
+-- what a call returns, where its function is known, and the call, where its receiver and its arguments are too (ISO C++03 5.2.2)
 unfoldable pub call_of : Classes → Setting → Scene → ℕ → CallText → Checked CallValue
 call_of h e s at call = call_by h e s at call call.class
+
+-- a call with its receiver and its arguments
+unfoldable pub whole_call : Classes → Setting → Scene → ℕ → CallText → Checked TypedCall
+whole_call h e s at call = do
+  v ← call_of h e s at call
+  kept v.call

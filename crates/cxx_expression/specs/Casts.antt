@@ -39,7 +39,7 @@ up_or_down at d based.NotBase based.NotBase = fail rule.NotBase at
 up_or_down at d based.NotBase based.TwoBases = fail rule.AmbiguousBase at
 up_or_down at d based.NotBase (based.Base s) = down_to at d s s.root
 
--- from class c to class d (ISO C++03 5.2.9 p5, p8; 5.4)
+-- from class c to class d (ISO C++03 5.2.9 p2, p8; 5.4)
 unfoldable pub static_cast : Classes → ℕ → ClassId → ClassId → Checked TypedCast
 static_cast h at c d = if nat_eq c.0 d.0 then pure cast.Same else up_or_down at d (base_up h c d) (base_up h d c)
 
@@ -54,7 +54,7 @@ up_or_dynamic h at c d (based.Base s) = pure (cast.Up s)
 up_or_dynamic h at c d based.TwoBases = fail rule.AmbiguousBase at
 up_or_dynamic h at c d based.NotBase = if_polymorphic at (is_polymorphic h c) (cast.Dynamic d)
 
--- the plain conversion to the same class or a base; what it does else, the run decides (ISO C++03 5.2.7 p5, p6, p8)
+-- the plain conversion to the same class or a base; what it does else, the run decides (ISO C++03 5.2.7 p3, p5, p6, p8)
 unfoldable pub dynamic_cast : Classes → ℕ → ClassId → ClassId → Checked TypedCast
 dynamic_cast h at c d = if nat_eq c.0 d.0 then pure cast.Same else up_or_dynamic h at c d (base_up h c d)
 
@@ -70,7 +70,8 @@ cast_right h e s at text = do
   c ← cast_of h at text.kind p.1.class p.0
   pure (right_value (typed.Cast c p.1.operand) (type.Pointer p.0) false)
 
--- a pointer to a class with virtual functions, as typeid and `dynamic_cast<void*>` want it (ISO C++03 5.2.7 p2, 5.2.8 p2)
+-- a pointer to a class with virtual functions, as `dynamic_cast<void*>` wants it (ISO C++03 5.2.7 p6, p7), and typeid here:
+-- C++ takes other classes there too (5.2.8 p3), so that E18 of typeid is our own
 unfoldable pub polymorphic_pointer : Classes → Setting → Scene → ℕ → PointerText → Checked Pointer
 polymorphic_pointer h e s at x = do
   p ← pointer_of e s at x

@@ -50,13 +50,22 @@ abbrev pub pair_of : {X Y : Type 0} → Option X → Option Y → Option (X × Y
 pair_of None y = None
 pair_of (Some x) y = with_second x y
 
--- the second looks at the first where it is typed, and is asked in any case
-abbrev pub along : {X Y : Type 0} → Checked X → (Option X → Checked Y) → Checked (X × Y)
-along p next = record { typed = pair_of p.typed (next p.typed).typed; faults = λ before. (next p.typed).faults (p.faults before) }
-
 -- neither rests on the other
 abbrev pub both : {X Y : Type 0} → Checked X → Checked Y → Checked (X × Y)
-both p q = along p (λ o. q)
+both p q = record { typed = pair_of p.typed q.typed; faults = λ before. q.faults (p.faults before) }
+
+-- the first with the second, where the first is there
+abbrev pub with_option : {X Y : Type 0} → Option X → Option Y → Option (X × Option Y)
+with_option None o = None
+with_option (Some x) o = Some (x, o)
+
+-- the second looks at the first and is asked in any case; what rests on the first alone is asked also where the second is refused
+abbrev pub beside : {X Y : Type 0} → Checked X → (Option X → Checked Y) → Checked (X × Option Y)
+beside p next = record { typed = with_option p.typed (next p.typed).typed; faults = λ before. (next p.typed).faults (p.faults before) }
+
+-- what was typed before, or not: it has no fault of its own
+abbrev pub kept : {X : Type 0} → Option X → Checked X
+kept o = record { typed = o; faults = λ before. before }
 
 -- what code answers, with the faults before and after the call
 abbrev pub Answers : {X : Type 0} → Result (Option X) NoMemory → List Fault → List Fault → Checked X → Type 0

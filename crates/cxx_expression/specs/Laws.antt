@@ -1,7 +1,10 @@
 -- Laws of the pieces of a statement.
-use Rattle.std.specs.Prelude.{ℕ, ◌≤◌, ◌<◌, Bool, IsSome, List, length}
+use Rattle.std.specs.Prelude.{◌≡◌, ℕ, ◌≤◌, ◌<◌, Bool, false, Option, Some, None, IsSome, List, length, option_map}
 use Rattle.cxx_hierarchy.specs.declared.records.ClassId.{ClassId}
 use Rattle.cxx_hierarchy.specs.declared.records.ValueType.{ValueType}
+use Rattle.cxx_hierarchy.specs.declared.records.ReturnType.{ReturnType}
+use Rattle.cxx_hierarchy.specs.declared.records.ReturnType.TheVariants as returns
+use Rattle.cxx_hierarchy.specs.declared.stop.Rule.TheVariants as rule
 use Rattle.cxx_hierarchy.specs.Classes.{Classes}
 use Rattle.cxx_hierarchy.specs.NameTables.{Text}
 use Rattle.cxx_syntax.specs.declared.tree.Spot.{Spot}
@@ -10,15 +13,18 @@ use Rattle.cxx_syntax.specs.declared.tree.PointerText.{PointerText}
 use Rattle.cxx_syntax.specs.declared.tree.PlaceText.{PlaceText}
 use Rattle.cxx_syntax.specs.declared.tree.CallText.{CallText}
 use Rattle.cxx_syntax.specs.declared.tree.Right.{Right}
+use Rattle.cxx_syntax.specs.declared.tree.Right.TheVariants as right
 use Rattle.cxx_expression.specs.declared.faults.Fault.{Fault}
 use Rattle.cxx_expression.specs.declared.scene.Scene.{Scene}
 use Rattle.cxx_expression.specs.declared.scene.Setting.{Setting}
-use Rattle.cxx_expression.specs.Checked.{Checked}
+use Rattle.cxx_expression.specs.declared.typed.Pointer.{Pointer}
+use Rattle.cxx_expression.specs.declared.typed.FoundFunction.{FoundFunction}
+use Rattle.cxx_expression.specs.Checked.{Checked, noted}
 use Rattle.cxx_expression.specs.Values.{class_named, class_of, type_of, variable_of, operand_of, pointer_of, number_of, class_conversion, conversion_of, converted_operand}
 use Rattle.cxx_expression.specs.Places.{leaf_of}
-use Rattle.cxx_expression.specs.Calls.{call_of}
+use Rattle.cxx_expression.specs.Calls.{function_of, whole_call}
 use Rattle.cxx_expression.specs.Casts.{polymorphic_pointer}
-use Rattle.cxx_expression.specs.Rights.{right_of, converted_right}
+use Rattle.cxx_expression.specs.Rights.{whole_right, converted_right}
 
 -- faults are only added to those before, and where none is added the piece is typed
 pub record IsComplete {X : Type 0} (p : Checked X) : Type 0 where
@@ -38,7 +44,32 @@ pub record PiecesAreComplete : Type 0 where
   pub conversion : (h : Classes) (at : ℕ) (t : ValueType ClassId) (is_null : Bool) (u : ValueType ClassId) → IsComplete (conversion_of h at t is_null u)
   pub converted_operand : (h : Classes) (e : Setting) (s : Scene) (at : ℕ) (t : ValueType ClassId) (x : Operand) → IsComplete (converted_operand h e s at t x)
   pub leaf : (h : Classes) (e : Setting) (s : Scene) (at : ℕ) (text : PlaceText) → IsComplete (leaf_of h e s at text)
-  pub call : (h : Classes) (e : Setting) (s : Scene) (at : ℕ) (text : CallText) → IsComplete (call_of h e s at text)
+  pub call : (h : Classes) (e : Setting) (s : Scene) (at : ℕ) (text : CallText) → IsComplete (whole_call h e s at text)
   pub polymorphic : (h : Classes) (e : Setting) (s : Scene) (at : ℕ) (x : PointerText) → IsComplete (polymorphic_pointer h e s at x)
-  pub right_of : (h : Classes) (e : Setting) (s : Scene) (at : ℕ) (r : Right) → IsComplete (right_of h e s at r)
+  pub right_of : (h : Classes) (e : Setting) (s : Scene) (at : ℕ) (r : Right) → IsComplete (whole_right h e s at r)
   pub right : (h : Classes) (e : Setting) (s : Scene) (at : ℕ) (t : ValueType ClassId) (r : Right) → IsComplete (converted_right h e s at t r)
+
+-- the class in which a call looks its function up: the one before `::`, or else that of the pointer
+abbrev pub class_asked : Classes → Setting → Scene → ℕ → PointerText → Option Spot → Option ClassId
+class_asked h e s at pointer None = option_map (λ (p : Pointer). p.class) (pointer_of e s at pointer).typed
+class_asked h e s at pointer (Some x) = (class_of h x).typed
+
+-- what the function of a name in a class returns
+abbrev pub result_in : Classes → ℕ → Spot → Option ClassId → Option (ReturnType ClassId)
+result_in h at name None = None
+result_in h at name (Some c) = option_map (λ (f : FoundFunction). f.returns) (function_of h at c name).typed
+
+-- what the function of a call returns, where it is found: that rests on the class and the name, and on nothing else of the call
+abbrev pub result_known : Classes → Setting → Scene → ℕ → CallText → Option (ReturnType ClassId)
+result_known h e s at text = result_in h at text.name (class_asked h e s at text.pointer text.class)
+
+-- E19: a void result used; else those of the conversion of the result to the type of what takes it
+abbrev pub result_faults : Classes → ℕ → ReturnType ClassId → ValueType ClassId → List Fault → List Fault
+result_faults h at returns.Void to before = noted rule.TypeMismatch at before
+result_faults h at (returns.Value from) to before = (conversion_of h at from false to).faults before
+
+-- where the function of a call is found, the faults of its result stand behind those of the call: also where the receiver or an
+-- argument is refused
+pub record ResultsAreAsked : Type 0 where
+  pub asked : (h : Classes) (e : Setting) (s : Scene) (at : ℕ) (text : CallText) (returned : ReturnType ClassId) (to : ValueType ClassId) (before : List Fault) → result_known h e s at text ≡ Some returned →
+      (converted_right h e s at to (right.Call text)).faults before ≡ result_faults h at returned to ((whole_call h e s at text).faults before)

@@ -1,5 +1,5 @@
 -- Right sides. `at` is the place of the statement's first token.
-use Rattle.std.specs.Prelude.{ℕ, Bool, false, if◌then◌else◌}
+use Rattle.std.specs.Prelude.{ℕ, Bool, false, if◌then◌else◌, Option, option_map}
 use Rattle.cxx_hierarchy.specs.declared.records.ClassId.{ClassId}
 use Rattle.cxx_hierarchy.specs.declared.records.ValueType.{ValueType}
 use Rattle.cxx_hierarchy.specs.declared.records.ValueType.TheVariants as type
@@ -22,7 +22,7 @@ use Rattle.cxx_program.specs.declared.statement.Converted.{Converted}
 use Rattle.cxx_expression.specs.declared.scene.Scene.{Scene}
 use Rattle.cxx_expression.specs.declared.scene.Setting.{Setting}
 use Rattle.cxx_expression.specs.declared.typed.RightValue.{RightValue}
-use Rattle.cxx_expression.specs.Checked.{Checked, pure, fail, ◌>>=◌}
+use Rattle.cxx_expression.specs.Checked.{Checked, pure, fail, ◌>>=◌, kept}
 use Rattle.cxx_expression.specs.Values.{operand_of, class_of, conversion_of}
 use Rattle.cxx_expression.specs.Places.{leaf_of, object_place_of}
 use Rattle.cxx_expression.specs.Calls.{call_of}
@@ -47,12 +47,16 @@ address_right h e s at text = do
   object ← object_place_of h e s at text
   pure (right_value (typed.Address object.place object.class) (type.Pointer object.class) false)
 
--- E19: a void result used
-abbrev pub as_result : ℕ → TypedCall → ReturnType ClassId → Checked RightValue
-as_result at call returns.Void = fail rule.TypeMismatch at
-as_result at call (returns.Value t) = pure (right_value (typed.Call call) t false)
+-- a call with the type of its result
+abbrev pub result_value : Option TypedCall → ValueType ClassId → RightValue
+result_value call t = record { right = option_map typed.Call call; ty = t; is_null = false }
 
--- the result of a call
+-- E19: a void result used
+abbrev pub as_result : ℕ → Option TypedCall → ReturnType ClassId → Checked RightValue
+as_result at call returns.Void = fail rule.TypeMismatch at
+as_result at call (returns.Value t) = pure (result_value call t)
+
+-- the result of a call: its type rests on the function, and not on the receiver or the arguments
 unfoldable pub call_right : Classes → Setting → Scene → ℕ → CallText → Checked RightValue
 call_right h e s at text = do
   v ← call_of h e s at text
@@ -68,7 +72,7 @@ new_right h x = do
   c ← class_of h x
   made x.at (is_abstract h c) c
 
--- a right side and its type
+-- the type of a right side, where it is known, and the right side, where all of it is typed
 unfoldable pub right_of : Classes → Setting → Scene → ℕ → Right → Checked RightValue
 right_of h e s at (right.Operand x) = operand_right e s at x
 right_of h e s at (right.Binary x op y) = binary_right h e s at x op y
@@ -84,9 +88,21 @@ right_of h e s at (right.TypeEqual x name) = type_right h e s at x name
 abbrev pub converted : TypedRight → Conversion → Converted
 converted right conversion = record { right = right; conversion = conversion }
 
+-- a right side with all its parts
+unfoldable pub whole_right : Classes → Setting → Scene → ℕ → Right → Checked TypedRight
+whole_right h e s at r = do
+  v ← right_of h e s at r
+  kept v.right
+
+-- what a right side is known to be becomes a value of the type: the conversion rests on its type alone
+unfoldable pub converted_value : Classes → ℕ → ValueType ClassId → RightValue → Checked Converted
+converted_value h at t v = do
+  c ← conversion_of h at v.ty v.is_null t
+  right ← kept v.right
+  pure (converted right c)
+
 -- a right side that becomes a value of the type
 unfoldable pub converted_right : Classes → Setting → Scene → ℕ → ValueType ClassId → Right → Checked Converted
 converted_right h e s at t r = do
   v ← right_of h e s at r
-  c ← conversion_of h at v.ty v.is_null t
-  pure (converted v.right c)
+  converted_value h at t v

@@ -164,6 +164,15 @@ conversion_of h at (type.Number t) false (type.Pointer d) = fail rule.TypeMismat
 conversion_of h at (type.Pointer c) is_null (type.Number u) = fail rule.TypeMismatch at
 conversion_of h at (type.Pointer c) is_null (type.Pointer d) = class_conversion h at c d
 
+-- a number that goes into a bit-field of n bits becomes what these keep of it (ISO C++03 9.6)
+abbrev pub fitted : Option ℕ → Conversion → Conversion
+fitted None by = by
+fitted (Some n) (conversion.Number t) = conversion.Bits t n
+fitted (Some n) (conversion.Bits t m) = conversion.Bits t m
+fitted (Some n) conversion.Null = conversion.Null
+fitted (Some n) conversion.Same = conversion.Same
+fitted (Some n) (conversion.Base s) = conversion.Base s
+
 -- an operand with its conversion
 abbrev pub argument : TypedOperand → Conversion → Argument
 argument v c = record { operand = v; conversion = c }

@@ -7,7 +7,7 @@ ghost use Rattle.cxx_subobject.specs.Subobjects.{class_of as class_of_subobject}
 ghost use Rattle.cxx_overrider.specs.Overriders.{AreOverriders};
 ghost use Rattle.cxx_overrider.specs.Virtuals.{function_at, is_virtual};
 ghost use Rattle.cxx_expression.specs.Checked.{Answers};
-ghost use Rattle.cxx_expression.specs.Calls.{types_of, function_in, function_of, target_of, parameters_in, dispatched, plain_call, call_of};
+ghost use Rattle.cxx_expression.specs.Calls.{types_of, function_in, function_of, target_of, parameters_in, plain_value, plain_call, call_of, whole_call};
 ghost use Rattle.cxx_expression.specs.invariants.Known.{Knows};
 
 use crate::arguments::arguments_of;
@@ -15,9 +15,9 @@ use crate::copies::{copy_return, copy_type};
 use crate::faults::{FaultList, note, refuse};
 use crate::known::Known;
 use crate::look_up::{Looked, function_record, looked_up};
-use crate::qualified::{qualified, qualified_call};
+use crate::qualified::qualified_call;
 use crate::site::Site;
-use crate::typed::{CallValue, FoundFunction, Receiver, Target};
+use crate::typed::{CallValue, FoundFunction, Target};
 use crate::values::pointer_of;
 use cxx_hierarchy::{ClassId, Hierarchy, Param, Rule, ValueType};
 use cxx_overrider::{FunctionId, Overriders};
@@ -28,7 +28,7 @@ use cxx_syntax::{CallText, Spot};
 use foundation::{NoMemory, Sequence};
 use std::alloc::Global;
 
-/// What a call is typed to, where its names and types fit.
+/// What is known of a call, where its function is.
 type Answer = Result<Option<CallValue>, NoMemory>;
 
 /// The types of parameters.
@@ -128,23 +128,30 @@ fn parameters_in(target: &Option<Target>) -> &[ValueType<ClassId>]
     }
 }
 
-/// A call in the class of the pointer: one without a class before `::`, which may be dispatched.
-fn dispatched(target: Target, is_dispatched: bool, arguments: ArgumentList) -> CallValue
-    ensures { result ≡ dispatched target is_dispatched arguments }
+/// What a call in the class of the pointer returns, and the call, where its arguments are there.
+fn plain_value(target: Target, is_dispatched: bool, arguments: Option<ArgumentList>) -> CallValue
+    ensures { result ≡ plain_value target is_dispatched arguments }
 {
     let Target { pointer, found } = target;
-    let receiver = Receiver {
-        pointer,
-        path: None,
-    };
-    let CallValue { call, returns } = qualified(receiver, found, arguments);
-    CallValue {
-        call: TypedCall {
-            is_dispatched,
-            ..call
-        },
+    let FoundFunction {
+        base,
+        function,
         returns,
-    }
+        ..
+    } = found;
+    let call = match arguments {
+        None => None,
+        Some(arguments) => Some(TypedCall {
+            pointer: pointer.operand,
+            class: pointer.class,
+            qualifier: None,
+            base,
+            function,
+            is_dispatched,
+            arguments,
+        }),
+    };
+    CallValue { call, returns }
 }
 
 /// Whether a function is virtual.
@@ -169,17 +176,21 @@ fn plain_call(site: &Site, known: &mut Known, faults: &mut FaultList, call: &Cal
     let parameters = parameters_in(&target);
     let operands = call.arguments.as_slice();
     let list = arguments_of(site, known, faults, parameters, operands)?;
-    let (Some(target), Some(arguments)) = (target, list) else {
+    let Some(target) = target else {
         return Ok(None);
     };
     let is_dispatched = is_virtual(site.h, site.overriders, target.found.function);
-    Ok(Some(dispatched(target, is_dispatched, arguments)))
+    Ok(Some(plain_value(target, is_dispatched, list)))
 }
 
-/// A call, and what it returns; `at` is the place of the statement's first token. Faults: E3, E9, E10, E14, E15, E16, E19,
-/// E22, and those of the arguments.
+/// What a call returns, where its function is known, and the call, where its receiver and its arguments are too.
 #[tactic(auto, unfolding(crate::specs::Calls::call_of))]
-pub fn call_of(site: &Site, known: &mut Known, faults: &mut FaultList, call: &CallText) -> Answer
+pub(crate) fn call_of(
+    site: &Site,
+    known: &mut Known,
+    faults: &mut FaultList,
+    call: &CallText,
+) -> Answer
     requires made { AreOverriders site.now.h.now site.now.overriders.now }
     requires knows { Knows site.now.h.now known.old }
     ensures answers { Answers result faults.old faults.new (call_of site.now.h.now site.now.setting.now site.now.scene.now site.now.at call.now) }
@@ -189,4 +200,24 @@ pub fn call_of(site: &Site, known: &mut Known, faults: &mut FaultList, call: &Ca
         None => plain_call(site, known, faults, call),
         Some(x) => qualified_call(site, known, faults, call, x),
     }
+}
+
+/// A call with its receiver and its arguments; `at` is the place of the statement's first token. Faults: E3, E9, E10, E14,
+/// E15, E16, E19, E22, and those of the arguments.
+#[tactic(auto, unfolding(crate::specs::Calls::whole_call))]
+pub fn whole_call(
+    site: &Site,
+    known: &mut Known,
+    faults: &mut FaultList,
+    call: &CallText,
+) -> Result<Option<TypedCall>, NoMemory>
+    requires made { AreOverriders site.now.h.now site.now.overriders.now }
+    requires knows { Knows site.now.h.now known.old }
+    ensures answers { Answers result faults.old faults.new (whole_call site.now.h.now site.now.setting.now site.now.scene.now site.now.at call.now) }
+    ensures knows { OnOk result (Knows site.now.h.now known.new) }
+{
+    let Some(value) = call_of(site, known, faults, call)? else {
+        return Ok(None);
+    };
+    Ok(value.call)
 }

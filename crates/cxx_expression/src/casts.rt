@@ -146,7 +146,7 @@ pub(crate) fn cast_right(
         return Ok(None);
     };
     Ok(Some(RightValue {
-        right: TypedRight::Cast(cast, pointer.operand),
+        right: Some(TypedRight::Cast(cast, pointer.operand)),
         ty: ValueType::Pointer(target),
         is_null: false,
     }))

@@ -2,7 +2,7 @@
 
 ghost use Rattle.std.specs.Prelude.{◌≡◌, OnOk};
 ghost use Rattle.cxx_expression.specs.Checked.{Answers};
-ghost use Rattle.cxx_expression.specs.Values.{path_to, conversion_by, class_conversion, conversion_of, converted_operand};
+ghost use Rattle.cxx_expression.specs.Values.{path_to, conversion_by, class_conversion, conversion_of, fitted, converted_operand};
 ghost use Rattle.cxx_expression.specs.invariants.Known.{Knows};
 
 use crate::faults::{FaultList, refuse};
@@ -97,6 +97,20 @@ pub fn conversion_of(
         (ValueType::Pointer(c), ValueType::Pointer(d)) => {
             class_conversion(site, known, faults, *c, *d)
         }
+    }
+}
+
+/// The conversion of what goes into a member, where `width` is the number of its bits if it is a bit-field: of a number
+/// these keep the low bits (ISO C++03 9.6).
+pub fn fitted(width: Option<u32>, conversion: Conversion) -> Conversion
+    ensures { result ≡ fitted width conversion }
+{
+    let Some(bits) = width else {
+        return conversion;
+    };
+    match conversion {
+        Conversion::Number(scalar) => Conversion::Bits(scalar, bits),
+        other => other,
     }
 }
 

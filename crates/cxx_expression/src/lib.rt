@@ -2,13 +2,16 @@
 //! typed forms, or their refusals.
 //!
 //! A piece is defined once, as a value `Checked X`: what it is typed to, and the faults that it adds. What rests on what is
-//! written as a chain (`>>=`, `both`, `along`), so that a rule that rests on a name which another rule refuses does not
-//! apply. This crate owns these definitions (`operand_of`, `place_of`, `call_of`, `converted_right` and what they are made
-//! of), the fault that counts among those of a statement (`least`), the variables in scope (`Scene`), and what a name, a
-//! base and a class with virtual functions are as functions (`specs/Lookups.antt`).
+//! written as a chain (`>>=`, `both`, `beside`), so that a rule that rests on a name which another rule refuses does not
+//! apply. The result of a call rests on its function alone: where the receiver or an argument is refused, the type of the
+//! call is known (`RightValue`), and its conversion is asked. This crate owns these definitions (`operand_of`, `place_of`,
+//! `whole_call`, `converted_right` and what they are made of), the fault that counts among those of a statement (`least`),
+//! the variables in scope (`Scene`), and what a name, a base and a class with virtual functions are as functions
+//! (`specs/Lookups.antt`).
 //!
 //! The layer above may rely on: each call notes exactly the faults of its piece and gives what the piece is typed to, and
-//! the law `answered`: a piece without a fault is typed. What was looked up once is kept in `Known`.
+//! the law `answered`: a piece without a fault is typed. The law `results_are_asked` says that the faults of a call include
+//! those of its result. What was looked up once is kept in `Known`.
 #![tactic(auto)]
 
 mod arguments;
@@ -32,17 +35,18 @@ pub mod site;
 pub mod typed;
 mod values;
 
-pub use crate::calls::call_of;
+pub use crate::calls::whole_call;
 pub use crate::casts::polymorphic_pointer;
 pub use crate::classes::{class_named, class_of, find_class, type_of};
-pub use crate::conversions::{class_conversion, conversion_of, converted_operand};
+pub use crate::conversions::{class_conversion, conversion_of, converted_operand, fitted};
 pub use crate::copies::copy_type;
 pub use crate::faults::{Fault, FaultList, least, note, refuse, settle};
 pub use crate::known::Known;
-pub use crate::laws::answered;
-pub use crate::places::leaf_of;
-pub use crate::rights::{converted_right, right_of};
+pub use crate::laws::{answered, results_are_asked};
+pub use crate::look_up::width_of_member;
+pub use crate::places::{leaf_of, place_width};
+pub use crate::rights::{converted_right, converted_value, right_of};
 pub use crate::scene::{Entry, EntryList, Returns, Scene, Setting};
 pub use crate::site::Site;
-pub use crate::typed::{CallValue, LeafPlace, Number, Pointer, RightValue, Value};
+pub use crate::typed::{LeafPlace, Number, Pointer, RightValue, Value};
 pub use crate::values::{constant_of, number_of, operand_of, pointer_of, variable_of};

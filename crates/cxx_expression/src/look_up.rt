@@ -3,6 +3,7 @@
 ghost use Rattle.std.specs.Prelude.{◌≡◌, ◌<◌, ◌≤◌, IfOk, OnOk, length};
 ghost use Rattle.std.specs.Option.{option_copied};
 ghost use Rattle.std.specs.List.{list_any};
+ghost use Rattle.cxx_hierarchy.specs.Classes.{width_of_member};
 ghost use Rattle.cxx_subobject.specs.Subobjects.{class_of};
 ghost use Rattle.cxx_expression.specs.Lookups.{looked_up, base_up, member_record, function_record, declares_virtual, is_polymorphic};
 ghost use Rattle.cxx_expression.specs.invariants.Known.{Knows};
@@ -158,6 +159,14 @@ pub(crate) fn member_record(h: &Hierarchy, c: ClassId, number: u32) -> Option<&M
         return None;
     }
     h.class(c).members.as_slice().get(number as usize)
+}
+
+/// The width of the member of a number in a class, where it is a bit-field (ISO C++03 9.6).
+#[tactic(auto, unfolding(crate::specs::Lookups::member_record))]
+pub fn width_of_member(h: &Hierarchy, c: ClassId, number: u32) -> Option<u32>
+    ensures { result ≡ width_of_member h.now c number }
+{
+    member_record(h, c, number)?.width
 }
 
 /// The function of a number in a class.

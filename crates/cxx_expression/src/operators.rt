@@ -22,7 +22,7 @@ pub(crate) fn truth_value(right: TypedRight) -> RightValue
     ensures { result ≡ truth_value right }
 {
     RightValue {
-        right,
+        right: Some(right),
         ty: ValueType::Number(Scalar::Bool),
         is_null: false,
     }
@@ -51,7 +51,7 @@ pub(crate) fn calculated(
 {
     let common = common_type(s, t);
     RightValue {
-        right: TypedRight::Arithmetic(op, common, a, b),
+        right: Some(TypedRight::Arithmetic(op, common, a, b)),
         ty: ValueType::Number(type_by(op, common)),
         is_null: false,
     }

@@ -2,6 +2,7 @@
 
 ghost use Rattle.std.specs.Prelude.{◌≡◌, OnOk, IfOk};
 ghost use Rattle.cxx_subobject.specs.Subobjects.{class_of};
+ghost use Rattle.cxx_program.specs.Typed.{place_width};
 ghost use Rattle.cxx_expression.specs.Checked.{Answers};
 ghost use Rattle.cxx_expression.specs.Places.{member_in, member_of, index_of, object_of, step_of, further, begun, steps_of, with_last, place_of, leaf_of, object_place_of};
 ghost use Rattle.cxx_expression.specs.invariants.Known.{Knows};
@@ -9,7 +10,7 @@ ghost use Rattle.cxx_expression.specs.invariants.Known.{Knows};
 use crate::copies::copy_field;
 use crate::faults::{FaultList, note, refuse};
 use crate::known::Known;
-use crate::look_up::{Looked, looked_up, member_record};
+use crate::look_up::{Looked, looked_up, member_record, width_of_member};
 use crate::site::Site;
 use crate::typed::{FieldPlace, FoundMember, LeafPlace, ObjectPlace, PlaceStep, Pointer, Reached};
 use crate::values::pointer_of;
@@ -260,6 +261,14 @@ pub fn leaf_of(
         FieldType::Value(ty) => Ok(Some(LeafPlace { place, ty })),
         FieldType::Object(_) => refuse(faults, Rule::TypeMismatch, site.at),
     }
+}
+
+/// The width of the member that a place leads to, where it is a bit-field (ISO C++03 9.6).
+pub fn place_width(h: &Hierarchy, place: &TypedPlace) -> Option<u32>
+    ensures { result ≡ place_width h.now place.now }
+{
+    let class = class_of(&place.base)?;
+    width_of_member(h, class, place.member)
 }
 
 /// A place of an object.

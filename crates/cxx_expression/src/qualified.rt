@@ -1,8 +1,8 @@
 //! Calls with a class before `::`.
 
 ghost use Rattle.std.specs.Prelude.{◌≡◌, OnOk};
-ghost use Rattle.cxx_expression.specs.Checked.{Answers};
-ghost use Rattle.cxx_expression.specs.Calls.{named_function, receiver_of, parameters_of, qualified, qualified_call};
+ghost use Rattle.cxx_expression.specs.Checked.{Answers, pair_of};
+ghost use Rattle.cxx_expression.specs.Calls.{named_function, receiver_of, parameters_of, qualified_value, qualified_call};
 ghost use Rattle.cxx_expression.specs.invariants.Known.{Knows};
 
 use crate::arguments::arguments_of;
@@ -76,29 +76,31 @@ fn parameters_of(found: &Option<FoundFunction>) -> &[ValueType<ClassId>]
     }
 }
 
-/// A call that is not dispatched.
-pub(crate) fn qualified(
-    receiver: Receiver,
+/// What a call that is not dispatched returns, and the call, where its receiver and its arguments are there.
+fn qualified_value(
     found: FoundFunction,
-    arguments: ArgumentList,
+    receiver: Option<Receiver>,
+    arguments: Option<ArgumentList>,
 ) -> CallValue
-    ensures { result ≡ qualified receiver found arguments }
+    ensures { result ≡ qualified_value found (pair_of receiver arguments) }
 {
-    let Receiver { pointer, path } = receiver;
     let FoundFunction {
         base,
         function,
         returns,
         ..
     } = found;
-    let call = TypedCall {
-        pointer: pointer.operand,
-        class: pointer.class,
-        qualifier: path,
-        base,
-        function,
-        is_dispatched: false,
-        arguments,
+    let call = match (receiver, arguments) {
+        (Some(receiver), Some(arguments)) => Some(TypedCall {
+            pointer: receiver.pointer.operand,
+            class: receiver.pointer.class,
+            qualifier: receiver.path,
+            base,
+            function,
+            is_dispatched: false,
+            arguments,
+        }),
+        _ => None,
     };
     CallValue { call, returns }
 }
@@ -119,13 +121,13 @@ pub(crate) fn qualified_call(
     let Some(k) = class_of(site.h, faults, x)? else {
         return Ok(None);
     };
-    let receiver = receiver_of(site, known, faults, k, &call.pointer)?;
     let found = named_function(site, known, faults, k, call)?;
     let parameters = parameters_of(&found);
     let operands = call.arguments.as_slice();
+    let receiver = receiver_of(site, known, faults, k, &call.pointer)?;
     let list = arguments_of(site, known, faults, parameters, operands)?;
-    let (Some(receiver), Some(found), Some(arguments)) = (receiver, found, list) else {
+    let Some(found) = found else {
         return Ok(None);
     };
-    Ok(Some(qualified(receiver, found, arguments)))
+    Ok(Some(qualified_value(found, receiver, list)))
 }

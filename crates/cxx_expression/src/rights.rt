@@ -4,7 +4,7 @@ ghost use Rattle.std.specs.Prelude.{◌≡◌, ◌<◌, OnOk, length};
 ghost use Rattle.cxx_overrider.specs.Overriders.{AreOverriders};
 ghost use Rattle.cxx_search.specs.Searches.{is_abstract};
 ghost use Rattle.cxx_expression.specs.Checked.{Answers};
-ghost use Rattle.cxx_expression.specs.Rights.{operand_right, place_right, address_right, as_result, call_right, new_right, right_of, converted_right};
+ghost use Rattle.cxx_expression.specs.Rights.{operand_right, place_right, address_right, result_value, as_result, call_right, new_right, right_of, converted_value, converted_right};
 ghost use Rattle.cxx_expression.specs.invariants.Known.{Knows};
 
 use crate::calls::call_of;
@@ -20,12 +20,12 @@ use crate::typed::{CallValue, RightValue};
 use crate::values::operand_of;
 use cxx_hierarchy::{ClassId, Hierarchy, ReturnType, Rule, ValueType};
 use cxx_overrider::Overriders;
-use cxx_program::{Converted, TypedRight};
+use cxx_program::{Converted, TypedCall, TypedRight};
 use cxx_search::abstract_is_found;
 use cxx_syntax::{CallText, Operand, PlaceText, Right, Spot};
 use foundation::NoMemory;
 
-/// What a right side is typed to, where its names and types fit.
+/// What is known of a right side, where its type is.
 type Answer = Result<Option<RightValue>, NoMemory>;
 
 /// An operand.
@@ -37,7 +37,7 @@ fn operand_right(site: &Site, faults: &mut FaultList, operand: &Operand) -> Answ
         return Ok(None);
     };
     Ok(Some(RightValue {
-        right: TypedRight::Operand(value.operand),
+        right: Some(TypedRight::Operand(value.operand)),
         ty: value.ty,
         is_null: value.is_null,
     }))
@@ -54,7 +54,7 @@ fn place_right(site: &Site, known: &mut Known, faults: &mut FaultList, text: &Pl
         return Ok(None);
     };
     Ok(Some(RightValue {
-        right: TypedRight::Read(leaf.place),
+        right: Some(TypedRight::Read(leaf.place)),
         ty: leaf.ty,
         is_null: false,
     }))
@@ -71,10 +71,25 @@ fn address_right(site: &Site, known: &mut Known, faults: &mut FaultList, text: &
         return Ok(None);
     };
     Ok(Some(RightValue {
-        right: TypedRight::Address(object.place, object.class),
+        right: Some(TypedRight::Address(object.place, object.class)),
         ty: ValueType::Pointer(object.class),
         is_null: false,
     }))
+}
+
+/// A call, where it is there, with the type of its result.
+fn result_value(call: Option<TypedCall>, ty: ValueType<ClassId>) -> RightValue
+    ensures { result ≡ result_value call ty }
+{
+    let right = match call {
+        None => None,
+        Some(call) => Some(TypedRight::Call(call)),
+    };
+    RightValue {
+        right,
+        ty,
+        is_null: false,
+    }
 }
 
 /// A call whose result is used.
@@ -91,11 +106,7 @@ fn call_right(site: &Site, known: &mut Known, faults: &mut FaultList, text: &Cal
     let CallValue { call, returns } = value;
     match returns {
         ReturnType::Void => refuse(faults, Rule::TypeMismatch, site.at),
-        ReturnType::Value(ty) => Ok(Some(RightValue {
-            right: TypedRight::Call(call),
-            ty,
-            is_null: false,
-        })),
+        ReturnType::Value(ty) => Ok(Some(result_value(call, ty))),
     }
 }
 
@@ -125,13 +136,14 @@ fn new_right(h: &Hierarchy, o: &Overriders, faults: &mut FaultList, x: &Spot) ->
         return refuse(faults, Rule::Abstract, x.at);
     }
     Ok(Some(RightValue {
-        right: TypedRight::New(class),
+        right: Some(TypedRight::New(class)),
         ty: ValueType::Pointer(class),
         is_null: false,
     }))
 }
 
-/// A right side and its type; `at` is the place of the statement's first token. Faults: those of the right side.
+/// The type of a right side, where it is known, and the right side, where all of it is typed; `at` is the place of the
+/// statement's first token. Faults: those of the right side.
 #[tactic(auto, unfolding(crate::specs::Rights::right_of))]
 pub fn right_of(site: &Site, known: &mut Known, faults: &mut FaultList, right: &Right) -> Answer
     requires made { AreOverriders site.now.h.now site.now.overriders.now }
@@ -152,6 +164,30 @@ pub fn right_of(site: &Site, known: &mut Known, faults: &mut FaultList, right: &
     }
 }
 
+/// What a right side is known to be becomes a value of a type; `at` is the place of the statement's first token. Faults: those
+/// of the conversion.
+#[tactic(auto, unfolding(crate::specs::Rights::converted_value))]
+pub fn converted_value(
+    site: &Site,
+    known: &mut Known,
+    faults: &mut FaultList,
+    ty: &ValueType<ClassId>,
+    value: RightValue,
+) -> Result<Option<Converted>, NoMemory>
+    requires knows { Knows site.now.h.now known.old }
+    ensures answers { Answers result faults.old faults.new (converted_value site.now.h.now site.now.at ty.now value) }
+    ensures knows { OnOk result (Knows site.now.h.now known.new) }
+{
+    let conversion = conversion_of(site, known, faults, &value.ty, value.is_null, ty)?;
+    let Some(conversion) = conversion else {
+        return Ok(None);
+    };
+    let Some(right) = value.right else {
+        return Ok(None);
+    };
+    Ok(Some(Converted { right, conversion }))
+}
+
 /// A right side that becomes a value of a type; `at` is the place of the statement's first token. Faults: those of the
 /// right side and of its conversion.
 #[tactic(auto, unfolding(crate::specs::Rights::converted_right))]
@@ -170,11 +206,6 @@ pub fn converted_right(
     let Some(value) = right_of(site, known, faults, right)? else {
         return Ok(None);
     };
-    let Some(conversion) = conversion_of(site, known, faults, &value.ty, value.is_null, ty)? else {
-        return Ok(None);
-    };
-    Ok(Some(Converted {
-        right: value.right,
-        conversion,
-    }))
+    let converted = converted_value(site, known, faults, ty, value)?;
+    Ok(converted)
 }

@@ -100,17 +100,18 @@ pub(crate) struct Receiver {
     pub(crate) path: Option<Subobject>,
 }
 
-/// A call, and what it returns.
+/// What the function of a call returns, and the call, where its receiver and its arguments are typed too.
 #[derive(Drop)]
-pub struct CallValue {
-    pub call: TypedCall,
-    pub returns: ReturnType<ClassId>,
+pub(crate) struct CallValue {
+    pub(crate) call: Option<TypedCall>,
+    pub(crate) returns: ReturnType<ClassId>,
 }
 
-/// A right side, its type, and whether it is a null pointer constant.
+/// The type of a right side, whether it is a null pointer constant, and the right side, where all of it is typed. Only a call
+/// has its type from a part of it, the function.
 #[derive(Drop)]
 pub struct RightValue {
-    pub right: TypedRight,
+    pub right: Option<TypedRight>,
     pub ty: ValueType<ClassId>,
     pub is_null: bool,
 }

@@ -1,10 +1,10 @@
 -- The table says exactly what may follow.
 use Rattle.std.proofs.Common.{◌≡◌, Bool, true, false, cond, inl, inr, List, [], ◌∷◌, ◌++◌, map, Option, Some, None, refl, sym, ap, subst, ◌∙◌, append_assoc}
 use Rattle.cxx_grammar.specs.declared.sort.Sort.{Sort}
-use Rattle.cxx_grammar.specs.declared.sort.Sort.TheVariants.{Struct, Public, Virtual, Int, Unsigned, Print, Name, OwnName, Number, Zero, OpenBrace, CloseBrace, OpenParen, CloseParen, OpenBracket, CloseBracket, Semicolon, Assign, Arrow, Dot, End, Bad}
+use Rattle.cxx_grammar.specs.declared.sort.Sort.TheVariants.{Struct, Public, Virtual, Int, Unsigned, Print, Name, OwnName, Number, Zero, OpenBrace, CloseBrace, OpenParen, CloseParen, OpenBracket, CloseBracket, Semicolon, Star, Assign, Arrow, Dot, End, Bad}
 use Rattle.cxx_grammar.specs.Sorts.{is_same}
 use Rattle.cxx_grammar.specs.Grammar.{AnyName, AnyNumber, Source, Item, MoreBases, Base, MaybeAccess, Parts, ClassPart, Length, Params, MoreParams, Param, Inits, MoreInits, Init, MaybeLong, Block, Statements, Statement, MaybeRight, ElsePart, MaybeOperand, Right, Operand, Constant, Pointer, Place, Arguments, MoreArguments, Symbol, tok, part, In, Derives}
-use Rattle.cxx_grammar.specs.Table.{Use, Written, Read, Task, Only, AName, ANumber, AConstant, AnOperand, APointer, UnsignedName, LongName, AParam, RightEnd, ReadPlaceEnd, AfterOperand, AfterPointer, Member, Named, Tail, ArgumentsEnd, MoreArgumentsEnd, InitEnd, ResultEnd, AfterName, PrintEnd, ABlock, StatementsEnd, ElseEnd, BaseAfterVirtual, BaseAfterAccess, ABase, BasesEnd, ClassTail, FieldEnd, ParamsEnd, MoreParamsEnd, AfterDeclared, AfterType, AfterOwnName, AnInit, ConstructorEnd, InitsEnd, AfterVirtual, VirtualEnd, PartsEnd, AfterInt, ItemsEnd, after}
+use Rattle.cxx_grammar.specs.Table.{Use, Written, Read, Task, Only, AName, ANumber, AConstant, AnOperand, APointer, UnsignedName, LongName, AParam, RightEnd, ReadPlaceEnd, AfterOperand, AfterPointer, Member, Named, Tail, ArgumentsEnd, MoreArgumentsEnd, InitEnd, ResultEnd, AfterName, PrintEnd, ABlock, StatementsEnd, ElseEnd, BaseAfterVirtual, BaseAfterAccess, ABase, BasesEnd, ClassTail, FieldEnd, ParamsEnd, MoreParamsEnd, AfterDeclared, AfterScalar, AfterType, AfterOwnName, AnInit, ConstructorEnd, InitsEnd, AfterVirtual, VirtualEnd, PartsEnd, AfterInt, ItemsEnd, after}
 use Rattle.cxx_grammar.proofs.Engine.{step, gather, gather_each, gather_some, step_complete, step_sound, no_step, In-left, In-right, In-split}
 
 -- what is left of forms after a token
@@ -71,7 +71,8 @@ means ClassTail = lefts Name (lefts Struct item_form)
 means FieldEnd = (part Length ∷ tok Semicolon ∷ []) ∷ []
 means ParamsEnd = (part Params ∷ tok CloseParen ∷ []) ∷ []
 means MoreParamsEnd = (part MoreParams ∷ tok CloseParen ∷ []) ∷ []
-means AfterDeclared = lefts Name (lefts Int part_form)
+means AfterDeclared = lefts Name (lefts Star (lefts Name part_form))
+means AfterScalar = lefts Name (lefts Int part_form)
 means AfterType = lefts Name part_form
 means AfterOwnName = lefts OwnName part_form
 means AnInit = (part Init ∷ []) ∷ []
@@ -176,6 +177,8 @@ table_ok MoreParamsEnd Struct = refl
 table_ok MoreParamsEnd _ = refl
 table_ok AfterDeclared Struct = refl
 table_ok AfterDeclared _ = refl
+table_ok AfterScalar Struct = refl
+table_ok AfterScalar _ = refl
 table_ok AfterType Struct = refl
 table_ok AfterType _ = refl
 table_ok AfterOwnName Struct = refl

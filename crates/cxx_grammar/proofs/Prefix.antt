@@ -8,7 +8,7 @@ use Rattle.cxx_hierarchy.specs.declared.stop.Stop.{Stop}
 use Rattle.cxx_hierarchy.specs.declared.stop.Stop.TheVariants as stop
 use Rattle.cxx_grammar.specs.Sorts.{is_same}
 use Rattle.cxx_grammar.specs.Grammar.{NonTerminal, AnyName, Symbol, tok, part, grammar, In, Derives, nothing, token, choose, Begins, block_form, source_form}
-use Rattle.cxx_grammar.specs.Table.{Written, Read, Task, Only, AName, ANumber, AConstant, AnOperand, APointer, UnsignedName, LongName, AParam, RightEnd, ReadPlaceEnd, AfterOperand, AfterPointer, Member, Named, Tail, ArgumentsEnd, MoreArgumentsEnd, InitEnd, ResultEnd, AfterName, PrintEnd, ABlock, StatementsEnd, ElseEnd, BaseAfterVirtual, BaseAfterAccess, ABase, BasesEnd, ClassTail, FieldEnd, ParamsEnd, MoreParamsEnd, AfterDeclared, AfterType, AfterOwnName, AnInit, ConstructorEnd, InitsEnd, AfterVirtual, VirtualEnd, PartsEnd, AfterInt, ItemsEnd, after, Line, lines, look_up}
+use Rattle.cxx_grammar.specs.Table.{Written, Read, Task, Only, AName, ANumber, AConstant, AnOperand, APointer, UnsignedName, LongName, AParam, RightEnd, ReadPlaceEnd, AfterOperand, AfterPointer, Member, Named, Tail, ArgumentsEnd, MoreArgumentsEnd, InitEnd, ResultEnd, AfterName, PrintEnd, ABlock, StatementsEnd, ElseEnd, BaseAfterVirtual, BaseAfterAccess, ABase, BasesEnd, ClassTail, FieldEnd, ParamsEnd, MoreParamsEnd, AfterDeclared, AfterScalar, AfterType, AfterOwnName, AnInit, ConstructorEnd, InitsEnd, AfterVirtual, VirtualEnd, PartsEnd, AfterInt, ItemsEnd, after, Line, lines, look_up}
 use Rattle.cxx_grammar.specs.Event.{State, admit, passes, and_then, refusal, excess, sorts, Event, DerivesPrefix}
 use Rattle.cxx_grammar.specs.Event as events
 use Rattle.cxx_grammar.specs.invariants.Run.{Outcome, admits, go_on, run, Done, Stopped, Stops, Leads, Follows}
@@ -85,6 +85,7 @@ finish FieldEnd = Semicolon ∷ []
 finish ParamsEnd = CloseParen ∷ []
 finish MoreParamsEnd = CloseParen ∷ []
 finish AfterDeclared = Semicolon ∷ []
+finish AfterScalar = Semicolon ∷ []
 finish AfterType = Name ∷ Semicolon ∷ []
 finish AfterOwnName = Name ∷ Semicolon ∷ []
 finish AnInit = Name ∷ OpenParen ∷ Number ∷ CloseParen ∷ []
@@ -134,6 +135,7 @@ finish_ok FieldEnd k = refl
 finish_ok ParamsEnd k = refl
 finish_ok MoreParamsEnd k = refl
 finish_ok AfterDeclared k = refl
+finish_ok AfterScalar k = refl
 finish_ok AfterType k = refl
 finish_ok AfterOwnName k = refl
 finish_ok AnInit k = refl

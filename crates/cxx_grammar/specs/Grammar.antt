@@ -96,8 +96,8 @@ grammar ClassPart =
     (part Function ∷ []) ∷
     (part Constructor ∷ []) ∷
     (part Destructor ∷ []) ∷ []
--- field = (value | name) name ["[" number "]"] ";"
-grammar Field = (part Value ∷ part AnyName ∷ part Length ∷ tok Semicolon ∷ []) ∷ (part AnyName ∷ part AnyName ∷ part Length ∷ tok Semicolon ∷ []) ∷ []
+-- field = (value | name) name ["[" number "]"] ";" | scalar name ":" number ";"
+grammar Field = (part Value ∷ part AnyName ∷ part Length ∷ tok Semicolon ∷ []) ∷ (part AnyName ∷ part AnyName ∷ part Length ∷ tok Semicolon ∷ []) ∷ (part Scalar ∷ part AnyName ∷ tok Colon ∷ part AnyNumber ∷ tok Semicolon ∷ []) ∷ []
 grammar Length = [] ∷ (tok OpenBracket ∷ part AnyNumber ∷ tok CloseBracket ∷ []) ∷ []
 -- function = ["virtual"] (value | "void") name "(" [param {"," param}] ")" block | "virtual" (value | "void") name "(" [param {"," param}] ")" "=" "0" ";"
 grammar Function = (part MaybeVirtual ∷ part Returned ∷ part AnyName ∷ tok OpenParen ∷ part Params ∷ tok CloseParen ∷ part Block ∷ []) ∷ (tok Virtual ∷ part Returned ∷ part AnyName ∷ tok OpenParen ∷ part Params ∷ tok CloseParen ∷ tok Assign ∷ tok Zero ∷ tok Semicolon ∷ []) ∷ []

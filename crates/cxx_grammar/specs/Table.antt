@@ -79,8 +79,10 @@ pub data Task : Type 0 where
   ParamsEnd : Task
   -- {"," param} ")"
   MoreParamsEnd : Task
-  -- the rest of a field or function after its name
+  -- the rest of a field or function after a pointer and its name
   AfterDeclared : Task
+  -- the rest of a field or function after a scalar and its name
+  AfterScalar : Task
   -- the rest of a part after a class name
   AfterType : Task
   -- the rest of a part after the name of its class
@@ -294,6 +296,7 @@ lines FieldEnd = (OpenBracket, ANumber ∷ Only CloseBracket ∷ Only Semicolon 
 lines ParamsEnd = (CloseParen, []) ∷ value_lines (MoreParamsEnd ∷ [])
 lines MoreParamsEnd = (CloseParen, []) ∷ (Comma, AParam ∷ MoreParamsEnd ∷ []) ∷ []
 lines AfterDeclared = (OpenBracket, ANumber ∷ Only CloseBracket ∷ Only Semicolon ∷ []) ∷ (Semicolon, []) ∷ (OpenParen, ParamsEnd ∷ ABlock ∷ []) ∷ []
+lines AfterScalar = (OpenBracket, ANumber ∷ Only CloseBracket ∷ Only Semicolon ∷ []) ∷ (Semicolon, []) ∷ (Colon, ANumber ∷ Only Semicolon ∷ []) ∷ (OpenParen, ParamsEnd ∷ ABlock ∷ []) ∷ []
 lines AfterType = (Star, AName ∷ AfterDeclared ∷ []) ∷ (Name, FieldEnd ∷ []) ∷ (OwnName, FieldEnd ∷ []) ∷ []
 lines AfterOwnName = (Star, AName ∷ AfterDeclared ∷ []) ∷ (Name, FieldEnd ∷ []) ∷ (OwnName, FieldEnd ∷ []) ∷ (OpenParen, Only CloseParen ∷ ConstructorEnd ∷ []) ∷ []
 lines AnInit = (Name, Only OpenParen ∷ AConstant ∷ Only CloseParen ∷ []) ∷ (OwnName, Only OpenParen ∷ AConstant ∷ Only CloseParen ∷ []) ∷ []
@@ -309,7 +312,7 @@ lines PartsEnd = (CloseBrace, []) ∷
     (Virtual, AfterVirtual ∷ PartsEnd ∷ []) ∷
     (Void, AName ∷ Only OpenParen ∷ ParamsEnd ∷ ABlock ∷ PartsEnd ∷ []) ∷
     (Tilde, Only OwnName ∷ Only OpenParen ∷ Only CloseParen ∷ ABlock ∷ PartsEnd ∷ []) ∷
-    scalar_lines (AfterDeclared ∷ PartsEnd ∷ [])
+    scalar_lines (AfterScalar ∷ PartsEnd ∷ [])
 lines AfterInt = (Name, Only Semicolon ∷ []) ∷ (OwnName, Only Semicolon ∷ []) ∷ (Main, Only OpenParen ∷ Only CloseParen ∷ ABlock ∷ []) ∷ []
 lines ItemsEnd = (End, []) ∷
     (Struct, AName ∷ ClassTail ∷ ItemsEnd ∷ []) ∷ (Class, AName ∷ ClassTail ∷ ItemsEnd ∷ []) ∷

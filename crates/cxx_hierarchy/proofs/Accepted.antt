@@ -22,6 +22,7 @@ use Rattle.cxx_hierarchy.specs.declared.records.Param.{Param}
 use Rattle.cxx_hierarchy.specs.declared.records.PartAt.{PartAt}
 use Rattle.cxx_hierarchy.specs.declared.records.PartKind.{PartKind}
 use Rattle.cxx_hierarchy.specs.declared.records.PartKind.TheVariants.{Member as MemberPart, Function as FunctionPart, Constructor, Destructor}
+use Rattle.cxx_hierarchy.specs.declared.records.Scalar.{Scalar}
 use Rattle.cxx_hierarchy.specs.declared.records.ValueType.{ValueType}
 use Rattle.cxx_hierarchy.specs.declared.records.ValueType.TheVariants.{Number, Pointer}
 use Rattle.cxx_hierarchy.specs.declared.records.ReturnType.{ReturnType}
@@ -29,7 +30,8 @@ use Rattle.cxx_hierarchy.specs.declared.records.ReturnType.TheVariants.{Void, Va
 use Rattle.cxx_hierarchy.specs.declared.records.FieldType.{FieldType}
 use Rattle.cxx_hierarchy.specs.declared.records.FieldType.TheVariants.{Value, Object}
 use Rattle.cxx_hierarchy.specs.NameTables.{Text, place_in, is_in}
-use Rattle.cxx_hierarchy.specs.ClassPass.{Record, known_faults, complete_faults, value_faults, field_faults, return_faults, param_faults, base_faults, is_bad_count, member_faults, function_faults, part_faults, content_faults, class_faults, faults_of, in_turn, is_repeat, is_named, part_name, name_at, names_of, names_taken, is_second, IsInOrder}
+use Rattle.cxx_hierarchy.specs.Scalars.{most_bits}
+use Rattle.cxx_hierarchy.specs.ClassPass.{Record, known_faults, complete_faults, value_faults, field_faults, return_faults, param_faults, base_faults, is_bad_count, most_width, is_bad_width, member_faults, function_faults, part_faults, content_faults, class_faults, faults_of, in_turn, is_repeat, is_named, part_name, name_at, names_of, names_taken, is_second, IsInOrder}
 use Rattle.cxx_hierarchy.specs.Orders.{is_member, is_function, is_constructor, is_destructor, parts_of_kind, has_kind}
 use Rattle.cxx_hierarchy.specs.Resolved.{class_of_name, resolved_value, resolved_field, resolved_return}
 use Rattle.cxx_hierarchy.proofs.Places.{take_map}
@@ -248,6 +250,32 @@ good_count (Some m) n good e =
     let same : m ≡ n = cc in
     let here : (nat_eq n 0 || nat_lt 4096 n) ≡ false = subst (λ (k : ℕ). (nat_eq k 0 || nat_lt 4096 k) ≡ false) same good in
     (grind (arith, nat_tests), grind (arith, nat_tests))
+
+-- a bit-field and its width
+pub record HasWidth (ty : FieldType Text) (count : Option ℕ) (n : ℕ) : Type 0 where
+  pub type : Scalar
+  pub is : ty ≡ Value (Number type)
+  pub single : count ≡ None
+  pub low : 1 ≤ n
+  pub high : n ≤ most_bits type
+
+-- a width that is no bad one is that of a number, and of no array
+pub good_width : (ty : FieldType Text) (count width : Option ℕ) (n : ℕ) → is_bad_width (most_width count ty) width ≡ false → width ≡ Some n → HasWidth ty count n
+good_width ty count None n good e = absurd (cc)
+good_width ty count (Some m) n good e = by ty count (subst (λ (k : ℕ). (nat_eq k 0 || nat_lt (most_width count ty) k) ≡ false) (let same : m ≡ n = cc in same) good)
+  where
+    none_wide : (nat_eq n 0 || nat_lt 0 n) ≡ false → ⊥
+    none_wide bad = absurd (grind (arith, nat_tests))
+
+    by : (ty : FieldType Text) (count : Option ℕ) → (nat_eq n 0 || nat_lt (most_width count ty) n) ≡ false → HasWidth ty count n
+    by (Value (Number type)) None h =
+        let parts = or_parts (nat_eq n 0) (nat_lt (most_bits type) n) h in
+        let some : nat_eq n 0 ≡ false = parts.0 in
+        let few : nat_lt (most_bits type) n ≡ false = parts.1 in
+        record { type = type; is = refl; single = refl; low = grind (arith, nat_tests); high = grind (arith, nat_tests) }
+    by ty (Some k) h = absurd (none_wide h)
+    by (Value (Pointer name)) None h = absurd (none_wide h)
+    by (Object name) None h = absurd (none_wide h)
 
 -- two parts of one name are one
 named_before : (records : List Record) → IsAccepted records → (i : ℕ) (r : Record) → slice_get records i ≡ Some r →

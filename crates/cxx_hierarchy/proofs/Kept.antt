@@ -14,11 +14,11 @@ use Rattle.cxx_hierarchy.specs.NameTables.{Text}
 use Rattle.cxx_hierarchy.specs.Declarations.{is_implicit}
 use Rattle.cxx_hierarchy.specs.Orders.{is_member, is_function, is_constructor, is_destructor, parts_of_kind, NamesEach}
 use Rattle.cxx_hierarchy.specs.ClassPass.{Record, names_of}
-use Rattle.cxx_hierarchy.specs.Resolved.{class_of_name, resolved, resolved_class, resolved_base, resolved_member, resolved_param, resolved_function}
-use Rattle.cxx_hierarchy.specs.Hierarchies.{HasOrder, IsHierarchy}
+use Rattle.cxx_hierarchy.specs.Resolved.{class_of_name, resolved, resolved_class, resolved_field, resolved_base, resolved_member, resolved_param, resolved_function}
+use Rattle.cxx_hierarchy.specs.Hierarchies.{HasOrder, IsBitField, IsHierarchy}
 use Rattle.cxx_hierarchy.proofs.Faults.{none_left, none_right, not_faulty}
 use Rattle.cxx_hierarchy.proofs.Listed.{mapped, placed}
-use Rattle.cxx_hierarchy.proofs.Accepted.{IsAccepted, few_records, few_bases, new_names, base_below, one_base, part_named, function_named, member_part, function_part, few_members, few_functions, member_clean, function_clean, object_below, pointer_below, return_below, param_below, few_params, good_count, apart, one_part, one_constructor, one_destructor}
+use Rattle.cxx_hierarchy.proofs.Accepted.{IsAccepted, few_records, few_bases, new_names, base_below, one_base, part_named, function_named, member_part, function_part, few_members, few_functions, member_clean, function_clean, object_below, pointer_below, return_below, param_below, few_params, good_count, HasWidth, good_width, apart, one_part, one_constructor, one_destructor}
 
 -- a class of the hierarchy with its record
 record HasRecord (records : List Record) (c : ClassId) (x : Class) : Type 0 where
@@ -193,6 +193,16 @@ order_of records accepted c x e =
     turned true = refl
     turned false = refl
 
+-- a member with a width is a bit-field
+bit_field : (records : List Record) (c : ClassId) (m : Member ClassId) (n : ℕ) (member : Member Text) → m ≡ resolved_member (class_of_name (names_of records)) member → HasWidth member.ty member.count n → IsBitField m n
+bit_field records c m n member same has = record {
+  type = has.type;
+  is = ap (λ (z : Member ClassId). z.ty) same ∙ ap (resolved_field (class_of_name (names_of records))) has.is;
+  single = ap (λ (z : Member ClassId). z.count) same ∙ has.single;
+  low = has.low;
+  high = has.high;
+}
+
 pub is_hierarchy : (records : List Record) → IsAccepted records → IsHierarchy (resolved records)
 is_hierarchy records accepted =
     let size : length (resolved records) ≡ length records = length-map records (resolved_class (class_of_name (names_of records))) in
@@ -207,12 +217,12 @@ is_hierarchy records accepted =
           let p = placed _ m h in
           let r = member_at records c p.place m p.listed in
           let n = member_clean records accepted c.0 r.rec r.listed p.place r.member r.at in
-          object_below records c.0 n.0 r.member.ty d (none_left _ _ n.1) (ap (λ (z : Member ClassId). z.ty) (sym r.same) ∙ e);
+          object_below records c.0 n.0 r.member.ty d (none_left _ _ (none_left _ _ n.1)) (ap (λ (z : Member ClassId). z.ty) (sym r.same) ∙ e);
       pointers = λ c d m h e.
           let p = placed _ m h in
           let r = member_at records c p.place m p.listed in
           let n = member_clean records accepted c.0 r.rec r.listed p.place r.member r.at in
-          let l : d.0 < length records = pointer_below records c.0 n.0 r.member.ty d (none_left _ _ n.1) (ap (λ (z : Member ClassId). z.ty) (sym r.same) ∙ e) in
+          let l : d.0 < length records = pointer_below records c.0 n.0 r.member.ty d (none_left _ _ (none_left _ _ n.1)) (ap (λ (z : Member ClassId). z.ty) (sym r.same) ∙ e) in
           omega arith;
       returns = λ c d f h e.
           let p = placed _ f h in
@@ -235,11 +245,16 @@ is_hierarchy records accepted =
           let p = placed _ m has_m in
           let q = placed _ f has_f in
           mixed_names records accepted c p.place q.place m f p.listed q.listed e;
+      widths = λ c m k h e.
+          let p = placed _ m h in
+          let r = member_at records c p.place m p.listed in
+          let n = member_clean records accepted c.0 r.rec r.listed p.place r.member r.at in
+          bit_field records c m k r.member r.same (good_width r.member.ty r.member.count r.member.width k (not_faulty _ _ (none_right _ _ n.1)) (ap (λ (z : Member ClassId). z.width) (sym r.same) ∙ e));
       counts = λ c m k h e.
           let p = placed _ m h in
           let r = member_at records c p.place m p.listed in
           let n = member_clean records accepted c.0 r.rec r.listed p.place r.member r.at in
-          good_count r.member.count k (not_faulty _ _ (none_right _ _ n.1)) (ap (λ (z : Member ClassId). z.count) (sym r.same) ∙ e);
+          good_count r.member.count k (not_faulty _ _ (none_right _ _ (none_left _ _ n.1))) (ap (λ (z : Member ClassId). z.count) (sym r.same) ∙ e);
       few_params = λ c f h.
           let p = placed _ f h in
           let r = function_at records c p.place f p.listed in

@@ -19,10 +19,11 @@ use Rattle.cxx_hierarchy.specs.declared.records.ReturnType.{ReturnType}
 use Rattle.cxx_hierarchy.specs.declared.records.ReturnType.TheVariants.{Void, Value as ValueReturn}
 use Rattle.cxx_hierarchy.specs.declared.stop.Stop.{Stop}
 use Rattle.cxx_hierarchy.specs.declared.stop.Stop.TheVariants.{Refused, Limit, NoMemory}
-use Rattle.cxx_hierarchy.specs.declared.stop.Rule.TheVariants.{UnknownClass, DuplicateClass, IncompleteClass, DuplicateBase, DuplicateMember}
+use Rattle.cxx_hierarchy.specs.declared.stop.Rule.TheVariants.{UnknownClass, DuplicateClass, IncompleteClass, DuplicateBase, DuplicateMember, BadWidth}
 use Rattle.cxx_hierarchy.specs.declared.stop.LimitNo.TheVariants.{L2, L3, L4}
 use Rattle.cxx_hierarchy.specs.NameTables.{Text, is_in}
 use Rattle.cxx_hierarchy.specs.Limits.{most_classes, most_bases, most_declared, most_parameters, most_elements}
+use Rattle.cxx_hierarchy.specs.Scalars.{most_bits}
 use Rattle.cxx_hierarchy.specs.Declarations.{is_implicit}
 use Rattle.cxx_hierarchy.specs.Orders.{is_member, is_function, is_constructor, is_destructor, has_kind, NamesEach}
 
@@ -81,9 +82,23 @@ abbrev pub is_bad_count : Option ℕ → Bool
 is_bad_count None = false
 is_bad_count (Some count) = nat_eq count 0 || nat_lt most_elements count
 
+-- how many bits a bit-field has at most, by its length and its type: only a number may be one, and no array (ISO C++03 9.6)
+abbrev pub most_width : Option ℕ → FieldType Text → ℕ
+most_width None (ValueField (Number type)) = most_bits type
+most_width count ty = 0
+
+-- the width is 0, or more than the most
+abbrev pub is_bad_width : (most : ℕ) → Option ℕ → Bool
+is_bad_width most None = false
+is_bad_width most (Some width) = nat_eq width 0 || nat_lt most width
+
+-- a field: its type, its length where it is an array, its width where it is a bit-field
 abbrev pub member_faults : (all earlier : List Text) → ℕ → Option (Member Text) → List Stop
 member_faults all earlier at None = []
-member_faults all earlier at (Some member) = field_faults all earlier at member.ty ++ fault_if (is_bad_count member.count) (Limit L4)
+member_faults all earlier at (Some member) =
+    field_faults all earlier at member.ty
+    ++ fault_if (is_bad_count member.count) (Limit L4)
+    ++ fault_if (is_bad_width (most_width member.count member.ty) member.width) (Refused BadWidth member.width_at)
 
 abbrev pub function_faults : List Text → ℕ → Option (Function Text) → List Stop
 function_faults all at None = []

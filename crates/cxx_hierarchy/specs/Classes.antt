@@ -58,6 +58,14 @@ leaf_type_in (Some member) = value_type_in member.ty member.count
 abbrev pub leaf_type : Classes → ClassId → ℕ → Option (ValueType ClassId)
 leaf_type h c m = leaf_type_in (slice_get (members_of h c) m)
 
+abbrev pub width_in : Option (Member ClassId) → Option ℕ
+width_in None = None
+width_in (Some member) = member.width
+
+-- the width of the member m of class c, where it is a bit-field (ISO C++03 9.6)
+abbrev pub width_of_member : Classes → ClassId → ℕ → Option ℕ
+width_of_member h c m = width_in (slice_get (members_of h c) m)
+
 -- the names of the classes
 abbrev pub class_names : Classes → List (List ℕ)
 class_names h = map (λ class. class.name) h

@@ -41,7 +41,7 @@ abbrev pub resolved_base : ByName → Base Text → Base ClassId
 resolved_base class_of b = record { class = class_of b.class; is_virtual = b.is_virtual; is_public = b.is_public; at = b.at }
 
 abbrev pub resolved_member : ByName → Member Text → Member ClassId
-resolved_member class_of m = record { name = m.name; ty = resolved_field class_of m.ty; count = m.count; is_public = m.is_public; at = m.at }
+resolved_member class_of m = record { name = m.name; ty = resolved_field class_of m.ty; count = m.count; width = m.width; width_at = m.width_at; is_public = m.is_public; at = m.at }
 
 abbrev pub resolved_param : ByName → Param Text → Param ClassId
 resolved_param class_of p = record { name = p.name; ty = resolved_value class_of p.ty; ty_at = p.ty_at; at = p.at }

@@ -1,5 +1,5 @@
 -- The number types on LP64 (System V x86-64; ISO C++03 3.9.1).
-use Rattle.std.specs.Prelude.{ℕ, zero, suc, ◌/◌, ◌^◌, ℤ, pos, negsuc, ◌+ℤ◌, ◌-ℤ◌, ◌≤ℤ◌, ◌<ℤ◌, Bool, true, false, nat_lt, nat_le, if◌then◌else◌}
+use Rattle.std.specs.Prelude.{ℕ, zero, suc, ◌/◌, ◌*◌, ◌^◌, ℤ, pos, negsuc, ◌+ℤ◌, ◌-ℤ◌, ◌≤ℤ◌, ◌<ℤ◌, Bool, true, false, nat_lt, nat_le, if◌then◌else◌}
 use Rattle.std.specs.Int.{int_rem_euclid}
 use Rattle.cxx_hierarchy.specs.declared.records.Scalar.{Scalar}
 use Rattle.cxx_hierarchy.specs.declared.records.Scalar.TheVariants.{Bool as TheBool, Char, SChar, UChar, Short, UShort, Int, UInt, Long, ULong, LongLong, ULongLong}
@@ -59,9 +59,13 @@ pub record IsInRange (t : Scalar) (z : ℤ) : Type 0 where
   pub least : pos 0 ≤ℤ (z +ℤ pos (below_zero (is_signed t) (count_of t)))
   pub greatest : (z +ℤ pos (below_zero (is_signed t) (count_of t))) <ℤ pos (count_of t)
 
+-- of so many numbers, signed or not, the one that differs from z by a multiple of how many they are
+abbrev pub wrapped_to : Bool → ℕ → ℤ → ℤ
+wrapped_to signed count z = int_rem_euclid (z +ℤ pos (below_zero signed count)) (pos count) -ℤ pos (below_zero signed count)
+
 -- the number of the type that differs from z by a multiple of how many it has
 abbrev pub wrapped : Scalar → ℤ → ℤ
-wrapped t z = int_rem_euclid (z +ℤ pos (below_zero (is_signed t) (count_of t))) (pos (count_of t)) -ℤ pos (below_zero (is_signed t) (count_of t))
+wrapped t z = wrapped_to (is_signed t) (count_of t) z
 
 -- what a `bool` keeps of a number (ISO C++03 4.12)
 abbrev pub truth_of : ℤ → ℤ
@@ -83,6 +87,21 @@ stored_as Long z = wrapped Long z
 stored_as ULong z = wrapped ULong z
 stored_as LongLong z = wrapped LongLong z
 stored_as ULongLong z = wrapped ULongLong z
+
+-- how many bits a bit-field of the type has at most (ISO C++03 9.6)
+abbrev pub most_bits : Scalar → ℕ
+most_bits TheBool = 1
+most_bits t = 8 * size_of t
+
+-- what a bit-field of the type keeps of a number in n bits: the number is converted to the type, and of that the low bits are
+-- kept, as two's complement reads them (ISO C++03 9.6)
+abbrev pub kept_in : Scalar → ℕ → ℤ → ℤ
+kept_in t n z = wrapped_to (is_signed t) (2 ^ n) (stored_as t z)
+
+-- z is a number that n bits of the type can hold
+pub record IsInWidth (t : Scalar) (n : ℕ) (z : ℤ) : Type 0 where
+  pub least : pos 0 ≤ℤ (z +ℤ pos (below_zero (is_signed t) (2 ^ n)))
+  pub greatest : (z +ℤ pos (below_zero (is_signed t) (2 ^ n))) <ℤ pos (2 ^ n)
 
 -- what a number of the type becomes before it is calculated with: an `int` holds all that is smaller (ISO C++03 4.5)
 abbrev pub promoted : Scalar → Scalar

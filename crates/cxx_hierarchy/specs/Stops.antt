@@ -1,7 +1,7 @@
 -- The numbers of refusals and limits.
 use Rattle.std.specs.Prelude.{ℕ}
 use Rattle.cxx_hierarchy.specs.declared.stop.Rule.{Rule}
-use Rattle.cxx_hierarchy.specs.declared.stop.Rule.TheVariants.{Lex, Syntax, UnknownClass, DuplicateClass, IncompleteClass, DuplicateBase, DuplicateMember, BadInitializer, AmbiguousName, NoSuchMember, ReturnMismatch, AmbiguousCovariant, TwoFinalOverriders, Abstract, AmbiguousBase, NotBase, DowncastVirtual, NotPolymorphic, TypeMismatch, Index, LeftOut, UnknownName, SharedPlace}
+use Rattle.cxx_hierarchy.specs.declared.stop.Rule.TheVariants.{Lex, Syntax, UnknownClass, DuplicateClass, IncompleteClass, DuplicateBase, DuplicateMember, BadInitializer, AmbiguousName, NoSuchMember, ReturnMismatch, AmbiguousCovariant, TwoFinalOverriders, Abstract, AmbiguousBase, NotBase, DowncastVirtual, NotPolymorphic, TypeMismatch, Index, LeftOut, UnknownName, BadWidth, SharedPlace}
 use Rattle.cxx_hierarchy.specs.declared.stop.LimitNo.{LimitNo}
 use Rattle.cxx_hierarchy.specs.declared.stop.LimitNo.TheVariants.{L1, L2, L3, L4, L5, L6, L7, L8, L9, L10}
 
@@ -29,6 +29,7 @@ rule_no TypeMismatch = 19
 rule_no Index = 20
 rule_no LeftOut = 21
 rule_no UnknownName = 22
+rule_no BadWidth = 23
 rule_no SharedPlace = 24
 
 -- the number of a limit

@@ -2,16 +2,20 @@
 
 ghost use Rattle.std.specs.Option.{option_copied};
 ghost use Rattle.std.specs.Str.{bytes_eq};
-ghost use Rattle.std.specs.Prelude.{IfOk, OnOk, List, ◌∷◌, unwrap_or, ◌≡◌, ◌≤◌, ◌<◌, ◌++◌, [], if◌then◌else◌, take, length, slice_get, Some, All};
+ghost use Rattle.std.specs.Prelude.{IfOk, OnOk, List, ◌∷◌, unwrap_or, ◌≡◌, ◌≤◌, ◌<◌, ◌++◌, [], if◌then◌else◌, take, length, slice_get, Some, None, All};
 ghost use Rattle.std.specs.List.{list_any};
 ghost use Rattle.cxx_hierarchy.specs.declared.records.PartAt.{PartAt};
+ghost use Rattle.cxx_hierarchy.specs.declared.records.FieldType.TheVariants.{Value as ValueField};
+ghost use Rattle.cxx_hierarchy.specs.declared.stop.Stop.{Stop};
+ghost use Rattle.cxx_hierarchy.specs.declared.stop.Rule.{Rule};
 ghost use Rattle.cxx_hierarchy.specs.NameTables.{Numbers, Holds, is_in};
-ghost use Rattle.cxx_hierarchy.specs.ClassPass.{fault_if, known_faults, complete_faults, value_faults, field_faults, return_faults, base_faults, param_faults, member_faults, function_faults, part_faults, content_faults, class_faults, faults_of, in_turn, is_bad_count, is_repeat, is_second, part_name, names_of, names_taken, Answers, IsInOrder};
+ghost use Rattle.cxx_hierarchy.specs.ClassPass.{fault_if, known_faults, complete_faults, value_faults, field_faults, return_faults, base_faults, param_faults, member_faults, function_faults, part_faults, content_faults, class_faults, faults_of, in_turn, is_bad_count, most_width, is_bad_width, is_repeat, is_second, part_name, names_of, names_taken, Answers, IsInOrder};
 ghost use Rattle.cxx_hierarchy.specs.Orders.{has_kind, is_constructor, is_destructor};
+ghost use Rattle.cxx_hierarchy.specs.Scalars.{most_bits};
 
 use crate::names::NameTable;
 use crate::records::{
-    Base, ClassRec, FieldType, Function, Member, Name, Param, PartAt, PartKind, ReturnType,
+    Base, ClassRec, FieldType, Function, Member, Name, Param, PartAt, PartKind, ReturnType, Scalar,
     ValueType,
 };
 use crate::stop::{LimitNo, Rule, Stop};
@@ -186,6 +190,66 @@ fn is_bad(count: Option<u32>) -> bool
     }
 }
 
+// How many bits a bit-field of the type has at most (ISO C++03 9.6).
+fn most_bits(ty: Scalar) -> u32
+    ensures { result ≡ most_bits ty }
+{
+    match ty {
+        Scalar::Bool => 1,
+        Scalar::Char | Scalar::SChar | Scalar::UChar => 8,
+        Scalar::Short | Scalar::UShort => 16,
+        Scalar::Int | Scalar::UInt => 32,
+        Scalar::Long | Scalar::ULong | Scalar::LongLong | Scalar::ULongLong => 64,
+    }
+}
+
+// The same of a value, 0 for a pointer.
+fn value_width(ty: &ValueType<Name>) -> u32
+    ensures { result ≡ most_width None (ValueField ty.now) }
+{
+    match ty {
+        ValueType::Number(ty) => most_bits(*ty),
+        ValueType::Pointer(_) => 0,
+    }
+}
+
+// The same of a field that is no array, 0 for an object.
+fn field_width(ty: &FieldType<Name>) -> u32
+    ensures { result ≡ most_width None ty.now }
+{
+    match ty {
+        FieldType::Value(ty) => value_width(ty),
+        FieldType::Object(_) => 0,
+    }
+}
+
+// The same of a field, 0 for an array.
+fn most_width(count: Option<u32>, ty: &FieldType<Name>) -> u32
+    ensures { result ≡ most_width count ty.now }
+{
+    match count {
+        Some(_) => 0,
+        None => field_width(ty),
+    }
+}
+
+fn is_bad_width(most: u32, width: Option<u32>) -> bool
+    ensures { result ≡ is_bad_width most width }
+{
+    match width {
+        Some(width) => width == 0 || width > most,
+        None => false,
+    }
+}
+
+fn check_width(member: &Member<Name>) -> Result<(), Stop>
+    ensures { Answers (fault_if (is_bad_width (most_width member.now.count member.now.ty) member.now.width) (Stop.Refused Rule.BadWidth member.now.width_at)) result }
+{
+    let most = most_width(member.count, &member.ty);
+    let is_bad = is_bad_width(most, member.width);
+    stop_if(is_bad, Stop::Refused(Rule::BadWidth, member.width_at))
+}
+
 fn check_member(scope: &Scope, at: u32, member: Option<&Member<Name>>) -> Result<(), Stop>
     requires { Numbers scope.now.table.now (names_of scope.now.records.now) }
     ensures { Answers (member_faults (names_of scope.now.records.now) (names_of (take scope.now.earlier scope.now.records.now)) at (option_copied member.entry)) result }
@@ -193,7 +257,8 @@ fn check_member(scope: &Scope, at: u32, member: Option<&Member<Name>>) -> Result
     match member {
         Some(member) => {
             check_field(scope, at, &member.ty)?;
-            stop_if(is_bad(member.count), Stop::Limit(LimitNo::L4))
+            stop_if(is_bad(member.count), Stop::Limit(LimitNo::L4))?;
+            check_width(member)
         }
         None => Ok(()),
     }

@@ -45,7 +45,7 @@ impl Model for Hierarchy {
 /// The hierarchy of the class definitions of a source, in its order.
 ///
 /// The class pass goes over the classes in their order. The first refusal or limit that it meets is the error:
-/// `DuplicateClass`, `UnknownClass`, `IncompleteClass`, `DuplicateBase`, `DuplicateMember`, or one of the limits
+/// `DuplicateClass`, `UnknownClass`, `IncompleteClass`, `DuplicateBase`, `DuplicateMember`, `BadWidth`, or one of the limits
 /// of 1,024 classes, 64 direct bases, 1,024 parts, 16 parameters and 4,096 elements of an array.
 pub fn build(alloc: Global, records: &RecordList) -> Result<Hierarchy, Stop>
     requires { All IsInOrder records.now }

@@ -62,11 +62,15 @@ pub struct Base<R> {
 }
 
 /// A data member; `count` is the length where it is an array, and `at` the byte of its name.
+///
+/// `width` is the number of bits where it is a bit-field (ISO C++03 9.6), and `width_at` the byte of that number, else 0.
 #[derive(Debug, Drop)]
 pub struct Member<R> {
     pub name: Name,
     pub ty: FieldType<R>,
     pub count: Option<u32>,
+    pub width: Option<u32>,
+    pub width_at: u32,
     pub is_public: bool,
     pub at: u32,
 }

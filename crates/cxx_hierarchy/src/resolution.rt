@@ -92,6 +92,8 @@ fn resolve_member(
         name: copied_name(alloc, &member.name)?,
         ty: resolve_field(table, &member.ty),
         count: member.count,
+        width: member.width,
+        width_at: member.width_at,
         is_public: member.is_public,
         at: member.at,
     })

@@ -30,6 +30,7 @@ pub enum Rule {
     Index,
     LeftOut,
     UnknownName,
+    BadWidth,
     SharedPlace,
 }
 
@@ -64,6 +65,7 @@ impl Rule {
             Rule::Index => 20,
             Rule::LeftOut => 21,
             Rule::UnknownName => 22,
+            Rule::BadWidth => 23,
             Rule::SharedPlace => 24,
         }
     }

@@ -14,7 +14,7 @@ use Rattle.cxx_hierarchy.specs.declared.records.Param.{Param}
 use Rattle.cxx_hierarchy.specs.declared.records.Function.{Function}
 use Rattle.cxx_hierarchy.specs.Scalars.{IsInRange, common_type}
 use Rattle.cxx_hierarchy.specs.Declarations.{is_implicit, has_virtual_function}
-use Rattle.cxx_hierarchy.specs.Classes.{Class, Classes, class_at, leaf_type}
+use Rattle.cxx_hierarchy.specs.Classes.{Class, Classes, class_at, leaf_type, width_of_member}
 use Rattle.cxx_subobject.specs.declared.Root.TheVariants.{Whole}
 use Rattle.cxx_subobject.specs.declared.Subobject.{Subobject}
 use Rattle.cxx_subobject.specs.Subobjects.{IsSubobject, class_of, whole_of}
@@ -27,7 +27,7 @@ use Rattle.cxx_program.specs.declared.operand.Variable.TheVariants.{Global, Loca
 use Rattle.cxx_program.specs.declared.operand.TypedOperand.{TypedOperand}
 use Rattle.cxx_program.specs.declared.operand.TypedOperand.TheVariants.{Variable as VariableOperand, This, Number as NumberOperand}
 use Rattle.cxx_program.specs.declared.operand.Conversion.{Conversion}
-use Rattle.cxx_program.specs.declared.operand.Conversion.TheVariants.{Number as ToNumber, Null as ToNull, Same as ToSame, Base as ToBase}
+use Rattle.cxx_program.specs.declared.operand.Conversion.TheVariants.{Number as ToNumber, Bits as ToBits, Null as ToNull, Same as ToSame, Base as ToBase}
 use Rattle.cxx_program.specs.declared.operand.Argument.{Argument}
 use Rattle.cxx_program.specs.declared.statement.PassedMember.{PassedMember}
 use Rattle.cxx_program.specs.declared.statement.TypedPlace.{TypedPlace}
@@ -106,6 +106,12 @@ pub data IsArgument (h : Classes) (e : Scope) : Argument → ValueType ClassId �
   a_value : (a : Argument) (s t : ValueType ClassId) → HasType e a.operand s → Converts h s a.conversion t → IsArgument h e a t
   a_null : (d : ClassId) → IsArgument h e (record { operand = zero_operand; conversion = ToNull }) (PointerType d)
 
+-- the operand becomes what a leaf of the type keeps: a value of the type, or in a bit-field of n bits what these keep of a number
+-- (ISO C++03 5.17, 9.6)
+pub data IsKept (h : Classes) (e : Scope) : Option ℕ → Argument → ValueType ClassId → Type 0 where
+  whole : (a : Argument) (t : ValueType ClassId) → IsArgument h e a t → IsKept h e None a t
+  in_bits : (a : Argument) (n : ℕ) (s t : Scalar) → HasType e a.operand (NumberType s) → a.conversion ≡ ToBits t n → IsKept h e (Some n) a (NumberType t)
+
 -- places
 
 -- a path may pass through x from a part of class c: a subobject of c declares the member, which has the element and the class
@@ -127,6 +133,15 @@ pub record IsPlace (h : Classes) (e : Scope) (place : TypedPlace) (type : FieldT
   pub class : ClassId
   pub of_class : class_of place.base ≡ Some class
   pub element : IsElement h class place.member place.index type
+
+-- the width of the member in a class that may be none
+abbrev pub width_within : Classes → Option ClassId → ℕ → Option ℕ
+width_within h None m = None
+width_within h (Some d) m = width_of_member h d m
+
+-- the width of the member that the place leads to, where it is a bit-field (ISO C++03 9.6)
+abbrev pub place_width : Classes → TypedPlace → Option ℕ
+place_width h place = width_within h (class_of place.base) place.member
 
 -- casts
 
@@ -200,7 +215,7 @@ pub data IsTyped (h : Classes) (e : Scope) : TypedKind → Type 0 where
   declares : (n : ℕ) (t : ValueType ClassId) → slice_get e.locals n ≡ Some t → IsTyped h e (Declare n None)
   begins : (n : ℕ) (x : Converted) (t : ValueType ClassId) → slice_get e.locals n ≡ Some t → IsConverted h e x t → IsTyped h e (Declare n (Some x))
   assigns : (variable : Variable) (x : Converted) (t : ValueType ClassId) → variable_type e variable ≡ Some t → IsConverted h e x t → IsTyped h e (Assign variable x)
-  writes : (place : TypedPlace) (x : Argument) (t : ValueType ClassId) → IsPlace h e place (ValueField t) → IsArgument h e x t → IsTyped h e (Write place x)
+  writes : (place : TypedPlace) (x : Argument) (t : ValueType ClassId) → IsPlace h e place (ValueField t) → IsKept h e (place_width h place) x t → IsTyped h e (Write place x)
   copies : (to from : TypedOperand) (c : ClassId) → HasType e to (PointerType c) → HasType e from (PointerType c) → IsTyped h e (Copy to from c)
   calls : (call : TypedCall) (f : Function ClassId) → IsCall h e call f → IsTyped h e (Call call)
   deletes : (x : TypedOperand) (c : ClassId) → HasType e x (PointerType c) → IsTyped h e (Delete x c)
@@ -280,7 +295,7 @@ no_scope = record { globals = []; locals = []; this = None; returns = None }
 pub record IsTypedInit (h : Classes) (c : ClassId) (init : TypedInit) : Type 0 where
   pub type : ValueType ClassId
   pub of_member : leaf_type h c init.member ≡ Some type
-  pub value : IsArgument h no_scope (record { operand = init.operand; conversion = init.conversion }) type
+  pub value : IsKept h no_scope (width_of_member h c init.member) (record { operand = init.operand; conversion = init.conversion }) type
 
 -- the initializers of a class c: each member once
 pub record AreInits (h : Classes) (c : ClassId) (inits : List TypedInit) : Type 0 where

@@ -24,6 +24,8 @@ pub enum TypedOperand {
 pub enum Conversion {
     /// A number, to a number of this type.
     Number(Scalar),
+    /// A number, to what a bit-field of this type and so many bits keeps of it (ISO C++03 9.6).
+    Bits(Scalar, u32),
     /// A null pointer constant, to a null pointer.
     Null,
     /// A pointer, to one to the same class.

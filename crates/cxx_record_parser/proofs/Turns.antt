@@ -4,7 +4,7 @@ use Rattle.cxx_grammar.specs.declared.sort.Sort.{Sort}
 use Rattle.cxx_grammar.specs.declared.sort.Sort.TheVariants.{Struct, Public, Protected, Private, Virtual, Boolean, Char, Short, Int, Long, Signed, Unsigned, Main, Name, OwnName, OpenBrace, OpenParen, CloseParen, Semicolon, Colon, Comma, Star, Assign}
 use Rattle.cxx_grammar.specs.declared.sort.Lexeme.{Lexeme}
 use Rattle.cxx_grammar.specs.Sorts.{is_same, is_name}
-use Rattle.cxx_grammar.specs.Table.{Task, Only, AName, AConstant, AParam, ABlock, BaseAfterVirtual, BaseAfterAccess, ABase, BasesEnd, ClassTail, FieldEnd, ParamsEnd, MoreParamsEnd, AfterDeclared, AfterType, AfterOwnName, AnInit, InitsEnd, AfterVirtual, VirtualEnd, PartsEnd, AfterInt, ItemsEnd, after, scalar_rest, is_scalar_word}
+use Rattle.cxx_grammar.specs.Table.{Task, Only, AName, ANumber, AConstant, AParam, ABlock, BaseAfterVirtual, BaseAfterAccess, ABase, BasesEnd, ClassTail, FieldEnd, ParamsEnd, MoreParamsEnd, AfterDeclared, AfterScalar, AfterType, AfterOwnName, AnInit, InitsEnd, AfterVirtual, VirtualEnd, PartsEnd, AfterInt, ItemsEnd, after, scalar_rest, is_scalar_word}
 use Rattle.cxx_grammar.specs.Event.{State, admit}
 use Rattle.cxx_grammar.specs.invariants.Run.{admits, go_on, run, Outcome}
 use Rattle.cxx_syntax.specs.Parts.{access_of}
@@ -118,6 +118,20 @@ field_ends = turn _ _ _ _ by_sort where
   by_sort l ts s k OpenParen h = absurd (cc)
   by_sort l ts s k _ h = refl
 
+-- Behind a scalar and a name ":" begins the width of a bit-field.
+pub width_begins : Turns AfterScalar (λ t. t ≡ Colon) (Only Colon) (λ k. ANumber ∷ Only Semicolon ∷ k)
+width_begins = turn _ _ _ _ by_sort where
+  by_sort : IsAlike (λ t. t ≡ Colon) AfterScalar (Only Colon) (λ k. ANumber ∷ Only Semicolon ∷ k)
+  by_sort l ts s k Colon h = refl
+  by_sort l ts s k _ h = absurd (cc)
+
+-- Without ":" a scalar and a name go on as a pointer and a name do.
+pub no_width : Turns AfterScalar (IsNot Colon) AfterDeclared (λ k. k)
+no_width = turn _ _ _ _ by_sort where
+  by_sort : IsAlike (IsNot Colon) AfterScalar AfterDeclared (λ k. k)
+  by_sort l ts s k Colon h = absurd (cc)
+  by_sort l ts s k _ h = refl
+
 -- Without "*" a name is the class of a field.
 pub object_field : Turns AfterType (IsNot Star) AName (λ k. FieldEnd ∷ k)
 object_field = turn _ _ _ _ by_sort where
@@ -171,9 +185,9 @@ label_part p = take_turn _ _ _ by_sort where
   by_sort l ts s k _ h = absurd (cc)
 
 -- A scalar begins a part.
-pub scalar_part : Takes PartsEnd (λ t. is_scalar_word t ≡ true) (λ t k. scalar_rest t ++ (AfterDeclared ∷ PartsEnd ∷ k))
+pub scalar_part : Takes PartsEnd (λ t. is_scalar_word t ≡ true) (λ t k. scalar_rest t ++ (AfterScalar ∷ PartsEnd ∷ k))
 scalar_part = take_turn _ _ _ by_sort where
-  by_sort : IsTaken (λ t. is_scalar_word t ≡ true) PartsEnd (λ t k. scalar_rest t ++ (AfterDeclared ∷ PartsEnd ∷ k))
+  by_sort : IsTaken (λ t. is_scalar_word t ≡ true) PartsEnd (λ t k. scalar_rest t ++ (AfterScalar ∷ PartsEnd ∷ k))
   by_sort l ts s k Boolean h = refl
   by_sort l ts s k Char h = refl
   by_sort l ts s k Short h = refl

@@ -116,8 +116,8 @@ pub fn params<'a>(
     }
 }
 
-// The length of an array, where a record holds at most this many.
-fn held(value: u64) -> u32
+/// A length or a width as a record holds it, which is 4,294,967,295 at most.
+pub(crate) fn held(value: u64) -> u32
     ensures { result ≡ min value max_count }
 {
     value.min(4294967295) as u32

@@ -10,13 +10,18 @@ use Rattle.cxx_syntax.specs.declared.tree.PointerText.{PointerText}
 use Rattle.cxx_syntax.specs.declared.tree.PlaceText.{PlaceText}
 use Rattle.cxx_syntax.specs.declared.tree.CallText.{CallText}
 use Rattle.cxx_syntax.specs.declared.tree.Right.{Right}
+use Rattle.cxx_program.specs.declared.statement.TypedKind.TheVariants as typed
 use Rattle.cxx_expression.specs.declared.scene.Scene.{Scene}
 use Rattle.cxx_expression.specs.declared.scene.Setting.{Setting}
 use Rattle.cxx_expression.specs.declared.scene.Returns.{Returns}
 use Rattle.cxx_expression.specs.declared.scene.Returns.TheVariants as returns
+use Rattle.cxx_expression.specs.Checked.{pure, both}
 use Rattle.cxx_expression.specs.Scenes.{declared, is_taken}
+use Rattle.cxx_expression.specs.Values.{variable_of}
+use Rattle.cxx_expression.specs.Rights.{right_of, converted_value}
 use Rattle.cxx_expression.specs.Laws.{IsComplete, PiecesAreComplete}
-use Rattle.cxx_expression.proofs.Complete.{complete_pure, complete_fail, complete_warn, complete_bind, complete_both, complete_if}
+use Rattle.cxx_expression.proofs.Complete.{complete_pure, complete_fail, complete_warn, complete_bind, complete_both, complete_if, complete_whole, complete_second, whole_grows}
+use Rattle.cxx_expression.proofs.CompleteRights.{c_right, c_value, value_grows}
 use Rattle.cxx_resolve.specs.Statements.{new_variable, first_value, declare_of, assign_of, write_of, copy_of, call_statement, delete_of, value_return, return_at, return_of, print_of, print_type_of, print_view_of, dump_of}
 
 c_new_variable : (q : PiecesAreComplete) (h : Classes) (s : Scene) (ty : ValueType Text) (at : ℕ) (x : Spot) → IsComplete (new_variable h s ty at x)
@@ -36,7 +41,9 @@ c_declare q h e s at ty ty_at x init =
 pub c_assign : (q : PiecesAreComplete) (h : Classes) (e : Setting) (s : Scene) (at : ℕ) (x : Spot) (r : Right) → IsComplete (assign_of h e s at x r)
 unfolding assign_of
 c_assign q h e s at x r =
-    complete_bind _ _ (complete_both _ _ (q.variable e s x) (q.right_of h e s at r)) (λ p. complete_bind _ _ (q.conversion h at p.1.ty p.1.is_null p.0.1) (λ c. complete_pure _))
+    complete_whole (both (variable_of e s x) (right_of h e s at r)) (λ p. p.1.right) _ (complete_second (variable_of e s x) (right_of h e s at r) (λ v. v.right) (q.variable e s x) (c_right h e s at r))
+    (λ p b. let c = converted_value h at p.0.1 p.1 in omega (arith, value_grows h at p.0.1 p.1 b, whole_grows c.typed (λ y. pure (typed.Assign p.0.0 y)) (λ y fs. omega arith) (c.faults b)))
+    (λ p right is. complete_bind _ _ (c_value h at p.0.1 p.1 right is) (λ c. complete_pure _))
 
 pub c_write : (q : PiecesAreComplete) (h : Classes) (e : Setting) (s : Scene) (at : ℕ) (place : PlaceText) (x : Operand) → IsComplete (write_of h e s at place x)
 unfolding write_of

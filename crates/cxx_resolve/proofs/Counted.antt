@@ -9,12 +9,12 @@ use Rattle.cxx_syntax.specs.declared.part.Part.{Part}
 use Rattle.cxx_syntax.specs.declared.part.Item.{Item}
 use Rattle.cxx_syntax.specs.declared.source_text.Body.{Body}
 use Rattle.cxx_syntax.specs.declared.source_text.SourceText.{SourceText}
-use Rattle.cxx_syntax.specs.Parts.{Spelled, PartReads, a_label, a_field, a_function, a_pure_function, a_constructor, a_destructor, PartsRead, no_part, one_part}
+use Rattle.cxx_syntax.specs.Parts.{Spelled, PartReads, a_label, a_field, a_bit_field, a_function, a_pure_function, a_constructor, a_destructor, PartsRead, no_part, one_part}
 use Rattle.cxx_syntax.specs.Definitions.{body_at, in_turn, bodies_of}
 use Rattle.cxx_syntax.specs.Sources.{ItemReads, a_class, a_forward, a_global, a_main, ItemsRead, no_item, one_item, bodies_in, main_in, trees_in, AreItemsOf, SourceReads, a_source}
 use Rattle.cxx_resolve.specs.Programs.{IsShort, IsShortMain, HasFewStatements}
 use Rattle.cxx_resolve.proofs.Counting.{body_counted}
-use Rattle.cxx_resolve.proofs.Shorter.{one_less, value_less}
+use Rattle.cxx_resolve.proofs.Shorter.{one_less, scalar_less, value_less}
 use Rattle.cxx_resolve.proofs.ShorterParts.{bases_less, field_less, count_less, return_less, params_less, inits_less, virtual_less}
 
 abbrev IsShortBody : ℕ → Body → Type 0
@@ -38,6 +38,7 @@ one_short n b h = All-cons (IsShortBody n) b [] h (none_short n)
 part_less : {text : List ℕ} {is_public : Bool} {p : Part} {ts rest : List Lexeme} → PartReads text is_public p ts rest → length rest ≤ length ts
 part_less (a_label w k) = omega (arith, one_less w.front, one_less k.front)
 part_less (a_field f t n c z e g) = omega (arith, field_less t, one_less n.front, count_less c, one_less z.front)
+part_less (a_bit_field f t n o w z e g) = omega (arith, scalar_less t, one_less n.front, one_less o.front, one_less w.front, one_less z.front)
 part_less (a_function v f r n o ps z b e g) = omega (arith, virtual_less v, return_less r, one_less n.front, one_less o.front, params_less ps, one_less z.front, body_less b)
 part_less (a_pure_function v f r n o ps z w q k e g) =
     omega (arith, one_less v.front, return_less r, one_less n.front, one_less o.front, params_less ps, one_less z.front, one_less w.front, one_less q.front, one_less k.front)
@@ -47,6 +48,7 @@ part_less (a_destructor v w n o z b e) = omega (arith, virtual_less v, one_less 
 part_short : {text : List ℕ} {is_public : Bool} {p : Part} {ts rest : List Lexeme} (n : ℕ) (class : Spelled) (before : List Part) → PartReads text is_public p ts rest → length ts ≤ n → AllShort n (body_at class before p)
 part_short n class before (a_label w k) m = none_short n
 part_short n class before (a_field f t x c z e g) m = none_short n
+part_short n class before (a_bit_field f t x o w z e g) m = none_short n
 part_short n class before (a_function v f r x o ps z b e g) m =
     one_short n _ (short n b (omega (arith, m, virtual_less v, return_less r, one_less x.front, one_less o.front, params_less ps, one_less z.front)))
 part_short n class before (a_pure_function v f r x o ps z w q k e g) m = none_short n

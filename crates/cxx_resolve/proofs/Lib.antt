@@ -10,5 +10,6 @@ pub mod ShorterParts
 pub mod Counted
 pub mod KindCases
 pub mod CompleteStatements
+pub mod Results
 pub mod SureWalks
 pub mod SomeProgram

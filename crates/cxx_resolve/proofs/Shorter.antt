@@ -79,7 +79,7 @@ right_less (a_cast c) = cast_less c
 right_less (a_type_equal k o m p z q j u n y e) =
     omega (arith, one_less k.front, one_less o.front, one_less m.front, pointer_less p, one_less z.front, one_less q.front, one_less j.front, one_less u.front, one_less n.front, one_less y.front)
 
-scalar_less : {t : Scalar} {ts rest : List Lexeme} → ScalarReads t ts rest → length rest < length ts
+pub scalar_less : {t : Scalar} {ts rest : List Lexeme} → ScalarReads t ts rest → length rest < length ts
 scalar_less (a_bool x) = one_less x.front
 scalar_less (a_char x) = one_less x.front
 scalar_less (a_signed_char x y) = omega (arith, one_less x.front, one_less y.front)

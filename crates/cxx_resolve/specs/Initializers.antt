@@ -10,13 +10,13 @@ use Rattle.cxx_hierarchy.specs.declared.stop.Stop.{Stop}
 use Rattle.cxx_hierarchy.specs.declared.stop.Stop.TheVariants.{Refused}
 use Rattle.cxx_hierarchy.specs.declared.stop.Rule.TheVariants.{BadInitializer}
 use Rattle.cxx_hierarchy.specs.NameTables.{Text}
-use Rattle.cxx_hierarchy.specs.Classes.{Classes, members_of, leaf_type}
+use Rattle.cxx_hierarchy.specs.Classes.{Classes, members_of, leaf_type, width_of_member}
 use Rattle.cxx_syntax.specs.declared.source_text.Init.{Init}
 use Rattle.cxx_program.specs.declared.operand.Conversion.{Conversion}
 use Rattle.cxx_program.specs.declared.operand.Conversion.TheVariants as conversion
 use Rattle.cxx_program.specs.declared.operand.TypedOperand.{TypedOperand}
 use Rattle.cxx_program.specs.declared.program.TypedInit.{TypedInit}
-use Rattle.cxx_expression.specs.Values.{constant_of}
+use Rattle.cxx_expression.specs.Values.{constant_of, fitted}
 use Rattle.cxx_expression.specs.declared.typed.Value.{Value}
 
 -- the number of the member that the class itself declares under a name
@@ -28,19 +28,20 @@ abbrev pub constant_conversion : Value → ValueType ClassId → Option Conversi
 constant_conversion v (Number t) = Some (conversion.Number t)
 constant_conversion v (Pointer d) = if v.is_null then Some conversion.Null else None
 
-abbrev pub initialized : ℕ → TypedOperand → Option Conversion → Option TypedInit
-initialized m x None = None
-initialized m x (Some c) = Some (record { member = m; operand = x; conversion = c })
+-- a bit-field keeps the low bits of the number (ISO C++03 9.6)
+abbrev pub initialized : ℕ → Option ℕ → TypedOperand → Option Conversion → Option TypedInit
+initialized m width x None = None
+initialized m width x (Some c) = Some (record { member = m; operand = x; conversion = fitted width c })
 
 -- a member that is a number or a pointer, the first time
-abbrev pub init_once : ℕ → Value → Option (ValueType ClassId) → Bool → Option TypedInit
-init_once m v None again = None
-init_once m v (Some ty) true = None
-init_once m v (Some ty) false = initialized m v.operand (constant_conversion v ty)
+abbrev pub init_once : ℕ → Option ℕ → Value → Option (ValueType ClassId) → Bool → Option TypedInit
+init_once m width v None again = None
+init_once m width v (Some ty) true = None
+init_once m width v (Some ty) false = initialized m width v.operand (constant_conversion v ty)
 
 abbrev pub init_at : Classes → ClassId → List TypedInit → Value → Option ℕ → Option TypedInit
 init_at h c before v None = None
-init_at h c before v (Some m) = init_once m v (leaf_type h c m) (list_any (λ (x : TypedInit). nat_eq x.member m) before)
+init_at h c before v (Some m) = init_once m (width_of_member h c m) v (leaf_type h c m) (list_any (λ (x : TypedInit). nat_eq x.member m) before)
 
 abbrev pub good_init : ℕ → Option TypedInit → Result TypedInit Stop
 good_init at None = Err (Refused BadInitializer at)

@@ -4,5 +4,6 @@ pub mod Settled
 pub mod Globals
 pub mod Initializers
 pub mod Statements
+pub mod Results
 pub mod Walks
 pub mod Programs

@@ -16,6 +16,7 @@ use Rattle.cxx_syntax.specs.declared.tree.StatementKind.{StatementKind, If'}
 use Rattle.cxx_syntax.specs.declared.tree.StatementKind as kind
 use Rattle.cxx_program.specs.declared.statement.TypedKind.{TypedKind}
 use Rattle.cxx_program.specs.declared.statement.TypedKind.TheVariants as typed
+use Rattle.cxx_program.specs.Typed.{place_width}
 use Rattle.cxx_expression.specs.declared.faults.Fault.{Fault}
 use Rattle.cxx_expression.specs.declared.scene.Scene.{Scene}
 use Rattle.cxx_expression.specs.declared.scene.Setting.{Setting}
@@ -24,11 +25,11 @@ use Rattle.cxx_expression.specs.declared.scene.Returns.TheVariants as returns
 use Rattle.cxx_expression.specs.declared.typed.Pointer.{Pointer}
 use Rattle.cxx_expression.specs.Checked.{Checked, pure, fail, warn, ◌>>=◌, both}
 use Rattle.cxx_expression.specs.Scenes.{declared, is_taken}
-use Rattle.cxx_expression.specs.Values.{type_of, variable_of, operand_of, pointer_of, conversion_of, converted_operand, argument}
+use Rattle.cxx_expression.specs.Values.{type_of, variable_of, operand_of, pointer_of, conversion_of, converted_operand, fitted, argument}
 use Rattle.cxx_expression.specs.Places.{leaf_of}
-use Rattle.cxx_expression.specs.Calls.{call_of}
+use Rattle.cxx_expression.specs.Calls.{whole_call}
 use Rattle.cxx_expression.specs.Casts.{polymorphic_pointer}
-use Rattle.cxx_expression.specs.Rights.{right_of, converted, converted_right}
+use Rattle.cxx_expression.specs.Rights.{right_of, converted_value, converted_right}
 
 -- E7: the innermost scope has the name. E3 has the least number that a statement can break, and the type stands first in its
 -- statement: where the type is refused, nothing else is asked
@@ -57,15 +58,15 @@ declare_of h e s at ty ty_at x init = do
 unfoldable pub assign_of : Classes → Setting → Scene → ℕ → Spot → Right → Checked TypedKind
 assign_of h e s at x r = do
   p ← both (variable_of e s x) (right_of h e s at r)
-  c ← conversion_of h at p.1.ty p.1.is_null p.0.1
-  pure (typed.Assign p.0.0 (converted p.1.right c))
+  c ← converted_value h at p.0.1 p.1
+  pure (typed.Assign p.0.0 c)
 
--- a value that is written to a member
+-- a value that is written to a member; a bit-field keeps its low bits (ISO C++03 5.17, 9.6)
 unfoldable pub write_of : Classes → Setting → Scene → ℕ → PlaceText → Operand → Checked TypedKind
 write_of h e s at place x = do
   p ← both (leaf_of h e s at place) (operand_of e s at x)
   c ← conversion_of h at p.1.ty p.1.is_null p.0.ty
-  pure (typed.Write p.0.place (argument p.1.operand c))
+  pure (typed.Write p.0.place (argument p.1.operand (fitted (place_width h p.0.place) c)))
 
 -- E19: a copy between two classes
 abbrev pub same_class : ℕ → Pointer × Pointer → Checked TypedKind
@@ -80,8 +81,8 @@ copy_of e s at to source = do
 -- a call whose result is not used
 unfoldable pub call_statement : Classes → Setting → Scene → ℕ → CallText → Checked TypedKind
 call_statement h e s at text = do
-  v ← call_of h e s at text
-  pure (typed.Call v.call)
+  call ← whole_call h e s at text
+  pure (typed.Call call)
 
 unfoldable pub delete_of : Setting → Scene → ℕ → PointerText → Checked TypedKind
 delete_of e s at x = do

@@ -12,7 +12,7 @@ ghost use Rattle.cxx_resolve.specs.Stops.{Settles};
 ghost use Rattle.cxx_resolve.specs.Turns.{in_turn};
 ghost use Rattle.cxx_resolve.specs.Initializers.{member_number, constant_conversion, init_once, init_at, init_of};
 
-use cxx_expression::{Value, constant_of, copy_type};
+use cxx_expression::{Value, constant_of, copy_type, fitted, width_of_member};
 use cxx_hierarchy::{ClassId, ClassRec, FieldType, Hierarchy, Member, Rule, Stop, ValueType};
 use cxx_program::{Conversion, TypedInit, TypedInitList};
 use cxx_syntax::Init;
@@ -105,20 +105,22 @@ fn is_started(before: &[TypedInit], member: u32) -> bool
     before.iter().any(|init| init.member == member)
 }
 
-/// The first value of a member of this type, where it may have this one.
+/// The first value of a member of this type and width, where it may have this one: a bit-field keeps its low bits
+/// (ISO C++03 9.6).
 fn init_once(
     member: u32,
+    width: Option<u32>,
     value: &Value,
     ty: Option<ValueType<ClassId>>,
     again: bool,
 ) -> Option<TypedInit>
-    ensures { result ≡ init_once member value.now ty again }
+    ensures { result ≡ init_once member width value.now ty again }
 {
     let ty = ty?;
     if again {
         return None;
     }
-    let conversion = constant_conversion(value, &ty)?;
+    let conversion = fitted(width, constant_conversion(value, &ty)?);
     let operand = value.operand;
     Some(TypedInit {
         member,
@@ -140,7 +142,8 @@ fn init_at(
     let number = number?;
     let ty = leaf_type(h, c, number);
     let again = is_started(before, number);
-    init_once(number, value, ty, again)
+    let width = width_of_member(h, c, number);
+    init_once(number, width, value, ty, again)
 }
 
 /// One initializer more.

@@ -8,8 +8,9 @@ ghost use Rattle.cxx_syntax.specs.declared.source_text.SourceText.{SourceText};
 ghost use Rattle.cxx_syntax.specs.SameSources.{SameSource};
 ghost use Rattle.cxx_syntax.specs.Sources.{SourceReads};
 ghost use Rattle.cxx_resolve.specs.Programs.{program_of, HasFewStatements};
+ghost use Rattle.cxx_resolve.specs.Results.{ResultsAreTaken};
 
-use cxx_expression::answered;
+use cxx_expression::{answered, results_are_asked};
 
 /// Sources that say the same resolve to one answer.
 pub fn one_program()
@@ -27,3 +28,12 @@ pub fn some_program()
 pub fn statements_are_few()
     ensures { (text : List ℕ) (s : SourceText) (ts rest : List Lexeme) (n : ℕ) → SourceReads text s ts rest → length ts ≤ n → HasFewStatements n s }
 {}
+
+/// The faults of a statement that takes the result of a call include those of the result, where the function is found: E19 for
+/// a void one, and those of its conversion.
+#[tactic(auto, using(crate::proofs::Results::results_are_taken))]
+pub fn results_are_taken()
+    ensures { ResultsAreTaken }
+{
+    results_are_asked();
+}

@@ -7,8 +7,9 @@
 //! the trees.
 //!
 //! The layer above may rely on: `resolve` answers exactly `program_of`; sources that say the same have one answer
-//! (`one_program`); each source has a program, a refusal or a limit (`some_program`); and the bodies of a source that tokens
-//! spell have fewer statements than there are tokens (`statements_are_few`).
+//! (`one_program`); each source has a program, a refusal or a limit (`some_program`); the bodies of a source that tokens
+//! spell have fewer statements than there are tokens (`statements_are_few`); and the faults of a statement that takes the
+//! result of a call include those of the result (`results_are_taken`).
 #![tactic(auto)]
 
 mod blocks;
@@ -23,5 +24,5 @@ pub mod resolution;
 mod sizes;
 mod statements;
 
-pub use crate::laws::{one_program, some_program, statements_are_few};
+pub use crate::laws::{one_program, results_are_taken, some_program, statements_are_few};
 pub use crate::resolution::resolve;

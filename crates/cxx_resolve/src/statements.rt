@@ -7,11 +7,12 @@ ghost use Rattle.cxx_expression.specs.invariants.Known.{Knows};
 ghost use Rattle.cxx_resolve.specs.Statements.{assign_of, write_of, copy_of, call_statement, delete_of, value_return, return_of, print_of, print_type_of, print_view_of, dump_of, plain_of};
 
 use cxx_expression::{
-    FaultList, Known, Returns, Site, call_of, conversion_of, converted_operand, leaf_of,
-    operand_of, pointer_of, polymorphic_pointer, refuse, right_of, variable_of,
+    FaultList, Known, Returns, Site, conversion_of, converted_operand, converted_value, fitted,
+    leaf_of, operand_of, place_width, pointer_of, polymorphic_pointer, refuse, right_of,
+    variable_of, whole_call,
 };
 use cxx_hierarchy::{ClassId, Rule, ValueType};
-use cxx_program::{Argument, Converted, TypedKind};
+use cxx_program::{Argument, TypedKind};
 use cxx_syntax::{CallText, Operand, PlaceText, PointerText, Right, Spot, StatementKind};
 use foundation::NoMemory;
 
@@ -40,15 +41,13 @@ fn assign_of(
     let Some(value) = value else {
         return Ok(None);
     };
-    let conversion = conversion_of(site, known, faults, &value.ty, value.is_null, &ty)?;
-    let Some(conversion) = conversion else {
+    let Some(converted) = converted_value(site, known, faults, &ty, value)? else {
         return Ok(None);
     };
-    let right = value.right;
-    Ok(Some(TypedKind::Assign(variable, Converted { right, conversion })))
+    Ok(Some(TypedKind::Assign(variable, converted)))
 }
 
-/// A value that is written to a member.
+/// A value that is written to a member: a bit-field keeps its low bits (ISO C++03 9.6).
 #[tactic(auto, unfolding(crate::specs::Statements::write_of))]
 fn write_of(
     site: &Site,
@@ -71,6 +70,7 @@ fn write_of(
         return Ok(None);
     };
     let operand = value.operand;
+    let conversion = fitted(place_width(site.h, &leaf.place), conversion);
     Ok(Some(TypedKind::Write(
         leaf.place,
         Argument {
@@ -104,10 +104,10 @@ fn call_statement(site: &Site, known: &mut Known, faults: &mut FaultList, text: 
     ensures answers { Answers result faults.old faults.new (call_statement site.now.h.now site.now.setting.now site.now.scene.now site.now.at text.now) }
     ensures knows { OnOk result (Knows site.now.h.now known.new) }
 {
-    let Some(value) = call_of(site, known, faults, text)? else {
+    let Some(call) = whole_call(site, known, faults, text)? else {
         return Ok(None);
     };
-    Ok(Some(TypedKind::Call(value.call)))
+    Ok(Some(TypedKind::Call(call)))
 }
 
 /// A `delete`.

@@ -30,8 +30,8 @@ is_within h x y = list_any (same_subobject y) (parts_of h x)
 abbrev pub public_tree_of : (ClassId → Subobject → List Subobject) → Subobject → Base ClassId → List Subobject
 public_tree_of inside s base = if base.is_public then inside base.class (base_subobject s base) else []
 
--- s, of class c, and all that public edges lead to from it. A walk down takes fewer steps than the class has as its
--- number, so that one more is enough
+-- s, of class c, and all that public edges lead to from it. A base has a smaller number than its class, so that a walk down
+-- takes at most as many steps as the number of the class
 abbrev pub public_tree : Classes → ℕ → ClassId → Subobject → List Subobject
 public_tree h zero c s = []
 public_tree h (suc n) c s = s ∷ flat_map (public_tree_of (public_tree h n) s) (bases_of h c)

@@ -9,7 +9,9 @@ use Rattle.cxx_hierarchy.specs.declared.records.Base.{Base}
 use Rattle.cxx_hierarchy.specs.declared.records.Member.{Member}
 use Rattle.cxx_hierarchy.specs.declared.records.Param.{Param}
 use Rattle.cxx_hierarchy.specs.declared.records.Function.{Function}
+use Rattle.cxx_hierarchy.specs.declared.records.Scalar.{Scalar}
 use Rattle.cxx_hierarchy.specs.declared.records.ValueType.{ValueType}
+use Rattle.cxx_hierarchy.specs.declared.records.ValueType.TheVariants as value_type
 use Rattle.cxx_hierarchy.specs.declared.records.FieldType.{FieldType}
 use Rattle.cxx_hierarchy.specs.declared.records.FieldType.TheVariants as field_type
 use Rattle.cxx_hierarchy.specs.declared.records.ReturnType.{ReturnType}
@@ -17,7 +19,7 @@ use Rattle.cxx_hierarchy.specs.declared.records.ReturnType.TheVariants as return
 use Rattle.cxx_syntax.specs.declared.tree.Constant.{Constant}
 use Rattle.cxx_syntax.specs.declared.tree.BodyTree.{BodyTree}
 use Rattle.cxx_syntax.specs.Operands.{spot_of, ConstantReads}
-use Rattle.cxx_syntax.specs.Statements.{ValueReads, IsFirst, BodyReads}
+use Rattle.cxx_syntax.specs.Statements.{ScalarReads, ValueReads, IsFirst, BodyReads}
 use Rattle.cxx_syntax.specs.declared.source_text.Init.{Init}
 use Rattle.cxx_syntax.specs.declared.part.Part.{Part}
 use Rattle.cxx_syntax.specs.declared.part.Part.TheVariants as part
@@ -73,7 +75,7 @@ pub data FieldTypeReads (text : List ℕ) : FieldType Spelled → List Lexeme �
   an_object_field : {c : Spelled} {ts rest : List Lexeme} {n : Lexeme} →
       IsName n ts rest → c ≡ bytes_of text n → FieldTypeReads text (field_type.Object c) ts rest
 
--- the greatest length that a record holds
+-- the greatest length or width that a record holds
 abbrev pub max_count : ℕ
 max_count = 4294967295
 
@@ -129,6 +131,18 @@ pub data VirtualReads : Bool → List Lexeme → List Lexeme → Type 0 where
   not_virtual : {ts : List Lexeme} → VirtualReads false ts ts
   a_virtual : {ts rest : List Lexeme} {v : Lexeme} → Is Virtual v ts rest → VirtualReads true ts rest
 
+-- the bit-field that a name token, a type and the number of its width give (ISO C++03 9.6)
+abbrev pub bit_field : List ℕ → Lexeme → Scalar → Lexeme → Bool → Member Spelled
+bit_field text n k w is_public = record {
+  name = bytes_of text n;
+  ty = field_type.Value (value_type.Number k);
+  count = None;
+  width = Some (min w.value max_count);
+  width_at = w.at;
+  is_public = is_public;
+  at = n.at;
+}
+
 -- a part of a class, where what stands there is public or not
 pub data PartReads (text : List ℕ) (is_public : Bool) : Part → List Lexeme → List Lexeme → Type 0 where
   -- access ":"
@@ -137,8 +151,12 @@ pub data PartReads (text : List ℕ) (is_public : Bool) : Part → List Lexeme �
   -- (value | name) name ["[" number "]"] ";"
   a_field : {m : Member Spelled} {ty : FieldType Spelled} {count : Option ℕ} {ty_at : ℕ} {ts a b c rest : List Lexeme} {f n z : Lexeme} →
       IsFirst f ts → FieldTypeReads text ty ts a → IsName n a b → CountReads count b c → Is Semicolon z c rest →
-      m ≡ record { name = bytes_of text n; ty = ty; count = count; is_public = is_public; at = n.at } → ty_at ≡ f.at →
+      m ≡ record { name = bytes_of text n; ty = ty; count = count; width = None; width_at = 0; is_public = is_public; at = n.at } → ty_at ≡ f.at →
       PartReads text is_public (part.Field m ty_at) ts rest
+  -- scalar name ":" number ";", a bit-field; a width that a record cannot hold is kept as the greatest that it can
+  a_bit_field : {m : Member Spelled} {k : Scalar} {ty_at : ℕ} {ts a b c d rest : List Lexeme} {f n o w z : Lexeme} →
+      IsFirst f ts → ScalarReads k ts a → IsName n a b → Is Colon o b c → IsNumber w c d → Is Semicolon z d rest →
+      m ≡ bit_field text n k w is_public → ty_at ≡ f.at → PartReads text is_public (part.Field m ty_at) ts rest
   -- ["virtual"] (value | "void") name "(" [param {"," param}] ")" block
   a_function : {g : Function Spelled} {v : Bool} {r : ReturnType Spelled} {ps : List (Param Spelled)} {t : BodyTree} {ty_at : ℕ}
       {ts a b c d e h rest : List Lexeme} {f n o z : Lexeme} →

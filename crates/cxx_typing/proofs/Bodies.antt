@@ -149,10 +149,10 @@ none_given h c list inits none w =
     let same : [] ≡ inits = cc in
     sym same
 
-inits_of : (h : Classes) (c : ClassId) (o : BodyOwner) (list : List Init) (inits : List TypedInit) → InitsFit o list → in_turn (init_of h c) [] list ≡ Ok inits → AreInitsOf h (owner_of c o) inits
-inits_of h c (part.Function n) list inits fit w = none_given h c list inits fit w
-inits_of h c part.Constructor list inits fit w = inits_typed h c list inits w
-inits_of h c part.Destructor list inits fit w = none_given h c list inits fit w
+inits_of : (h : Classes) → IsHierarchy h → (c : ClassId) (o : BodyOwner) (list : List Init) (inits : List TypedInit) → InitsFit o list → in_turn (init_of h c) [] list ≡ Ok inits → AreInitsOf h (owner_of c o) inits
+inits_of h keeps c (part.Function n) list inits fit w = none_given h c list inits fit w
+inits_of h keeps c part.Constructor list inits fit w = inits_typed h keeps c list inits w
+inits_of h keeps c part.Destructor list inits fit w = none_given h c list inits fit w
 
 -- the owner that a body has among typed bodies
 abbrev pub typed_owner : Classes → Body → Owner
@@ -171,7 +171,7 @@ body_typed h q globals are before b body has fit w =
       has = has;
       known = params_known h q.keeps c f (function_there h c b.owner);
       params = parameters_same h c b.owner;
-      inits = inits_of h c b.owner b.inits r.0 fit r.1;
+      inits = inits_of h q.keeps c b.owner b.inits r.0 fit r.1;
       setting = λ locals. record { globals = global_type h globals are; this = this_same c b.owner; returns = returns_same h c b.owner };
     }) r.2
 

@@ -24,25 +24,24 @@ use Rattle.cxx_syntax.specs.declared.tree.Operand.{Operand}
 use Rattle.cxx_syntax.specs.declared.tree.CallText.{CallText}
 use Rattle.cxx_syntax.specs.declared.tree.PointerText.{PointerText}
 use Rattle.cxx_program.specs.declared.operand.Argument.{Argument}
+use Rattle.cxx_program.specs.declared.statement.TypedCall.{TypedCall}
 use Rattle.cxx_program.specs.Typed.{Scope, HasType, IsWay, IsArgument, IsCall, parameter_types}
 use Rattle.cxx_expression.specs.declared.faults.Fault.{Fault}
 use Rattle.cxx_expression.specs.declared.look_up.Looked.{Looked}
 use Rattle.cxx_expression.specs.declared.look_up.Looked.TheVariants as looked
-use Rattle.cxx_expression.specs.declared.look_up.Based.TheVariants as based
 use Rattle.cxx_expression.specs.declared.scene.Scene.{Scene}
 use Rattle.cxx_expression.specs.declared.scene.Setting.{Setting}
 use Rattle.cxx_expression.specs.declared.typed.Pointer.{Pointer}
-use Rattle.cxx_expression.specs.declared.typed.CallValue.{CallValue}
-use Rattle.cxx_expression.specs.Checked.{pure, warn, noted, along, both}
+use Rattle.cxx_expression.specs.Checked.{pure, warn, noted, both, beside, kept}
 use Rattle.cxx_expression.specs.Laws.{IsComplete, PiecesAreComplete}
 use Rattle.cxx_expression.specs.Lookups.{looked_up, function_record}
 use Rattle.cxx_expression.specs.Values.{pointer_of, class_of, path_to}
-use Rattle.cxx_expression.specs.Calls.{found_function, as_found, function_in, as_function, function_of, counted, target, target_of, plain_operand, argument_of, arguments_of, parameters_in, dispatched, plain_call, defined, named_function, receiver, receiver_of, parameters_of, qualified, qualified_call, call_by, call_of}
-use Rattle.cxx_expression.proofs.Complete.{complete_pure, complete_bind, complete_along, complete_both}
-use Rattle.cxx_expression.proofs.CompletePlaces.{c_function, c_counted, c_defined, c_named}
+use Rattle.cxx_expression.specs.Calls.{found_function, as_found, function_in, as_function, function_of, counted, target, target_of, plain_operand, argument_of, arguments_of, parameters_in, dispatched, plain_value, plain_call, defined, named_function, receiver, receiver_of, parameters_of, qualified, qualified_value, qualified_call, call_by, call_of, whole_call}
+use Rattle.cxx_expression.proofs.Complete.{complete_pure, complete_bind, complete_both, complete_beside, complete_first}
+use Rattle.cxx_expression.proofs.CompletePlaces.{c_function, c_counted, c_defined, c_named, c_call}
 use Rattle.cxx_expression.proofs.CompleteValues.{c_path}
-use Rattle.cxx_typing.proofs.Steps.{then_both, pair_both, IsClean, clean_both, clean_along, clean_pair}
-use Rattle.cxx_typing.proofs.PieceTypes.{FoundFunction, Target, Receiver}
+use Rattle.cxx_typing.proofs.Steps.{then_both, pair_both, IsClean, clean_rest, clean_both, clean_pair, clean_beside}
+use Rattle.cxx_typing.proofs.PieceTypes.{FoundFunction, Target, Receiver, CallValue}
 use Rattle.cxx_typing.specs.Scopes.{PureAreVirtual, IsSetting, IsScene}
 use Rattle.cxx_typing.proofs.Values.{pointer_typed, converted_typed, way_typed}
 use Rattle.cxx_typing.proofs.Places.{looked_place}
@@ -159,10 +158,12 @@ arguments_typed h keeps e s k f g at parameters n (x ∷ xs) count list t =
 
 -- calls
 
--- the call is one of a function that returns this
+-- all of the call is typed, and it is one of a function that returns this
 pub record IsCallValue (h : Classes) (k : Scope) (v : CallValue) : Type 0 where
+  pub call : TypedCall
+  pub there : v.call ≡ Some call
   pub function : Function ClassId
-  pub call : IsCall h k v.call function
+  pub called : IsCall h k call function
   pub returns : function.ret ≡ v.returns
 
 -- the arguments of a function, of which there are as many as parameters
@@ -189,10 +190,12 @@ target_typed q h keeps e s k f g at call t i =
     let last = o.2.typed in
     target_is h k (length call.arguments) p.0 r.0 o.0 t (pointer_typed e s k f g at call.pointer p.0 p.1.typed) (function_typed h keeps at p.0.class call.name r.0 r.1.typed) (counted_clean at (length call.arguments) r.0 o.0 o.1) (cc)
 
-dispatched_call : (h : Classes) → PureAreVirtual h → (k : Scope) (n : ℕ) (t : Target) (is : IsTarget h k n t) (list : List Argument) → AllZip (IsArgument h k) list (parameter_types is.found.function) → IsCallValue h k (dispatched t (is_virtual h t.found.function) list)
+dispatched_call : (h : Classes) → PureAreVirtual h → (k : Scope) (n : ℕ) (t : Target) (is : IsTarget h k n t) (list : List Argument) → AllZip (IsArgument h k) list (parameter_types is.found.function) → IsCallValue h k (plain_value t (is_virtual h t.found.function) (Some list))
 dispatched_call h v k n t is list are = record {
+  call = dispatched t (is_virtual h t.found.function) list;
+  there = refl;
   function = is.found.function;
-  call = record {
+  called = record {
     pointer = is.has;
     through = t.pointer.class;
     way = refl;
@@ -207,7 +210,7 @@ dispatched_call h v k n t is list are = record {
 }
 
 plain_is : (h : Classes) → IsHierarchy h → PureAreVirtual h → (e : Setting) (s : Scene) (k : Scope) → IsSetting e k → IsScene s k → (at : ℕ) (xs : List Operand) (t : Target) (list : List Argument) (v : CallValue) → IsTarget h k (length xs) t →
-    (arguments_of h e s at t.found.parameters 0 xs).typed ≡ Some list → dispatched t (is_virtual h t.found.function) list ≡ v → IsCallValue h k v
+    (arguments_of h e s at t.found.parameters 0 xs).typed ≡ Some list → plain_value t (is_virtual h t.found.function) (Some list) ≡ v → IsCallValue h k v
 plain_is h keeps virtual e s k f g at xs t list v is made same =
     subst (IsCallValue h k) same (dispatched_call h virtual k (length xs) t is list (all_arguments h keeps e s k f g at t.pointer.class t.found is.found xs is.count list made))
 
@@ -215,10 +218,12 @@ plain_typed : PiecesAreComplete → (h : Classes) → IsHierarchy h → PureAreV
 unfolding plain_call
 plain_typed q h keeps virtual e s k f g at call v i =
     let grows = λ (o : Option Target). arguments_grow q h e s at (parameters_in o) 0 call.arguments in
-    let r = clean_both (along (target_of h e s at call) (λ t. arguments_of h e s at (parameters_in t) 0 call.arguments)) _ v (complete_along _ _ (target_grows q h e s at call) grows) (λ r. complete_pure _) i in
-    let p = clean_along (target_of h e s at call) (λ t. arguments_of h e s at (parameters_in t) 0 call.arguments) r.0 (target_grows q h e s at call) grows r.1 in
+    let r = clean_both (beside (target_of h e s at call) (λ t. arguments_of h e s at (parameters_in t) 0 call.arguments)) _ v (complete_beside _ _ (target_grows q h e s at call) grows) (λ r. complete_pure _) i in
+    let p = clean_beside (target_of h e s at call) (λ t. arguments_of h e s at (parameters_in t) 0 call.arguments) r.0 (target_grows q h e s at call) grows r.1 in
     let last = r.2.typed in
-    plain_is h keeps virtual e s k f g at call.arguments r.0.0 r.0.1 v (target_typed q h keeps e s k f g at call r.0.0 p.0) p.1.typed (cc)
+    let there : r.0.1 ≡ Some p.1.0 = p.1.1 in
+    let same : plain_value r.0.0 (is_virtual h r.0.0.found.function) (Some p.1.0) ≡ v = cc in
+    plain_is h keeps virtual e s k f g at call.arguments r.0.0 p.1.0 v (target_typed q h keeps e s k f g at call r.0.0 p.0) p.1.2.typed same
 
 -- the function of a qualified call is not pure
 record IsNamed (h : Classes) (c : ClassId) (n : ℕ) (f : FoundFunction) : Type 0 where
@@ -248,10 +253,12 @@ receiver_typed h keeps e s k f g at c x r t =
     let same : receiver p.0 o.0 ≡ r = let last = o.2 in cc in
     subst (IsReceiver h k c) same (record { has = pointer_typed e s k f g at x p.0 p.1; way = way_typed h keeps at p.0.class c o.0 o.1 })
 
-qualified_is : (h : Classes) (k : Scope) (c : ClassId) (n : ℕ) (r : Receiver) (f : FoundFunction) → IsReceiver h k c r → (is : IsNamed h c n f) → (list : List Argument) → AllZip (IsArgument h k) list (parameter_types is.found.function) → IsCallValue h k (qualified r f list)
+qualified_is : (h : Classes) (k : Scope) (c : ClassId) (n : ℕ) (r : Receiver) (f : FoundFunction) → IsReceiver h k c r → (is : IsNamed h c n f) → (list : List Argument) → AllZip (IsArgument h k) list (parameter_types is.found.function) → IsCallValue h k (qualified_value f (Some (r, list)))
 qualified_is h k c n r f receives is list are = record {
+  call = qualified f (r, list);
+  there = refl;
   function = is.found.function;
-  call = record {
+  called = record {
     pointer = receives.has;
     through = c;
     way = receives.way;
@@ -266,22 +273,25 @@ qualified_is h k c n r f receives is list are = record {
 }
 
 qualified_by : (h : Classes) → IsHierarchy h → (e : Setting) (s : Scene) (k : Scope) → IsSetting e k → IsScene s k → (at : ℕ) (c : ClassId) (xs : List Operand) (r : Receiver) (u : FoundFunction) (list : List Argument) (v : CallValue) → IsReceiver h k c r →
-    IsNamed h c (length xs) u → (arguments_of h e s at u.parameters 0 xs).typed ≡ Some list → qualified r u list ≡ v → IsCallValue h k v
+    IsNamed h c (length xs) u → (arguments_of h e s at u.parameters 0 xs).typed ≡ Some list → qualified_value u (Some (r, list)) ≡ v → IsCallValue h k v
 qualified_by h keeps e s k f g at c xs r u list v receives is made same =
     subst (IsCallValue h k) same (qualified_is h k c (length xs) r u receives is list (all_arguments h keeps e s k f g at c u is.found xs is.count list made))
 
 qualified_typed : PiecesAreComplete → (h : Classes) → IsHierarchy h → (e : Setting) (s : Scene) (k : Scope) → IsSetting e k → IsScene s k → (at : ℕ) (call : CallText) (x : Spot) (v : CallValue) → IsClean (qualified_call h e s at call x) v → IsCallValue h k v
 unfolding qualified_call
 qualified_typed q h keeps e s k f g at call x v i =
-    let grows = λ (c : ClassId) (o : Option FoundFunction). arguments_grow q h e s at (parameters_of o) 0 call.arguments in
-    let call_grows = λ (c : ClassId). complete_along _ _ (c_named h at c call) (grows c) in
-    let all_grow = λ (c : ClassId). complete_both _ _ (receiver_grows q h e s at c call.pointer) (call_grows c) in
+    let passed = λ (c : ClassId) (o : Option FoundFunction). both (receiver_of h e s at c call.pointer) (arguments_of h e s at (parameters_of o) 0 call.arguments) in
+    let grow = λ (c : ClassId) (o : Option FoundFunction). complete_both (receiver_of h e s at c call.pointer) (arguments_of h e s at (parameters_of o) 0 call.arguments) (receiver_grows q h e s at c call.pointer) (arguments_grow q h e s at (parameters_of o) 0 call.arguments) in
+    let all_grow = λ (c : ClassId). complete_beside (named_function h at c call) (passed c) (c_named h at c call) (grow c) in
     let c = clean_both (class_of h x) _ v (q.class_of h x) (λ c. complete_bind _ _ (all_grow c) (λ r. complete_pure _)) i in
-    let r = clean_both (both (receiver_of h e s at c.0 call.pointer) (along (named_function h at c.0 call) (λ o. arguments_of h e s at (parameters_of o) 0 call.arguments))) _ v (all_grow c.0) (λ r. complete_pure _) c.2 in
-    let p = clean_pair (receiver_of h e s at c.0 call.pointer) (along (named_function h at c.0 call) (λ o. arguments_of h e s at (parameters_of o) 0 call.arguments)) r.0 (receiver_grows q h e s at c.0 call.pointer) (call_grows c.0) r.1 in
-    let b = clean_along (named_function h at c.0 call) (λ o. arguments_of h e s at (parameters_of o) 0 call.arguments) r.0.1 (c_named h at c.0 call) (grows c.0) p.1 in
+    let r = clean_both (beside (named_function h at c.0 call) (passed c.0)) _ v (all_grow c.0) (λ r. complete_pure _) c.2 in
+    let b = clean_beside (named_function h at c.0 call) (passed c.0) r.0 (c_named h at c.0 call) (grow c.0) r.1 in
+    let list = arguments_of h e s at (parameters_of (Some r.0.0)) 0 call.arguments in
+    let p = clean_pair (receiver_of h e s at c.0 call.pointer) list b.1.0 (receiver_grows q h e s at c.0 call.pointer) (arguments_grow q h e s at (parameters_of (Some r.0.0)) 0 call.arguments) b.1.2 in
     let last = r.2.typed in
-    qualified_by h keeps e s k f g at c.0 call.arguments r.0.0 r.0.1.0 r.0.1.1 v (receiver_typed h keeps e s k f g at c.0 call.pointer r.0.0 p.0.typed) (named_typed h keeps at c.0 call r.0.1.0 b.0) b.1.typed (cc)
+    let there : r.0.1 ≡ Some b.1.0 = b.1.1 in
+    let same : qualified_value r.0.0 (Some b.1.0) ≡ v = cc in
+    qualified_by h keeps e s k f g at c.0 call.arguments b.1.0.0 r.0.0 b.1.0.1 v (receiver_typed h keeps e s k f g at c.0 call.pointer b.1.0.0 p.0.typed) (named_typed h keeps at c.0 call r.0.0 b.0) p.1.typed same
 
 call_by_typed : PiecesAreComplete → (h : Classes) → IsHierarchy h → PureAreVirtual h → (e : Setting) (s : Scene) (k : Scope) → IsSetting e k → IsScene s k → (at : ℕ) (call : CallText) (o : Option Spot) (v : CallValue) → IsClean (call_by h e s at call o) v → IsCallValue h k v
 call_by_typed q h keeps virtual e s k f g at call None v i = plain_typed q h keeps virtual e s k f g at call v i
@@ -290,3 +300,18 @@ call_by_typed q h keeps virtual e s k f g at call (Some x) v i = qualified_typed
 pub call_typed : PiecesAreComplete → (h : Classes) → IsHierarchy h → PureAreVirtual h → (e : Setting) (s : Scene) (k : Scope) → IsSetting e k → IsScene s k → (at : ℕ) (call : CallText) (v : CallValue) → IsClean (call_of h e s at call) v → IsCallValue h k v
 unfolding call_of
 call_typed q h keeps virtual e s k f g at call v i = call_by_typed q h keeps virtual e s k f g at call call.class v i
+
+-- a call of which all is typed
+pub record IsWholeCall (h : Classes) (k : Scope) (call : TypedCall) : Type 0 where
+  pub function : Function ClassId
+  pub called : IsCall h k call function
+
+pub whole_call_typed : PiecesAreComplete → (h : Classes) → IsHierarchy h → PureAreVirtual h → (e : Setting) (s : Scene) (k : Scope) → IsSetting e k → IsScene s k → (at : ℕ) (x : CallText) (call : TypedCall) → IsClean (whole_call h e s at x) call → IsWholeCall h k call
+unfolding whole_call
+whole_call_typed q h keeps virtual e s k f g at x call i =
+    let v = clean_rest (call_of h e s at x) (λ v. kept v.call) call (complete_first (call_of h e s at x) _ (c_call h e s at x)) (λ v b. omega arith) i in
+    let is = call_typed q h keeps virtual e s k f g at x v.0 v.1 in
+    let there : v.0.call ≡ Some is.call = is.there in
+    let last : v.0.call ≡ Some call = v.2.typed in
+    let same : is.call ≡ call = cc in
+    subst (IsWholeCall h k) same (record { function = is.function; called = is.called })

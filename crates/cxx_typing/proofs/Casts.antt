@@ -141,7 +141,7 @@ cast_right_typed h keeps e s k f g at text r t =
     let c = then_both (cast_of h at text.kind p.0.1.class p.0.0).typed _ r p.2 in
     let result = right_value (typed.Cast c.0 p.0.1.operand) (type.Pointer p.0.0) false in
     let same : result ≡ r = let last = c.2 in cc in
-    right_is h k result r same refl (a_cast c.0 p.0.1.operand p.0.1.class p.0.0 (pointer_typed e s k f g at text.pointer p.0.1 q.1) (cast_typed h keeps at text.kind p.0.1.class p.0.0 (class_typed h text.target p.0.0 q.0) c.0 c.1))
+    right_is h k (typed.Cast c.0 p.0.1.operand) result r same refl refl (a_cast c.0 p.0.1.operand p.0.1.class p.0.0 (pointer_typed e s k f g at text.pointer p.0.1 q.1) (cast_typed h keeps at text.kind p.0.1.class p.0.0 (class_typed h text.target p.0.0 q.0) c.0 c.1))
 
 -- the pointer is one to a class with virtual functions
 pub record IsPolymorphicPointer (h : Classes) (k : Scope) (p : Pointer) : Type 0 where
@@ -163,4 +163,4 @@ type_test_typed h e s k f g at x name r t =
     let pointer = polymorphic_typed h e s k f g at x p.0.0 q.0 in
     let result = truth_value (typed.TypeEqual p.0.0.operand p.0.1) in
     let same : result ≡ r = let last = p.2 in cc in
-    right_is h k result r same refl (a_type_test p.0.0.operand p.0.0.class p.0.1 pointer.has pointer.class (class_typed h name p.0.1 q.1))
+    right_is h k (typed.TypeEqual p.0.0.operand p.0.1) result r same refl refl (a_type_test p.0.0.operand p.0.0.class p.0.1 pointer.has pointer.class (class_typed h name p.0.1 q.1))

@@ -2,6 +2,7 @@ pub mod Steps
 pub mod PieceTypes
 pub mod Scopes
 pub mod Values
+pub mod Widths
 pub mod Places
 pub mod Operators
 pub mod Casts

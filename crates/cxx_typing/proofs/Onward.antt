@@ -16,7 +16,7 @@ use Rattle.cxx_syntax.specs.declared.tree.StatementKind.{StatementKind, If'}
 use Rattle.cxx_syntax.specs.declared.tree.StatementKind as statement
 use Rattle.cxx_program.specs.declared.statement.TypedKind.{TypedKind}
 use Rattle.cxx_program.specs.declared.statement.TypedKind.TheVariants as typed
-use Rattle.cxx_program.specs.Typed.{IsWithin}
+use Rattle.cxx_program.specs.Typed.{IsWithin, place_width}
 use Rattle.cxx_expression.specs.declared.scene.Scene.{Scene}
 use Rattle.cxx_expression.specs.declared.scene.Setting.{Setting}
 use Rattle.cxx_expression.specs.declared.scene.Returns.{Returns}
@@ -24,11 +24,11 @@ use Rattle.cxx_expression.specs.declared.scene.Returns.TheVariants as returns
 use Rattle.cxx_expression.specs.declared.typed.Pointer.{Pointer}
 use Rattle.cxx_expression.specs.Checked.{pure, fail, both}
 use Rattle.cxx_expression.specs.Scenes.{declared}
-use Rattle.cxx_expression.specs.Values.{variable_of, operand_of, pointer_of, conversion_of, converted_operand, argument}
+use Rattle.cxx_expression.specs.Values.{variable_of, operand_of, pointer_of, conversion_of, converted_operand, fitted, argument}
 use Rattle.cxx_expression.specs.Places.{leaf_of}
-use Rattle.cxx_expression.specs.Calls.{call_of}
+use Rattle.cxx_expression.specs.Calls.{whole_call}
 use Rattle.cxx_expression.specs.Casts.{polymorphic_pointer}
-use Rattle.cxx_expression.specs.Rights.{right_of, converted, converted_right}
+use Rattle.cxx_expression.specs.Rights.{right_of, converted_value, converted_right}
 use Rattle.cxx_resolve.specs.Statements.{new_variable, first_value, declare_of, assign_of, write_of, copy_of, call_statement, delete_of, value_return, return_at, return_of, print_of, print_type_of, print_view_of, dump_of, plain_of}
 use Rattle.cxx_typing.proofs.Steps.{then_both}
 
@@ -60,9 +60,9 @@ assign_goes : (h : Classes) (e : Setting) (s : Scene) (at : ℕ) (x : Spot) (r :
 unfolding assign_of
 assign_goes h e s at x r kind t =
     let p = then_both (both (variable_of e s x) (right_of h e s at r)).typed _ kind t in
-    let c = then_both (conversion_of h at p.0.1.ty p.0.1.is_null p.0.0.1).typed _ kind p.2 in
+    let c = then_both (converted_value h at p.0.0.1 p.0.1).typed _ kind p.2 in
     let last = c.2 in
-    goes (typed.Assign p.0.0.0 (converted p.0.1.right c.0)) kind (cc) (λ size n. tt)
+    goes (typed.Assign p.0.0.0 c.0) kind (cc) (λ size n. tt)
 
 write_goes : (h : Classes) (e : Setting) (s : Scene) (at : ℕ) (place : PlaceText) (x : Operand) (kind : TypedKind) → (write_of h e s at place x).typed ≡ Some kind → GoesOn kind
 unfolding write_of
@@ -70,7 +70,7 @@ write_goes h e s at place x kind t =
     let p = then_both (both (leaf_of h e s at place) (operand_of e s at x)).typed _ kind t in
     let c = then_both (conversion_of h at p.0.1.ty p.0.1.is_null p.0.0.ty).typed _ kind p.2 in
     let last = c.2 in
-    goes (typed.Write p.0.0.place (argument p.0.1.operand c.0)) kind (cc) (λ size n. tt)
+    goes (typed.Write p.0.0.place (argument p.0.1.operand (fitted (place_width h p.0.0.place) c.0))) kind (cc) (λ size n. tt)
 
 same_goes : (p : Pointer × Pointer) (t : Bool) (at : ℕ) (kind : TypedKind) → (if t then pure (typed.Copy p.0.operand p.1.operand p.0.class) else fail rule.TypeMismatch at).typed ≡ Some kind → GoesOn kind
 same_goes p true at kind t = goes (typed.Copy p.0.operand p.1.operand p.0.class) kind (cc) (λ size n. tt)
@@ -85,9 +85,9 @@ copy_goes e s at to source kind t =
 call_goes : (h : Classes) (e : Setting) (s : Scene) (at : ℕ) (x : CallText) (kind : TypedKind) → (call_statement h e s at x).typed ≡ Some kind → GoesOn kind
 unfolding call_statement
 call_goes h e s at x kind t =
-    let v = then_both (call_of h e s at x).typed _ kind t in
+    let v = then_both (whole_call h e s at x).typed _ kind t in
     let last = v.2 in
-    goes (typed.Call v.0.call) kind (cc) (λ size n. tt)
+    goes (typed.Call v.0) kind (cc) (λ size n. tt)
 
 delete_goes : (e : Setting) (s : Scene) (at : ℕ) (x : PointerText) (kind : TypedKind) → (delete_of e s at x).typed ≡ Some kind → GoesOn kind
 unfolding delete_of

@@ -18,6 +18,7 @@ use Rattle.cxx_program.specs.declared.operand.Conversion.{Conversion}
 use Rattle.cxx_program.specs.declared.operand.Conversion.TheVariants as conversion
 use Rattle.cxx_program.specs.declared.statement.Arithmetic.{Arithmetic}
 use Rattle.cxx_program.specs.declared.statement.Arithmetic.TheVariants as arithmetic
+use Rattle.cxx_program.specs.declared.statement.TypedRight.{TypedRight}
 use Rattle.cxx_program.specs.declared.statement.TypedRight.TheVariants as typed
 use Rattle.cxx_program.specs.Typed.{Scope, HasType, Converts, to_same, to_base, IsArgument, a_value, a_null, zero_operand, calculated_type, HasRight, a_calculation, a_comparison, a_negation}
 use Rattle.cxx_expression.specs.declared.look_up.Based.{Based}
@@ -33,13 +34,15 @@ use Rattle.cxx_typing.proofs.Steps.{then_both, pair_both}
 use Rattle.cxx_typing.specs.Scopes.{IsSetting, IsScene}
 use Rattle.cxx_typing.proofs.Values.{operand_typed, number_typed, proper_base, apart_by}
 
--- the right side has its type, and where it is a null pointer constant it is the number 0
+-- all of the right side is typed and has its type, and where it is a null pointer constant it is the number 0
 pub record IsRight (h : Classes) (k : Scope) (r : RightValue) : Type 0 where
-  pub has : HasRight h k r.right r.ty
-  pub null : r.is_null ≡ true → r.right ≡ typed.Operand zero_operand
+  pub right : TypedRight
+  pub whole : r.right ≡ Some right
+  pub has : HasRight h k right r.ty
+  pub null : r.is_null ≡ true → right ≡ typed.Operand zero_operand
 
-pub right_is : (h : Classes) (k : Scope) (r q : RightValue) → r ≡ q → r.is_null ≡ false → HasRight h k r.right r.ty → IsRight h k q
-right_is h k r q same plain has = subst (IsRight h k) same (record { has = has; null = λ n. absurd (cc) })
+pub right_is : (h : Classes) (k : Scope) (right : TypedRight) (r q : RightValue) → r ≡ q → r.is_null ≡ false → r.right ≡ Some right → HasRight h k right r.ty → IsRight h k q
+right_is h k right r q same plain whole has = subst (IsRight h k) same (record { right = right; whole = whole; has = has; null = λ n. absurd (cc) })
 
 -- numbers
 
@@ -54,7 +57,7 @@ same_result arithmetic.NotEqual t = refl
 
 calculates : (h : Classes) (k : Scope) (op : Arithmetic) (a : TypedOperand) (s : Scalar) (b : TypedOperand) (t : Scalar) → HasType k a (type.Number s) → HasType k b (type.Number t) → (r : RightValue) → calculated op a s b t ≡ r → IsRight h k r
 calculates h k op a s b t x y r same =
-    right_is h k (calculated op a s b t) r same refl
+    right_is h k (typed.Arithmetic op (common_type s t) a b) (calculated op a s b t) r same refl refl
     (subst (λ (z : Scalar). HasRight h k (typed.Arithmetic op (common_type s t) a b) (type.Number z)) (same_result op (common_type s t)) (a_calculation op s t a b x y))
 
 arithmetic_typed : (h : Classes) (e : Setting) (s : Scene) (k : Scope) → IsSetting e k → IsScene s k → (at : ℕ) (op : Arithmetic) (x y : Operand) (r : RightValue) → (arithmetic_right e s at op x y).typed ≡ Some r → IsRight h k r
@@ -98,7 +101,7 @@ one_class h keeps at c d by t = one_if h keeps at c d (nat_eq c.0 d.0) refl by t
 
 compares : (h : Classes) (k : Scope) (differ : Bool) (a b : TypedOperand) (by : Conversion × Conversion) (c : ClassId) → IsArgument h k (argument a by.0) (type.Pointer c) → IsArgument h k (argument b by.1) (type.Pointer c) →
     (r : RightValue) → same_pointer differ a b by ≡ r → IsRight h k r
-compares h k differ a b by c x y r same = right_is h k (same_pointer differ a b by) r same refl (a_comparison differ (argument a by.0) (argument b by.1) c x y)
+compares h k differ a b by c x y r same = right_is h k (typed.SamePointer differ (argument a by.0) (argument b by.1)) (same_pointer differ a b by) r same refl refl (a_comparison differ (argument a by.0) (argument b by.1) c x y)
 
 pointers_typed : (h : Classes) → IsHierarchy h → (k : Scope) (at : ℕ) (differ : Bool) (a : TypedOperand) (c : ClassId) (b : TypedOperand) (d : ClassId) → HasType k a (type.Pointer c) → HasType k b (type.Pointer d) →
     (r : RightValue) → (pointers_right h at differ a c b d).typed ≡ Some r → IsRight h k r
@@ -162,4 +165,4 @@ unfolding not_right
 not_typed h e s k f g at x r t =
     let p = then_both (number_of e s at x).typed _ r t in
     let same : truth_value (typed.Not p.0.operand) ≡ r = let last = p.2 in cc in
-    right_is h k (truth_value (typed.Not p.0.operand)) r same refl (a_negation p.0.operand p.0.scalar (number_typed e s k f g at x p.0 p.1))
+    right_is h k (typed.Not p.0.operand) (truth_value (typed.Not p.0.operand)) r same refl refl (a_negation p.0.operand p.0.scalar (number_typed e s k f g at x p.0 p.1))

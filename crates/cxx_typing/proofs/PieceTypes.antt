@@ -1,7 +1,7 @@
 -- Types of the pieces of a statement, by the functions that make them.
 use Rattle.cxx_expression.specs.Checked.{Checked}
 use Rattle.cxx_expression.specs.Places.{found_member, place_step, begun, typed_place, as_object}
-use Rattle.cxx_expression.specs.Calls.{found_function, target, receiver}
+use Rattle.cxx_expression.specs.Calls.{found_function, target, receiver, qualified_value}
 
 abbrev made_by_one : {A X : Type 0} → (A → X) → Type 0
 made_by_one {X = X} f = X
@@ -38,3 +38,6 @@ Target = made_by_two target
 
 abbrev pub Receiver : Type 0
 Receiver = made_by_two receiver
+
+abbrev pub CallValue : Type 0
+CallValue = made_by_two qualified_value

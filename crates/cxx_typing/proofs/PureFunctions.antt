@@ -22,7 +22,7 @@ use Rattle.cxx_syntax.specs.declared.part.Part.{Part}
 use Rattle.cxx_syntax.specs.declared.part.Part.TheVariants as part
 use Rattle.cxx_syntax.specs.declared.part.Item.{Item}
 use Rattle.cxx_syntax.specs.declared.source_text.SourceText.{SourceText}
-use Rattle.cxx_syntax.specs.Parts.{Spelled, PartReads, a_label, a_field, a_function, a_pure_function, a_constructor, a_destructor, PartsRead, no_part, one_part}
+use Rattle.cxx_syntax.specs.Parts.{Spelled, PartReads, a_label, a_field, a_bit_field, a_function, a_pure_function, a_constructor, a_destructor, PartsRead, no_part, one_part}
 use Rattle.cxx_syntax.specs.Definitions.{function_in}
 use Rattle.cxx_syntax.specs.Sources.{ItemReads, a_class, a_forward, a_global, a_main, ItemsRead, no_item, one_item, record_in, SourceReads, a_source}
 use Rattle.cxx_typing.specs.Scopes.{PureAreVirtual}
@@ -43,6 +43,7 @@ PartSays (part.Destructor v at t) = Unit {0}
 part_says : {text : List ℕ} {is_public : Bool} {p : Part} {ts rest : List Lexeme} → PartReads text is_public p ts rest → PartSays p
 part_says (a_label i k) = tt
 part_says (a_field f ty n c z e at) = tt
+part_says (a_bit_field f ty n o w z e at) = tt
 part_says (a_function v f r n o ps z b e at) = λ pure. let body = ap (λ (g : Function Spelled). g.is_pure) e in absurd (cc)
 part_says (a_pure_function v f r n o ps z w q k e at) = λ pure. ap (λ (g : Function Spelled). g.is_virtual) e
 part_says (a_constructor n o z is b at) = tt

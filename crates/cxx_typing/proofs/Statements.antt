@@ -1,5 +1,5 @@
 -- Statements are typed.
-use Rattle.std.proofs.Common.{◌≡◌, ℕ, Bool, true, false, Option, Some, None, refl, sym, ◌∙◌, ap, subst, length}
+use Rattle.std.proofs.Common.{◌≡◌, ℕ, Bool, true, false, Option, Some, None, refl, sym, ◌∙◌, ap, subst, length, arith}
 use Rattle.std.specs.Prelude.{nat_eq, if◌then◌else◌, slice_get}
 use Rattle.std.proofs.lemmas.Bool.{eqb-true}
 use Rattle.cxx_hierarchy.specs.declared.records.ClassId.{ClassId}
@@ -19,32 +19,36 @@ use Rattle.cxx_syntax.specs.declared.tree.Right.{Right}
 use Rattle.cxx_syntax.specs.declared.tree.StatementKind.{StatementKind, If'}
 use Rattle.cxx_syntax.specs.declared.tree.StatementKind as statement
 use Rattle.cxx_hierarchy.specs.declared.records.ReturnType.TheVariants.{Value as ValueReturn}
+use Rattle.cxx_program.specs.declared.operand.Variable.{Variable}
 use Rattle.cxx_program.specs.declared.statement.TypedKind.{TypedKind}
 use Rattle.cxx_program.specs.declared.statement.TypedKind.TheVariants as typed
-use Rattle.cxx_program.specs.Typed.{Scope, IsKnown, HasType, IsTyped, declares, begins, assigns, writes, copies, calls, deletes, returns_nothing, returns_value, prints, prints_type, prints_view, dumps}
+use Rattle.cxx_program.specs.Typed.{Scope, IsKnown, HasType, place_width, IsTyped, declares, begins, assigns, writes, copies, calls, deletes, returns_nothing, returns_value, prints, prints_type, prints_view, dumps}
 use Rattle.cxx_expression.specs.declared.scene.Scene.{Scene}
 use Rattle.cxx_expression.specs.declared.scene.Setting.{Setting}
 use Rattle.cxx_expression.specs.declared.scene.Returns.{Returns}
 use Rattle.cxx_expression.specs.declared.scene.Returns.TheVariants as returns
 use Rattle.cxx_expression.specs.declared.typed.Pointer.{Pointer}
+use Rattle.cxx_expression.specs.declared.typed.RightValue.{RightValue}
 use Rattle.cxx_expression.specs.Checked.{pure, fail, warn, both}
 use Rattle.cxx_expression.specs.Laws.{IsComplete, PiecesAreComplete}
 use Rattle.cxx_expression.specs.Scenes.{declared, is_taken}
-use Rattle.cxx_expression.specs.Values.{class_named, type_of, variable_of, operand_of, pointer_of, number_of, conversion_of, converted_operand, argument}
+use Rattle.cxx_expression.specs.Values.{class_named, type_of, variable_of, operand_of, pointer_of, number_of, conversion_of, converted_operand, fitted, argument}
 use Rattle.cxx_expression.specs.Places.{leaf_of}
-use Rattle.cxx_expression.specs.Calls.{call_of}
+use Rattle.cxx_expression.specs.Calls.{whole_call}
 use Rattle.cxx_expression.specs.Casts.{polymorphic_pointer}
-use Rattle.cxx_expression.specs.Rights.{right_of, converted, converted_right}
-use Rattle.cxx_expression.proofs.Complete.{complete_pure, complete_warn, complete_bind, complete_both, complete_if}
+use Rattle.cxx_expression.specs.Rights.{right_of, converted_value, converted_right}
+use Rattle.cxx_expression.proofs.Complete.{complete_pure, complete_warn, complete_bind, complete_both, complete_if, complete_first, whole_grows}
+use Rattle.cxx_expression.proofs.CompleteRights.{c_right, value_grows}
 use Rattle.cxx_resolve.specs.Statements.{new_variable, first_value, declare_of, assign_of, write_of, copy_of, call_statement, delete_of, value_return, return_at, return_of, print_of, print_type_of, print_view_of, dump_of, plain_of}
 use Rattle.cxx_typing.specs.Pieces.{IsDeclared, StatementsAreTyped}
-use Rattle.cxx_typing.proofs.Steps.{then_both, pair_both, IsClean, clean_both, clean_pair, settled_clean}
+use Rattle.cxx_typing.proofs.Steps.{then_both, pair_both, IsClean, clean_rest, clean_both, clean_pair, settled_clean}
 use Rattle.cxx_typing.specs.Scopes.{PureAreVirtual, wanted, IsSetting, IsScene}
 use Rattle.cxx_typing.proofs.Values.{variable_typed, operand_typed, pointer_typed, number_typed, conversion_typed, argument_by, converted_typed}
+use Rattle.cxx_typing.proofs.Widths.{place_number, conversion_number, kept_by}
 use Rattle.cxx_typing.proofs.Places.{leaf_typed}
 use Rattle.cxx_typing.proofs.Casts.{named_class_typed, polymorphic_typed}
-use Rattle.cxx_typing.proofs.Calls.{call_typed}
-use Rattle.cxx_typing.proofs.Rights.{right_typed, converted_by, converted_right_typed}
+use Rattle.cxx_typing.proofs.Calls.{whole_call_typed}
+use Rattle.cxx_typing.proofs.Rights.{right_typed, value_typed, converted_right_typed}
 
 kind_is : (h : Classes) (k : Scope) (a b : TypedKind) → a ≡ b → IsTyped h k a → IsTyped h k b
 kind_is h k a b same is = subst (IsTyped h k) same is
@@ -108,14 +112,15 @@ declare_typed q h keeps virtual e s at ty ty_at x init r i =
 assign_typed : PiecesAreComplete → (h : Classes) → IsHierarchy h → PureAreVirtual h → (e : Setting) (s : Scene) (k : Scope) → IsSetting e k → IsScene s k → (at : ℕ) (x : Spot) (r : Right) (kind : TypedKind) → IsClean (assign_of h e s at x r) kind → IsTyped h k kind
 unfolding assign_of
 assign_typed q h keeps virtual e s k f g at x r kind i =
-    let grows = complete_both _ _ (q.variable e s x) (q.right_of h e s at r) in
-    let p = clean_both (both (variable_of e s x) (right_of h e s at r)) _ kind grows (λ p. complete_bind _ _ (q.conversion h at p.1.ty p.1.is_null p.0.1) (λ c. complete_pure _)) i in
-    let b = clean_pair (variable_of e s x) (right_of h e s at r) p.0 (q.variable e s x) (q.right_of h e s at r) p.1 in
-    let c = then_both (conversion_of h at p.0.1.ty p.0.1.is_null p.0.0.1).typed _ kind p.2.typed in
+    let grows = complete_first (right_of h e s at r) _ (c_right h e s at r) in
+    let next = λ (p : (Variable × ValueType ClassId) × RightValue). converted_value h at p.0.1 p.1 in
+    let p = clean_rest (both (variable_of e s x) (right_of h e s at r)) _ kind (complete_both _ _ (q.variable e s x) grows)
+    (λ p b. let c = next p in omega (arith, value_grows h at p.0.1 p.1 b, whole_grows c.typed (λ y. pure (typed.Assign p.0.0 y)) (λ y fs. omega arith) (c.faults b))) i in
+    let b = clean_pair (variable_of e s x) (right_of h e s at r) p.0 (q.variable e s x) grows p.1 in
+    let c = then_both (converted_value h at p.0.0.1 p.0.1).typed _ kind p.2.typed in
     let last = c.2 in
-    kind_is h k (typed.Assign p.0.0.0 (converted p.0.1.right c.0)) kind (cc)
-    (assigns p.0.0.0 (converted p.0.1.right c.0) p.0.0.1 (variable_typed e s k f g x p.0.0 b.0.typed)
-    (converted_by h k p.0.1 p.0.0.1 c.0 (right_typed q h keeps virtual e s k f g at r p.0.1 b.1) (conversion_typed h keeps at p.0.1.ty p.0.1.is_null p.0.0.1 c.0 c.1)))
+    kind_is h k (typed.Assign p.0.0.0 c.0) kind (cc)
+    (assigns p.0.0.0 c.0 p.0.0.1 (variable_typed e s k f g x p.0.0 b.0.typed) (value_typed h keeps k at p.0.0.1 p.0.1 c.0 (right_typed q h keeps virtual e s k f g at r p.0.1 b.1) c.1))
 
 write_typed : (h : Classes) → IsHierarchy h → (e : Setting) (s : Scene) (k : Scope) → IsSetting e k → IsScene s k → (at : ℕ) (place : PlaceText) (x : Operand) (kind : TypedKind) → (write_of h e s at place x).typed ≡ Some kind → IsTyped h k kind
 unfolding write_of
@@ -124,9 +129,13 @@ write_typed h keeps e s k f g at place x kind t =
     let b = pair_both (leaf_of h e s at place).typed (operand_of e s at x).typed p.0 p.1 in
     let c = then_both (conversion_of h at p.0.1.ty p.0.1.is_null p.0.0.ty).typed _ kind p.2 in
     let last = c.2 in
-    kind_is h k (typed.Write p.0.0.place (argument p.0.1.operand c.0)) kind (cc)
-    (writes p.0.0.place (argument p.0.1.operand c.0) p.0.0.ty (leaf_typed h keeps e s k f g at place p.0.0 b.0)
-    (argument_by h k p.0.1 p.0.0.ty c.0 (operand_typed e s k f g at x p.0.1 b.1) (conversion_typed h keeps at p.0.1.ty p.0.1.is_null p.0.0.ty c.0 c.1)))
+    let width = place_width h p.0.0.place in
+    let is = operand_typed e s k f g at x p.0.1 b.1 in
+    let leads = leaf_typed h keeps e s k f g at place p.0.0 b.0 in
+    kind_is h k (typed.Write p.0.0.place (argument p.0.1.operand (fitted width c.0))) kind (cc)
+    (writes p.0.0.place (argument p.0.1.operand (fitted width c.0)) p.0.0.ty leads
+    (kept_by h k p.0.1 p.0.0.ty c.0 width is (argument_by h k p.0.1 p.0.0.ty c.0 is (conversion_typed h keeps at p.0.1.ty p.0.1.is_null p.0.0.ty c.0 c.1))
+    (λ n wide. conversion_number h at p.0.1.ty p.0.1.is_null p.0.0.ty (place_number h keeps k p.0.0.place p.0.0.ty leads n wide) c.0 c.1)))
 
 same_if : (h : Classes) (k : Scope) (p : Pointer × Pointer) (t : Bool) (at : ℕ) → nat_eq p.0.class.0 p.1.class.0 ≡ t → HasType k p.0.operand (type.Pointer p.0.class) → HasType k p.1.operand (type.Pointer p.1.class) → (kind : TypedKind) →
     (if t then pure (typed.Copy p.0.operand p.1.operand p.0.class) else fail rule.TypeMismatch at).typed ≡ Some kind → IsTyped h k kind
@@ -145,10 +154,10 @@ copy_typed h e s k f g at to source kind t =
 call_statement_typed : PiecesAreComplete → (h : Classes) → IsHierarchy h → PureAreVirtual h → (e : Setting) (s : Scene) (k : Scope) → IsSetting e k → IsScene s k → (at : ℕ) (x : CallText) (kind : TypedKind) → IsClean (call_statement h e s at x) kind → IsTyped h k kind
 unfolding call_statement
 call_statement_typed q h keeps virtual e s k f g at x kind i =
-    let v = clean_both (call_of h e s at x) _ kind (q.call h e s at x) (λ v. complete_pure _) i in
-    let is = call_typed q h keeps virtual e s k f g at x v.0 v.1 in
+    let v = clean_both (whole_call h e s at x) _ kind (q.call h e s at x) (λ c. complete_pure _) i in
+    let is = whole_call_typed q h keeps virtual e s k f g at x v.0 v.1 in
     let last = v.2.typed in
-    kind_is h k (typed.Call v.0.call) kind (cc) (calls v.0.call is.function is.call)
+    kind_is h k (typed.Call v.0) kind (cc) (calls v.0 is.function is.called)
 
 delete_typed : (h : Classes) (e : Setting) (s : Scene) (k : Scope) → IsSetting e k → IsScene s k → (at : ℕ) (x : PointerText) (kind : TypedKind) → (delete_of e s at x).typed ≡ Some kind → IsTyped h k kind
 unfolding delete_of

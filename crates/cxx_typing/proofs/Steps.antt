@@ -1,8 +1,8 @@
 -- A piece that rests on others is typed where each of them is.
-use Rattle.std.proofs.Common.{◌≡◌, ◌⊎◌, ◌≤◌, Bool, true, false, Option, Some, None, Ok, List, [], ◌∷◌, length, inl, inr, refl, ap, subst, arith}
+use Rattle.std.proofs.Common.{◌≡◌, ◌⊎◌, ◌≤◌, Bool, true, false, Option, Some, None, IsSome, Ok, List, [], ◌∷◌, length, inl, inr, refl, sym, ◌∙◌, ap, subst, arith}
 use Rattle.std.specs.Prelude.{if◌then◌else◌}
 use Rattle.cxx_expression.specs.declared.faults.Fault.{Fault}
-use Rattle.cxx_expression.specs.Checked.{Checked, then_typed, then_faults, ◌>>=◌, pair_of, along, both}
+use Rattle.cxx_expression.specs.Checked.{Checked, then_typed, then_faults, ◌>>=◌, pair_of, both, with_option, beside}
 use Rattle.cxx_expression.specs.Faults.{least, settled}
 use Rattle.cxx_resolve.specs.Settled.{settle}
 use Rattle.cxx_expression.specs.Laws.{IsComplete}
@@ -28,34 +28,58 @@ pub record IsClean {X : Type 0} (p : Checked X) (x : X) : Type 0 where
   pub before : List Fault
   pub none : length (p.faults before) ≤ length before
 
-clean_first : {X Y : Type 0} (o : Option X) (next : X → Checked Y) (y : Y) (old new : List Fault) → ((x : X) → IsComplete (next x)) → length old ≤ length new →
+clean_first : {X Y : Type 0} (o : Option X) (next : X → Checked Y) (y : Y) (old new : List Fault) → ((x : X) (b : List Fault) → length b ≤ length ((next x).faults b)) → length old ≤ length new →
     then_typed o next ≡ Some y → length (then_faults o next new) ≤ length old → (x : X) × (o ≡ Some x) × IsClean (next x) y × (length new ≤ length old)
 clean_first None next y old new c grows e few = absurd (cc)
 clean_first (Some x) next y old new c grows e few =
-    let more = (c x).grows new in
+    let more = c x new in
     let fewer : length ((next x).faults new) ≤ length new = omega arith in
     (x, refl, record { typed = e; before = new; none = fewer }, omega arith)
 
-pub clean_both : {X Y : Type 0} (p : Checked X) (next : X → Checked Y) (y : Y) → IsComplete p → ((x : X) → IsComplete (next x)) → IsClean (p >>= next) y →
+-- the second piece adds faults at most
+pub clean_rest : {X Y : Type 0} (p : Checked X) (next : X → Checked Y) (y : Y) → IsComplete p → ((x : X) (b : List Fault) → length b ≤ length ((next x).faults b)) → IsClean (p >>= next) y →
     (x : X) × IsClean p x × IsClean (next x) y
-clean_both p next y h c i =
+clean_rest p next y h c i =
     let r = clean_first p.typed next y i.before (p.faults i.before) c (h.grows i.before) i.typed i.none in
     (r.0, record { typed = r.1; before = i.before; none = r.3 }, r.2)
 
--- the second piece looks at the first
-pub clean_along : {X Y : Type 0} (p : Checked X) (next : Option X → Checked Y) (r : X × Y) → IsComplete p → ((o : Option X) → IsComplete (next o)) → IsClean (along p next) r →
-    IsClean p r.0 × IsClean (next (Some r.0)) r.1
-clean_along {X = X} {Y = Y} p next r h c i =
-    let b = pair_both p.typed (next p.typed).typed r i.typed in
+pub clean_both : {X Y : Type 0} (p : Checked X) (next : X → Checked Y) (y : Y) → IsComplete p → ((x : X) → IsComplete (next x)) → IsClean (p >>= next) y →
+    (x : X) × IsClean p x × IsClean (next x) y
+clean_both p next y h c i = clean_rest p next y h (λ x b. (c x).grows b) i
+
+-- two pieces of which none rests on the other
+pub clean_pair : {X Y : Type 0} (p : Checked X) (q : Checked Y) (r : X × Y) → IsComplete p → IsComplete q → IsClean (both p q) r → IsClean p r.0 × IsClean q r.1
+clean_pair p q r h g i =
+    let b = pair_both p.typed q.typed r i.typed in
+    let more = h.grows i.before in
+    let last = g.grows (p.faults i.before) in
+    let few = i.none in
+    let first : length (p.faults i.before) ≤ length i.before = omega arith in
+    let second : length (q.faults (p.faults i.before)) ≤ length (p.faults i.before) = omega arith in
+    (record { typed = b.0; before = i.before; none = first }, record { typed = b.1; before = p.faults i.before; none = second })
+
+with_first : {X Y : Type 0} (o : Option X) (q : Option Y) (r : X × Option Y) → with_option o q ≡ Some r → (o ≡ Some r.0) × (q ≡ r.1)
+with_first None q r e = absurd (cc)
+with_first {X = X} {Y = Y} (Some x) q r e = let f : (x, q) ≡ r = cc in (ap (λ (p : X × Option Y). Some p.0) f, ap (λ (p : X × Option Y). p.1) f)
+
+some_there : {Y : Type 0} (o : Option Y) → ((IsSome o → ⊥) → ⊥) → (y : Y) × (o ≡ Some y)
+some_there {Y = Y} None n = absurd (n (λ (some : IsSome {T = Y} None). cc))
+some_there (Some y) n = (y, refl)
+
+-- the second piece looks at the first; where neither has a fault, both are typed
+pub clean_beside : {X Y : Type 0} (p : Checked X) (next : Option X → Checked Y) (r : X × Option Y) → IsComplete p → ((o : Option X) → IsComplete (next o)) → IsClean (beside p next) r →
+    IsClean p r.0 × ((y : Y) × (r.1 ≡ Some y) × IsClean (next (Some r.0)) y)
+clean_beside {X = X} {Y = Y} p next r h c i =
+    let b = with_first p.typed (next p.typed).typed r i.typed in
     let more = h.grows i.before in
     let last = (c p.typed).grows (p.faults i.before) in
     let few = i.none in
     let first : length (p.faults i.before) ≤ length i.before = omega arith in
     let second : length ((next p.typed).faults (p.faults i.before)) ≤ length (p.faults i.before) = omega arith in
-    (record { typed = b.0; before = i.before; none = first }, subst (λ (o : Option X). IsClean (next o) r.1) b.0 (record { typed = b.1; before = p.faults i.before; none = second }))
-
-pub clean_pair : {X Y : Type 0} (p : Checked X) (q : Checked Y) (r : X × Y) → IsComplete p → IsComplete q → IsClean (both p q) r → IsClean p r.0 × IsClean q r.1
-clean_pair p q r h g i = clean_along p (λ o. q) r h (λ o. g) i
+    let t = some_there (next p.typed).typed (λ n. let lost = (c p.typed).typed (p.faults i.before) n in omega arith) in (
+      record { typed = b.0; before = i.before; none = first },
+      (t.0, sym b.1 ∙ t.1, subst (λ (o : Option X). IsClean (next o) t.0) b.0 (record { typed = t.1; before = p.faults i.before; none = second })),
+    )
 
 clean_by : {X : Type 0} (fs : List Fault) (o : Option X) (x : X) → settled (least fs) o ≡ Ok x → (o ≡ Some x) × (fs ≡ [])
 clean_by [] None x e = absurd (cc)

@@ -11,7 +11,7 @@ use Rattle.cxx_hierarchy.proofs.Kept.{is_hierarchy}
 use Rattle.cxx_syntax.specs.declared.tree.BodyTree.{BodyTree}
 use Rattle.cxx_syntax.specs.declared.source_text.Body.{Body}
 use Rattle.cxx_syntax.specs.declared.source_text.SourceText.{SourceText}
-use Rattle.cxx_some_reading.proofs.Owners.{source_bodies}
+use Rattle.cxx_readings.proofs.Owners.{source_bodies}
 use Rattle.cxx_program.specs.declared.program.TypedBody.{TypedBody}
 use Rattle.cxx_program.specs.declared.program.TypedProgram.{TypedProgram}
 use Rattle.cxx_program.specs.declared.program.Owner.TheVariants as owner

@@ -7,7 +7,7 @@ use Rattle.cxx_overrider.specs.Faults.{HasNoFault as HasNoMeaning}
 use Rattle.abi_sound.specs.declared.class_layout.ClassLayout.{ClassLayout}
 use Rattle.abi_sound.specs.Places.{places_of}
 use Rattle.abi_sound.specs.Sound.{IsSoundLayout}
-use Rattle.abi_count.specs.Counts.{all_words, most_words}
+use Rattle.abi_tables.specs.Counts.{all_words, most_words}
 use Rattle.abi_layout.specs.AbiLayouts.{IsAbiLayout}
 use Rattle.abi_layout.specs.Layouts.{IsLaid}
 use Rattle.abi_layout.specs.Refusals.{IsWellLaid}

@@ -13,7 +13,7 @@ use Rattle.cxx_hierarchy.specs.Resolved.{resolved}
 use Rattle.cxx_syntax.specs.declared.source_text.SourceText.{SourceText}
 use Rattle.cxx_syntax.specs.Sources.{SourceReads}
 use Rattle.cxx_syntax.specs.SameSources.{SameSource}
-use Rattle.cxx_one_reading.proofs.SameSources.{source_same}
+use Rattle.cxx_readings.proofs.SameSources.{source_same}
 use Rattle.cxx_program.specs.declared.program.TypedProgram.{TypedProgram}
 use Rattle.cxx_resolve.specs.Programs.{program_of}
 use Rattle.cxx_resolve.proofs.OneProgram.{one_program}

@@ -16,14 +16,14 @@ use Rattle.cxx_program.specs.Typed.{IsTypedProgram}
 use Rattle.path_plan.specs.Plans.{upto}
 use Rattle.path_model.specs.States.{is_body}
 use Rattle.path_model.specs.Runs.{Ran, Ending, Done, UndefinedAt, OutOfSteps, LimitMet, WentWrong, run_of}
-use Rattle.abi_told.specs.declared.ending.End.{End}
-use Rattle.abi_told.specs.declared.ending.End.TheVariants as ends
-use Rattle.abi_told.specs.Told.{told, told_by, passes, ending_of}
+use Rattle.text_told.specs.declared.ending.End.{End}
+use Rattle.text_told.specs.declared.ending.End.TheVariants as ends
+use Rattle.text_told.specs.Told.{told, told_by, passes, ending_of}
 use Rattle.abi_sound.specs.declared.class_layout.ClassLayout.{ClassLayout}
 use Rattle.abi_sound.specs.Places.{Places, places_of}
 use Rattle.abi_layout.specs.Layouts.{IsLaid}
 use Rattle.abi_slots.specs.declared.code_numbers.CodeRow.{CodeRow}
-use Rattle.abi_ops.specs.Setups.{setup}
+use Rattle.code_ops.specs.Setups.{setup}
 use Rattle.abi_refine.specs.Executions.{IsExecution}
 use Rattle.cxxabi_words.specs.declared.command.Command.{Command}
 use Rattle.cxxabi_words.specs.declared.command.Command.TheVariants.{Check, Run, Layout, LayoutOf, Tables, TablesOf, Paths, Gen}

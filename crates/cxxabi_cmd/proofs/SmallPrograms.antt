@@ -41,7 +41,7 @@ use Rattle.cxx_typing.proofs.Drafts.{then_ok}
 use Rattle.cxx_typing.proofs.Turns.{turn_kept, turn_given, AreEach}
 use Rattle.cxx_typing.proofs.Programs.{made_of}
 use Rattle.path_model.specs.States.{body_of as body_by_owner, same_owner}
-use Rattle.abi_code.specs.Bounds.{IsSmall, statements_in, body_blocks}
+use Rattle.abi_lower.specs.Bounds.{IsSmall, statements_in, body_blocks}
 use Rattle.cxxabi_cmd.proofs.TreeCounts.{tree_weight, body_weight, main_weight, source_weight, most_weight}
 use Rattle.cxxabi_cmd.proofs.WalkCounts.{blocks_add}
 

@@ -5,7 +5,7 @@ use Rattle.std.specs.Option.{is_some}
 use Rattle.std.proofs.lemmas.Bool.{cases_lt}
 use Rattle.cxx_grammar.specs.Lexemes.{lexemes, source_start}
 use Rattle.cxx_text.proofs.SomeTokens.{some_tokens}
-use Rattle.cxx_some_reading.proofs.Runs.{some_source}
+use Rattle.cxx_readings.proofs.Runs.{some_source}
 use Rattle.cxx_hierarchy.specs.declared.records.ClassId.{ClassId}
 use Rattle.cxx_hierarchy.specs.declared.stop.Stop.{Stop}
 use Rattle.cxx_hierarchy.specs.declared.stop.Stop.TheVariants.{Limit as AtLimit}

@@ -11,12 +11,12 @@ use Rattle.cxx_syntax.specs.declared.part.Part.{Part}
 use Rattle.cxx_syntax.specs.declared.part.Item.{Item}
 use Rattle.cxx_syntax.specs.declared.source_text.Body.{Body}
 use Rattle.cxx_syntax.specs.declared.source_text.SourceText.{SourceText}
-use Rattle.cxx_syntax.specs.Parts.{Spelled, PartReads, a_label, a_field, a_function, a_pure_function, a_constructor, a_destructor, PartsRead, no_part, one_part}
+use Rattle.cxx_syntax.specs.Parts.{Spelled, PartReads, a_label, a_field, a_bit_field, a_function, a_pure_function, a_constructor, a_destructor, PartsRead, no_part, one_part}
 use Rattle.cxx_syntax.specs.Definitions.{body_at, in_turn, bodies_of}
 use Rattle.cxx_syntax.specs.Sources.{ItemReads, a_class, a_forward, a_global, a_main, ItemsRead, no_item, one_item, bodies_in, main_in, trees_in, SourceReads, a_source}
 use Rattle.cxx_resolve.specs.Walks.{block_meaning}
 use Rattle.cxx_resolve.proofs.Counting.{body_counted}
-use Rattle.cxx_resolve.proofs.Shorter.{one_less, value_less}
+use Rattle.cxx_resolve.proofs.Shorter.{one_less, scalar_less, value_less}
 use Rattle.cxx_resolve.proofs.ShorterParts.{bases_less, field_less, count_less, return_less, params_less, inits_less, virtual_less}
 
 -- the most lexemes of a source: its bytes, the end, and what no token stands for
@@ -44,6 +44,7 @@ body_within x = omega (arith, body_counted x)
 part_within : {text : List ℕ} {is_public : Bool} {p : Part} {ts rest : List Lexeme} (class : Spelled) (before : List Part) → PartReads text is_public p ts rest → sum_by body_weight (body_at class before p) + length rest ≤ length ts
 part_within class before (a_label w k) = omega (arith, one_less w.front, one_less k.front)
 part_within class before (a_field f t n c z e g) = omega (arith, field_less t, one_less n.front, count_less c, one_less z.front)
+part_within class before (a_bit_field f t n o w z e g) = omega (arith, scalar_less t, one_less n.front, one_less o.front, one_less w.front, one_less z.front)
 part_within class before (a_function v f r n o ps z b e g) = omega (arith, virtual_less v, return_less r, one_less n.front, one_less o.front, params_less ps, one_less z.front, body_within b)
 part_within class before (a_pure_function v f r n o ps z w q k e g) =
     omega (arith, one_less v.front, return_less r, one_less n.front, one_less o.front, params_less ps, one_less z.front, one_less w.front, one_less q.front, one_less k.front)

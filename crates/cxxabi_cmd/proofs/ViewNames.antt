@@ -13,7 +13,7 @@ use Rattle.abi_slots.specs.declared.words.Group.{Group}
 use Rattle.abi_slots.specs.declared.words.VttWord.{VttWord}
 use Rattle.abi_slots.specs.declared.words.GroupName.{GroupName}
 use Rattle.abi_slots.specs.Groups.{GoAlong}
-use Rattle.abi_count.specs.Counts.{group_views}
+use Rattle.abi_tables.specs.Counts.{group_views}
 use Rattle.abi_vtt.specs.Vtts.{Item, IsVttWord}
 use Rattle.abi_tables.specs.declared.tables.ClassTables.{ClassTables}
 use Rattle.abi_tables.specs.Tables.{AreClassTables, class_items, group_name, names_of, IsNamed}

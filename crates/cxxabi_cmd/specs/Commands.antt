@@ -4,8 +4,8 @@ use Rattle.cxx_gen.specs.Generated.{generated}
 use Rattle.cxxabi_words.specs.declared.command.Command.{Command}
 use Rattle.cxxabi_words.specs.declared.command.Command.TheVariants.{Run, Paths, Gen}
 use Rattle.cxxabi_words.specs.Commands.{Says, most_steps}
-use Rattle.abi_told.specs.declared.ending.End.{End}
-use Rattle.abi_told.specs.declared.ending.End.TheVariants.{Done}
+use Rattle.text_told.specs.declared.ending.End.{End}
+use Rattle.text_told.specs.declared.ending.End.TheVariants.{Done}
 
 -- the source that a command treats: `gen` its own, and each other what it reads
 abbrev pub source_of : Command → List ℕ → List ℕ

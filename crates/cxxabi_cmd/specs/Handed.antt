@@ -14,9 +14,9 @@ use Rattle.abi_sound.specs.declared.class_layout.ClassLayout.{ClassLayout}
 use Rattle.abi_sound.specs.Places.{places_of}
 use Rattle.abi_layout.specs.Layouts.{IsLaid}
 use Rattle.abi_slots.specs.declared.code_numbers.CodeRow.{CodeRow}
-use Rattle.abi_ops.specs.Setups.{setup}
-use Rattle.abi_told.specs.declared.ending.End.{End}
-use Rattle.abi_told.specs.Told.{told, ending_of}
+use Rattle.code_ops.specs.Setups.{setup}
+use Rattle.text_told.specs.declared.ending.End.{End}
+use Rattle.text_told.specs.Told.{told, ending_of}
 use Rattle.abi_refine.specs.Executions.{IsExecution}
 use Rattle.cxxabi_words.specs.declared.command.Command.{Command}
 use Rattle.cxxabi_words.specs.Commands.{Says}

@@ -14,9 +14,9 @@ use Rattle.cxx_program.specs.declared.program.TypedProgram.{TypedProgram}
 use Rattle.cxx_gen.specs.Summary.{lines_in, last_line as last_line_of, summary}
 use Rattle.path_rules.specs.Rules.{undefined_no}
 use Rattle.path_model.specs.Runs.{run_of}
-use Rattle.abi_told.specs.declared.ending.End.{End}
-use Rattle.abi_told.specs.declared.ending.End.TheVariants as ends
-use Rattle.abi_told.specs.Told.{told, ending_of}
+use Rattle.text_told.specs.declared.ending.End.{End}
+use Rattle.text_told.specs.declared.ending.End.TheVariants as ends
+use Rattle.text_told.specs.Told.{told, ending_of}
 use Rattle.abi_sound.specs.declared.class_layout.ClassLayout.{ClassLayout}
 use Rattle.abi_sound.specs.Places.{places_of}
 use Rattle.abi_tables.specs.declared.tables.ClassTables.{ClassTables}

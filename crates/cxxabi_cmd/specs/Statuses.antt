@@ -2,7 +2,7 @@
 use Rattle.std.specs.Prelude.{ℕ, ◌++◌, ◌∷◌, [], List, codes, ◌==◌, if◌then◌else◌}
 use Rattle.std.specs.Fmt.{decimal}
 use Rattle.cxx_hierarchy.specs.declared.stop.Rule.{Rule}
-use Rattle.cxx_hierarchy.specs.declared.stop.Rule.TheVariants.{Lex, Syntax, UnknownClass, DuplicateClass, IncompleteClass, DuplicateBase, DuplicateMember, BadInitializer, AmbiguousName, NoSuchMember, ReturnMismatch, AmbiguousCovariant, TwoFinalOverriders, Abstract, AmbiguousBase, NotBase, DowncastVirtual, NotPolymorphic, TypeMismatch, Index, LeftOut, UnknownName, SharedPlace}
+use Rattle.cxx_hierarchy.specs.declared.stop.Rule.TheVariants.{Lex, Syntax, UnknownClass, DuplicateClass, IncompleteClass, DuplicateBase, DuplicateMember, BadInitializer, AmbiguousName, NoSuchMember, ReturnMismatch, AmbiguousCovariant, TwoFinalOverriders, Abstract, AmbiguousBase, NotBase, DowncastVirtual, NotPolymorphic, TypeMismatch, Index, LeftOut, UnknownName, BadWidth, SharedPlace}
 use Rattle.cxx_hierarchy.specs.Stops.{rule_no, limit_no}
 use Rattle.cxxabi_cmd.specs.declared.status.Status.{Status}
 use Rattle.cxxabi_cmd.specs.declared.status.Status.TheVariants.{Done, Refused, Usage, Undefined, OutOfSteps, Limit, ReadFault, WriteFault, NoMemory}
@@ -43,6 +43,7 @@ name_of_rule TypeMismatch = codes "TypeMismatch"
 name_of_rule Index = codes "Index"
 name_of_rule LeftOut = codes "LeftOut"
 name_of_rule UnknownName = codes "UnknownName"
+name_of_rule BadWidth = codes "BadWidth"
 name_of_rule SharedPlace = codes "SharedPlace"
 
 -- the printed name of a refusal of a run, by its number from 1 to 12

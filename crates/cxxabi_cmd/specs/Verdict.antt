@@ -21,7 +21,7 @@ use Rattle.cxx_program.specs.declared.program.TypedProgram.{TypedProgram}
 use Rattle.cxx_resolve.specs.Programs.{program_of}
 use Rattle.abi_sound.specs.declared.class_layout.ClassLayout.{ClassLayout}
 use Rattle.abi_sound.specs.Places.{places_of}
-use Rattle.abi_count.specs.Counts.{all_words, most_words}
+use Rattle.abi_tables.specs.Counts.{all_words, most_words}
 use Rattle.abi_layout.specs.Layouts.{IsLaid}
 use Rattle.abi_layout.specs.Refusals.{IsLargeClass, HasSharedPlace}
 

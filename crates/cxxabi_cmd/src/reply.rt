@@ -6,7 +6,7 @@ ghost use Rattle.cxxabi_cmd.specs.invariants.Replies.{answer_of, machine_of};
 
 use crate::status::{Status, last_line_of};
 use byte_machine::Machine;
-use byte_memory::FlatMemory;
+use byte_memory::PageMemory;
 use cxx_hierarchy::Hierarchy;
 use foundation::NoMemory;
 use std::alloc::Global;
@@ -19,7 +19,7 @@ pub(crate) const BUDGET: u32 = 1_000_000;
 pub(crate) struct Reply {
     pub(crate) text: Vec<u8>,
     pub(crate) status: Status,
-    pub(crate) machine: Option<Machine<FlatMemory>>,
+    pub(crate) machine: Option<Machine<PageMemory>>,
 }
 
 // An answer that is its last line alone.

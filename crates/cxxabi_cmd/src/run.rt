@@ -19,7 +19,7 @@ use crate::verdict::judge;
 use crate::writing::write_text;
 use abi_tables::{one_tables, some_tables};
 use byte_machine::Machine;
-use byte_memory::FlatMemory;
+use byte_memory::PageMemory;
 use cxx_gen::generate;
 use cxx_hierarchy::{LimitNo, Stop};
 use cxx_typing::programs_are_typed;
@@ -125,7 +125,7 @@ pub fn run_cxxabi<S: Source, K: Sink>(
     words: &[String],
     source: &mut S,
     sink: &mut K,
-    last: &mut Option<Machine<FlatMemory>>,
+    last: &mut Option<Machine<PageMemory>>,
 ) -> Status
     // The text and the status are those of the words and of the source's bytes.
     ensures answered { (bytes : List ℕ) → Tells (texts_of words.now) (S.remaining source.old) bytes → IsAnswered result →
@@ -138,7 +138,7 @@ pub fn run_cxxabi<S: Source, K: Sink>(
     ensures write_fault { result ≡ Status.WriteFault → Rose (K.fault_count sink.old) (K.fault_count sink.new) }
     // After a fault of the source, or without memory, the sink is as it was.
     ensures silent { IsSilent result → sink.new ≡ sink.old }
-    // The machine that is handed out is that of the run: its own turns made the text, and it has ended as the run did.
+    // The machine that is handed out is that of the run: its own turns made the text, and unless that passed the limit it has ended as the run did.
     ensures last { (bytes : List ℕ) → Tells (texts_of words.now) (S.remaining source.old) bytes → (IsSilent result → ⊥) →
         HandsOut (texts_of words.now) bytes (option_map (λ m. seen_of m) last.new) }
     ensures no_machine { IsSilent result → last.new ≡ None }

@@ -13,15 +13,15 @@ use crate::reply::{Reply, line_alone};
 use crate::status::{Status, last_line_of, number_of};
 use crate::verdict::Accepted;
 use abi_refine::{Execution, execute};
-use abi_told::End;
 use byte_machine::Machine;
-use byte_memory::FlatMemory;
+use byte_memory::PageMemory;
 use cxx_gen::{count_lines, last_line, summary};
 use cxx_hierarchy::{Hierarchy, Rule};
 use cxxabi_words::Command;
 use foundation::{NoMemory, Sequence};
 use path_run::{PathRun, run_paths};
 use std::alloc::Global;
+use text_told::End;
 
 /// The steps that the run of a generated source may take.
 const GENERATED_STEPS: u32 = 4_000_000;
@@ -44,7 +44,7 @@ fn ended(
     text: Sequence<u8>,
     end: End,
     steps: u32,
-    machine: Option<Machine<FlatMemory>>,
+    machine: Option<Machine<PageMemory>>,
 ) -> Result<Reply, NoMemory>
     ensures answer { IfOk result (λ reply. answer_of reply ≡ ended_answer text end steps) }
     ensures machine { IfOk result (λ reply. machine_of reply ≡ option_map (λ m. seen_of m) machine) }
@@ -65,7 +65,7 @@ fn summed_up(
     h: &Hierarchy,
     text: &[u8],
     steps: u32,
-    machine: Option<Machine<FlatMemory>>,
+    machine: Option<Machine<PageMemory>>,
 ) -> Result<Reply, NoMemory>
     ensures answer { IfOk result (λ reply. answer_of reply ≡ summary_answer h.now steps text.now) }
     ensures machine { IfOk result (λ reply. machine_of reply ≡ option_map (λ m. seen_of m) machine) }

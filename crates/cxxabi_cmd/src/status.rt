@@ -82,6 +82,7 @@ fn rule_name(rule: Rule) -> &'static str
         Rule::Index => "Index",
         Rule::LeftOut => "LeftOut",
         Rule::UnknownName => "UnknownName",
+        Rule::BadWidth => "BadWidth",
         Rule::SharedPlace => "SharedPlace",
     }
 }

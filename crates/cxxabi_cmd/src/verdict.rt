@@ -10,9 +10,9 @@ ghost use Rattle.cxxabi_cmd.specs.invariants.Listings.{IsReady};
 ghost use Rattle.cxxabi_cmd.specs.Output.{source_limit};
 ghost use Rattle.cxxabi_cmd.specs.Verdict.{Verdict, Stops, Accepts, IsFirstFault, HasNoFault, HasManyWords, HasFewWords};
 
-use abi_count::check_words;
 use abi_layout::{AbiLayout, lay_out, lay_out_first};
 use abi_slots::Slots;
+use abi_tables::check_words;
 use cxx_decl_parser::parse_source;
 use cxx_hierarchy::{Hierarchy, LimitNo, Stop, build};
 use cxx_overrider::{ClassStop, Overriders, check_by_class};

@@ -1,5 +1,5 @@
 -- A value that a clear statement converts can be converted.
-use Rattle.std.proofs.Common.{◌≡◌, Bool, None, List, ◌∷◌, ◌++◌, inl, refl, subst}
+use Rattle.std.proofs.Common.{◌≡◌, ℕ, Bool, Option, None, List, ◌∷◌, ◌++◌, inl, refl, subst, sym}
 use Rattle.foundation.proofs.Members.{Has}
 use Rattle.cxx_hierarchy.specs.declared.records.ClassId.{ClassId}
 use Rattle.cxx_hierarchy.specs.declared.records.ValueType.{ValueType}
@@ -13,7 +13,7 @@ use Rattle.cxx_program.specs.declared.operand.Conversion.TheVariants.{Base as To
 use Rattle.cxx_program.specs.declared.statement.TypedPlace.{TypedPlace}
 use Rattle.cxx_program.specs.declared.statement.TypedRight.{TypedRight}
 use Rattle.cxx_program.specs.declared.statement.Converted.{Converted}
-use Rattle.cxx_program.specs.Typed.{Scope, Converts, to_number, to_same, to_base, IsArgument, a_value, a_null, HasRight, an_operand, a_calculation, a_comparison, a_negation, a_read, an_address, a_result, an_object, a_cast, a_type_test, IsConverted, a_right, a_null_right}
+use Rattle.cxx_program.specs.Typed.{Scope, Converts, to_number, to_same, to_base, IsArgument, a_value, a_null, IsKept, whole, in_bits, HasRight, an_operand, a_calculation, a_comparison, a_negation, a_read, an_address, a_result, an_object, a_cast, a_type_test, IsConverted, a_right, a_null_right}
 use Rattle.path_model.specs.Values.{Value, Unset, Number, Null, Pointer, Objects, Sight, value}
 use Rattle.path_model.specs.Places.{address_value, leaf_value}
 use Rattle.path_model.specs.Uses.{Use, Reads, Guards, convert, argument_uses, place_uses, cast_value, cast_uses, leaf_uses, right_uses}
@@ -52,6 +52,11 @@ argument_converts h e s seen _ _ (a_value a t u has fits) clear =
     (λ k is. typed_to h s.objects.classes v k (subst (λ (x : ValueType ClassId). IsValue h s.objects.classes v x) is (seen_value h e s seen a.operand t has)))
     (clear_rest h s.objects (Reads v) (convert v a.conversion) clear)
 argument_converts h e s seen _ _ (a_null d) clear = tt
+
+-- what a leaf keeps: a bit-field keeps a number, which can always be converted
+pub kept_converts : (h : Classes) (e : Scope) (s : Sight) → IsSeen h e s → (a : Argument) (width : Option ℕ) (t : ValueType ClassId) → IsKept h e width a t → refused h s.objects (argument_uses s a) ≡ None → CanConvert h s.objects (value s a.operand) a.conversion
+kept_converts h e s seen _ _ _ (whole a t fits) clear = argument_converts h e s seen a t fits clear
+kept_converts h e s seen _ _ _ (in_bits a n t u has is) clear = subst (λ (c : Conversion). CanConvert h s.objects (value s a.operand) c) (sym is) tt
 
 -- a right side
 

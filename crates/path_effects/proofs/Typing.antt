@@ -10,13 +10,13 @@ use Rattle.cxx_program.specs.declared.operand.TypedOperand.{TypedOperand}
 use Rattle.cxx_program.specs.declared.statement.TypedPlace.{TypedPlace}
 use Rattle.cxx_program.specs.declared.statement.TypedKind.{TypedKind}
 use Rattle.cxx_program.specs.declared.statement.TypedKind.TheVariants.{Write, Copy, Delete}
-use Rattle.cxx_program.specs.Typed.{Scope, HasType, IsArgument, IsPlace, IsTyped, declares, begins, assigns, writes, copies, calls, deletes, branches, repeats, returns_nothing, returns_value, prints, prints_type, prints_view, dumps}
+use Rattle.cxx_program.specs.Typed.{Scope, HasType, IsKept, IsPlace, place_width, IsTyped, declares, begins, assigns, writes, copies, calls, deletes, branches, repeats, returns_nothing, returns_value, prints, prints_type, prints_view, dumps}
 
--- a place and a value of one type
+-- a place and what it keeps
 pub record Writes (h : Classes) (e : Scope) (place : TypedPlace) (x : Argument) : Type 0 where
   pub type : ValueType ClassId
   pub is_place : IsPlace h e place (ValueField type)
-  pub is_value : IsArgument h e x type
+  pub is_value : IsKept h e (place_width h place) x type
 
 pub write_typed : (h : Classes) (e : Scope) (kind : TypedKind) → IsTyped h e kind → (to : TypedPlace) (v : Argument) → kind ≡ Write to v → Writes h e to v
 write_typed h e _ (declares n t is) to v same = absurd (cc)
@@ -25,7 +25,7 @@ write_typed h e _ (assigns variable y t is fits) to v same = absurd (cc)
 write_typed h e _ (writes place x t p fits) to v same =
     let a : place ≡ to = cc in
     let b : x ≡ v = cc in
-    record { type = t; is_place = subst (λ (y : TypedPlace). IsPlace h e y (ValueField t)) a p; is_value = subst (λ (y : Argument). IsArgument h e y t) b fits }
+    record { type = t; is_place = subst (λ (y : TypedPlace). IsPlace h e y (ValueField t)) a p; is_value = subst (λ (q : TypedPlace). IsKept h e (place_width h q) v t) a (subst (λ (y : Argument). IsKept h e (place_width h place) y t) b fits) }
 write_typed h e _ (copies a b c has_to has_from) to v same = absurd (cc)
 write_typed h e _ (calls call d c) to v same = absurd (cc)
 write_typed h e _ (deletes y c has) to v same = absurd (cc)

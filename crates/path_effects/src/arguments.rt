@@ -1,10 +1,10 @@
 //! The values of arguments.
 
-ghost use Rattle.std.specs.Prelude.{◌≡◌, None, IfOk, map};
+ghost use Rattle.std.specs.Prelude.{◌≡◌, ℕ, Option, None, IfOk, map};
 ghost use Rattle.std.specs.List.{AllZip, flat_map};
 ghost use Rattle.cxx_hierarchy.specs.declared.records.ValueType.{ValueType};
 ghost use Rattle.cxx_hierarchy.specs.declared.records.ClassId.{ClassId};
-ghost use Rattle.cxx_program.specs.Typed.{Types, Scope, IsArgument};
+ghost use Rattle.cxx_program.specs.Typed.{Types, Scope, IsArgument, IsKept};
 ghost use Rattle.path_model.specs.Values.{Sight, argument_value};
 ghost use Rattle.path_model.specs.Uses.{argument_uses};
 ghost use Rattle.path_model.specs.Rules.{refused};
@@ -20,10 +20,10 @@ use path_tables::World;
 use path_values::{Scene, convert, value};
 use std::alloc::Global;
 
-/// The value of an operand, converted.
+/// The value of an operand, converted to what a leaf, a parameter or a result keeps (ISO C++03 4, 9.6).
 pub fn argument_value(world: &World, heap: &Heap, scene: &Scene, a: &Argument) -> Value
     requires world { IsWorld world.now }
-    ensures { (e : Scope) (s : Sight) (t : ValueType ClassId) → SceneStands world.now.h.now heap.now scene.now s → IsSeen world.now.h.now e s → IsArgument world.now.h.now e a.now t → refused world.now.h.now s.objects (argument_uses s a.now) ≡ None → Means world.now.h.now s.objects.classes result (argument_value s a.now) }
+    ensures { (e : Scope) (s : Sight) (width : Option ℕ) (t : ValueType ClassId) → SceneStands world.now.h.now heap.now scene.now s → IsSeen world.now.h.now e s → IsKept world.now.h.now e width a.now t → refused world.now.h.now s.objects (argument_uses s a.now) ≡ None → Means world.now.h.now s.objects.classes result (argument_value s a.now) }
 {
     convert(world, heap, value(scene, &a.operand), &a.conversion)
 }

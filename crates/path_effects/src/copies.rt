@@ -1,6 +1,6 @@
 //! The copy of an object (ISO C++03 12.8).
 
-ghost use Rattle.std.specs.Prelude.{◌≡◌, None, OnOk, OnErr};
+ghost use Rattle.std.specs.Prelude.{◌≡◌, None, OnOk};
 ghost use Rattle.cxx_subobject.specs.Locations.{ObjectPart};
 ghost use Rattle.cxx_program.specs.declared.statement.TypedKind.TheVariants.{Copy};
 ghost use Rattle.cxx_program.specs.Typed.{Scope, IsTyped};
@@ -23,7 +23,7 @@ use std::alloc::Global;
 
 /// `*to = *from`: each leaf of the one part takes the old value of the same leaf of the other one, both of class c.
 ///
-/// Errors: want of memory. The heap is then as it was.
+/// Errors: want of memory. The heap is then of no use.
 pub fn copy(
     alloc: Global,
     world: &World,
@@ -34,8 +34,7 @@ pub fn copy(
     c: ClassId,
 ) -> Result<(), NoMemory>
     requires world { IsWorld world.now }
-    ensures copied { OnOk result ((e : Scope) (s : Sight) (w : Wanted) (p q : ObjectPart) → SceneStands world.now.h.now heap.old scene.now s → IsSeen world.now.h.now e s → IsTyped world.now.h.now e (Copy to.now from.now c) → refusal world.now.h.now s w (Copy to.now from.now c) ≡ None → value s to.now ≡ Pointer p → value s from.now ≡ Pointer q → HeapStands world.now.h.now heap.new (copied world.now.h.now c p q s.objects)) }
-    ensures kept { OnErr result (heap.new ≡ heap.old) }
+    ensures { OnOk result ((e : Scope) (s : Sight) (w : Wanted) (p q : ObjectPart) → SceneStands world.now.h.now heap.old scene.now s → IsSeen world.now.h.now e s → IsTyped world.now.h.now e (Copy to.now from.now c) → refusal world.now.h.now s w (Copy to.now from.now c) ≡ None → value s to.now ≡ Pointer p → value s from.now ≡ Pointer q → HeapStands world.now.h.now heap.new (copied world.now.h.now c p q s.objects)) }
 {
     let Value::Pointer(target) = value(scene, to) else {
         return Ok(());

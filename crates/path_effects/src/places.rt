@@ -1,6 +1,6 @@
 //! Reading and writing leaves, and the addresses of class members (ISO C++03 5.2.5, 5.17).
 
-ghost use Rattle.std.specs.Prelude.{◌≡◌, None};
+ghost use Rattle.std.specs.Prelude.{◌≡◌, IfOk, None};
 ghost use Rattle.cxx_hierarchy.specs.declared.records.ClassId.{ClassId};
 ghost use Rattle.cxx_hierarchy.specs.declared.records.ValueType.{ValueType};
 ghost use Rattle.cxx_hierarchy.specs.declared.records.FieldType.TheVariants.{Value as ValueField, Object};
@@ -19,6 +19,7 @@ ghost use Rattle.path_values.specs.Given.{IsSeen};
 
 use crate::arguments::argument_value;
 use cxx_program::{Argument, TypedPlace};
+use foundation::NoMemory;
 use path_heap::{Heap, Value};
 use path_tables::World;
 use path_values::{Scene, address_number, leaf_number, value};
@@ -46,14 +47,23 @@ pub(crate) fn address_value(world: &World, heap: &Heap, scene: &Scene, place: &T
 }
 
 /// Gives the leaf that a place is the value of an argument (ISO C++03 5.17).
-pub fn write(world: &World, heap: &mut Heap, scene: &Scene, place: &TypedPlace, x: &Argument)
+///
+/// Errors: want of memory. The heap is then of no use.
+pub fn write(
+    world: &World,
+    heap: &mut Heap,
+    scene: &Scene,
+    place: &TypedPlace,
+    x: &Argument,
+) -> Result<(), NoMemory>
     requires world { IsWorld world.now }
-    ensures { (e : Scope) (s : Sight) (w : Wanted) (p : ObjectPart) → SceneStands world.now.h.now heap.old scene.now s → IsSeen world.now.h.now e s → IsTyped world.now.h.now e (Write place.now x.now) → refusal world.now.h.now s w (Write place.now x.now) ≡ None
-        → value s place.now.pointer ≡ Pointer p → HeapStands world.now.h.now heap.new (leaf_set s.objects (leaf_at p place.now) (argument_value s x.now)) }
+    ensures { IfOk result (λ _. (e : Scope) (s : Sight) (w : Wanted) (p : ObjectPart) → SceneStands world.now.h.now heap.old scene.now s → IsSeen world.now.h.now e s → IsTyped world.now.h.now e (Write place.now x.now) → refusal world.now.h.now s w (Write place.now x.now) ≡ None
+        → value s place.now.pointer ≡ Pointer p → HeapStands world.now.h.now heap.new (leaf_set s.objects (leaf_at p place.now) (argument_value s x.now))) }
 {
     if let Value::Pointer(n) = value(scene, &place.pointer) {
         let v = argument_value(world, heap, scene, x);
         let k = leaf_number(world, heap, n, place);
-        heap.set_leaf(k, v);
+        heap.set_leaf(k, v)?;
     }
+    Ok(())
 }

@@ -23,10 +23,11 @@ use Rattle.path_model.specs.Values.{Value, Unset, Leaf, Objects}
 use Rattle.path_model.specs.Effects.{made}
 use Rattle.path_heap.specs.declared.state.Value.TheVariants.{Unset as UnsetCode}
 use Rattle.path_heap.specs.declared.heap.Heap.{Heap}
+use Rattle.path_heap.specs.Blanks.{no_cell}
 use Rattle.path_heap.specs.Points.{Points, PointsLeaf}
 use Rattle.path_heap.specs.Running.{entry_in, entry_at, AreRunning, StackStands, ViewsStand}
 use Rattle.path_heap.specs.Stands.{Means, CellStands, LeafStands, ObjectStands, HeapStands}
-use Rattle.path_heap.specs.invariants.Columns.{raw_cell, Made}
+use Rattle.path_heap.specs.invariants.Columns.{Made}
 use Rattle.path_heap.proofs.Sets.{get_longer}
 use Rattle.path_heap.proofs.Asking.{root_is_at}
 use Rattle.path_heap.proofs.Viewing.{at_less}
@@ -82,8 +83,7 @@ cell_made h heap new s stands c size start is did y at = ⊎_elim
     let as_before : (made s c).phases.phase y.part ≡ s.phases.phase y.part = ap (λ b. if b then Raw else s.phases.phase y.part) (part_before h s.classes y before) in
     record {
       cell = old.cell;
-      listed = ap (λ t. slice_get t y.number) did.cells ∙ get_front heap.cells.items (replicate size (raw_cell (length heap.objects.items))) y.number old.cell old.listed;
-      object = old.object;
+      listed = ap (λ t. slice_get t y.number) did.cells ∙ get_front heap.cells.items (replicate size no_cell) y.number old.cell old.listed;
       phase = old.phase ∙ sym as_before;
       class = λ begun. old.class (λ raw. begun (as_before ∙ raw));
       owner = λ begun. owner_more h s.classes c y old.cell.whole old.cell.owner (old.owner (λ raw. begun (as_before ∙ raw)));
@@ -91,9 +91,8 @@ cell_made h heap new s stands c size start is did y at = ⊎_elim
     (λ object.
     let raw : (made s c).phases.phase y.part ≡ Raw = ap (λ b. if b then Raw else s.phases.phase y.part) (is_new_object y.part.object (length s.classes) object) in
     record {
-      cell = raw_cell (length heap.objects.items);
-      listed = ap (λ t. slice_get t y.number) did.cells ∙ item_new h s.classes c heap.cells.items (raw_cell (length heap.objects.items)) size y.number stands.counts.cells is (number_new h stands.hierarchy s.classes c y at object);
-      object = stands.counts.objects ∙ sym object;
+      cell = no_cell;
+      listed = ap (λ t. slice_get t y.number) did.cells ∙ item_new h s.classes c heap.cells.items no_cell size y.number stands.counts.cells is (number_new h stands.hierarchy s.classes c y at object);
       phase = sym raw;
       class = λ begun. absurd (begun raw);
       owner = λ begun. absurd (begun raw);
@@ -169,7 +168,7 @@ made_stands h heap new s stands c size start is did = record {
   views = views_made h heap new s stands c size start is did;
   counts = record {
     objects = ap length did.objects ∙ (length_pushed heap.objects.items (record { class = c; start = start; is_closed = false }) ∙ (ap (λ n. n + 1) stands.counts.objects ∙ sym (length_pushed s.classes c)));
-    cells = size_new h s.classes c heap.cells.items new.cells.items (raw_cell (length heap.objects.items)) size stands.counts.cells is did.cells;
+    cells = size_new h s.classes c heap.cells.items new.cells.items no_cell size stands.counts.cells is did.cells;
     leaves = size_new h s.classes c heap.leaves.items new.leaves.items UnsetCode size stands.counts.leaves is did.leaves;
     tops = size_new h s.classes c heap.tops.items new.tops.items None size stands.counts.tops is did.tops;
     around = size_new h s.classes c heap.around.items new.around.items None size stands.counts.around is did.around;

@@ -26,14 +26,12 @@ use Rattle.path_heap.specs.declared.heap.Heap.{Heap}
 use Rattle.path_heap.specs.Points.{Points, PointsWhole, IsOwner, IsPart}
 use Rattle.path_heap.specs.Stands.{phase_of, HasBegun, HeapStands}
 use Rattle.path_heap.specs.invariants.Columns.{cell_or, cell_at, row_or, row_at}
+use Rattle.path_heap.specs.invariants.Cuts.{IsObjectAt}
+use Rattle.path_heap.proofs.Finding.{object_found}
 
 -- the cell that the code reads is the one that stands for the part
 pub found : (h : Classes) (heap : Heap) (s : Objects) (stands : HeapStands h heap s) (n : ℕ) (p : ObjectPart) (q : Points h s.classes n p) (cell : Cell) → cell ≡ cell_at heap n → cell ≡ (stands.cells q.node q.at).cell
 found h heap s stands n p q cell is = is ∙ ap cell_or (subst (λ k. slice_get heap.cells.items k ≡ Some (stands.cells q.node q.at).cell) q.is_number (stands.cells q.node q.at).listed)
-
-pub object_told : (h : Classes) (heap : Heap) (s : Objects) → HeapStands h heap s → (n : ℕ) (p : ObjectPart) → Points h s.classes n p → (cell : Cell) → cell ≡ cell_at heap n → p.object ≡ cell.object
-object_told h heap s stands n p q cell is =
-    ap (λ (t : ObjectPart). t.object) (sym q.is_part) ∙ (sym (stands.cells q.node q.at).object ∙ ap (λ (t : Cell). t.object) (sym (found h heap s stands n p q cell is)))
 
 pub phase_told : (h : Classes) (heap : Heap) (s : Objects) → HeapStands h heap s → (n : ℕ) (p : ObjectPart) → Points h s.classes n p → (cell : Cell) → cell ≡ cell_at heap n → s.phases.phase p ≡ phase_of cell.phase
 phase_told h heap s stands n p q cell is =
@@ -113,24 +111,24 @@ row_found h heap s stands n p q k is row row_is =
       closed = ap s.is_closed (sym e) ∙ (sym o.closed ∙ ap (λ (t : ObjectRow). t.is_closed) (sym found_row));
     }
 
-pub closed_told : (h : Classes) (heap : Heap) (s : Objects) → HeapStands h heap s → (n : ℕ) (p : ObjectPart) → Points h s.classes n p → (cell : Cell) → cell ≡ cell_at heap n → (row : ObjectRow) → row ≡ row_at heap cell.object → s.is_closed p.object ≡ row.is_closed
-closed_told h heap s stands n p q cell is row row_is = (row_found h heap s stands n p q cell.object (object_told h heap s stands n p q cell is) row row_is).closed
+pub closed_told : (h : Classes) (heap : Heap) (s : Objects) → HeapStands h heap s → (n : ℕ) (p : ObjectPart) → Points h s.classes n p → (k : ℕ) → IsObjectAt heap.objects.items n k → (row : ObjectRow) → row ≡ row_at heap k → s.is_closed p.object ≡ row.is_closed
+closed_told h heap s stands n p q k found row row_is = (row_found h heap s stands n p q k (object_found h heap s stands n p q k found) row row_is).closed
 
 -- the root of a heap object is one of its parts
 pub root_is_at : (h : Classes) (classes : List ClassId) (k : ℕ) (c : ClassId) → slice_get classes k ≡ Some c → IsAt h (sizes_of h) classes (root_at (sizes_of h) classes k c)
 root_is_at h classes k c listed = record { object = k; class = c; listed = listed; under = here (root_at (sizes_of h) classes k c) refl }
 
 -- the number and the class of the whole of a part's heap object
-pub heap_object_told : (h : Classes) (heap : Heap) (s : Objects) → HeapStands h heap s → (n : ℕ) (p : ObjectPart) → Points h s.classes n p → (cell : Cell) → cell ≡ cell_at heap n → (row : ObjectRow) → row ≡ row_at heap cell.object
+pub heap_object_told : (h : Classes) (heap : Heap) (s : Objects) → HeapStands h heap s → (n : ℕ) (p : ObjectPart) → Points h s.classes n p → (k : ℕ) → IsObjectAt heap.objects.items n k → (row : ObjectRow) → row ≡ row_at heap k
     → (c : ClassId) → slice_get s.classes p.object ≡ Some c → Points h s.classes row.start (whole_part p.object c)
-heap_object_told h heap s stands n p q cell is row row_is c listed =
-    let r = row_found h heap s stands n p q cell.object (object_told h heap s stands n p q cell is) row row_is in
+heap_object_told h heap s stands n p q k found row row_is c listed =
+    let r = row_found h heap s stands n p q k (object_found h heap s stands n p q k found) row row_is in
     record { node = root_at (sizes_of h) s.classes p.object c; at = root_is_at h s.classes p.object c listed; is_part = refl; is_number = sym r.start }
 
-pub object_class_told : (h : Classes) (heap : Heap) (s : Objects) → HeapStands h heap s → (n : ℕ) (p : ObjectPart) → Points h s.classes n p → (cell : Cell) → cell ≡ cell_at heap n → (row : ObjectRow) → row ≡ row_at heap cell.object
+pub object_class_told : (h : Classes) (heap : Heap) (s : Objects) → HeapStands h heap s → (n : ℕ) (p : ObjectPart) → Points h s.classes n p → (k : ℕ) → IsObjectAt heap.objects.items n k → (row : ObjectRow) → row ≡ row_at heap k
     → slice_get s.classes p.object ≡ Some row.class
-object_class_told h heap s stands n p q cell is row row_is =
-    let r = row_found h heap s stands n p q cell.object (object_told h heap s stands n p q cell is) row row_is in
+object_class_told h heap s stands n p q k found row row_is =
+    let r = row_found h heap s stands n p q k (object_found h heap s stands n p q k found) row row_is in
     r.listed ∙ ap (λ (t : ClassId). Some t) (sym r.class_is)
 
 -- a part that has begun, by its cell
@@ -158,8 +156,8 @@ root_test h heap s stands k c listed w at full object (step ∷ o) owner =
     let same = heap_part h (sizes_of h) (sizes_are h stands.hierarchy) s.classes w (root_at (sizes_of h) s.classes k c) at (root_is_at h s.classes k c listed) (sym n) in
     let f : [] ≡ step ∷ o = ap (λ (t : Node). t.part.owner) (sym same) ∙ owner in cc))
 
-pub in_heap_told : (h : Classes) (heap : Heap) (s : Objects) → HeapStands h heap s → (n : ℕ) (p : ObjectPart) → Points h s.classes n p → HasBegun s p → (cell : Cell) → cell ≡ cell_at heap n → (row : ObjectRow) → row ≡ row_at heap cell.object → is_in_heap_object p.owner ≡ nat_eq row.start cell.whole
-in_heap_told h heap s stands n p q begun cell is row row_is =
-    let r = row_found h heap s stands n p q cell.object (object_told h heap s stands n p q cell is) row row_is in
+pub in_heap_told : (h : Classes) (heap : Heap) (s : Objects) → HeapStands h heap s → (n : ℕ) (p : ObjectPart) → Points h s.classes n p → HasBegun s p → (cell : Cell) → cell ≡ cell_at heap n → (k : ℕ) → IsObjectAt heap.objects.items n k → (row : ObjectRow) → row ≡ row_at heap k → is_in_heap_object p.owner ≡ nat_eq row.start cell.whole
+in_heap_told h heap s stands n p q begun cell is k found row row_is =
+    let r = row_found h heap s stands n p q k (object_found h heap s stands n p q k found) row row_is in
     let w = whole_told h heap s stands n p q begun cell is in
     root_test h heap s stands p.object r.class r.listed w.node w.at w.full w.object p.owner w.owner ∙ (ap (λ k. nat_eq k w.node.number) (sym r.start) ∙ ap (λ k. nat_eq row.start k) w.is_number)

@@ -25,16 +25,17 @@ use Rattle.path_model.specs.Outs.{class_or_first, object_class}
 use Rattle.path_model.specs.Steps.{objects_after}
 use Rattle.path_heap.specs.declared.state.Phase.{Phase}
 use Rattle.path_heap.specs.declared.state.Phase.TheVariants.{Ended}
-use Rattle.path_heap.specs.declared.state.Cell.{Cell}
 use Rattle.path_heap.specs.declared.state.ObjectRow.{ObjectRow}
 use Rattle.path_heap.specs.declared.state.Part.{Part}
 use Rattle.path_heap.specs.declared.heap.Heap.{Heap}
 use Rattle.path_heap.specs.Points.{IsPart}
 use Rattle.path_heap.specs.Running.{entry_at, ViewsStand}
 use Rattle.path_heap.specs.Stands.{phase_of, ObjectStands, HeapStands}
-use Rattle.path_heap.specs.invariants.Columns.{cell_or, cell_at, row_or, row_at, marked_cell, closed_row, Marked, Left, Closed}
+use Rattle.path_heap.specs.invariants.Columns.{row_or, row_at, marked_cell, closed_row, Marked, Left, Closed}
+use Rattle.path_heap.specs.invariants.Cuts.{IsObjectAt}
 use Rattle.path_heap.proofs.Sets.{set_same, set_other}
-use Rattle.path_heap.proofs.Asking.{object_told, row_found, root_is_at}
+use Rattle.path_heap.proofs.Asking.{row_found, root_is_at}
+use Rattle.path_heap.proofs.Finding.{object_found}
 use Rattle.path_heap.proofs.Viewing.{points_of, ends_stand}
 use Rattle.path_heap.proofs.Marking.{turned, turned_stands, same_rows, whole_less}
 
@@ -44,11 +45,10 @@ pub leaves_with : (h : Classes) (heap mid new : Heap) (s : Objects) → HeapStan
     → ((k : ℕ) (c : ClassId) → slice_get s.classes k ≡ Some c → ObjectStands h (turned s p (phase_of x) (popped s.phases.running p) closed) last.objects.items k c) → length last.objects.items ≡ length heap.objects.items
     → HeapStands h last (turned s p (phase_of x) (popped s.phases.running p) closed)
 leaves_with h heap mid new s stands code p r x top did marked last cells leaves tops_same around_same closed objects objects_size =
-    let e : cell_at mid code.number ≡ cell_at heap code.number = ap (λ t. cell_or (slice_get t code.number)) did.cells in
     let tops = tops_same ∙ (marked.tops ∙ did.tops) in
     let around = around_same ∙ (marked.around ∙ did.around) in
     turned_stands h heap last s stands code p r x (popped s.phases.running p) closed
-    (cells ∙ (marked.cells ∙ (ap (λ t. slice_set t code.number (marked_cell x code (cell_at mid code.number))) did.cells ∙ ap (λ (t : Cell). slice_set heap.cells.items code.number (marked_cell x code t)) e)))
+    (cells ∙ (marked.cells ∙ ap (λ t. slice_set t code.number (marked_cell x code)) did.cells))
     (leaves ∙ (marked.leaves ∙ did.leaves))
     objects objects_size
     (subst (λ (t : List (Option ℕ)). ViewsStand h s.classes (record { phase = put s.phases.phase p (phase_of x); running = popped s.phases.running p }) t last.around.items) (sym tops)
@@ -84,27 +84,26 @@ class_there : (s : Objects) (k : ℕ) (c : ClassId) → slice_get s.classes k �
 class_there s k c at = ap class_or_first at
 
 -- the rows behind the end of a part
-closed_rows : (h : Classes) (heap : Heap) (s : Objects) → HeapStands h heap s → (code : Part) (p : ObjectPart) → IsPart h s.classes code p → (cell : Cell) → cell ≡ cell_at heap code.number → (row : ObjectRow) → row ≡ row_at heap cell.object
+closed_rows : (h : Classes) (heap : Heap) (s : Objects) → HeapStands h heap s → (code : Part) (p : ObjectPart) → IsPart h s.classes code p → (j : ℕ) → p.object ≡ j → (row : ObjectRow) → row ≡ row_at heap j
     → (running : ℕ → List Step → List Subobject) (k : ℕ) (c : ClassId) → slice_get s.classes k ≡ Some c
-    → ObjectStands h (turned s p (phase_of Ended) running (closing s p)) (if nat_eq row.start code.number then slice_set heap.objects.items cell.object (closed_row row) else heap.objects.items) k c
-closed_rows h heap s stands code p r cell cell_is row row_is running k c at =
+    → ObjectStands h (turned s p (phase_of Ended) running (closing s p)) (if nat_eq row.start code.number then slice_set heap.objects.items j (closed_row row) else heap.objects.items) k c
+closed_rows h heap s stands code p r j object row row_is running k c at =
     let q = points_of h s.classes code p r in
-    let object = object_told h heap s stands code.number p q cell cell_is in
-    let f = row_found h heap s stands code.number p q cell.object object row row_is in
+    let f = row_found h heap s stands code.number p q j object row row_is in
     let o = stands.objects k c at in
     let lt = slice_get_within heap.objects.items k o.row o.listed in
     ⊎_elim
     (λ e.
     let here : p.object ≡ k = object ∙ e in
-    let class : f.class ≡ c = let l = subst (λ j. slice_get s.classes j ≡ Some f.class) here f.listed in cc (l, at) in
-    let start : row.start ≡ (root_at (sizes_of h) s.classes k c).number = f.start ∙ (ap (λ j. (root_at (sizes_of h) s.classes j f.class).number) here ∙ ap (λ (t : ClassId). (root_at (sizes_of h) s.classes k t).number) class) in
+    let class : f.class ≡ c = let l = subst (λ i. slice_get s.classes i ≡ Some f.class) here f.listed in cc (l, at) in
+    let start : row.start ≡ (root_at (sizes_of h) s.classes k c).number = f.start ∙ (ap (λ i. (root_at (sizes_of h) s.classes i f.class).number) here ∙ ap (λ (t : ClassId). (root_at (sizes_of h) s.classes k t).number) class) in
     let test : nat_eq row.start code.number ≡ same_part p (whole_part k (object_class s k)) = ap (λ n. nat_eq n code.number) start ∙ (whole_test h heap s stands code p r k c at ∙ ap (λ (t : ClassId). same_part p (whole_part k t)) (sym (class_there s k c at))) in
-    let row_same : o.row ≡ row = let l : slice_get heap.objects.items cell.object ≡ Some o.row = subst (λ j. slice_get heap.objects.items j ≡ Some o.row) (sym e) o.listed in sym (row_is ∙ ap row_or l) in
+    let row_same : o.row ≡ row = let l : slice_get heap.objects.items j ≡ Some o.row = subst (λ i. slice_get heap.objects.items i ≡ Some o.row) (sym e) o.listed in sym (row_is ∙ ap row_or l) in
     split (nat_eq row.start code.number)
-    (λ b. b ≡ same_part p (whole_part k (object_class s k)) → ObjectStands h (turned s p (phase_of Ended) running (closing s p)) (if b then slice_set heap.objects.items cell.object (closed_row row) else heap.objects.items) k c)
+    (λ b. b ≡ same_part p (whole_part k (object_class s k)) → ObjectStands h (turned s p (phase_of Ended) running (closing s p)) (if b then slice_set heap.objects.items j (closed_row row) else heap.objects.items) k c)
     (λ _ yes_whole. record {
       row = closed_row row;
-      listed = subst (λ j. slice_get (slice_set heap.objects.items j (closed_row row)) k ≡ Some (closed_row row)) (sym e) (set_same heap.objects.items k (closed_row row) lt);
+      listed = subst (λ i. slice_get (slice_set heap.objects.items i (closed_row row)) k ≡ Some (closed_row row)) (sym e) (set_same heap.objects.items k (closed_row row) lt);
       class = ap (λ (t : ObjectRow). t.class) (sym row_same) ∙ o.class;
       start = ap (λ (t : ObjectRow). t.start) (sym row_same) ∙ o.start;
       closed = ap (λ b. if b then true else s.is_closed k) yes_whole;
@@ -115,40 +114,27 @@ closed_rows h heap s stands code p r cell cell_is row row_is running k c at =
     let other : same_part p (whole_part k (object_class s k)) ≡ false = is_false (same_part p (whole_part k (object_class s k))) (λ e. differ (sym object ∙ ap (λ (t : ObjectPart). t.object) (part_same p (whole_part k (object_class s k)) e))) in
     record {
       row = o.row;
-      listed = split (nat_eq row.start code.number) (λ b. slice_get (if b then slice_set heap.objects.items cell.object (closed_row row) else heap.objects.items) k ≡ Some o.row)
-          (λ _. set_other heap.objects.items cell.object k (closed_row row) differ ∙ o.listed) (λ _. o.listed);
+      listed = split (nat_eq row.start code.number) (λ b. slice_get (if b then slice_set heap.objects.items j (closed_row row) else heap.objects.items) k ≡ Some o.row)
+          (λ _. set_other heap.objects.items j k (closed_row row) differ ∙ o.listed) (λ _. o.listed);
       class = o.class;
       start = o.start;
       closed = o.closed ∙ ap (λ b. if b then true else s.is_closed k) (sym other);
     })
-    (decide_number cell.object k)
+    (decide_number j k)
 
 closed_size : (rows : List ObjectRow) (b : Bool) (k : ℕ) (row : ObjectRow) → length (if b then slice_set rows k row else rows) ≡ length rows
 closed_size rows true k row = length-set rows k row
 closed_size rows false k row = refl
 
--- the object of the part is there behind the other changes
-found_object : (h : Classes) (heap mid new : Heap) (s : Objects) → HeapStands h heap s → (code : Part) (p : ObjectPart) → IsPart h s.classes code p → Left heap mid code → Marked mid new code Ended → (cell_at new code.number).object ≡ (cell_at heap code.number).object
-found_object h heap mid new s stands code p r did marked =
-    let old = stands.cells r.node r.at in
-    let here : slice_get heap.cells.items code.number ≡ Some old.cell = subst (λ n. slice_get heap.cells.items n ≡ Some old.cell) r.is_number old.listed in
-    let lt = slice_get_within heap.cells.items code.number old.cell here in
-    let e : cell_at mid code.number ≡ cell_at heap code.number = ap (λ t. cell_or (slice_get t code.number)) did.cells in
-    ap (λ t. (cell_or (slice_get t code.number)).object) (marked.cells ∙ ap (λ t. slice_set t code.number (marked_cell Ended code (cell_at mid code.number))) did.cells)
-    ∙ (ap (λ o. (cell_or o).object) (set_same heap.cells.items code.number (marked_cell Ended code (cell_at mid code.number)) lt) ∙ ap (λ (t : Cell). t.object) e)
-
 -- the row that is read behind the other changes is that from before
 pub ends_heap : (h : Classes) (heap mid new last : Heap) (program : TypedProgram) (s : Objects) → HeapStands h heap s → (code : Part) (p : ObjectPart) → IsPart h s.classes code p → IsOnTop s.phases p → Left heap mid code → Marked mid new code Ended → Closed new last code
     → HeapStands h last (objects_after program s (End p))
 ends_heap h heap mid new last program s stands code p r top did marked shut =
-    let here = found_object h heap mid new s stands code p r did marked in
     let rows : new.objects.items ≡ heap.objects.items = marked.objects ∙ did.objects in
-    let row : row_at new (cell_at new code.number).object ≡ row_at heap (cell_at heap code.number).object = ap (λ k. row_at new k) here ∙ ap (λ t. row_or (slice_get t (cell_at heap code.number).object)) rows in
-    let objects : last.objects.items ≡ (if nat_eq (row_at heap (cell_at heap code.number).object).start code.number then slice_set heap.objects.items (cell_at heap code.number).object (closed_row (row_at heap (cell_at heap code.number).object)) else heap.objects.items) =
-    shut.objects ∙ (ap (λ (t : ObjectRow). if nat_eq t.start code.number then slice_set new.objects.items (cell_at new code.number).object (closed_row t) else new.objects.items) row
-    ∙ (ap (λ k. if nat_eq (row_at heap (cell_at heap code.number).object).start code.number then slice_set new.objects.items k (closed_row (row_at heap (cell_at heap code.number).object)) else new.objects.items) here
-    ∙ ap (λ t. if nat_eq (row_at heap (cell_at heap code.number).object).start code.number then slice_set t (cell_at heap code.number).object (closed_row (row_at heap (cell_at heap code.number).object)) else t) rows)) in
+    let object = object_found h heap s stands code.number p (points_of h s.classes code p r) shut.object (subst (λ (t : List ObjectRow). IsObjectAt t code.number shut.object) rows shut.found) in
+    let objects : last.objects.items ≡ (if nat_eq (row_at heap shut.object).start code.number then slice_set heap.objects.items shut.object (closed_row (row_at heap shut.object)) else heap.objects.items) =
+    shut.objects ∙ ap (λ t. if nat_eq (row_or (slice_get t shut.object)).start code.number then slice_set t shut.object (closed_row (row_or (slice_get t shut.object))) else t) rows in
     leaves_with h heap mid new s stands code p r Ended top did marked last shut.cells shut.leaves shut.tops shut.around (closing s p)
     (λ k c at. subst (λ (t : List ObjectRow). ObjectStands h (turned s p (phase_of Ended) (popped s.phases.running p) (closing s p)) t k c) (sym objects)
-    (closed_rows h heap s stands code p r (cell_at heap code.number) refl (row_at heap (cell_at heap code.number).object) refl (popped s.phases.running p) k c at))
-    (ap length objects ∙ closed_size heap.objects.items (nat_eq (row_at heap (cell_at heap code.number).object).start code.number) (cell_at heap code.number).object (closed_row (row_at heap (cell_at heap code.number).object)))
+    (closed_rows h heap s stands code p r shut.object object (row_at heap shut.object) refl (popped s.phases.running p) k c at))
+    (ap length objects ∙ closed_size heap.objects.items (nat_eq (row_at heap shut.object).start code.number) shut.object (closed_row (row_at heap shut.object)))

@@ -1,4 +1,5 @@
 pub mod Sets
+pub mod Finding
 pub mod Asking
 pub mod Seeing
 pub mod Viewing

@@ -1,5 +1,5 @@
 -- An event: the part takes a phase, the stack of its complete object changes, and nothing else does.
-use Rattle.std.proofs.Common.{◌≡◌, ℕ, ◌<◌, ⊎_elim, Bool, true, false, Option, Some, List, length, refl, ap, subst, sym, ◌∙◌}
+use Rattle.std.proofs.Common.{◌≡◌, ℕ, ◌<◌, ⊎_elim, Bool, true, false, Option, Some, List, length, ap, subst, sym, ◌∙◌}
 use Rattle.std.specs.Prelude.{slice_get, slice_set}
 use Rattle.std.proofs.lemmas.List.{length-set}
 use Rattle.std.proofs.lemmas.Option.{slice_get_within}
@@ -26,10 +26,9 @@ use Rattle.path_heap.specs.declared.heap.Heap.{Heap}
 use Rattle.path_heap.specs.Points.{IsPart, IsOwner}
 use Rattle.path_heap.specs.Running.{entry_at, ViewsStand}
 use Rattle.path_heap.specs.Stands.{phase_of, CellStands, ObjectStands, HeapStands}
-use Rattle.path_heap.specs.invariants.Columns.{cell_or, cell_at, marked_cell, Marked, Entered}
+use Rattle.path_heap.specs.invariants.Columns.{marked_cell, Marked, Entered}
 use Rattle.path_heap.proofs.Sets.{set_same, set_other}
-use Rattle.path_heap.proofs.Asking.{object_told}
-use Rattle.path_heap.proofs.Viewing.{points_of, at_less, begins_stand, stays_stand}
+use Rattle.path_heap.proofs.Viewing.{at_less, begins_stand, stays_stand}
 
 -- the objects with one part in another phase
 abbrev pub turned : Objects → ObjectPart → Plan.Phase → (ℕ → List Step → List Subobject) → (ℕ → Bool) → Objects
@@ -37,7 +36,7 @@ turned s p x running closed = record { classes = s.classes; is_closed = closed; 
 
 -- the column of cells
 cell_marked : (h : Classes) (heap : Heap) (s : Objects) → HeapStands h heap s → (code : Part) (p : ObjectPart) → IsPart h s.classes code p → (x : Phase) (running : ℕ → List Step → List Subobject) (closed : ℕ → Bool) (z : Node) → IsAt h (sizes_of h) s.classes z
-    → CellStands h (turned s p (phase_of x) running closed) (slice_set heap.cells.items code.number (marked_cell x code (cell_at heap code.number))) z
+    → CellStands h (turned s p (phase_of x) running closed) (slice_set heap.cells.items code.number (marked_cell x code)) z
 cell_marked h heap s stands code p r x running closed z z_at =
     let old = stands.cells r.node r.at in
     let here : slice_get heap.cells.items code.number ≡ Some old.cell = subst (λ n. slice_get heap.cells.items n ≡ Some old.cell) r.is_number old.listed in
@@ -47,9 +46,8 @@ cell_marked h heap s stands code p r x running closed z z_at =
     let same : r.node ≡ z = heap_part h (sizes_of h) (sizes_are h stands.hierarchy) s.classes r.node z r.at z_at (r.is_number ∙ e) in
     let place : z.part ≡ p = ap (λ (t : Node). t.part) (sym same) ∙ r.is_part in
     record {
-      cell = marked_cell x code (cell_at heap code.number);
-      listed = ap (slice_get (slice_set heap.cells.items code.number (marked_cell x code (cell_at heap code.number)))) (sym e) ∙ set_same heap.cells.items code.number (marked_cell x code (cell_at heap code.number)) lt;
-      object = sym (object_told h heap s stands code.number p (points_of h s.classes code p r) (cell_at heap code.number) refl) ∙ ap (λ (t : ObjectPart). t.object) (sym place);
+      cell = marked_cell x code;
+      listed = ap (slice_get (slice_set heap.cells.items code.number (marked_cell x code))) (sym e) ∙ set_same heap.cells.items code.number (marked_cell x code) lt;
       phase = sym (ap (put s.phases.phase p (phase_of x)) place ∙ put_same s.phases.phase p (phase_of x));
       class = λ _. sym r.is_class ∙ ap (λ (t : Node). t.class) same;
       owner = λ _. subst (λ (t : Node). IsOwner h s.classes t code.whole code.owner) same r.owned;
@@ -60,8 +58,7 @@ cell_marked h heap s stands code p r x running closed z z_at =
     let as_before : put s.phases.phase p (phase_of x) z.part ≡ s.phases.phase z.part = put_other s.phases.phase p (phase_of x) z.part apart in
     record {
       cell = d.cell;
-      listed = set_other heap.cells.items code.number z.number (marked_cell x code (cell_at heap code.number)) differ ∙ d.listed;
-      object = d.object;
+      listed = set_other heap.cells.items code.number z.number (marked_cell x code) differ ∙ d.listed;
       phase = d.phase ∙ sym as_before;
       class = λ begun. d.class (λ raw. begun (as_before ∙ raw));
       owner = λ begun. d.owner (λ raw. begun (as_before ∙ raw));
@@ -70,7 +67,7 @@ cell_marked h heap s stands code p r x running closed z z_at =
 
 -- what holds of the columns of objects and views makes the whole
 pub turned_stands : (h : Classes) (heap new : Heap) (s : Objects) → HeapStands h heap s → (code : Part) (p : ObjectPart) → IsPart h s.classes code p → (x : Phase) (running : ℕ → List Step → List Subobject) (closed : ℕ → Bool)
-    → new.cells.items ≡ slice_set heap.cells.items code.number (marked_cell x code (cell_at heap code.number)) → new.leaves.items ≡ heap.leaves.items
+    → new.cells.items ≡ slice_set heap.cells.items code.number (marked_cell x code) → new.leaves.items ≡ heap.leaves.items
     → ((k : ℕ) (c : ClassId) → slice_get s.classes k ≡ Some c → ObjectStands h (turned s p (phase_of x) running closed) new.objects.items k c) → length new.objects.items ≡ length heap.objects.items
     → ViewsStand h s.classes (record { phase = put s.phases.phase p (phase_of x); running = running }) new.tops.items new.around.items → length new.tops.items ≡ length heap.tops.items → length new.around.items ≡ length heap.around.items
     → HeapStands h new (turned s p (phase_of x) running closed)
@@ -82,7 +79,7 @@ turned_stands h heap new s stands code p r x running closed cells leaves objects
   views = views;
   counts = record {
     objects = objects_size ∙ stands.counts.objects;
-    cells = ap length cells ∙ (length-set heap.cells.items code.number (marked_cell x code (cell_at heap code.number)) ∙ stands.counts.cells);
+    cells = ap length cells ∙ (length-set heap.cells.items code.number (marked_cell x code) ∙ stands.counts.cells);
     leaves = ap length leaves ∙ stands.counts.leaves;
     tops = tops ∙ stands.counts.tops;
     around = around ∙ stands.counts.around;
@@ -107,11 +104,10 @@ number_less h heap s stands code p r =
 pub enters : (h : Classes) (heap mid new : Heap) (s : Objects) → HeapStands h heap s → (code : Part) (p : ObjectPart) → IsPart h s.classes code p → (x : Phase) → is_running (s.phases.phase p) ≡ false → is_running (phase_of x) ≡ true
     → Entered heap mid code → Marked mid new code x → HeapStands h new (turned s p (phase_of x) (pushed s.phases.running p) s.is_closed)
 enters h heap mid new s stands code p r x idle runs did marked =
-    let e : cell_at mid code.number ≡ cell_at heap code.number = ap (λ t. cell_or (slice_get t code.number)) did.cells in
     let tops = marked.tops ∙ did.tops in
     let around = marked.around ∙ did.around in
     turned_stands h heap new s stands code p r x (pushed s.phases.running p) s.is_closed
-    (marked.cells ∙ (ap (λ t. slice_set t code.number (marked_cell x code (cell_at mid code.number))) did.cells ∙ ap (λ (t : Cell). slice_set heap.cells.items code.number (marked_cell x code t)) e))
+    (marked.cells ∙ ap (λ t. slice_set t code.number (marked_cell x code)) did.cells)
     (marked.leaves ∙ did.leaves)
     (same_rows h heap s stands p (phase_of x) (pushed s.phases.running p) new.objects.items (marked.objects ∙ did.objects)) (ap length (marked.objects ∙ did.objects))
     (subst (λ (t : List (Option ℕ)). ViewsStand h s.classes (record { phase = put s.phases.phase p (phase_of x); running = pushed s.phases.running p }) t new.around.items) (sym tops)

@@ -1,6 +1,6 @@
 -- A list with one item set, and one made longer by equal items.
-use Rattle.std.proofs.Common.{◌≡◌, ℕ, zero, suc, ◌+◌, ◌<◌, ◌≤◌, Some, List, [], ◌∷◌, ◌++◌, length, refl, ap, ◌∙◌, append_assoc, arith}
-use Rattle.std.specs.Prelude.{slice_get, slice_set, replicate}
+use Rattle.std.proofs.Common.{◌≡◌, ℕ, zero, suc, ◌+◌, ◌<◌, ◌≤◌, Some, List, [], ◌∷◌, ◌++◌, length, refl, ap, arith}
+use Rattle.std.specs.Prelude.{Option, None, slice_get, slice_index_or, slice_set, replicate}
 use Rattle.std.proofs.lemmas.List.{set_past}
 
 pub past_end : {X : Type 0} (xs : List X) (i : ℕ) (x : X) → length xs ≤ i → slice_set xs i x ≡ xs
@@ -18,13 +18,11 @@ set_other (x ∷ xs) zero (suc j) v differ = refl
 set_other (x ∷ xs) (suc i) zero v differ = refl
 set_other (x ∷ xs) (suc i) (suc j) v differ = set_other xs i j v (λ e. differ (ap (λ n. suc n) e))
 
--- one item more of the equal ones
-pub one_longer : {X : Type 0} (xs : List X) (n : ℕ) (x : X) → (xs ++ replicate n x) ++ x ∷ [] ≡ xs ++ replicate (n + 1) x
-one_longer xs n x = append_assoc xs (replicate n x) (x ∷ []) ∙ ap (λ t. xs ++ t) (equal_ones n x)
-  where
-    equal_ones : {X : Type 0} (n : ℕ) (x : X) → replicate n x ++ x ∷ [] ≡ replicate (n + 1) x
-    equal_ones zero x = refl
-    equal_ones (suc n) x = ap (λ t. x ∷ t) (equal_ones n x) ∙ ap (λ k. replicate k x) (let e : suc (n + 1) ≡ suc n + 1 = omega arith in e)
+-- an item, and the blank one past the end
+pub blank_past : {X Y : Type 0} (f : Option X → Y) (xs : List X) (i : ℕ) (blank : X) → f None ≡ f (Some blank) → f (slice_get xs i) ≡ f (Some (slice_index_or xs i blank))
+blank_past f [] i blank e = e
+blank_past f (x ∷ xs) zero blank e = refl
+blank_past f (x ∷ xs) (suc i) blank e = blank_past f xs i blank e
 
 pub get_equal : {X : Type 0} (n i : ℕ) (x : X) → i < n → slice_get (replicate n x) i ≡ Some x
 get_equal zero i x lt = absurd (omega arith)

@@ -75,7 +75,7 @@ leaf_written h heap s stands k value l v q means n m r = ⊎_elim
 pub stored_stands : (h : Classes) (heap new : Heap) (s : Objects) → HeapStands h heap s → (k : ℕ) (value : ValueCode) (l : Leaf) (v : Value) → PointsLeaf h s.classes k l → Means h s.classes value v → Stored heap new k value → HeapStands h new (leaf_set s l v)
 stored_stands h heap new s stands k value l v q means did = record {
   hierarchy = stands.hierarchy;
-  cells = λ y at. let old = stands.cells y at in record { cell = old.cell; listed = ap (λ t. slice_get t y.number) did.cells ∙ old.listed; object = old.object; phase = old.phase; class = old.class; owner = old.owner };
+  cells = λ y at. let old = stands.cells y at in record { cell = old.cell; listed = ap (λ t. slice_get t y.number) did.cells ∙ old.listed; phase = old.phase; class = old.class; owner = old.owner };
   leaves = λ n m r. subst (λ (t : List ValueCode). LeafStands h (leaf_set s l v) t n m) (sym did.leaves) (leaf_written h heap s stands k value l v q means n m r);
   objects = λ j c at. let o = stands.objects j c at in record { row = o.row; listed = ap (λ t. slice_get t j) did.objects ∙ o.listed; class = o.class; start = o.start; closed = o.closed };
   views = subst (λ t. ViewsStand h s.classes s.phases t new.around.items) (sym did.tops) (subst (λ t. ViewsStand h s.classes s.phases heap.tops.items t) (sym did.around) stands.views);

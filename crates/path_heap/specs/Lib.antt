@@ -1,3 +1,4 @@
+pub mod Blanks
 pub mod Points
 pub mod Running
 pub mod Stands

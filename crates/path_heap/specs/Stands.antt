@@ -57,7 +57,6 @@ HasBegun s p = s.phases.phase p ≡ Raw → ⊥
 pub record CellStands (h : Classes) (s : Objects) (cells : List Cell) (y : Node) : Type 0 where
   pub cell : Cell
   pub listed : slice_get cells y.number ≡ Some cell
-  pub object : cell.object ≡ y.part.object
   pub phase : phase_of cell.phase ≡ s.phases.phase y.part
   pub class : HasBegun s y.part → cell.class ≡ y.class
   pub owner : HasBegun s y.part → IsOwner h s.classes y cell.whole cell.owner

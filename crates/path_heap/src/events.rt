@@ -1,6 +1,6 @@
 //! The events of plans: a part takes a phase, and begins or ends to run.
 
-ghost use Rattle.std.specs.Prelude.{◌≡◌};
+ghost use Rattle.std.specs.Prelude.{◌≡◌, IfOk};
 ghost use Rattle.cxx_hierarchy.specs.Classes.{Classes};
 ghost use Rattle.cxx_program.specs.declared.program.TypedProgram.{TypedProgram};
 ghost use Rattle.path_plan.specs.Places.{ObjectPart};
@@ -9,51 +9,61 @@ ghost use Rattle.path_plan.specs.Views.{Fits};
 ghost use Rattle.path_model.specs.Values.{Objects};
 ghost use Rattle.path_model.specs.Steps.{objects_after};
 ghost use Rattle.path_heap.specs.Points.{IsPart};
+ghost use Rattle.path_heap.specs.Running.{entry_at};
 ghost use Rattle.path_heap.specs.Stands.{HeapStands};
 ghost use Rattle.path_heap.specs.invariants.Columns.{Marked, Entered, Left, Closed};
 
 use crate::heap::Heap;
-use crate::lists::{entry, set};
+use crate::lists::set;
 use crate::state::{Cell, ObjectRow, Part, Phase};
+use foundation::NoMemory;
 
 impl Heap {
     /// The part is in this phase.
-    fn mark(&mut self, part: Part, phase: Phase)
-        ensures { Marked self.old self.new part phase }
+    fn mark(&mut self, part: Part, phase: Phase) -> Result<(), NoMemory>
+        ensures { IfOk result (λ _. Marked self.old self.new part phase) }
     {
-        let object = self.cell(part.number).object;
         let cell = Cell {
-            object,
             phase,
             class: part.class,
             whole: part.whole,
             owner: part.owner,
         };
-        set(&mut self.cells, part.number, cell);
+        self.cells.set(part.number, cell)?;
+        Ok(())
     }
 
     /// The part is the innermost one that runs in its complete object.
-    fn enter(&mut self, part: Part)
-        ensures { Entered self.old self.new part }
+    fn enter(&mut self, part: Part) -> Result<(), NoMemory>
+        ensures { IfOk result (λ _. Entered self.old self.new part) }
     {
-        let outer = entry(&self.tops, part.whole);
-        set(&mut self.around, part.number, outer);
-        set(&mut self.tops, part.whole, Some(part.number));
+        let outer = self.top(part.whole);
+        self.around.set(part.number, outer)?;
+        self.tops.set(part.whole, Some(part.number))?;
+        Ok(())
+    }
+
+    /// The part that was the innermost one when this one began.
+    fn outer(&self, n: u32) -> Option<u32>
+        ensures { result ≡ entry_at self.now.around.items n }
+    {
+        self.around.get(n)
     }
 
     /// The one around it is.
-    fn leave(&mut self, part: Part)
-        ensures { Left self.old self.new part }
+    fn leave(&mut self, part: Part) -> Result<(), NoMemory>
+        ensures { IfOk result (λ _. Left self.old self.new part) }
     {
-        let outer = entry(&self.around, part.number);
-        set(&mut self.tops, part.whole, outer);
+        let outer = self.outer(part.number);
+        self.tops.set(part.whole, outer)?;
+        Ok(())
     }
 
     /// Closes the heap object of a part, where the part is its whole.
     fn close(&mut self, part: Part)
         ensures { Closed self.old self.new part }
     {
-        let object = self.cell(part.number).object;
+        let object = self.object_at(part.number);
         let row = self.row(object);
         if row.start == part.number {
             let closed = ObjectRow {
@@ -66,49 +76,67 @@ impl Heap {
     }
 
     /// Construction begins.
-    pub fn begin(&mut self, part: Part)
-        ensures { (h : Classes) (program : TypedProgram) (s : Objects) (p : ObjectPart) → HeapStands h self.old s → IsPart h s.classes part p → Fits h s.phases (Begin p) → HeapStands h self.new (objects_after program s (Begin p)) }
+    ///
+    /// Errors: want of memory. The heap is then of no use.
+    pub fn begin(&mut self, part: Part) -> Result<(), NoMemory>
+        ensures { IfOk result (λ _. (h : Classes) (program : TypedProgram) (s : Objects) (p : ObjectPart) → HeapStands h self.old s → IsPart h s.classes part p → Fits h s.phases (Begin p) → HeapStands h self.new (objects_after program s (Begin p))) }
     {
-        self.enter(part);
-        self.mark(part, Phase::InBases);
+        self.enter(part)?;
+        self.mark(part, Phase::InBases)?;
+        Ok(())
     }
 
     /// The bases are constructed.
-    pub fn ready(&mut self, part: Part)
-        ensures { (h : Classes) (program : TypedProgram) (s : Objects) (p : ObjectPart) → HeapStands h self.old s → IsPart h s.classes part p → Fits h s.phases (Ready p) → HeapStands h self.new (objects_after program s (Ready p)) }
+    ///
+    /// Errors: want of memory. The heap is then of no use.
+    pub fn ready(&mut self, part: Part) -> Result<(), NoMemory>
+        ensures { IfOk result (λ _. (h : Classes) (program : TypedProgram) (s : Objects) (p : ObjectPart) → HeapStands h self.old s → IsPart h s.classes part p → Fits h s.phases (Ready p) → HeapStands h self.new (objects_after program s (Ready p))) }
     {
-        self.mark(part, Phase::ReadyBuilding);
+        self.mark(part, Phase::ReadyBuilding)?;
+        Ok(())
     }
 
     /// Construction is done.
-    pub fn done(&mut self, part: Part)
-        ensures { (h : Classes) (program : TypedProgram) (s : Objects) (p : ObjectPart) → HeapStands h self.old s → IsPart h s.classes part p → Fits h s.phases (Done p) → HeapStands h self.new (objects_after program s (Done p)) }
+    ///
+    /// Errors: want of memory. The heap is then of no use.
+    pub fn done(&mut self, part: Part) -> Result<(), NoMemory>
+        ensures { IfOk result (λ _. (h : Classes) (program : TypedProgram) (s : Objects) (p : ObjectPart) → HeapStands h self.old s → IsPart h s.classes part p → Fits h s.phases (Done p) → HeapStands h self.new (objects_after program s (Done p))) }
     {
-        self.leave(part);
-        self.mark(part, Phase::Complete);
+        self.leave(part)?;
+        self.mark(part, Phase::Complete)?;
+        Ok(())
     }
 
     /// Destruction begins.
-    pub fn ending(&mut self, part: Part)
-        ensures { (h : Classes) (program : TypedProgram) (s : Objects) (p : ObjectPart) → HeapStands h self.old s → IsPart h s.classes part p → Fits h s.phases (Ending p) → HeapStands h self.new (objects_after program s (Ending p)) }
+    ///
+    /// Errors: want of memory. The heap is then of no use.
+    pub fn ending(&mut self, part: Part) -> Result<(), NoMemory>
+        ensures { IfOk result (λ _. (h : Classes) (program : TypedProgram) (s : Objects) (p : ObjectPart) → HeapStands h self.old s → IsPart h s.classes part p → Fits h s.phases (Ending p) → HeapStands h self.new (objects_after program s (Ending p))) }
     {
-        self.enter(part);
-        self.mark(part, Phase::ReadyEnding);
+        self.enter(part)?;
+        self.mark(part, Phase::ReadyEnding)?;
+        Ok(())
     }
 
     /// The bases are next to be destroyed.
-    pub fn bases(&mut self, part: Part)
-        ensures { (h : Classes) (program : TypedProgram) (s : Objects) (p : ObjectPart) → HeapStands h self.old s → IsPart h s.classes part p → Fits h s.phases (Bases p) → HeapStands h self.new (objects_after program s (Bases p)) }
+    ///
+    /// Errors: want of memory. The heap is then of no use.
+    pub fn bases(&mut self, part: Part) -> Result<(), NoMemory>
+        ensures { IfOk result (λ _. (h : Classes) (program : TypedProgram) (s : Objects) (p : ObjectPart) → HeapStands h self.old s → IsPart h s.classes part p → Fits h s.phases (Bases p) → HeapStands h self.new (objects_after program s (Bases p))) }
     {
-        self.mark(part, Phase::EndingBases);
+        self.mark(part, Phase::EndingBases)?;
+        Ok(())
     }
 
     /// Destruction has ended; with the whole of a heap object the object is closed.
-    pub fn end(&mut self, part: Part)
-        ensures { (h : Classes) (program : TypedProgram) (s : Objects) (p : ObjectPart) → HeapStands h self.old s → IsPart h s.classes part p → Fits h s.phases (End p) → HeapStands h self.new (objects_after program s (End p)) }
+    ///
+    /// Errors: want of memory. The heap is then of no use.
+    pub fn end(&mut self, part: Part) -> Result<(), NoMemory>
+        ensures { IfOk result (λ _. (h : Classes) (program : TypedProgram) (s : Objects) (p : ObjectPart) → HeapStands h self.old s → IsPart h s.classes part p → Fits h s.phases (End p) → HeapStands h self.new (objects_after program s (End p))) }
     {
-        self.leave(part);
-        self.mark(part, Phase::Ended);
+        self.leave(part)?;
+        self.mark(part, Phase::Ended)?;
         self.close(part);
+        Ok(())
     }
 }

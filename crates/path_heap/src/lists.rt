@@ -1,9 +1,9 @@
 //! Lists of what is kept by number.
 
-ghost use Rattle.std.specs.Prelude.{◌≡◌, ◌++◌, IfOk, replicate, slice_set};
-ghost use Rattle.path_heap.specs.Running.{entry_at};
+ghost use Rattle.std.specs.Prelude.{◌≡◌, ◌<◌, ◌^◌, length, slice_set};
+ghost use Rattle.path_heap.specs.invariants.Cuts.{IsCut, IsObjectAt};
 
-use foundation::NoMemory;
+use crate::state::ObjectRow;
 
 /// Sets an item; past the end nothing changes.
 #[tactic(auto, using(crate::proofs::Sets::past_end))]
@@ -16,27 +16,30 @@ pub(crate) fn set<T: Copy + Drop>(list: &mut Vec<T>, i: u32, item: T)
     }
 }
 
-/// The entry at a place; None past the end.
-pub(crate) fn entry(list: &Vec<Option<u32>>, i: u32) -> Option<u32>
-    ensures { result ≡ entry_at list.now.items i }
+/// How many rows begin at a number or before it, where each begins behind those before it.
+fn rows_to(rows: &Vec<ObjectRow>, n: u32) -> usize
+    ensures { IsCut rows.now.items n result }
 {
-    match list.get(i as usize) {
-        Some(entry) => *entry,
-        None => None,
+    let mut low = 0;
+    let mut high = rows.len();
+    if high > 0 && rows[high - 1].start <= n {
+        return high;
     }
+    while low < high {
+        let middle = low + (high - low) / 2;
+        if rows[middle].start <= n {
+            low = middle + 1;
+        } else {
+            high = middle;
+        }
+    }
+    low
 }
 
-/// Puts the same item behind the others, so many times.
-#[tactic(auto, using(crate::proofs::Sets::one_longer))]
-pub(crate) fn lengthen<T: Copy + Drop>(
-    list: &mut Vec<T>,
-    item: T,
-    count: usize,
-) -> Result<(), NoMemory>
-    ensures { IfOk result (λ _. list.new.items ≡ list.old.items ++ replicate count item) }
+/// The number of the heap object whose part or leaf has a number: the last one that begins there or before.
+pub(crate) fn object_at(rows: &Vec<ObjectRow>, n: u32) -> u32
+    requires { length rows.now.items < 2 ^ 32 }
+    ensures { IsObjectAt rows.now.items n result }
 {
-    for _ in 0..count {
-        list.push(item)?;
-    }
-    Ok(())
+    rows_to(rows, n).saturating_sub(1) as u32
 }

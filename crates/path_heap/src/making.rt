@@ -1,6 +1,6 @@
 //! A new heap object.
 
-ghost use Rattle.std.specs.Prelude.{◌≡◌, ◌<◌, ◌++◌, IfOk, length, replicate};
+ghost use Rattle.std.specs.Prelude.{◌≡◌, ◌<◌, IfOk, length};
 ghost use Rattle.cxx_hierarchy.specs.Classes.{Classes};
 ghost use Rattle.path_plan.specs.Whole.{whole_part};
 ghost use Rattle.path_numbers.specs.Numbers.{AreNumbers};
@@ -11,8 +11,7 @@ ghost use Rattle.path_heap.specs.Stands.{HeapStands};
 ghost use Rattle.path_heap.specs.invariants.Columns.{Made};
 
 use crate::heap::Heap;
-use crate::lists::lengthen;
-use crate::state::{Cell, ObjectRow, Phase, Value};
+use crate::state::ObjectRow;
 use cxx_hierarchy::ClassId;
 use foundation::NoMemory;
 use path_numbers::Numbers;
@@ -21,27 +20,20 @@ use path_numbers::Numbers;
 const MOST_NUMBERS: usize = 4294967295;
 
 impl Heap {
-    /// Gives a heap object of class c, of so many numbers, its columns.
+    /// Puts a heap object of class c, of so many numbers, behind the others.
     fn push(&mut self, c: ClassId, size: u32) -> Result<u32, NoMemory>
         ensures { IfOk result (λ start. Made self.old self.new c size start) }
     {
         let object = self.objects.len();
         let start = self.cells.len();
         let count = size as usize;
-        if object > MOST_NUMBERS || start > MOST_NUMBERS || count > MOST_NUMBERS - start {
+        if object >= MOST_NUMBERS || start > MOST_NUMBERS || count > MOST_NUMBERS - start {
             return Err(NoMemory);
         }
-        let cell = Cell {
-            object: object as u32,
-            phase: Phase::Raw,
-            class: ClassId(0),
-            whole: 0,
-            owner: ClassId(0),
-        };
-        lengthen(&mut self.cells, cell, count)?;
-        lengthen(&mut self.leaves, Value::Unset, count)?;
-        lengthen(&mut self.tops, None, count)?;
-        lengthen(&mut self.around, None, count)?;
+        self.cells.lengthen(count)?;
+        self.leaves.lengthen(count)?;
+        self.tops.lengthen(count)?;
+        self.around.lengthen(count)?;
         let row = ObjectRow {
             class: c,
             start: start as u32,

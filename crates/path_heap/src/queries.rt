@@ -13,9 +13,10 @@ ghost use Rattle.path_heap.specs.Points.{Points, PointsWhole, PointsView, IsPart
 ghost use Rattle.path_heap.specs.Stands.{HeapStands, HasBegun, phase_of};
 ghost use Rattle.path_heap.specs.invariants.Columns.{cell_at, row_at, view_number};
 ghost use Rattle.path_heap.specs.Running.{entry_at};
+ghost use Rattle.path_heap.specs.invariants.Cuts.{IsObjectAt};
 
 use crate::heap::Heap;
-use crate::lists::entry;
+use crate::lists::object_at;
 use crate::state::{Cell, ObjectRow, Part, Phase};
 use cxx_hierarchy::ClassId;
 
@@ -24,16 +25,21 @@ impl Heap {
     pub(crate) fn cell(&self, n: u32) -> Cell
         ensures { result ≡ cell_at self.now n }
     {
-        match self.cells.get(n as usize) {
-            Some(cell) => *cell,
-            None => Cell {
-                object: 0,
-                phase: Phase::Raw,
-                class: ClassId(0),
-                whole: 0,
-                owner: ClassId(0),
-            },
-        }
+        self.cells.get(n)
+    }
+
+    /// The innermost part that runs in a complete object.
+    pub(crate) fn top(&self, n: u32) -> Option<u32>
+        ensures { result ≡ entry_at self.now.tops.items n }
+    {
+        self.tops.get(n)
+    }
+
+    /// The number of the heap object whose part has a number.
+    pub(crate) fn object_at(&self, n: u32) -> u32
+        ensures { IsObjectAt self.now.objects.items n result }
+    {
+        object_at(&self.objects, n)
     }
 
     /// The row of a heap object.
@@ -54,21 +60,21 @@ impl Heap {
     pub fn object(&self, n: u32) -> u32
         ensures { (h : Classes) (s : Objects) (p : ObjectPart) → HeapStands h self.now s → Points h s.classes n p → p.object ≡ result }
     {
-        self.cell(n).object
+        self.object_at(n)
     }
 
     /// The number of the whole of the heap object of a part.
     pub fn heap_object(&self, n: u32) -> u32
         ensures { (h : Classes) (s : Objects) (p : ObjectPart) (c : ClassId) → HeapStands h self.now s → Points h s.classes n p → slice_get s.classes p.object ≡ Some c → Points h s.classes result (whole_part p.object c) }
     {
-        self.row(self.cell(n).object).start
+        self.row(self.object_at(n)).start
     }
 
     /// The class of the heap object of a part.
     pub fn object_class(&self, n: u32) -> ClassId
         ensures { (h : Classes) (s : Objects) (p : ObjectPart) → HeapStands h self.now s → Points h s.classes n p → slice_get s.classes p.object ≡ Some result }
     {
-        self.row(self.cell(n).object).class
+        self.row(self.object_at(n)).class
     }
 
     /// How many heap objects have been made.
@@ -89,7 +95,7 @@ impl Heap {
     pub fn is_closed(&self, n: u32) -> bool
         ensures { (h : Classes) (s : Objects) (p : ObjectPart) → HeapStands h self.now s → Points h s.classes n p → s.is_closed p.object ≡ result }
     {
-        self.row(self.cell(n).object).is_closed
+        self.row(self.object_at(n)).is_closed
     }
 
     /// The class of a part that has begun.
@@ -130,8 +136,7 @@ impl Heap {
     pub fn is_in_heap_object(&self, n: u32) -> bool
         ensures { (h : Classes) (s : Objects) (p : ObjectPart) → HeapStands h self.now s → Points h s.classes n p → HasBegun s p → is_in_heap_object p.owner ≡ result }
     {
-        let cell = self.cell(n);
-        self.row(cell.object).start == cell.whole
+        self.row(self.object_at(n)).start == self.cell(n).whole
     }
 
     /// The number of the view of the complete object of a part that has begun, and None where it has no view.
@@ -139,7 +144,7 @@ impl Heap {
         ensures { (h : Classes) (s : Objects) (p : ObjectPart) → HeapStands h self.now s → Points h s.classes n p → HasBegun s p → PointsView h s.classes p result (view_of h s p) }
     {
         let whole = self.cell(n).whole;
-        view_of_whole(self.cell(whole).phase, whole, entry(&self.tops, whole))
+        view_of_whole(self.cell(whole).phase, whole, self.top(whole))
     }
 }
 

@@ -39,16 +39,22 @@ pub struct Part {
     pub owner: ClassId,
 }
 
-/// What is kept of a part: the number of its heap object, its phase, and, once it has begun, its class, and the number and
-/// the class of its complete object.
+/// What is kept of a part: its phase, and, once it has begun, its class, and the number and the class of its complete object.
 #[derive(Clone, Copy)]
 pub struct Cell {
-    pub object: u32,
     pub phase: Phase,
     pub class: ClassId,
     pub whole: u32,
     pub owner: ClassId,
 }
+
+/// The cell of a part that has not begun.
+pub(crate) const BLANK: Cell = Cell {
+    phase: Phase::Raw,
+    class: ClassId(0),
+    whole: 0,
+    owner: ClassId(0),
+};
 
 /// A heap object: its class, the number of its whole, and whether its destruction has ended.
 #[derive(Clone, Copy)]

@@ -1,5 +1,6 @@
 -- What a statement does to the machine: what it sees, another heap, and what the model's step then is.
-use Rattle.std.proofs.Common.{◌≡◌, ◌<◌, ℕ, true, false, length, Option, Some, None, List, [], refl, ap, subst, sym, ◌∙◌}
+use Rattle.std.proofs.Common.{◌≡◌, ◌<◌, ℕ, true, false, length, Option, Some, None, List, [], ◌∷◌, refl, ap, subst, sym, ◌∙◌}
+use Rattle.std.specs.Prelude.{ℤ, if◌then◌else◌}
 use Rattle.std.specs.List.{AllZip}
 use Rattle.cxx_hierarchy.specs.declared.records.ClassId.{ClassId}
 use Rattle.cxx_hierarchy.specs.declared.records.ValueType.{ValueType}
@@ -11,6 +12,7 @@ use Rattle.cxx_hierarchy.specs.declared.records.Function.{Function as FunctionOf
 use Rattle.cxx_program.specs.declared.operand.Variable.{Variable}
 use Rattle.cxx_program.specs.declared.operand.Conversion.{Conversion}
 use Rattle.cxx_program.specs.declared.operand.Argument.{Argument}
+use Rattle.cxx_program.specs.declared.statement.Converted.{Converted}
 use Rattle.cxx_program.specs.declared.statement.TypedCall.{TypedCall}
 use Rattle.cxx_program.specs.declared.statement.TypedRight.{TypedRight}
 use Rattle.cxx_program.specs.declared.statement.TypedRight.TheVariants.{Operand, Arithmetic, SamePointer, Not, Read, Address, Call as CallRight, New, Cast, TypeEqual}
@@ -21,10 +23,11 @@ use Rattle.cxx_program.specs.declared.statement.TypedKind.{TypedKind}
 use Rattle.cxx_program.specs.declared.statement.TypedKind.TheVariants.{Return}
 use Rattle.cxx_program.specs.Typed.{Scope, IsTyped, declares, begins, assigns, writes, copies, calls, deletes, branches, repeats, returns_nothing, returns_value, prints, prints_type, prints_view, dumps, IsArgument, IsCall, HasRight, an_operand, a_calculation, a_comparison, a_negation, a_read, an_address, a_result, an_object, a_cast, a_type_test}
 use Rattle.path_model.specs.Values.{Value, Unset, Number, Null, Pointer, Objects, Sight, converted}
+use Rattle.path_model.specs.declared.outs.Out.{Out}
 use Rattle.path_model.specs.Places.{leaf_at}
 use Rattle.path_model.specs.States.{Target, Running, Frame, State, sight, assigned, with_frames, with_objects, target_conversion}
-use Rattle.path_model.specs.Effects.{Next, Goes, Refuses, Ends, Wrong, leaf_set, copied, written, copied_at, left_by, returned, result_given, right_value, taken}
-use Rattle.path_model.specs.Runs.{heap_total, move_by, limit_of, right_demand}
+use Rattle.path_model.specs.Effects.{Next, Goes, Refuses, Ends, Wrong, is_number_zero, going, branched, telling, declared, leaf_set, copied, written, copied_at, left_by, returned, result_given, right_value, taken}
+use Rattle.path_model.specs.Runs.{heap_total, move_by, limit_of, right_demand, converted_demand}
 use Rattle.path_heap.specs.declared.heap.Heap.{Heap}
 use Rattle.path_heap.specs.Stands.{HeapStands, Means}
 use Rattle.path_values.specs.Scenes.{SceneStands}
@@ -38,6 +41,7 @@ use Rattle.path_machine.specs.declared.next.Next.TheVariants.{Goes as GoesCode, 
 use Rattle.path_machine.specs.invariants.Setups.{is_plain}
 use Rattle.path_machine.specs.invariants.Steps.{IsTaken, StepAgrees, MoveAgrees, CanGive}
 use Rattle.path_machine.specs.declared.telling.Telling.{Telling}
+use Rattle.path_machine.specs.Tellings.{TellsMore}
 use Rattle.path_machine.proofs.Tellings.{nothing_more}
 use Rattle.path_values.specs.declared.scene.Scene.{Scene}
 
@@ -73,6 +77,20 @@ taken_heaped h sizes program machine heap frame s f below x t stands same = reco
   body_stands = subst (λ (cs : List ClassId). BodyStands h cs frame f) (sym same) t.body_stands;
   counts = t.counts;
 }
+
+-- control goes on at one of two statements
+pub branch_agrees : (h : Classes) (sizes : ClassId → ℕ) (program : TypedProgram) (new : Machine) (on : State) (v : Value) (first second at : ℕ) (outs : Telling) →
+    ((z : ℤ) → v ≡ Number z → at ≡ (if is_number_zero z then second else first)) → MachineStands h sizes program new (going on at) → StepAgrees h sizes program (branched on v first second) new outs outs GoesCode
+branch_agrees h sizes program new on Unset first second at outs chosen stands = tt
+branch_agrees h sizes program new on (Number z) first second at outs chosen stands = (refl, subst (λ (n : ℕ). MachineStands h sizes program new (going on n)) (chosen z refl) stands, nothing_more outs)
+branch_agrees h sizes program new on Null first second at outs chosen stands = tt
+branch_agrees h sizes program new on (Pointer p) first second at outs chosen stands = tt
+
+-- one thing is told
+pub telling_agrees : (h : Classes) (sizes : ClassId → ℕ) (program : TypedProgram) (new : Machine) (on : State) (found : Option Out) (out : Out) (before after : Telling) → found ≡ Some out → MachineStands h sizes program new on → TellsMore before after (out ∷ []) →
+    StepAgrees h sizes program (telling on found) new before after GoesCode
+telling_agrees h sizes program new on None out before after is stands told = tt
+telling_agrees h sizes program new on (Some other) out before after is stands told = let same : out ≡ other = cc in (refl, stands, subst (λ (o : Out). TellsMore before after (o ∷ [])) same told)
 
 -- a leaf that is written
 pub write_agrees : (h : Classes) (sizes : ClassId → ℕ) (program : TypedProgram) (new : Machine) (on : State) (place : TypedPlace) (w v : Value) (outs : Telling) →
@@ -141,6 +159,12 @@ unlimited h sizes program (Goes s outs) new before after code a = a
 unlimited h sizes program (Refuses rule line) new before after code a = a
 unlimited h sizes program Ends new before after code a = a
 unlimited h sizes program Wrong new before after code a = a
+
+-- a declaration without a right side asks for nothing
+pub unset_agrees : (h : Classes) (sizes : ClassId → ℕ) (program : TypedProgram) (new : Machine) (see : Sight) (on at : State) (n : ℕ) (x : Option Converted) (outs : Telling) → x ≡ None → MachineStands h sizes program new on →
+    MoveAgrees h sizes program (move_by (declared h program see on n x) (limit_of sizes at (converted_demand x))) new outs outs GoesCode
+unset_agrees h sizes program new see on at n None outs is stands = (refl, stands, nothing_more outs)
+unset_agrees h sizes program new see on at n (Some y) outs is stands = absurd (cc)
 
 -- right sides
 

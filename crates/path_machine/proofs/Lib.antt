@@ -2,6 +2,7 @@ pub mod Tellings
 pub mod Effecting
 pub mod Happening
 pub mod Moves
+pub mod Locals
 pub mod Opening
 pub mod Planning
 pub mod Resuming

@@ -41,33 +41,39 @@ fn initial_value(run: &Run, machine: &Machine, part: Part, member: u32) -> Value
 }
 
 /// An initializer sets a member of a part (ISO C++03 12.6.2).
-fn initialize(run: &Run, machine: &mut Machine, part: Part, member: u32)
+///
+/// Errors: want of memory.
+fn initialize(run: &Run, machine: &mut Machine, part: Part, member: u32) -> Result<(), NoMemory>
     requires setup { IsSetup run.now }
-    ensures { Happens run.now.world.h.now run.now.program.now machine.old machine.new (InitCode part member) }
+    ensures { IfOk result (λ _. Happens run.now.world.h.now run.now.program.now machine.old machine.new (InitCode part member)) }
 {
     let value = initial_value(run, machine, part, member);
     let leaf = machine
         .heap
         .leaf_number(run.world.numbers, run.world.h, part.number, member, 0);
-    machine.heap.set_leaf(leaf, value);
+    machine.heap.set_leaf(leaf, value)?;
+    Ok(())
 }
 
 /// Does an event to the heap: a part takes a phase, or an initializer sets a member. A body changes nothing before it is
 /// entered.
-fn happen(run: &Run, machine: &mut Machine, event: PlanEvent)
+///
+/// Errors: want of memory.
+fn happen(run: &Run, machine: &mut Machine, event: PlanEvent) -> Result<(), NoMemory>
     requires setup { IsSetup run.now }
-    ensures { Happens run.now.world.h.now run.now.program.now machine.old machine.new event }
+    ensures { IfOk result (λ _. Happens run.now.world.h.now run.now.program.now machine.old machine.new event) }
 {
     match event {
-        PlanEvent::Begin(part) => machine.heap.begin(part),
-        PlanEvent::Ready(part) => machine.heap.ready(part),
-        PlanEvent::Init(part, member) => initialize(run, machine, part, member),
+        PlanEvent::Begin(part) => machine.heap.begin(part)?,
+        PlanEvent::Ready(part) => machine.heap.ready(part)?,
+        PlanEvent::Init(part, member) => initialize(run, machine, part, member)?,
         PlanEvent::Body(_) => {}
-        PlanEvent::Done(part) => machine.heap.done(part),
-        PlanEvent::Ending(part) => machine.heap.ending(part),
-        PlanEvent::Bases(part) => machine.heap.bases(part),
-        PlanEvent::End(part) => machine.heap.end(part),
+        PlanEvent::Done(part) => machine.heap.done(part)?,
+        PlanEvent::Ending(part) => machine.heap.ending(part)?,
+        PlanEvent::Bases(part) => machine.heap.bases(part)?,
+        PlanEvent::End(part) => machine.heap.end(part)?,
     }
+    Ok(())
 }
 
 /// Tells the event, where it tells something.
@@ -223,7 +229,7 @@ pub(crate) fn event_step(
         None => Ok(Next::Wrong),
         Some(event) => {
             tell_event(run, machine, outs, event)?;
-            happen(run, machine, event);
+            happen(run, machine, event)?;
             frame
                 .plan
                 .advance(run.world.h, run.world.numbers, run.index)?;

@@ -32,7 +32,7 @@ use path_values::Scene;
 use path_views::Found;
 
 /// So many locals: the given values, and unset ones behind them.
-#[tactic(auto, using(path_heap::proofs::Sets::one_longer))]
+#[tactic(auto, using(crate::proofs::Locals::one_longer))]
 fn start_locals(values: Vec<Value>, count: usize) -> Result<Vec<Value>, NoMemory>
     ensures { IfOk result (λ locals. locals.items ≡ values.items ++ replicate (count - length values.items) UnsetCode) }
 {

@@ -53,7 +53,7 @@ pub(crate) fn write_place(
         this: frame.this,
         locals: frame.locals.as_slice(),
     };
-    write(&run.world, &mut machine.heap, &scene, place, x);
+    write(&run.world, &mut machine.heap, &scene, place, x)?;
     go_on(machine, frame, next)?;
     Ok(Next::Goes)
 }

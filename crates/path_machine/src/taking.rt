@@ -34,6 +34,7 @@ fn copy_conversion(alloc: Global, c: &Conversion) -> Result<Conversion, NoMemory
 {
     match c {
         Conversion::Number(t) => Ok(Conversion::Number(*t)),
+        Conversion::Bits(t, bits) => Ok(Conversion::Bits(*t, *bits)),
         Conversion::Null => Ok(Conversion::Null),
         Conversion::Same => Ok(Conversion::Same),
         Conversion::Base(i) => Ok(Conversion::Base(subobject_below(alloc, i, &[])?)),

@@ -6,12 +6,12 @@ use Rattle.cxx_subobject.specs.declared.Subobject.{Subobject}
 use Rattle.foundation.proofs.Truth.{split}
 use Rattle.cxx_subobject.proofs.InsideLemmas.{join_class}
 use Rattle.path_plan.specs.Places.{ObjectPart}
-use Rattle.cxx_hierarchy.specs.Scalars.{stored_as}
+use Rattle.cxx_hierarchy.specs.Scalars.{stored_as, kept_in}
 use Rattle.path_plan.specs.Places.{ObjectPart}
 use Rattle.path_model.specs.Values.{to_number}
 use Rattle.std.specs.Prelude.{ℤ, if◌then◌else◌, min}
 use Rattle.cxx_program.specs.declared.operand.Conversion.{Conversion}
-use Rattle.cxx_program.specs.declared.operand.Conversion.TheVariants.{Number as ToNumber, Null as ToNull, Same as ToSame, Base as ToBase}
+use Rattle.cxx_program.specs.declared.operand.Conversion.TheVariants.{Number as ToNumber, Bits as ToBits, Null as ToNull, Same as ToSame, Base as ToBase}
 use Rattle.path_model.specs.Values.{Value, Unset, Number, Null, Pointer, Objects, converted, to_base, inner_part}
 use Rattle.path_model.specs.Uses.{Use, Reads, Guards, Views, is_shared, views, convert}
 use Rattle.path_model.specs.Rules.{names, is_unready, is_outside}
@@ -50,6 +50,7 @@ number_of s g (Pointer p) c a = a
 
 pub off_converted : (v : Value) (c : Conversion) → is_pointer v ≡ false → is_pointer (converted v c) ≡ false
 off_converted v (ToNumber t) e = number_names (λ p. true) (stored_as t) v ∙ e
+off_converted v (ToBits t width) e = number_names (λ p. true) (kept_in t width) v ∙ e
 off_converted v ToNull e = refl
 off_converted v ToSame e = e
 off_converted Unset (ToBase i) e = refl
@@ -63,18 +64,21 @@ base_rank h s v i = rank_append h s (Guards v ∷ []) (views (is_shared i) v)
 
 pub convert_late : (h : Classes) (s : Objects) (v : Value) (c : Conversion) → 2 ≤ rank h s (convert v c)
 convert_late h s v (ToNumber t) = let n = none_rank h s in omega (arith, n)
+convert_late h s v (ToBits t width) = let n = none_rank h s in omega (arith, n)
 convert_late h s v ToNull = let n = none_rank h s in omega (arith, n)
 convert_late h s v ToSame = let n = none_rank h s in omega (arith, n)
 convert_late h s v (ToBase i) = let r = base_rank h s v i in let g = guard_late h s v in let l = view_late h s (is_shared i) v in omega (arith, r, g, l)
 
 pub convert_steady : (h : Classes) (s : Objects) (v : Value) (c : Conversion) → names (is_unready s) v ≡ false → 3 ≤ rank h s (convert v c)
 convert_steady h s v (ToNumber t) e = let n = none_rank h s in omega (arith, n)
+convert_steady h s v (ToBits t width) e = let n = none_rank h s in omega (arith, n)
 convert_steady h s v ToNull e = let n = none_rank h s in omega (arith, n)
 convert_steady h s v ToSame e = let n = none_rank h s in omega (arith, n)
 convert_steady h s v (ToBase i) e = let r = base_rank h s v i in let g = guard_rank h s v false e in let l = view_late h s (is_shared i) v in omega (arith, r, g, l)
 
 pub convert_clear : (h : Classes) (s : Objects) (v : Value) (c : Conversion) → names (is_unready s) v ≡ false → names (is_outside h s) v ≡ false → rank h s (convert v c) ≡ 12
 convert_clear h s v (ToNumber t) e f = none_rank h s
+convert_clear h s v (ToBits t width) e f = none_rank h s
 convert_clear h s v ToNull e f = none_rank h s
 convert_clear h s v ToSame e f = none_rank h s
 convert_clear h s v (ToBase i) e f = let r = base_rank h s v i in let g = guard_rank h s v false e in let l = views_none h s (is_shared i) v f in omega (arith, r, g, l)
@@ -89,6 +93,7 @@ views_top h s false v l = let n = none_rank h s in omega (arith, n, l)
 -- what comes behind a conversion breaks no rule before it, where it breaks only U3 and later ones, and of a ready pointer only U4 and later ones
 pub convert_then : (h : Classes) (s : Objects) (v : Value) (c : Conversion) (B : List Use) → 2 ≤ rank h s B → (names (is_unready s) v ≡ false → 3 ≤ rank h s B) → rank h s (convert v c) < 12 → rank h s (convert v c) ≤ rank h s B
 convert_then h s v (ToNumber t) B late steady less = let n = none_rank h s in omega (arith, n, less)
+convert_then h s v (ToBits t width) B late steady less = let n = none_rank h s in omega (arith, n, less)
 convert_then h s v ToNull B late steady less = let n = none_rank h s in omega (arith, n, less)
 convert_then h s v ToSame B late steady less = let n = none_rank h s in omega (arith, n, less)
 convert_then h s v (ToBase i) B late steady less =
@@ -129,12 +134,14 @@ base_of h s (Pointer p) c d i a b = (join_class h c p.at i a.0 b.valid ∙ b.cla
 
 pub converted_steady : (h : Classes) (s : Objects) → AllSettled h s → (v : Value) (c d : ClassId) (t : Conversion) → IsOf s v c → Converts h c t d → names (is_unready s) v ≡ false → names (is_unready s) (converted v t) ≡ false
 converted_steady h s all v c d (ToNumber t) a b e = number_names (is_unready s) (stored_as t) v ∙ e
+converted_steady h s all v c d (ToBits t width) a b e = number_names (is_unready s) (kept_in t width) v ∙ e
 converted_steady h s all v c d ToNull a b e = refl
 converted_steady h s all v c d ToSame a b e = e
 converted_steady h s all v c d (ToBase i) a b e = base_steady h s all v c d i a b e
 
 pub converted_of : (h : Classes) (s : Objects) (v : Value) (c d : ClassId) (t : Conversion) → IsOf s v c → Converts h c t d → IsOf s (converted v t) d
 converted_of h s v c d (ToNumber t) a b = number_of s (stored_as t) v d (subst (λ (x : ClassId). IsOf s v x) b a)
+converted_of h s v c d (ToBits t width) a b = number_of s (kept_in t width) v d (subst (λ (x : ClassId). IsOf s v x) b a)
 converted_of h s v c d ToNull a b = tt
 converted_of h s v c d ToSame a b = subst (λ (x : ClassId). IsOf s v x) b a
 converted_of h s v c d (ToBase i) a b = base_of h s v c d i a b

@@ -19,6 +19,7 @@ pub mod RunLaws
 pub mod RuleLaws
 pub mod TypedRanges
 pub mod TypedValues
+pub mod TypedBits
 pub mod TypedPlaces
 pub mod TypedViews
 pub mod TypedRights

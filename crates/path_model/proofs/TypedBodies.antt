@@ -21,9 +21,10 @@ use Rattle.cxx_subobject.proofs.PathLemmas.{same_id}
 use Rattle.path_model.specs.Values.{Value, Unset}
 use Rattle.path_model.specs.States.{Target, same_function, same_owner, body_of, is_body, start_locals, entered}
 use Rattle.path_model.specs.Runs.{first_value, no_objects, main_frames, start}
-use Rattle.path_model.specs.TypedStates.{IsValue, AreValues, IsThis, IsTypedRunning, IsOpened}
+use Rattle.path_model.specs.TypedStates.{IsValue, AreValues, IsThis, IsTypedRunning, IsOpened, width_of_leaf}
 use Rattle.path_model.proofs.TypedRanges.{zero_in_range}
 use Rattle.path_model.proofs.TypedValues.{values_append}
+use Rattle.path_model.proofs.TypedBits.{unset_held}
 use Rattle.path_model.proofs.TypedViews.{both_left, both_right}
 use Rattle.path_model.proofs.TypedFrames.{IsSound}
 
@@ -121,6 +122,7 @@ start_typed h program a (Some body) e some =
       typed = record {
         globals = first_values h [] program.globals;
         leaves = λ l t made. tt;
+        held = λ l t made. unset_held (width_of_leaf h l) t;
         frames = ((body, entered_typed h program [] a Main body e Unset refl [] tt ToSame None), subst (λ (o : Owner). IsOpened h program o ToSame None []) (sym owner) (refl, refl), tt);
         running = λ f. cc;
       };

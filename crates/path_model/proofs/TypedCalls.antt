@@ -82,6 +82,7 @@ run_sound h program a s body top values call d target df fits waits p g r made b
       typed = record {
         globals = b.typed.globals;
         leaves = b.typed.leaves;
+        held = b.typed.held;
         frames = ((new, entered_typed h program cs a (Function g) new found.1 (Pointer p) (p, refl, made) values own conv target), subst (λ (o : Owner). IsOpened h program o conv target s.frames) (sym owner) opened, b.typed.frames);
         running = λ k. cc;
       };

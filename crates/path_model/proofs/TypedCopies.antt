@@ -1,5 +1,5 @@
 -- A copy leads from a typed state to a typed one: the leaves of two parts of one class go along with each other.
-use Rattle.std.proofs.Common.{◌≡◌, ℕ, zero, suc, ◌+◌, arith, ⊎_elim, Option, Some, None, List, [], ◌∷◌, map, length, refl, subst, sym, ◌∙◌}
+use Rattle.std.proofs.Common.{◌≡◌, ℕ, zero, suc, ◌+◌, arith, ⊎_elim, Option, Some, None, List, [], ◌∷◌, map, length, refl, ap, subst, sym, ◌∙◌}
 use Rattle.std.specs.Prelude.{slice_get, find, zip}
 use Rattle.std.specs.List.{AllZip}
 use Rattle.foundation.proofs.Members.{Has}
@@ -19,6 +19,7 @@ use Rattle.cxx_subobject.proofs.InsideLemmas.{join_class}
 use Rattle.cxx_subobject.proofs.PathLemmas.{class_there}
 use Rattle.cxx_subobject.proofs.TreeLemmas.{has_preorder}
 use Rattle.cxx_program.specs.declared.program.TypedProgram.{TypedProgram}
+use Rattle.cxx_program.specs.Typed.{width_within}
 use Rattle.path_plan.specs.Places.{element}
 use Rattle.path_plan.specs.Plans.{upto}
 use Rattle.path_plan.proofs.Members.{has_count}
@@ -26,7 +27,7 @@ use Rattle.path_model.specs.Values.{Value, Pointer, Leaf, inner_part}
 use Rattle.path_model.specs.Places.{leaf, typed_leaves, member_leaves, own_leaves, leaves_within, leaves_of}
 use Rattle.path_model.specs.States.{State, with_objects}
 use Rattle.path_model.specs.Effects.{same_leaf, value_behind, copied, copied_at}
-use Rattle.path_model.specs.TypedStates.{IsPartMade, IsValue, IsLeafMade}
+use Rattle.path_model.specs.TypedStates.{IsPartMade, IsValue, IsHeld, IsLeafMade, width_of_leaf}
 use Rattle.path_model.proofs.TypedValues.{inner_made}
 use Rattle.path_model.proofs.TypedPlaces.{element_made}
 use Rattle.path_model.proofs.TypedFrames.{IsSound, IsSoundNext}
@@ -46,6 +47,9 @@ along_made h cs l m t a b =
     let class : b.class ≡ a.class = let f : Some b.class ≡ Some a.class = sym b.part.of_class ∙ a.of_class in cc in
     let at = subst (λ (c : ClassId). IsElement h c l.member l.index (ValueField t)) class b.element in
     record { class = a.class; part = a.made; element = subst (λ i. IsElement h a.class m.member i (ValueField t)) a.index (subst (λ n. IsElement h a.class n l.index (ValueField t)) a.member at) }
+
+along_width : (h : Classes) (cs : List ClassId) (l m : Leaf) → GoesAlong h cs l m → width_of_leaf h l ≡ width_of_leaf h m
+along_width h cs l m a = ap (λ o. width_within h o l.member) (a.of_class ∙ sym a.made.of_class) ∙ ap (width_within h (class_of m.part.at)) a.member
 
 -- lists that go along
 
@@ -94,14 +98,16 @@ module _ (h : Classes) (cs : List ClassId) where
   pub leaves_along : (c : ClassId) (p q : ObjectPart) → class_of p.at ≡ Some c → IsPartMade h cs q c → AllZip (GoesAlong h cs) (leaves_of h c p) (leaves_of h c q)
   leaves_along c p q class made = within_along (c.0 + 1) c p q class made
 
-  -- a leaf takes the old value of the one that goes along with it
-  behind_typed : (values : Leaf → Value) → ((m : Leaf) (t : ValueType ClassId) → IsLeafMade h cs m t → IsValue h cs (values m) t) → (as_ bs : List Leaf) → AllZip (GoesAlong h cs) as_ bs
-      → (l : Leaf) (t : ValueType ClassId) → IsLeafMade h cs l t → (o : Option (Leaf × Leaf)) → find (λ (pair : Leaf × Leaf). same_leaf pair.0 l) (zip as_ bs) ≡ o → IsValue h cs (value_behind values l o) t
-  behind_typed values old as_ bs along l t made None e = old l t made
-  behind_typed values old as_ bs along l t made (Some pair) e =
+  -- a leaf takes the old value of the one that goes along with it; what holds of the value of the one holds of that of the other
+  behind_keeps : (Q : Leaf → Value → ValueType ClassId → Type 0) → ((l m : Leaf) (v : Value) (t : ValueType ClassId) → GoesAlong h cs l m → Q m v t → Q l v t) → (values : Leaf → Value) → ((m : Leaf) (t : ValueType ClassId) → IsLeafMade h cs m t → Q m (values m) t)
+      → (as_ bs : List Leaf) → AllZip (GoesAlong h cs) as_ bs → (l : Leaf) (t : ValueType ClassId) → IsLeafMade h cs l t → (o : Option (Leaf × Leaf)) → find (λ (pair : Leaf × Leaf). same_leaf pair.0 l) (zip as_ bs) ≡ o → Q l (value_behind values l o) t
+  behind_keeps Q over values old as_ bs along l t made None e = old l t made
+  behind_keeps Q over values old as_ bs along l t made (Some pair) e =
       let p = find_passes (λ (x : Leaf × Leaf). same_leaf x.0 l) (zip as_ bs) pair e in
-      let first : IsLeafMade h cs pair.0 t = subst (λ (x : Leaf). IsLeafMade h cs x t) (sym (leaf_is pair.0 l p.1)) made in
-      old pair.1 t (along_made h cs pair.0 pair.1 t (zip_pair (GoesAlong h cs) as_ bs pair along p.0) first)
+      let same = leaf_is pair.0 l p.1 in
+      let first : IsLeafMade h cs pair.0 t = subst (λ (x : Leaf). IsLeafMade h cs x t) (sym same) made in
+      let goes = zip_pair (GoesAlong h cs) as_ bs pair along p.0 in
+      subst (λ (x : Leaf). Q x (values pair.1) t) same (over pair.0 pair.1 (values pair.1) t goes (old pair.1 t (along_made h cs pair.0 pair.1 t goes first)))
 
 -- a copy of one part into another of its class
 pub copied_sound : (h : Classes) (program : TypedProgram) (s : State) (c : ClassId) (v w : Value) → NamesPart h s.objects v c → NamesPart h s.objects w c → IsSound h program s → IsSoundNext h program (copied_at h s c v w)
@@ -113,7 +119,11 @@ copied_sound h program s c v w a b k =
     let r : IsSound h program (with_objects s (copied h c to from s.objects)) = record {
       typed = record {
         globals = k.typed.globals;
-        leaves = λ l t made. behind_typed h cs s.objects.leaf k.typed.leaves (leaves_of h c to) (leaves_of h c from) along l t made (find (λ (pair : Leaf × Leaf). same_leaf pair.0 l) (zip (leaves_of h c to) (leaves_of h c from))) refl;
+        leaves = λ l t made.
+            behind_keeps h cs (λ x v u. IsValue h cs v u) (λ x y v u goes is. is) s.objects.leaf k.typed.leaves (leaves_of h c to) (leaves_of h c from) along l t made (find (λ (pair : Leaf × Leaf). same_leaf pair.0 l) (zip (leaves_of h c to) (leaves_of h c from))) refl;
+        held = λ l t made.
+            behind_keeps h cs (λ x v u. IsHeld (width_of_leaf h x) v u) (λ x y v u goes is. subst (λ o. IsHeld o v u) (sym (along_width h cs x y goes)) is) s.objects.leaf k.typed.held (leaves_of h c to) (leaves_of h c from) along l t made
+            (find (λ (pair : Leaf × Leaf). same_leaf pair.0 l) (zip (leaves_of h c to) (leaves_of h c from))) refl;
         frames = k.typed.frames;
         running = k.typed.running;
       };

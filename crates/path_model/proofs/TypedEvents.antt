@@ -9,7 +9,8 @@ use Rattle.cxx_hierarchy.specs.declared.records.ClassId.{ClassId}
 use Rattle.cxx_hierarchy.specs.declared.records.ValueType.{ValueType}
 use Rattle.cxx_hierarchy.specs.declared.records.FieldType.{FieldType}
 use Rattle.cxx_hierarchy.specs.declared.records.FieldType.TheVariants.{Value as ValueField}
-use Rattle.cxx_hierarchy.specs.Classes.{Classes, leaf_type, leaf_type_in, value_type_in}
+use Rattle.cxx_hierarchy.specs.Classes.{Classes, leaf_type, leaf_type_in, value_type_in, width_of_member}
+use Rattle.cxx_hierarchy.specs.Hierarchies.{IsHierarchy}
 use Rattle.cxx_subobject.specs.declared.Subobject.{Subobject}
 use Rattle.cxx_subobject.specs.Locations.{Step, ObjectPart, IsElement, IsPartOf}
 use Rattle.cxx_program.specs.declared.operand.TypedOperand.{TypedOperand}
@@ -20,7 +21,7 @@ use Rattle.cxx_program.specs.declared.program.Owner.TheVariants.{Constructor}
 use Rattle.cxx_program.specs.declared.program.TypedInit.{TypedInit}
 use Rattle.cxx_program.specs.declared.program.TypedBody.{TypedBody}
 use Rattle.cxx_program.specs.declared.program.TypedProgram.{TypedProgram}
-use Rattle.cxx_program.specs.Typed.{HasType, of_variable, of_this, of_number, IsArgument, a_value, a_null, no_scope, IsTypedInit, AreInitsOf, IsTypedProgram}
+use Rattle.cxx_program.specs.Typed.{HasType, of_variable, of_this, of_number, IsKept, no_scope, IsTypedInit, AreInitsOf, IsTypedProgram}
 use Rattle.path_plan.specs.Places.{part, same_part}
 use Rattle.path_plan.specs.Phases.{Event, Begin, Ready, Init, Body, Done, Ending, Bases, End, part_of, rest_of, pushed, popped}
 use Rattle.path_plan.proofs.Same.{owner_same, part_same}
@@ -31,8 +32,8 @@ use Rattle.path_model.specs.States.{body_of, inits_in, init_of}
 use Rattle.path_model.specs.Outs.{class_or_first}
 use Rattle.path_model.specs.Effects.{with_leaf, same_leaf}
 use Rattle.path_model.specs.Steps.{constant, init_value, class_of_part, leaves_after, objects_after}
-use Rattle.path_model.specs.TypedStates.{IsPartMade, IsValue, IsLeafMade}
-use Rattle.path_model.proofs.TypedValues.{converted_value}
+use Rattle.path_model.specs.TypedStates.{IsPartMade, IsValue, IsHeld, IsLeafMade, width_of_leaf}
+use Rattle.path_model.proofs.TypedBits.{member_room, made_width, unset_held, kept_typed, kept_held}
 use Rattle.path_model.proofs.TypedViews.{AreRunningParts, both_left, both_right}
 use Rattle.path_model.proofs.TypedBodies.{body_typed}
 
@@ -43,10 +44,6 @@ constant_has h cs _ _ (of_variable (Global n) t e) = tt
 constant_has h cs _ _ (of_variable (Local n) t e) = tt
 constant_has h cs _ _ (of_this c e) = tt
 constant_has h cs _ _ (of_number z t e) = e
-
-constant_typed : (h : Classes) (cs : List ClassId) (x : Argument) (t : ValueType ClassId) → IsArgument h no_scope x t → IsValue h cs (converted (constant x.operand) x.conversion) t
-constant_typed h cs _ _ (a_value x u t has fits) = converted_value h cs u t x.conversion fits (constant x.operand) (constant_has h cs x.operand u has)
-constant_typed h cs _ _ (a_null d) = tt
 
 leaf_type_is : (ty : FieldType ClassId) (count : Option ℕ) (t u : ValueType ClassId) → value_type_in ty count ≡ Some u → ty ≡ ValueField t → u ≡ t
 leaf_type_is ty None t u e is = let f : Some t ≡ Some u = subst (λ (x : FieldType ClassId). value_type_in x None ≡ Some u) is e in cc
@@ -63,14 +60,19 @@ inits_of h program a c (Some body) e init has =
     let inits = subst (λ (o : Owner). AreInitsOf h o body.inits) b.0 b.1.inits in
     inits.each init (contains_from_has body.inits init has)
 
-init_typed : (h : Classes) (program : TypedProgram) (cs : List ClassId) → IsTypedProgram h program → (c : ClassId) (m i : ℕ) (t : ValueType ClassId) → IsElement h c m i (ValueField t) → (o : Option TypedInit) → init_of program c m ≡ o → IsValue h cs (init_value o) t
-init_typed h program cs a c m i t el None e = tt
-init_typed h program cs a c m i t el (Some init) e =
+-- what an initializer of the member gives has its type, and its bits can hold it
+init_typed : (h : Classes) (program : TypedProgram) (cs : List ClassId) → IsHierarchy h → IsTypedProgram h program → (c : ClassId) (m i : ℕ) (t : ValueType ClassId) → IsElement h c m i (ValueField t) → (o : Option TypedInit) → init_of program c m ≡ o
+    → IsValue h cs (init_value o) t × IsHeld (width_of_member h c m) (init_value o) t
+init_typed h program cs keeps a c m i t el None e = (tt, unset_held (width_of_member h c m) t)
+init_typed h program cs keeps a c m i t el (Some init) e =
     let p = find_passes (λ (x : TypedInit). nat_eq x.member m) (inits_in (body_of program (Constructor c))) init e in
     let is = inits_of h program a c (body_of program (Constructor c)) refl init p.0 in
-    let at : leaf_type h c m ≡ Some is.type = ap (leaf_type h c) (sym (eqb-true init.member m p.1)) ∙ is.of_member in
+    let number = eqb-true init.member m p.1 in
+    let at : leaf_type h c m ≡ Some is.type = ap (leaf_type h c) (sym number) ∙ is.of_member in
     let same = member_type h c m i t is.type at el in
-    subst (λ (u : ValueType ClassId). IsValue h cs (init_value (Some init)) u) same (constant_typed h cs (record { operand = init.operand; conversion = init.conversion }) is.type is.value)
+    let x : Argument = record { operand = init.operand; conversion = init.conversion } in
+    let kept = subst (λ k. IsKept h no_scope (width_of_member h c k) x t) number (subst (λ (u : ValueType ClassId). IsKept h no_scope (width_of_member h c init.member) x u) same is.value) in
+    (kept_typed h cs no_scope constant (constant_has h cs) x t (width_of_member h c m) (member_room h keeps c m i t el) kept, kept_held h cs no_scope constant (constant_has h cs) x t (width_of_member h c m) kept)
 
 -- leaves
 
@@ -82,29 +84,44 @@ leaf_is a b e =
     let index = eqb-true a.index b.index (both_right (nat_eq a.member b.member) (nat_eq a.index b.index) rest) in
     let r : leaf a.part a.member a.index ≡ leaf b.part b.member b.index = cc (at, member, index) in r
 
--- one leaf takes a value
-pub leaf_set_typed : (h : Classes) (cs : List ClassId) (values : Leaf → Value) (l : Leaf) (v : Value) → ((t : ValueType ClassId) → IsLeafMade h cs l t → IsValue h cs v t)
-    → ((m : Leaf) (t : ValueType ClassId) → IsLeafMade h cs m t → IsValue h cs (values m) t) → (m : Leaf) (t : ValueType ClassId) → IsLeafMade h cs m t → IsValue h cs (with_leaf values l v m) t
-leaf_set_typed h cs values l v new old m t made = split (same_leaf l m) (λ b. IsValue h cs (if b then v else values m) t)
-    (λ e. new t (subst (λ (x : Leaf). IsLeafMade h cs x t) (sym (leaf_is l m e)) made)) (λ _. old m t made)
+-- one leaf takes a value, of which Q holds
+pub leaf_set_keeps : (h : Classes) (cs : List ClassId) (Q : Leaf → Value → ValueType ClassId → Type 0) (values : Leaf → Value) (l : Leaf) (v : Value) → ((t : ValueType ClassId) → IsLeafMade h cs l t → Q l v t)
+    → ((m : Leaf) (t : ValueType ClassId) → IsLeafMade h cs m t → Q m (values m) t) → (m : Leaf) (t : ValueType ClassId) → IsLeafMade h cs m t → Q m (with_leaf values l v m) t
+leaf_set_keeps h cs Q values l v new old m t made = split (same_leaf l m) (λ b. Q m (if b then v else values m) t)
+    (λ e. let same = leaf_is l m e in subst (λ (x : Leaf). Q x v t) same (new t (subst (λ (x : Leaf). IsLeafMade h cs x t) (sym same) made))) (λ _. old m t made)
 
 class_of_made : (h : Classes) (cs : List ClassId) (p : ObjectPart) (c : ClassId) → IsPartMade h cs p c → class_of_part p ≡ c
 class_of_made h cs p c a = ap class_or_first a.of_class
 
-init_leaf : (h : Classes) (program : TypedProgram) (cs : List ClassId) → IsTypedProgram h program → (p : ObjectPart) (m : ℕ) (t : ValueType ClassId) → IsLeafMade h cs (leaf p m 0) t → IsValue h cs (init_value (init_of program (class_of_part p) m)) t
-init_leaf h program cs a p m t made = subst (λ (c : ClassId). IsValue h cs (init_value (init_of program c m)) t) (sym (class_of_made h cs p made.class made.part))
-    (init_typed h program cs a made.class m 0 t made.element (init_of program made.class m) refl)
+init_leaf : (h : Classes) (program : TypedProgram) (cs : List ClassId) → IsHierarchy h → IsTypedProgram h program → (p : ObjectPart) (m : ℕ) (t : ValueType ClassId) → (made : IsLeafMade h cs (leaf p m 0) t)
+    → IsValue h cs (init_value (init_of program (class_of_part p) m)) t × IsHeld (width_of_leaf h (leaf p m 0)) (init_value (init_of program (class_of_part p) m)) t
+init_leaf h program cs keeps a p m t made =
+    let class = sym (class_of_made h cs p made.class made.part) in
+    let r = init_typed h program cs keeps a made.class m 0 t made.element (init_of program made.class m) refl in (
+      subst (λ (c : ClassId). IsValue h cs (init_value (init_of program c m)) t) class r.0,
+      subst (λ w. IsHeld w (init_value (init_of program (class_of_part p) m)) t) (sym (made_width h cs (leaf p m 0) t made))
+          (subst (λ (c : ClassId). IsHeld (width_of_member h made.class m) (init_value (init_of program c m)) t) class r.1),
+    )
 
-pub leaves_typed : (h : Classes) (program : TypedProgram) (cs : List ClassId) (values : Leaf → Value) → IsTypedProgram h program → (e : Event)
+-- an event keeps what holds of each leaf, where it holds of what an initializer gives
+leaves_keep : (h : Classes) (program : TypedProgram) (cs : List ClassId) (Q : Leaf → Value → ValueType ClassId → Type 0) → ((p : ObjectPart) (m : ℕ) (t : ValueType ClassId) → IsLeafMade h cs (leaf p m 0) t → Q (leaf p m 0) (init_value (init_of program (class_of_part p) m)) t)
+    → (values : Leaf → Value) (e : Event) → ((m : Leaf) (t : ValueType ClassId) → IsLeafMade h cs m t → Q m (values m) t) → (m : Leaf) (t : ValueType ClassId) → IsLeafMade h cs m t → Q m (leaves_after program values e m) t
+leaves_keep h program cs Q new values (Begin p) old = old
+leaves_keep h program cs Q new values (Ready p) old = old
+leaves_keep h program cs Q new values (Init p m) old = leaf_set_keeps h cs Q values (leaf p m 0) (init_value (init_of program (class_of_part p) m)) (new p m) old
+leaves_keep h program cs Q new values (Body p) old = old
+leaves_keep h program cs Q new values (Done p) old = old
+leaves_keep h program cs Q new values (Ending p) old = old
+leaves_keep h program cs Q new values (Bases p) old = old
+leaves_keep h program cs Q new values (End p) old = old
+
+pub leaves_typed : (h : Classes) (program : TypedProgram) (cs : List ClassId) (values : Leaf → Value) → IsHierarchy h → IsTypedProgram h program → (e : Event)
     → ((m : Leaf) (t : ValueType ClassId) → IsLeafMade h cs m t → IsValue h cs (values m) t) → (m : Leaf) (t : ValueType ClassId) → IsLeafMade h cs m t → IsValue h cs (leaves_after program values e m) t
-leaves_typed h program cs values a (Begin p) old = old
-leaves_typed h program cs values a (Ready p) old = old
-leaves_typed h program cs values a (Init p m) old = leaf_set_typed h cs values (leaf p m 0) (init_value (init_of program (class_of_part p) m)) (init_leaf h program cs a p m) old
-leaves_typed h program cs values a (Body p) old = old
-leaves_typed h program cs values a (Done p) old = old
-leaves_typed h program cs values a (Ending p) old = old
-leaves_typed h program cs values a (Bases p) old = old
-leaves_typed h program cs values a (End p) old = old
+leaves_typed h program cs values keeps a e old = leaves_keep h program cs (λ l v t. IsValue h cs v t) (λ p m t made. (init_leaf h program cs keeps a p m t made).0) values e old
+
+pub leaves_held : (h : Classes) (program : TypedProgram) (cs : List ClassId) (values : Leaf → Value) → IsHierarchy h → IsTypedProgram h program → (e : Event)
+    → ((m : Leaf) (t : ValueType ClassId) → IsLeafMade h cs m t → IsHeld (width_of_leaf h m) (values m) t) → (m : Leaf) (t : ValueType ClassId) → IsLeafMade h cs m t → IsHeld (width_of_leaf h m) (leaves_after program values e m) t
+leaves_held h program cs values keeps a e old = leaves_keep h program cs (λ l v t. IsHeld (width_of_leaf h l) v t) (λ p m t made. (init_leaf h program cs keeps a p m t made).1) values e old
 
 -- what runs
 

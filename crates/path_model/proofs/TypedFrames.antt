@@ -73,11 +73,11 @@ local_some (InPlan f ∷ below) n v some e = let g : InPlan f ∷ below ≡ [] =
 pub assigned_sound : (h : Classes) (program : TypedProgram) (s : State) (body : TypedBody) → IsOnTop program body s.frames → (x : Variable) (t : ValueType ClassId) → variable_type (scope_of h program.globals body) x ≡ Some t
     → (v : Value) → IsValue h s.objects.classes v t → IsSound h program s → IsSound h program (assigned s x v)
 assigned_sound h program s body top (Global n) t is v fits a = record {
-  typed = record { globals = values_set h s.objects.classes s.globals program.globals n t v a.typed.globals is fits; leaves = a.typed.leaves; frames = a.typed.frames; running = a.typed.running };
+  typed = record { globals = values_set h s.objects.classes s.globals program.globals n t v a.typed.globals is fits; leaves = a.typed.leaves; held = a.typed.held; frames = a.typed.frames; running = a.typed.running };
   runs = a.runs;
 }
 assigned_sound h program s body top (Local n) t is v fits a = record {
-  typed = record { globals = a.typed.globals; leaves = a.typed.leaves; frames = local_typed h program s.objects.classes body n t v is fits s.frames top a.typed.frames; running = local_some s.frames n v a.typed.running };
+  typed = record { globals = a.typed.globals; leaves = a.typed.leaves; held = a.typed.held; frames = local_typed h program s.objects.classes body n t v is fits s.frames top a.typed.frames; running = local_some s.frames n v a.typed.running };
   runs = a.runs;
 }
 

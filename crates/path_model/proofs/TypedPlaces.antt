@@ -10,11 +10,11 @@ use Rattle.cxx_subobject.specs.Subobjects.{whole, class_of}
 use Rattle.cxx_subobject.specs.Locations.{ObjectPart, IsElement}
 use Rattle.cxx_program.specs.declared.statement.PassedMember.{PassedMember}
 use Rattle.cxx_program.specs.declared.statement.TypedPlace.{TypedPlace}
-use Rattle.cxx_program.specs.Typed.{Scope, IsPassed, IsPath, IsPlace}
+use Rattle.cxx_program.specs.Typed.{Scope, IsPassed, IsPath, IsPlace, width_within, place_width}
 use Rattle.path_plan.specs.Places.{element}
 use Rattle.path_model.specs.Values.{Leaf, inner_part}
 use Rattle.path_model.specs.Places.{passed_part, end_part, leaf_at, last_passed}
-use Rattle.path_model.specs.TypedStates.{IsPartMade, IsLeafMade}
+use Rattle.path_model.specs.TypedStates.{IsPartMade, IsLeafMade, width_of_leaf}
 use Rattle.path_model.proofs.TypedValues.{inner_made}
 
 -- an element of a member that is an object
@@ -41,6 +41,10 @@ end_more p (y ∷ xs) x = end_more (passed_part p y) xs x
 
 pub leaf_made : (h : Classes) (cs : List ClassId) (e : Scope) (place : TypedPlace) (t : ValueType ClassId) (p : ObjectPart) → IsPartMade h cs p place.class → IsPlace h e place (ValueField t) → IsLeafMade h cs (leaf_at p place) t
 leaf_made h cs e place t p a b = record { class = b.class; part = path_made h cs p place.class b.class place.passed place.base a b.path b.of_class; element = b.element }
+
+-- the width of the leaf is that of the place's member
+pub width_at : (h : Classes) (cs : List ClassId) (e : Scope) (place : TypedPlace) (t : ValueType ClassId) (p : ObjectPart) → IsPartMade h cs p place.class → (b : IsPlace h e place (ValueField t)) → place_width h place ≡ width_of_leaf h (leaf_at p place)
+width_at h cs e place t p a b = ap (λ o. width_within h o place.member) (b.of_class ∙ sym (path_made h cs p place.class b.class place.passed place.base a b.path b.of_class).of_class)
 
 pub object_made : (h : Classes) (cs : List ClassId) (e : Scope) (place : TypedPlace) (d : ClassId) (p : ObjectPart) → IsPartMade h cs p place.class → IsPlace h e place (Object d) → IsPartMade h cs (end_part p (place.passed ++ last_passed place d ∷ [])) d
 object_made h cs e place d p a b = subst (λ (x : ObjectPart). IsPartMade h cs x d) (sym (end_more p place.passed (last_passed place d)))

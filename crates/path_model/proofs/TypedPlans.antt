@@ -29,7 +29,7 @@ use Rattle.path_model.proofs.KeptFrames.{IsKeptAt}
 use Rattle.path_model.proofs.KeptLaws.{plan_inside, some_event, no_body_first, body_there}
 use Rattle.path_model.proofs.TypedFrames.{IsSound, IsSoundNext, given_sound, called_on_top, called_some}
 use Rattle.path_model.proofs.TypedBodies.{body_typed, entered_typed}
-use Rattle.path_model.proofs.TypedEvents.{leaves_typed, runs_after}
+use Rattle.path_model.proofs.TypedEvents.{leaves_typed, leaves_held, runs_after}
 
 -- a part inside an object that was made
 pub inside_made : (h : Classes) (cs : List ClassId) (k : ℕ) (class : ClassId) (p : ObjectPart) → slice_get cs k ≡ Some class → IsIn h p (whole_part k class) → IsPartMade h cs p (class_of_part p)
@@ -39,12 +39,13 @@ inside_made h cs k class p made inside =
     record { class = class; made = ap (slice_get cs) (in_object h p (whole_part k class) inside) ∙ made; inside = is; of_class = there.1 ∙ ap (λ (c : ClassId). Some c) (sym (ap class_or_first there.1)) }
 
 -- the objects after an event
-objects_sound : (h : Classes) (program : TypedProgram) → IsTypedProgram h program → (s : State) (frames : List Frame) (e : Event) (c : ClassId) → IsPartMade h s.objects.classes (part_of e) c
+objects_sound : (h : Classes) (program : TypedProgram) → IsHierarchy h → IsTypedProgram h program → (s : State) (frames : List Frame) (e : Event) (c : ClassId) → IsPartMade h s.objects.classes (part_of e) c
     → IsSound h program (with_frames s frames) → IsSound h program (with_frames (with_objects s (objects_after program s.objects e)) frames)
-objects_sound h program a s frames e c made b = record {
+objects_sound h program keeps a s frames e c made b = record {
   typed = record {
     globals = b.typed.globals;
-    leaves = leaves_typed h program s.objects.classes s.objects.leaf a e b.typed.leaves;
+    leaves = leaves_typed h program s.objects.classes s.objects.leaf keeps a e b.typed.leaves;
+    held = leaves_held h program s.objects.classes s.objects.leaf keeps a e b.typed.held;
     frames = b.typed.frames;
     running = b.typed.running;
   };
@@ -74,6 +75,7 @@ opened_sound h program a s f below building p outs made b (Some body) e some =
       typed = record {
         globals = b.typed.globals;
         leaves = b.typed.leaves;
+        held = b.typed.held;
         frames = (
           (body, entered_typed h program cs a o body e (Pointer p) (owner_this h cs building (class_of_part p) p made) [] (no_parameters h cs building (class_of_part p)) ToSame None),
           subst (λ (x : Owner). IsOpened h program x ToSame None (InPlan f ∷ below)) (sym owner) (over_plan h program building (class_of_part p) f below),
@@ -86,7 +88,7 @@ opened_sound h program a s f below building p outs made b (Some body) e some =
 
 -- the plan with other events left
 left_sound : (h : Classes) (program : TypedProgram) (s : State) (f : Planned) (es : List Event) (below : List Frame) → IsSound h program (with_frames s (InPlan f ∷ below)) → IsSound h program (with_frames s (plan_left f es ∷ below))
-left_sound h program s f es below b = record { typed = record { globals = b.typed.globals; leaves = b.typed.leaves; frames = b.typed.frames; running = λ g. cc }; runs = b.runs }
+left_sound h program s f es below b = record { typed = record { globals = b.typed.globals; leaves = b.typed.leaves; held = b.typed.held; frames = b.typed.frames; running = λ g. cc }; runs = b.runs }
 
 whole_made : (h : Classes) (cs : List ClassId) (k : ℕ) (c : ClassId) → slice_get cs k ≡ Some c → IsPartMade h cs (whole_part k c) c
 whole_made h cs k c made = record { class = c; made = made; inside = (c, refl, whole [] tt); of_class = refl }
@@ -100,7 +102,7 @@ finished_sound h program s f below outs b =
     let fits = top.2 in
     let class : object_class s.objects f.object ≡ fits.class = ap class_or_first fits.made in
     let value : IsPartMade h cs (whole_part f.object (object_class s.objects f.object)) fits.class = subst (λ (c : ClassId). IsPartMade h cs (whole_part f.object c) fits.class) (sym class) (whole_made h cs f.object fits.class fits.made) in
-    let here : IsSound h program (with_frames s below) = record { typed = record { globals = b.typed.globals; leaves = b.typed.leaves; frames = b.typed.frames.1; running = called_some program _ below called }; runs = b.runs } in
+    let here : IsSound h program (with_frames s below) = record { typed = record { globals = b.typed.globals; leaves = b.typed.leaves; held = b.typed.held; frames = b.typed.frames.1; running = called_some program _ below called }; runs = b.runs } in
     given_sound h program (with_frames s below) top.0 top.1 (PointerType fits.class) f.target fits.fits (Pointer (whole_part f.object (object_class s.objects f.object))) value here
 
 -- the bodies that are still to be opened are there, each with a part that was made
@@ -131,7 +133,7 @@ module _ (h : Classes) (keeps : IsHierarchy h) (program : TypedProgram) (a : IsT
   goes_sound : (e : Event) (es : List Event) → f.events ≡ e ∷ es → IsSoundNext h program (resumed program (with_objects s (objects_after program s.objects e)) f below (event_outs s.objects e) es)
   goes_sound e es is = resumed_sound h program a (with_objects s (objects_after program s.objects e)) f below (event_outs s.objects e) es
       (opens_bodies es (λ x has. subst (λ (ys : List Event). Has ys x) (sym is) (inr has)))
-      (objects_sound h program a s (InPlan f ∷ below) e (class_of_part (part_of e)) (event_made e (subst (λ (ys : List Event). Has ys e) (sym is) (inl refl))) b)
+      (objects_sound h program keeps a s (InPlan f ∷ below) e (class_of_part (part_of e)) (event_made e (subst (λ (ys : List Event). Has ys e) (sym is) (inl refl))) b)
 
   by_events : (events : List Event) → f.events ≡ events → IsSoundNext h program (event_step program s f below events)
   by_events [] is = some_event h program s.objects (InPlan f ∷ below) kept f (inl refl) is

@@ -1,12 +1,13 @@
 -- What is stored as a number of a type is one: it is in the range of the type.
-use Rattle.std.proofs.Common.{ℕ, suc, ◌-◌, ◌%◌, ◌<◌, Bool, true, false, arith, pos, ◌-ℤ◌, ◌+ℤ◌, ◌≤ℤ◌, ◌<ℤ◌}
+use Rattle.std.proofs.Common.{ℕ, suc, ◌-◌, ◌%◌, ◌/◌, ◌^◌, ◌<◌, ◌≤◌, Bool, true, false, arith, pos, ◌-ℤ◌, ◌+ℤ◌, ◌≤ℤ◌, ◌<ℤ◌}
 use Rattle.std.specs.Prelude.{ℤ, negsuc, zero, if◌then◌else◌}
 use Rattle.std.specs.Int.{int_rem_euclid}
 use Rattle.std.proofs.lemmas.Int.{ints}
-use Rattle.std.proofs.Math.Nat.{mod-lt}
+use Rattle.std.proofs.Math.Nat.{mod-lt, pow-le-pow_right}
+use Rattle.std.proofs.lemmas.Nat.{pow_pos}
 use Rattle.cxx_hierarchy.specs.declared.records.Scalar.{Scalar}
 use Rattle.cxx_hierarchy.specs.declared.records.Scalar.TheVariants.{Bool as TheBool, Char, SChar, UChar, Short, UShort, Int, UInt, Long, ULong, LongLong, ULongLong}
-use Rattle.cxx_hierarchy.specs.Scalars.{is_signed, count_of, below_zero, IsInRange, wrapped, truth_of, stored_as}
+use Rattle.cxx_hierarchy.specs.Scalars.{is_signed, count_of, below_zero, IsInRange, wrapped_to, wrapped, truth_of, stored_as, most_bits, kept_in, IsInWidth}
 
 pub count_positive : (t : Scalar) → 0 < count_of t
 count_positive TheBool = omega arith
@@ -71,3 +72,43 @@ stored_in_range Long z = wrapped_in_range Long z
 stored_in_range ULong z = wrapped_in_range ULong z
 stored_in_range LongLong z = wrapped_in_range LongLong z
 stored_in_range ULongLong z = wrapped_in_range ULongLong z
+
+-- bit-fields
+
+-- what is kept in n bits is a number that n bits can hold
+pub kept_in_width : (t : Scalar) (n : ℕ) (z : ℤ) → IsInWidth t n (kept_in t n z)
+kept_in_width t n z =
+    let below = below_zero (is_signed t) (2 ^ n) in
+    let y = stored_as t z in
+    let h = in_range (int_rem_euclid (y +ℤ pos below) (pos (2 ^ n))) below (2 ^ n) (euclid_range (y +ℤ pos below) (2 ^ n) (pow_pos n)) in
+    record { least = h.0; greatest = h.1 }
+
+-- n bits of a type are no more than the type has
+bits_below : (t : Scalar) (n : ℕ) → n ≤ most_bits t → 2 ^ n ≤ count_of t
+bits_below TheBool n l = pow-le-pow_right (omega arith) l
+bits_below Char n l = pow-le-pow_right (omega arith) l
+bits_below SChar n l = pow-le-pow_right (omega arith) l
+bits_below UChar n l = pow-le-pow_right (omega arith) l
+bits_below Short n l = pow-le-pow_right (omega arith) l
+bits_below UShort n l = pow-le-pow_right (omega arith) l
+bits_below Int n l = pow-le-pow_right (omega arith) l
+bits_below UInt n l = pow-le-pow_right (omega arith) l
+bits_below Long n l = pow-le-pow_right (omega arith) l
+bits_below ULong n l = pow-le-pow_right (omega arith) l
+bits_below LongLong n l = pow-le-pow_right (omega arith) l
+bits_below ULongLong n l = pow-le-pow_right (omega arith) l
+
+-- of fewer numbers, signed or not, each is one of more
+pub wider : (signed : Bool) (few many : ℕ) (z : ℤ) → few ≤ many → (pos 0 ≤ℤ (z +ℤ pos (below_zero signed few))) × ((z +ℤ pos (below_zero signed few)) <ℤ pos few)
+    → (pos 0 ≤ℤ (z +ℤ pos (below_zero signed many))) × ((z +ℤ pos (below_zero signed many)) <ℤ pos many)
+wider true few many z l h =
+    let a : few / 2 ≤ many / 2 = omega arith in
+    let b : few - few / 2 ≤ many - many / 2 = omega arith in
+    (omega (arith, ints, h.0), omega (arith, ints, h.1))
+wider false few many z l h = (omega (arith, ints, h.0), omega (arith, ints, h.1))
+
+-- a number that n bits of the type can hold is one of the type
+pub width_in_range : (t : Scalar) (n : ℕ) (z : ℤ) → n ≤ most_bits t → IsInWidth t n z → IsInRange t z
+width_in_range t n z l a =
+    let h = wider (is_signed t) (2 ^ n) (count_of t) z (bits_below t n l) (a.least, a.greatest) in
+    record { least = h.0; greatest = h.1 }

@@ -18,31 +18,33 @@ use Rattle.cxx_program.specs.declared.program.Owner.TheVariants.{Main, Function,
 use Rattle.cxx_program.specs.declared.statement.TypedPlace.{TypedPlace}
 use Rattle.cxx_program.specs.declared.program.TypedBody.{TypedBody}
 use Rattle.cxx_program.specs.declared.program.TypedProgram.{TypedProgram}
-use Rattle.cxx_program.specs.Typed.{Scope, IsPlace, returns_of}
+use Rattle.cxx_program.specs.Typed.{Scope, IsPlace, place_width, returns_of}
 use Rattle.path_model.specs.declared.outs.Out.{Out}
 use Rattle.path_model.specs.Values.{Value, Unset, Number, Null, Pointer, Objects, converted}
 use Rattle.path_model.specs.Places.{leaf_at}
 use Rattle.path_model.specs.States.{Target, Running, Frame, InBody, State, body_of, with_objects, with_frames, at_statement}
 use Rattle.path_model.specs.Effects.{leaf_set, written, object_ended, deleted, going, branched, block_at, is_number_zero, result_given, left_by, returned, value_out, part_out, view_part, part_at, view_out, class_of_view, type_of, class_out, type_out, object_out, dump_out, telling}
-use Rattle.path_model.specs.TypedStates.{IsPartMade, IsValue, FitsResult, FitsObject, IsCalledFrom, IsOpened}
+use Rattle.path_model.specs.TypedStates.{IsPartMade, IsValue, IsHeld, width_of_leaf, FitsResult, FitsObject, IsCalledFrom, IsOpened}
 use Rattle.path_model.proofs.TypedValues.{converted_value}
-use Rattle.path_model.proofs.TypedPlaces.{leaf_made, one_type}
+use Rattle.path_model.proofs.TypedPlaces.{leaf_made, width_at, one_type}
 use Rattle.path_model.proofs.TypedViews.{AreRunningParts, view_valid}
 use Rattle.path_model.proofs.TypedFrames.{IsSound, IsSoundNext, IsOnTop, given_sound, called_on_top, on_top_called, called_some}
-use Rattle.path_model.proofs.TypedEvents.{leaf_set_typed}
+use Rattle.path_model.proofs.TypedEvents.{leaf_set_keeps}
 use Rattle.path_model.proofs.TypedUses.{NamesPart, HasView}
 
 -- a leaf takes a value
-pub written_sound : (h : Classes) (program : TypedProgram) (s : State) (e : Scope) (place : TypedPlace) (t : ValueType ClassId) → IsPlace h e place (ValueField t) → (w v : Value) → IsValue h s.objects.classes w t → NamesPart h s.objects v place.class
-    → IsSound h program s → IsSoundNext h program (written s place w v)
-written_sound h program s e place t is w v fits a b =
+pub written_sound : (h : Classes) (program : TypedProgram) (s : State) (e : Scope) (place : TypedPlace) (t : ValueType ClassId) → IsPlace h e place (ValueField t) → (w v : Value) → IsValue h s.objects.classes w t → IsHeld (place_width h place) w t
+    → NamesPart h s.objects v place.class → IsSound h program s → IsSoundNext h program (written s place w v)
+written_sound h program s e place t is w v fits held a b =
     let cs = s.objects.classes in
     let p = a.part in
     let made = leaf_made h cs e place t p a.made is in
     let r : IsSound h program (with_objects s (leaf_set s.objects (leaf_at p place) w)) = record {
       typed = record {
         globals = b.typed.globals;
-        leaves = leaf_set_typed h cs s.objects.leaf (leaf_at p place) w (λ u other. subst (λ (z : ValueType ClassId). IsValue h cs w z) (one_type h cs cs (leaf_at p place) t u made other) fits) b.typed.leaves;
+        leaves = leaf_set_keeps h cs (λ l x u. IsValue h cs x u) s.objects.leaf (leaf_at p place) w (λ u other. subst (λ (z : ValueType ClassId). IsValue h cs w z) (one_type h cs cs (leaf_at p place) t u made other) fits) b.typed.leaves;
+        held = leaf_set_keeps h cs (λ l x u. IsHeld (width_of_leaf h l) x u) s.objects.leaf (leaf_at p place) w
+            (λ u other. subst (λ (z : ValueType ClassId). IsHeld (width_of_leaf h (leaf_at p place)) w z) (one_type h cs cs (leaf_at p place) t u made other) (subst (λ o. IsHeld o w t) (width_at h cs e place t p a.made is) held)) b.typed.held;
         frames = b.typed.frames;
         running = b.typed.running;
       };
@@ -57,6 +59,7 @@ ended_sound h program s body top k c (Some d) e is b = record {
   typed = record {
     globals = b.typed.globals;
     leaves = b.typed.leaves;
+    held = b.typed.held;
     frames = (on_top_called program (FitsObject h program.globals s.objects.classes k None) body s.frames top (record { class = d; made = e; fits = tt }), b.typed.frames);
     running = λ g. cc;
   };
@@ -80,6 +83,7 @@ at_sound h program s f below body m there le b =
       typed = record {
         globals = b.typed.globals;
         leaves = b.typed.leaves;
+        held = b.typed.held;
         frames = ((top.0, record { there = top.1.there; this = top.1.this; locals = top.1.locals; next = subst (λ (y : TypedBody). m ≤ length y.statements) same le }), b.typed.frames.1, b.typed.frames.2);
         running = λ g. cc;
       };
@@ -126,7 +130,7 @@ returned_sound h program s f below v r is a b = by_owner f.owner refl
     by_owner (Function g) e =
         let opened : IsCalledFrom program (FitsResult h program.globals (Function g) f.found f.target) below = subst (λ (o : Owner). IsOpened h program o f.found f.target below) e b.typed.frames.1 in
         let top = called_on_top program (FitsResult h program.globals (Function g) f.found f.target) below opened in
-        let here : IsSound h program (with_frames s below) = record { typed = record { globals = b.typed.globals; leaves = b.typed.leaves; frames = b.typed.frames.2; running = called_some program (FitsResult h program.globals (Function g) f.found f.target) below opened }; runs = b.runs } in
+        let here : IsSound h program (with_frames s below) = record { typed = record { globals = b.typed.globals; leaves = b.typed.leaves; held = b.typed.held; frames = b.typed.frames.2; running = called_some program (FitsResult h program.globals (Function g) f.found f.target) below opened }; runs = b.runs } in
         result_sound h program (with_frames s below) top.0 top.1 (Function g) f.found f.target top.2 v r (sym (ap (returns_of h) e) ∙ is) a here
 
 -- what is told

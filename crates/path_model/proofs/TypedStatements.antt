@@ -14,7 +14,7 @@ use Rattle.cxx_program.specs.declared.statement.TypedKind.{TypedKind}
 use Rattle.cxx_program.specs.declared.statement.TypedKind.TheVariants.{Write, Copy, Delete, If, While, Print, PrintType, PrintView, Dump}
 use Rattle.cxx_program.specs.declared.program.TypedBody.{TypedBody}
 use Rattle.cxx_program.specs.declared.program.TypedProgram.{TypedProgram}
-use Rattle.cxx_program.specs.Typed.{Scope, scope_of, HasType, returns_of, IsTyped, declares, begins, assigns, writes, copies, calls, deletes, branches, repeats, returns_nothing, returns_value, prints, prints_type, prints_view, dumps, IsWithin, IsTypedProgram}
+use Rattle.cxx_program.specs.Typed.{Scope, scope_of, HasType, returns_of, width_within, place_width, IsTyped, declares, begins, assigns, writes, copies, calls, deletes, branches, repeats, returns_nothing, returns_value, prints, prints_type, prints_view, dumps, IsWithin, IsTypedProgram}
 use Rattle.path_model.specs.Values.{Value, Objects, Sight, value, argument_value}
 use Rattle.path_model.specs.Uses.{Wanted, Views}
 use Rattle.path_model.specs.Rules.{refusal, uses_of}
@@ -22,6 +22,7 @@ use Rattle.path_model.specs.States.{Running, Frame, InBody, State, body_of, at_s
 use Rattle.path_model.specs.Effects.{kind_effect, block_at, value_out, view_out, type_out, dump_out}
 use Rattle.path_model.specs.TypedStates.{IsValue}
 use Rattle.path_model.proofs.TypedValues.{IsTypedSight, operand_typed, argument_typed}
+use Rattle.path_model.proofs.TypedBits.{HasRoom, member_room, kept_typed, kept_held}
 use Rattle.path_model.proofs.TypedFrames.{IsSound, IsSoundNext, sight_typed}
 use Rattle.path_model.proofs.TypedBodies.{body_typed}
 use Rattle.path_model.proofs.TypedUses.{is_set, followed, has_view, viewed}
@@ -58,7 +59,9 @@ module _ (h : Classes) (keeps : IsHierarchy h) (fine : HasNoFault h) (program : 
   kind_sound _ (writes place y t p fits) within clear =
       let v = value See place.pointer in
       let names = followed h x (uses_of h See w (Write place y)) clear v (inl refl) (inr (inl refl)) place.class (has_value place.pointer (PointerType place.class) p.pointer) in
-      written_sound h program On E place t p (argument_value See y) v (argument_typed h E See sees y t fits) names on_sound
+      let room = subst (λ o. HasRoom (width_within h o place.member) t) (sym p.of_class) (member_room h keeps p.class place.member place.index t p.element) in
+      let typed = kept_typed h x.classes E (value See) has_value y t (place_width h place) room fits in
+      written_sound h program On E place t p (argument_value See y) v typed (kept_held h x.classes E (value See) has_value y t (place_width h place) fits) names on_sound
   kind_sound _ (copies to from c has_to has_from) within clear =
       let us = uses_of h See w (Copy to from c) in
       copied_sound h program On c (value See to) (value See from)

@@ -36,7 +36,7 @@ unless_sound h program (Some rule) line next goes = tt
 
 -- a body is left, and what is below goes on
 left_sound : (h : Classes) (program : TypedProgram) (s : State) (f : Running) (below : List Frame) → (below ≡ [] → ⊥) → IsSound h program (with_frames s (InBody f ∷ below)) → IsSound h program (with_frames s below)
-left_sound h program s f below some b = record { typed = record { globals = b.typed.globals; leaves = b.typed.leaves; frames = b.typed.frames.2; running = some }; runs = b.runs }
+left_sound h program s f below some b = record { typed = record { globals = b.typed.globals; leaves = b.typed.leaves; held = b.typed.held; frames = b.typed.frames.2; running = some }; runs = b.runs }
 
 over_some : (below : List Frame) → IsOverPlan below → below ≡ [] → ⊥
 over_some [] a e = a

@@ -5,7 +5,7 @@ use Rattle.cxx_hierarchy.specs.Classes.{Classes}
 use Rattle.cxx_subobject.specs.declared.Subobject.{Subobject}
 use Rattle.cxx_subobject.specs.Subobjects.{IsSubobject, class_of, whole_of}
 use Rattle.cxx_program.specs.declared.operand.Conversion.{Conversion}
-use Rattle.cxx_program.specs.declared.operand.Conversion.TheVariants.{Number as ToNumber, Null as ToNull, Same as ToSame, Base as ToBase}
+use Rattle.cxx_program.specs.declared.operand.Conversion.TheVariants.{Number as ToNumber, Bits as ToBits, Null as ToNull, Same as ToSame, Base as ToBase}
 use Rattle.cxx_program.specs.declared.operand.Argument.{Argument}
 use Rattle.cxx_program.specs.declared.statement.TypedPlace.{TypedPlace}
 use Rattle.cxx_program.specs.declared.statement.TypedCast.{TypedCast}
@@ -36,6 +36,7 @@ IsOf s (Pointer p) c = (class_of p.at ≡ Some c) × ((d : ClassId) × (slice_ge
 -- a conversion from the class c to the class d
 abbrev pub Converts : Classes → ClassId → Conversion → ClassId → Type 0
 Converts h c (ToNumber t) d = c ≡ d
+Converts h c (ToBits t n) d = c ≡ d
 Converts h c ToNull d = c ≡ d
 Converts h c ToSame d = c ≡ d
 Converts h c (ToBase i) d = IsProperBase h c i d

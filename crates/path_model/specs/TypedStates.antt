@@ -6,7 +6,7 @@ use Rattle.cxx_hierarchy.specs.declared.records.ValueType.{ValueType}
 use Rattle.cxx_hierarchy.specs.declared.records.ValueType.TheVariants.{Number as NumberType, Pointer as PointerType}
 use Rattle.cxx_hierarchy.specs.declared.records.FieldType.TheVariants.{Value as ValueField}
 use Rattle.cxx_hierarchy.specs.declared.records.ReturnType.TheVariants.{Value as ValueReturn}
-use Rattle.cxx_hierarchy.specs.Scalars.{IsInRange}
+use Rattle.cxx_hierarchy.specs.Scalars.{IsInRange, IsInWidth}
 use Rattle.cxx_hierarchy.specs.Classes.{Classes}
 use Rattle.cxx_subobject.specs.Subobjects.{class_of}
 use Rattle.cxx_subobject.specs.Locations.{ObjectPart, IsElement, IsPartOf}
@@ -15,7 +15,7 @@ use Rattle.cxx_program.specs.declared.program.Owner.{Owner}
 use Rattle.cxx_program.specs.declared.program.Owner.TheVariants.{Main, Function, Constructor, Destructor}
 use Rattle.cxx_program.specs.declared.program.TypedBody.{TypedBody}
 use Rattle.cxx_program.specs.declared.program.TypedProgram.{TypedProgram}
-use Rattle.cxx_program.specs.Typed.{Types, Converts, scope_of, this_of, returns_of, variable_type}
+use Rattle.cxx_program.specs.Typed.{Types, Converts, scope_of, this_of, returns_of, variable_type, width_within}
 use Rattle.path_model.specs.Values.{Value, Unset, Number, Null, Pointer, Leaf}
 use Rattle.path_model.specs.States.{Target, Running, Frame, InBody, InPlan, State, body_of}
 
@@ -38,6 +38,12 @@ IsValue h classes Null (PointerType c) = Unit {0}
 IsValue h classes (Pointer p) (NumberType t) = ⊥
 IsValue h classes (Pointer p) (PointerType c) = IsPartMade h classes p c
 
+-- a number in a bit-field of n bits is one that n bits of the type can hold (ISO C++03 9.6)
+abbrev pub IsHeld : Option ℕ → Value → ValueType ClassId → Type 0
+IsHeld None v t = Unit {0}
+IsHeld (Some n) (Number z) (NumberType t) = IsInWidth t n z
+IsHeld (Some n) v t = Unit {0}
+
 -- each value is one of the type at its place
 abbrev pub AreValues : Classes → List ClassId → List Value → Types → Type 0
 AreValues h classes values types = AllZip (IsValue h classes) values types
@@ -47,6 +53,10 @@ pub record IsLeafMade (h : Classes) (classes : List ClassId) (l : Leaf) (t : Val
   pub class : ClassId
   pub part : IsPartMade h classes l.part class
   pub element : IsElement h class l.member l.index (ValueField t)
+
+-- the width of a leaf, where it is a bit-field (ISO C++03 9.6)
+abbrev pub width_of_leaf : Classes → Leaf → Option ℕ
+width_of_leaf h l = width_within h (class_of l.part.at) l.member
 
 -- frames
 
@@ -107,9 +117,10 @@ AreTypedFrames h program classes (InPlan f ∷ below) = IsCalledFrom program (Fi
 
 -- states
 
--- globals, leaves and frames hold values of their types, and there is a frame
+-- globals, leaves and frames hold values of their types, bit-fields what their bits can hold, and there is a frame
 pub record IsTypedState (h : Classes) (program : TypedProgram) (s : State) : Type 0 where
   pub globals : AreValues h s.objects.classes s.globals program.globals
   pub leaves : (l : Leaf) (t : ValueType ClassId) → IsLeafMade h s.objects.classes l t → IsValue h s.objects.classes (s.objects.leaf l) t
+  pub held : (l : Leaf) (t : ValueType ClassId) → IsLeafMade h s.objects.classes l t → IsHeld (width_of_leaf h l) (s.objects.leaf l) t
   pub frames : AreTypedFrames h program s.objects.classes s.frames
   pub running : s.frames ≢ []

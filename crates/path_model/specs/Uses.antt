@@ -18,7 +18,7 @@ use Rattle.cxx_overrider.specs.declared.FunctionId.{FunctionId}
 use Rattle.cxx_overrider.specs.Virtuals.{is_virtual}
 use Rattle.cxx_program.specs.declared.operand.Argument.{Argument}
 use Rattle.cxx_program.specs.declared.operand.Conversion.{Conversion}
-use Rattle.cxx_program.specs.declared.operand.Conversion.TheVariants.{Number as ToNumber, Null as ToNull, Same as ToSame, Base as ToBase}
+use Rattle.cxx_program.specs.declared.operand.Conversion.TheVariants.{Number as ToNumber, Bits as ToBits, Null as ToNull, Same as ToSame, Base as ToBase}
 use Rattle.cxx_program.specs.declared.statement.PassedMember.{PassedMember}
 use Rattle.cxx_program.specs.declared.statement.TypedPlace.{TypedPlace}
 use Rattle.cxx_program.specs.declared.statement.TypedCast.{TypedCast}
@@ -93,6 +93,7 @@ views false v = []
 -- a conversion to another class is a guarded use; that to a subobject behind a virtual base needs the view (ISO C++03 4.10, 12.7 p2)
 abbrev pub convert : Value → Conversion → List Use
 convert v (ToNumber t) = []
+convert v (ToBits t n) = []
 convert v ToNull = []
 convert v ToSame = []
 convert v (ToBase i) = Guards v ∷ views (is_shared i) v

@@ -1,7 +1,7 @@
 -- Values, the objects of a run, and what a statement sees of them.
 use Rattle.std.specs.Prelude.{ℕ, ℤ, Bool, Option, Some, None, List, slice_get}
 use Rattle.cxx_hierarchy.specs.declared.records.ClassId.{ClassId}
-use Rattle.cxx_hierarchy.specs.Scalars.{stored_as}
+use Rattle.cxx_hierarchy.specs.Scalars.{stored_as, kept_in}
 use Rattle.cxx_subobject.specs.declared.Subobject.{Subobject}
 use Rattle.cxx_subobject.specs.Subobjects.{join}
 use Rattle.cxx_subobject.specs.Locations.{ObjectPart}
@@ -10,7 +10,7 @@ use Rattle.cxx_program.specs.declared.operand.Variable.TheVariants.{Global, Loca
 use Rattle.cxx_program.specs.declared.operand.TypedOperand.{TypedOperand}
 use Rattle.cxx_program.specs.declared.operand.TypedOperand.TheVariants.{Variable as VariableOperand, This, Number as NumberOperand}
 use Rattle.cxx_program.specs.declared.operand.Conversion.{Conversion}
-use Rattle.cxx_program.specs.declared.operand.Conversion.TheVariants.{Number as ToNumber, Null as ToNull, Same as ToSame, Base as ToBase}
+use Rattle.cxx_program.specs.declared.operand.Conversion.TheVariants.{Number as ToNumber, Bits as ToBits, Null as ToNull, Same as ToSame, Base as ToBase}
 use Rattle.cxx_program.specs.declared.operand.Argument.{Argument}
 use Rattle.path_plan.specs.Places.{part}
 use Rattle.path_plan.specs.Phases.{Phases}
@@ -79,6 +79,7 @@ to_number f (Pointer p) = Pointer p
 -- a value, converted
 abbrev pub converted : Value → Conversion → Value
 converted v (ToNumber t) = to_number (stored_as t) v
+converted v (ToBits t n) = to_number (kept_in t n) v
 converted v ToNull = Null
 converted v ToSame = v
 converted v (ToBase i) = to_base i v

@@ -1,6 +1,6 @@
 //! The copy of a part.
 
-ghost use Rattle.std.specs.Prelude.{◌≡◌, Some, IfOk, OnErr, OnOk};
+ghost use Rattle.std.specs.Prelude.{◌≡◌, Some, IfOk, OnOk};
 ghost use Rattle.cxx_subobject.specs.Subobjects.{class_of};
 ghost use Rattle.path_plan.specs.Places.{ObjectPart};
 ghost use Rattle.path_model.specs.Values.{Objects};
@@ -29,19 +29,22 @@ fn values_of(alloc: Global, heap: &Heap, leaves: &[u32]) -> Result<Vec<Value>, N
 }
 
 /// Gives each leaf its value, the last one first.
-fn store_all(heap: &mut Heap, leaves: &[u32], values: &[Value])
-    ensures { StoresAll heap.old heap.new leaves.now values.now }
+///
+/// Errors: want of memory.
+fn store_all(heap: &mut Heap, leaves: &[u32], values: &[Value]) -> Result<(), NoMemory>
+    ensures { IfOk result (λ _. StoresAll heap.old heap.new leaves.now values.now) }
 {
     let mut i = leaves.len().min(values.len());
     while i > 0 {
         i -= 1;
-        heap.set_leaf(leaves[i], values[i]);
+        heap.set_leaf(leaves[i], values[i])?;
     }
+    Ok(())
 }
 
 /// Each leaf of one part takes the old value of the same leaf of another one, both of class c: `*to = *from` (ISO C++03 12.8 p13).
 ///
-/// Errors: want of memory. The heap is then as it was.
+/// Errors: want of memory. The heap is then of no use.
 pub fn copy(
     alloc: Global,
     world: &World,
@@ -51,12 +54,11 @@ pub fn copy(
     from: u32,
 ) -> Result<(), NoMemory>
     requires { IsWorld world.now }
-    ensures copied { OnOk result ((s : Objects) (p q : ObjectPart) → HeapStands world.now.h.now heap.old s → Points world.now.h.now s.classes to p → Points world.now.h.now s.classes from q → HasBegun s p → HasBegun s q → class_of p.at ≡ Some c → class_of q.at ≡ Some c → HeapStands world.now.h.now heap.new (copied world.now.h.now c p q s)) }
-    ensures kept { OnErr result (heap.new ≡ heap.old) }
+    ensures { OnOk result ((s : Objects) (p q : ObjectPart) → HeapStands world.now.h.now heap.old s → Points world.now.h.now s.classes to p → Points world.now.h.now s.classes from q → HasBegun s p → HasBegun s q → class_of p.at ≡ Some c → class_of q.at ≡ Some c → HeapStands world.now.h.now heap.new (copied world.now.h.now c p q s)) }
 {
     let leaves = leaf_numbers(alloc, world, heap, to, c)?;
     let sources = leaf_numbers(alloc, world, heap, from, c)?;
     let values = values_of(alloc, heap, &sources)?;
-    store_all(heap, &leaves, &values);
+    store_all(heap, &leaves, &values)?;
     Ok(())
 }

@@ -6,8 +6,8 @@
 //! this crate adds no definition to it.
 //!
 //! The layers above may rely on: each call is total, and each clause holds of all objects that the heap stands for. `location` names
-//! a part by hops, `leaf_numbers` lists the leaves of a part, `copy` does `*to = *from` (ISO C++03 12.8) and leaves the heap as it was
-//! where memory is wanting, `dump` tells a heap object with all its leaves, and `shown` a value.
+//! a part by hops, `leaf_numbers` lists the leaves of a part, `copy` does `*to = *from` (ISO C++03 12.8), after which the heap is of
+//! no use where memory is wanting, `dump` tells a heap object with all its leaves, and `shown` a value.
 #![tactic(auto)]
 
 pub mod copies;

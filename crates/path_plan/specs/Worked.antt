@@ -28,11 +28,11 @@ class_with bases members = record { name = []; at = 0; bases = bases; members = 
 
 -- a member of type int
 abbrev pub number_member : Member ClassId
-number_member = record { name = []; ty = Value (Number Int); count = None; is_public = true; at = 0 }
+number_member = record { name = []; ty = Value (Number Int); count = None; width = None; width_at = 0; is_public = true; at = 0 }
 
 -- a member that is an array of count elements of a class
 abbrev pub array_member : (class count : ℕ) → Member ClassId
-array_member class count = record { name = []; ty = Object (nth_class class); count = Some count; is_public = true; at = 0 }
+array_member class count = record { name = []; ty = Object (nth_class class); count = Some count; width = None; width_at = 0; is_public = true; at = 0 }
 
 -- the number of the class whose object is made below
 abbrev pub is_three : ℕ → Bool

@@ -11,7 +11,7 @@ use Rattle.cxx_subobject.specs.Subobjects.{class_of}
 use Rattle.cxx_subobject.specs.Locations.{ObjectPart}
 use Rattle.cxx_program.specs.declared.operand.TypedOperand.{TypedOperand}
 use Rattle.cxx_program.specs.declared.operand.Conversion.{Conversion}
-use Rattle.cxx_program.specs.declared.operand.Conversion.TheVariants.{Number as ToNumber, Null as ToNull, Same as ToSame, Base as ToBase}
+use Rattle.cxx_program.specs.declared.operand.Conversion.TheVariants.{Number as ToNumber, Bits as ToBits, Null as ToNull, Same as ToSame, Base as ToBase}
 use Rattle.cxx_program.specs.declared.operand.Argument.{Argument}
 use Rattle.cxx_program.specs.declared.statement.PassedMember.{PassedMember}
 use Rattle.cxx_program.specs.declared.statement.TypedPlace.{TypedPlace}
@@ -80,6 +80,7 @@ return_given h e s w seen back _ _ is (a_null d) =
 -- a conversion that breaks no rule can be done
 pub can_convert : (h : Classes) (s : Objects) (x : Value) (c d : ClassId) (k : Conversion) → IsOf s x c → Leads h c k d → None ≡ refused h s (convert x k) → CanConvert h s x k
 can_convert h s x c d (ToNumber t) a b e = tt
+can_convert h s x c d (ToBits t n) a b e = tt
 can_convert h s x c d ToNull a b e = tt
 can_convert h s x c d ToSame a b e = tt
 can_convert h s x c d (ToBase i) a b e = reach x a (is_false (names (is_unready s) x) (λ f.

@@ -177,6 +177,7 @@ fn part_cast_converted(
 {
     match c {
         Conversion::Number(_) => Ok(None),
+        Conversion::Bits(_, _) => Ok(None),
         Conversion::Null => Ok(None),
         Conversion::Same => Ok(None),
         Conversion::Base(i) => {

@@ -125,6 +125,7 @@ pub(crate) fn convert(moment: &Moment, answers: &mut Answers, v: Value, c: &Conv
 {
     match c {
         Conversion::Number(_) => Ok(None),
+        Conversion::Bits(_, _) => Ok(None),
         Conversion::Null => Ok(None),
         Conversion::Same => Ok(None),
         Conversion::Base(i) => guard_view_of(moment, answers, v, is_shared(i)),

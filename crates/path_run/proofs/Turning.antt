@@ -15,13 +15,13 @@ use Rattle.path_machine.specs.Tellings.{is_told}
 use Rattle.path_machine.specs.Turns.{IsInRun, taken_by, budget_of, ended_with}
 use Rattle.abi_sound.specs.Places.{Places}
 use Rattle.path_model.specs.Outs.{is_traced}
-use Rattle.abi_out.specs.OutTexts.{shown, text_of}
-use Rattle.abi_told.specs.declared.ending.End.{End}
-use Rattle.abi_told.specs.declared.ending.End.TheVariants.{Limit}
-use Rattle.abi_told.specs.Told.{IsRun, text_at, text_limit, told}
+use Rattle.text_told.specs.OutTexts.{shown, text_of}
+use Rattle.text_told.specs.declared.ending.End.{End}
+use Rattle.text_told.specs.declared.ending.End.TheVariants.{Limit}
+use Rattle.text_told.specs.Told.{IsRun, text_at, text_limit, told}
 use Rattle.path_run.specs.invariants.Going.{IsGoing, IsOver, IsTurned, HasGoneOn, Stepped, all_told}
-use Rattle.abi_told.proofs.Texts.{text_none}
-use Rattle.abi_told.proofs.Lines.{IsTextOf, ends_with, lines_pass, lines_stand}
+use Rattle.text_told.proofs.Texts.{text_none}
+use Rattle.text_told.proofs.Lines.{IsTextOf, ends_with, lines_pass, lines_stand}
 
 in_run_at : (h : Classes) (sizes : ClassId → ℕ) (l : Places) (program : TypedProgram) (state : PathState) (o : Option Turn) → sizes ≡ l.size → IsInRun h sizes program state o → IsInRun h l.size program state o
 in_run_at h sizes l program state o is a = subst (λ (z : ClassId → ℕ). IsInRun h z program state o) is a

@@ -4,7 +4,7 @@
 //! would pass the limit on the text leaves none of them, and ends the run.
 //!
 //! The layer above may rely on `run_paths`: its text and its end are those of the run, with a trace or without, with the limit on
-//! its text (`told` of `abi_told`), over whatever sound layout. Only want of memory is an error. Places and sizes come from the layout, and
+//! its text (`told` of `text_told`), over whatever sound layout. Only want of memory is an error. Places and sizes come from the layout, and
 //! all else from the model of a run (`path_model`).
 #![tactic(auto)]
 

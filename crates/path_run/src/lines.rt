@@ -3,14 +3,14 @@
 ghost use Rattle.std.specs.Prelude.{◌≡◌, ◌++◌, Contains, OnOk};
 ghost use Rattle.path_model.specs.declared.outs.Out.{Out};
 ghost use Rattle.abi_sound.specs.Places.{places_of};
-ghost use Rattle.abi_out.specs.OutTexts.{IsTold, text_of};
+ghost use Rattle.text_told.specs.OutTexts.{IsTold, text_of};
 
-use abi_out::append_out;
 use abi_sound::SoundLayout;
 use cxx_hierarchy::Hierarchy;
 use foundation::NoMemory;
 use path_model::Out;
 use std::alloc::Global;
+use text_told::append_out;
 
 /// Puts the lines of what a step told behind a text.
 ///

@@ -7,12 +7,11 @@ ghost use Rattle.path_model.specs.States.{is_body};
 ghost use Rattle.path_machine.specs.invariants.Setups.{IsSetup};
 ghost use Rattle.path_machine.specs.invariants.Steps.{size_in};
 ghost use Rattle.abi_sound.specs.Places.{places_of};
-ghost use Rattle.abi_told.specs.Told.{IsRun, told, ending_of};
+ghost use Rattle.text_told.specs.Told.{IsRun, told, ending_of};
 
 use crate::sizes::sizes_of;
 use crate::turn::turn;
 use abi_sound::SoundLayout;
-use abi_told::End;
 use cxx_hierarchy::Hierarchy;
 use cxx_overrider::Overriders;
 use cxx_program::TypedProgram;
@@ -22,6 +21,7 @@ use path_machine::{PathState, Run};
 use path_numbers::Numbers;
 use path_tables::World;
 use std::alloc::Global;
+use text_told::End;
 
 /// The lines of a run, and how it ended.
 #[derive(Drop)]

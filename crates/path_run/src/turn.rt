@@ -10,11 +10,11 @@ ghost use Rattle.path_run.specs.invariants.Going.{IsGoing, Stepped, Turned, end_
 
 use crate::lines::append_told;
 use abi_sound::SoundLayout;
-use abi_told::End;
 use cxx_hierarchy::LimitNo;
 use foundation::NoMemory;
 use path_machine::{PathState, Run, Telling};
 use path_model::Turn;
+use text_told::End;
 
 /// The bytes that the text of a run may have.
 const TEXT_LIMIT: usize = 16777216;

@@ -1,4 +1,5 @@
 pub mod Turns
+pub mod Bits
 pub mod Reading
 pub mod Meaning
 pub mod Following

@@ -6,7 +6,7 @@ use Rattle.cxx_subobject.specs.declared.Subobject.{Subobject}
 use Rattle.cxx_subobject.specs.Subobjects.{IsSubobject, class_of}
 use Rattle.cxx_subobject.specs.Locations.{ObjectPart}
 use Rattle.cxx_program.specs.declared.operand.Conversion.{Conversion}
-use Rattle.cxx_program.specs.declared.operand.Conversion.TheVariants.{Number as ToNumber, Null as ToNull, Same as ToSame, Base as ToBase}
+use Rattle.cxx_program.specs.declared.operand.Conversion.TheVariants.{Number as ToNumber, Bits as ToBits, Null as ToNull, Same as ToSame, Base as ToBase}
 use Rattle.path_model.specs.Values.{Value, Unset, Number, Null, Pointer, Objects}
 use Rattle.path_heap.specs.Stands.{HasBegun}
 
@@ -27,6 +27,7 @@ CanReach h s (Pointer p) i = HasBase h s p i
 -- a conversion asks only of a pointer, and only where it leads to a base
 abbrev pub CanConvert : Classes → Objects → Value → Conversion → Type 0
 CanConvert h s v (ToNumber t) = Unit {0}
+CanConvert h s v (ToBits t n) = Unit {0}
 CanConvert h s v ToNull = Unit {0}
 CanConvert h s v ToSame = Unit {0}
 CanConvert h s v (ToBase i) = CanReach h s v i

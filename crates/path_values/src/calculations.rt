@@ -3,14 +3,14 @@
 ghost use Rattle.std.specs.Prelude.{◌≡◌, List, ℤ, ◌≤◌, ◌^◌, ◌*ℤ◌, ◌+ℤ◌, ◌-ℤ◌, ◌&&◌, unsigned_abs};
 ghost use Rattle.cxx_hierarchy.specs.declared.records.ClassId.{ClassId};
 ghost use Rattle.cxx_hierarchy.specs.Classes.{Classes};
-ghost use Rattle.cxx_hierarchy.specs.Scalars.{wrapped, is_signed};
+ghost use Rattle.cxx_hierarchy.specs.Scalars.{wrapped};
 ghost use Rattle.cxx_hierarchy.specs.Hierarchies.{IsHierarchy};
 ghost use Rattle.path_model.specs.Values.{Value as ValueOf, Number};
 ghost use Rattle.path_model.specs.Effects.{truth, calculated, arithmetic_value, is_number_zero, negated, is_same_pointer};
 ghost use Rattle.path_model.specs.Rules.{is_over, is_result_over, overflows};
 ghost use Rattle.path_heap.specs.Stands.{Means};
 
-use crate::numbers::wrap;
+use crate::numbers::{is_signed, wrap};
 use cxx_hierarchy::Scalar;
 use cxx_program::Arithmetic;
 use path_heap::Value;
@@ -114,26 +114,6 @@ fn is_result_over(op: Arithmetic, t: Scalar, a: i128, b: i128) -> bool
         Arithmetic::Multiply => is_over(t, a * b),
         Arithmetic::Less | Arithmetic::LessEqual | Arithmetic::Equal | Arithmetic::NotEqual =>
             false,
-    }
-}
-
-/// Whether the type has numbers below 0.
-fn is_signed(t: Scalar) -> bool
-    ensures { result ≡ is_signed t }
-{
-    match t {
-        Scalar::Char
-        | Scalar::SChar
-        | Scalar::Short
-        | Scalar::Int
-        | Scalar::Long
-        | Scalar::LongLong => true,
-        Scalar::Bool
-        | Scalar::UChar
-        | Scalar::UShort
-        | Scalar::UInt
-        | Scalar::ULong
-        | Scalar::ULongLong => false,
     }
 }
 

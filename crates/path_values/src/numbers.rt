@@ -2,7 +2,7 @@
 
 ghost use Rattle.std.specs.Prelude.{◌≡◌, ℤ, ℕ, ◌≤◌, ◌<◌, ◌^◌, ◌%◌, pos, ◌+ℤ◌, ◌-ℤ◌};
 ghost use Rattle.std.specs.Int.{int_rem_euclid};
-ghost use Rattle.cxx_hierarchy.specs.Scalars.{wrapped, stored_as};
+ghost use Rattle.cxx_hierarchy.specs.Scalars.{wrapped, stored_as, is_signed, below_zero, wrapped_to, kept_in};
 
 use cxx_hierarchy::Scalar;
 
@@ -52,5 +52,56 @@ pub fn stored(t: Scalar, z: i128) -> i128
         | Scalar::ULong
         | Scalar::LongLong
         | Scalar::ULongLong => wrap(t, z),
+    }
+}
+
+/// Whether the type has numbers below 0.
+pub(crate) fn is_signed(t: Scalar) -> bool
+    ensures { result ≡ is_signed t }
+{
+    match t {
+        Scalar::Char
+        | Scalar::SChar
+        | Scalar::Short
+        | Scalar::Int
+        | Scalar::Long
+        | Scalar::LongLong => true,
+        Scalar::Bool
+        | Scalar::UChar
+        | Scalar::UShort
+        | Scalar::UInt
+        | Scalar::ULong
+        | Scalar::ULongLong => false,
+    }
+}
+
+/// How far below 0 the least of so many numbers is, signed or not.
+fn below_zero(signed: bool, count: u128) -> u64
+    requires { count ≤ 2 ^ 64 }
+    ensures { result ≡ below_zero signed count }
+{
+    if signed { (count / 2) as u64 } else { 0 }
+}
+
+/// What at most 64 bits of the type keep of a number: the low bits, as two's complement reads them.
+#[tactic(auto, using(crate::proofs::Bits::bits_many, crate::proofs::Bits::bits_power, crate::proofs::Bits::bits_some))]
+fn cut(t: Scalar, bits: u32, z: i128) -> i128
+    requires { bits ≤ 64 }
+    ensures { result ≡ wrapped_to (is_signed t) (2 ^ bits) z }
+{
+    let count = 1u128 << bits;
+    wrap_within(z, below_zero(is_signed(t), count), count)
+}
+
+/// What a bit-field of the type keeps of a number in so many bits: what the type keeps of it, and of that the low bits
+/// (ISO C++03 9.6). More bits than 64 keep all.
+pub fn kept(t: Scalar, bits: u32, z: i128) -> i128
+    ensures { result ≡ kept_in t bits z }
+{
+    let whole = stored(t, z);
+    if bits > 64 {
+        whole
+    } else {
+        cut(t, bits, whole)
     }
 }

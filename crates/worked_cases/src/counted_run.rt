@@ -6,13 +6,13 @@ ghost use Rattle.cxxabi_cmd.specs.invariants.Listings.{IsReady};
 
 use crate::counting_memory::CountingMemory;
 use abi_refine::{Ran, run_machine};
-use abi_told::End;
 use abi_world::{Built, build};
 use byte_machine::Machine;
 use cxx_hierarchy::Stop;
 use cxxabi_cmd::{Accepted, judge};
 use foundation::NoMemory;
 use std::alloc::Global;
+use text_told::End;
 
 // The most inheritance subobjects that a class may have.
 const MOST_SUBOBJECTS: usize = 1024;

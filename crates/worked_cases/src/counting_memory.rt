@@ -50,23 +50,19 @@ impl Memory for CountingMemory {
         self.below.close(at)
     }
 
-    fn is_set(&self, at: u64) -> Result<bool, MemoryFault> {
-        self.below.is_set(at)
+    fn load_bits(&self, at: u64, first: u8, bits: u8) -> Result<u64, MemoryFault> {
+        self.below.load_bits(at, first, bits)
     }
 
-    fn load(&self, at: u64, bytes: u8) -> Result<u64, MemoryFault> {
-        self.below.load(at, bytes)
-    }
-
-    fn store(&mut self, at: u64, bytes: u8, value: u64) -> Result<(), MemoryFault> {
-        let done = self.below.store(at, bytes, value);
+    fn store_bits(&mut self, at: u64, first: u8, bits: u8, value: u64) -> Result<(), MemoryFault> {
+        let done = self.below.store_bits(at, first, bits, value);
         if done.is_ok() {
             self.stores = self.stores.saturating_add(1);
         }
         done
     }
 
-    fn copy(&mut self, from: u64, to: u64, bytes: u8) -> Result<(), MemoryFault> {
-        self.below.copy(from, to, bytes)
+    fn copy_bits(&mut self, from: u64, to: u64, first: u8, bits: u8) -> Result<(), MemoryFault> {
+        self.below.copy_bits(from, to, first, bits)
     }
 }

@@ -4,12 +4,12 @@ ghost use Rattle.std.specs.Prelude.{◌≡◌, ◌≤◌, true, length};
 ghost use Rattle.path_model.specs.States.{is_body};
 ghost use Rattle.cxxabi_cmd.specs.invariants.Listings.{IsReady};
 
-use abi_told::End;
 use cxx_hierarchy::Stop;
 use cxxabi_cmd::{Accepted, judge};
 use foundation::NoMemory;
 use path_run::{PathRun, run_paths};
 use std::alloc::Global;
+use text_told::End;
 
 // The steps of a run at most.
 const STEPS: u32 = 1_000_000;

@@ -1,11 +1,11 @@
 -- What a walk over the parts keeps.
-use Rattle.std.specs.Prelude.{◌≡◌, ℕ, ◌<◌, ◌≤◌, Option, List, ◌++◌, length, Contains}
+use Rattle.std.specs.Prelude.{◌≡◌, ℕ, ◌+◌, ◌<◌, ◌≤◌, Option, List, ◌++◌, length, sum_by, Contains}
 use Rattle.byte_memory.specs.Store.{Store}
 use Rattle.abi_dyncast.specs.declared.parts.Part.{Part}
 use Rattle.abi_dyncast.specs.declared.work.Goal.{Goal}
 use Rattle.abi_dyncast.specs.declared.work.Entry.{Entry}
 use Rattle.abi_dyncast.specs.Graph.{Graph, graph_of, any_edge, Leads}
-use Rattle.abi_dyncast.specs.Casts.{AreParts, AreRead}
+use Rattle.abi_dyncast.specs.Casts.{AreParts, AreRead, HasAllBelow, edges_of}
 use Rattle.abi_dyncast.specs.invariants.Chain.{IsMet}
 use Rattle.abi_dyncast.specs.invariants.Finding.{Tells}
 
@@ -14,6 +14,20 @@ pub record AreDone (g : Graph) (goal : Goal) (entries : List Entry) : Type 0 whe
   pub class : (e : Entry) → Contains entries e → e.class ≡ g.class e.part
   pub tells : (e : Entry) → Contains entries e → Tells g goal e.part e.found
   pub below : (part : Part) (i : ℕ) → IsMet entries part → i < g.count part → IsMet entries (g.edge part i).part
+
+-- how many edges leave the parts that were met
+abbrev pub edges_from : Graph → List Entry → ℕ
+edges_from g entries = sum_by (λ (e : Entry). g.count e.part) entries
+
+-- a walk reads the record of a base at most once for each edge of the parts that it adds
+pub record HasRead (g : Graph) (old new : List Entry) (before after : ℕ) : Type 0 where
+  pub more : before ≤ after
+  pub few : after + edges_from g old ≤ before + edges_from g new
+
+-- a whole walk reads the record of a base at most once for each edge of the view
+pub record ReadsAtMost (g : Graph) (view : Part) (before after : ℕ) : Type 0 where
+  pub more : before ≤ after
+  pub few : (parts : List Part) → HasAllBelow g view parts → after ≤ before + edges_of g parts
 
 -- a walk from a part can begin
 pub record IsReady (image : ℕ → Option ℕ) (memory : Store) (goal : Goal) (room : ℕ) (entries : List Entry) (part : Part) : Type 0 where

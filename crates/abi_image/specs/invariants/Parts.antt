@@ -35,13 +35,13 @@ infos_start groups vtts = vtts_start groups vtts + 8 * total (map vtt_size vtts)
 -- the directory, the groups, the VTTs and the records stand one after the other
 pub record AreParts (groups : List Group) (vtts : List (List VttWord)) (infos : List TypeInfo) (parts : Parts) : Type 0 where
   pub groups_at : AreAt (groups_start vtts) (map group_size groups) parts.groups.at.items
-  pub vtts_at : AreAt (vtts_start groups vtts) (map vtt_size vtts) parts.vtts.at.items
+  pub vtts_at : IsRegion (vtts_start groups vtts) (map vtt_size vtts) parts.vtts
   pub infos_at : IsRegion (infos_start groups vtts) (map info_size infos) parts.infos
   pub points : AreGroupPoints groups parts.groups.at.items parts.groups.points.items
   pub firsts : AreFirstPoints groups (address_in parts.groups.at.items) (length vtts) parts.firsts.items
 
 abbrev pub addresses_of : Parts → Addresses
-addresses_of parts = record { group = address_in parts.groups.at.items; vtt = class_in parts.vtts.at.items; info = class_in parts.infos.at.items }
+addresses_of parts = record { group = address_in parts.groups.at.items; vtt = class_in parts.vtts.at.items; info = class_in parts.infos.at.items; records = parts.vtts.end }
 
 -- an image that has the words of the draft has all tables at the places of the parts
 pub record IsDraftOf (codes : List CodeRow) (groups : List Group) (vtts : List (List VttWord)) (infos : List TypeInfo) (parts : Parts) (draft : Draft) : Type 0 where

@@ -1,5 +1,5 @@
 -- Lemmas on a class whose components are placed.
-use Rattle.std.proofs.Common.{◌+◌, [], ◌∷◌, ◌≡◌, ℕ, ◌<◌, ◌≤◌, Bool, true, false, List, ap, subst, sym, ◌∙◌, arith}
+use Rattle.std.proofs.Common.{◌+◌, ◌*◌, [], ◌∷◌, ◌≡◌, ℕ, ◌<◌, ◌≤◌, Bool, true, false, List, ap, subst, sym, ◌∙◌, arith}
 use Rattle.std.specs.Prelude.{max, if◌then◌else◌, All, map}
 use Rattle.std.proofs.lemmas.List.{append-nil}
 use Rattle.std.proofs.lemmas.List.Elements.{All-nil, All-cons}
@@ -11,18 +11,20 @@ use Rattle.abi_layout.specs.declared.component.Component.{Component}
 use Rattle.abi_layout.specs.declared.component.Stage.{Stage}
 use Rattle.abi_layout.specs.declared.placing.Placing.{Placing}
 use Rattle.abi_layout.specs.declared.arrangement.Arrangement.{Arrangement}
+use Rattle.abi_sound.specs.declared.class_layout.Bits.{Bits}
 use Rattle.abi_sound.specs.declared.class_layout.ClassLayout.{ClassLayout}
-use Rattle.abi_layout.specs.Placements.{IsNext, ArePlaced, after, after_all, parts_at, first_stage}
-use Rattle.abi_layout.specs.invariants.Alignments.{IsAlignment, byte, eight_bytes, AreWithin, AreFit, IsPlacing, HasTable, IsPastLimit}
+use Rattle.abi_layout.specs.Placements.{IsNext, ArePlaced, end_of, after, after_all, parts_at, first_stage}
+use Rattle.abi_layout.specs.invariants.Alignments.{IsAlignment, byte, eight_bytes, AreWithin, HasFreeBit, AreFit, IsPlacing, HasTable, IsPastLimit}
 use Rattle.abi_layout.specs.Layouts.{IsLayoutBy}
 use Rattle.abi_layout.specs.invariants.Arrangements.{stage_with, IsWithinLimit, IsTooLargeBy}
-use Rattle.abi_layout.proofs.rules.Parts.{within_further, within_moved, within_both, table_stays}
-use Rattle.abi_layout.proofs.rules.PlacingLemmas.{size_grows, places_are_one, next_within}
+use Rattle.abi_layout.proofs.rules.Parts.{within_further, within_both, table_stays}
+use Rattle.abi_layout.proofs.rules.PlacingLemmas.{size_grows, parts_before, place_before_end, places_are_one, next_within}
 
 pub start_is_placing : (old new : Placing) (c : ClassId) (b : Bool) → HasTable old → old.stage ≡ first_stage c → new.table ≡ old.table → new.listed ≡ old.listed → new.stage ≡ stage_with b old.stage.parts → IsPlacing new
 start_is_placing old new c b table e same listed is = record {
   table = table_stays old new [] same listed (ap (λ (s : Stage). s.parts) is ∙ sym (append-nil old.stage.parts)) table;
   align = subst (λ (s : Stage). IsAlignment s.align) (sym is) (alignment b);
+  free_bit = subst HasFreeBit (sym is) (record { inside = free_inside b; last = free_last b });
   dsize = subst (λ (s : Stage). s.dsize ≤ s.size) (sym is) (omega arith);
   size = subst (λ (s : Stage). s.size ≤ size_limit) (sym is) (small b);
   parts = subst (λ (s : Stage). AreWithin s.size s.parts) (sym is) (subst (λ (s : Stage). AreWithin (if b then 8 else 0) s.parts) (sym e) (omega arith, tt));
@@ -32,12 +34,20 @@ start_is_placing old new c b table e same listed is = record {
     alignment true = eight_bytes
     alignment false = byte
 
+    free_inside : (x : Bool) → (if x then 64 else 0) ≤ 8 * (if x then 8 else 0)
+    free_inside true = omega arith
+    free_inside false = omega arith
+
+    free_last : (x : Bool) → 8 * (if x then 8 else 0) < (if x then 64 else 0) + 8
+    free_last true = omega arith
+    free_last false = omega arith
+
     small : (x : Bool) → (if x then 8 else 0) ≤ size_limit
     small true = omega arith
     small false = omega arith
 
-abbrev pub arrangement : (size align dsize nvsize nvalign : ℕ) → (fronts members frees : List ℕ) → (parts member_parts : List Part) → Arrangement
-arrangement size align dsize nvsize nvalign fronts members frees parts member_parts = record { size = size; align = align; dsize = dsize; nvsize = nvsize; nvalign = nvalign; front_places = fronts; member_places = members; free_places = frees; parts = parts; member_parts = member_parts }
+abbrev pub arrangement : (size align dsize nvsize nvalign : ℕ) → (fronts members : List ℕ) → List Bits → (frees : List ℕ) → (parts member_parts : List Part) → Arrangement
+arrangement size align dsize nvsize nvalign fronts members bits frees parts member_parts = record { size = size; align = align; dsize = dsize; nvsize = nvsize; nvalign = nvalign; front_places = fronts; member_places = members; member_bits = bits; free_places = frees; parts = parts; member_parts = member_parts }
 
 -- each place is within the limit where the last stage is
 pub placed_little : (stage : Stage) (cs : List Component) (ps : List ℕ) → ArePlaced stage cs ps → (after_all stage cs ps).size ≤ size_limit → All (λ (p : ℕ). p ≤ size_limit) ps
@@ -46,6 +56,7 @@ placed_little stage [] (p ∷ ps) placed le = absurd placed
 placed_little stage (c ∷ cs) [] placed le = All-nil (λ (p : ℕ). p ≤ size_limit)
 placed_little stage (c ∷ cs) (p ∷ ps) placed le =
     let g = size_grows (after stage c p) cs ps in
+    let e = place_before_end stage c p in
     All-cons (λ (p : ℕ). p ≤ size_limit) p ps (omega arith) (placed_little (after stage c p) cs ps placed.1 le)
 
 -- what components bring lies within the stage behind them
@@ -56,14 +67,14 @@ placed_within stage (c ∷ cs) (p ∷ ps) fit placed =
     let last = (after_all (after stage c p) cs ps).size in
     let g = size_grows (after stage c p) cs ps in
     within_both last (map (moved p) c.parts) (parts_at cs ps)
-    (within_further (p + c.takes) last (map (moved p) c.parts) (omega arith) (within_moved c.takes p c.parts fit.0.parts))
+    (within_further (end_of stage c p) last (map (moved p) c.parts) (omega arith) (parts_before stage c p fit.0))
     (placed_within (after stage c p) cs ps fit.1 placed.1)
 
-pub arranged_within : (mid inner last : Placing) (ms vs : List Component) (pod : Bool) (ps qs rs : List ℕ) (size dsize nvsize : ℕ) (member_parts : List Part)
+pub arranged_within : (mid inner last : Placing) (ms vs : List Component) (pod : Bool) (ps qs : List ℕ) (bits : List Bits) (rs : List ℕ) (size dsize nvsize : ℕ) (member_parts : List Part)
     → AreFit ms → ArePlaced mid.stage ms qs → inner.stage ≡ after_all mid.stage ms qs → member_parts ≡ parts_at ms qs
     → IsPlacing inner → IsPlacing last → last.stage ≡ after_all inner.stage vs rs → IsNext (max 1 last.stage.size) last.stage.align size → nvsize ≡ (if pod then size else inner.stage.size)
-    → IsWithinLimit (arrangement size last.stage.align dsize nvsize inner.stage.align ps qs rs last.stage.parts member_parts)
-arranged_within mid inner last ms vs pod ps qs rs size dsize nvsize member_parts fit placed m are i l e next n =
+    → IsWithinLimit (arrangement size last.stage.align dsize nvsize inner.stage.align ps qs bits rs last.stage.parts member_parts)
+arranged_within mid inner last ms vs pod ps qs bits rs size dsize nvsize member_parts fit placed m are i l e next n =
     let behind = next.behind in
     let small = l.size in
     let grows = size_grows inner.stage vs rs in

@@ -16,14 +16,14 @@ use Rattle.abi_layout.specs.declared.known.Known.{Known}
 use Rattle.abi_sound.specs.declared.class_layout.ClassLayout.{ClassLayout}
 use Rattle.abi_layout.specs.declared.placed_bases.PlacedBase.{PlacedBase}
 use Rattle.abi_sound.specs.Places.{align_in, nvalign_in}
-use Rattle.abi_layout.specs.Placements.{after_all, align_of_type, member_component}
+use Rattle.abi_layout.specs.Placements.{after_all, bits_at, align_of_type, member_component}
 use Rattle.abi_layout.specs.invariants.Known.{parts_in, AreAllSized}
 use Rattle.abi_layout.specs.PlacedBases.{class_of_placed}
 use Rattle.abi_layout.specs.Layouts.{IsLayoutBy}
 use Rattle.abi_layout.specs.invariants.Arrangements.{components_by}
-use Rattle.abi_layout.proofs.lists.Lists.{get_within}
+use Rattle.abi_layout.proofs.lists.Lists.{get_within, has_here, has_later}
 use Rattle.abi_layout.proofs.rules.PlacingLemmas.{align_small}
-use Rattle.abi_layout.proofs.algorithm.RowLemmas.{value_alignment}
+use Rattle.abi_layout.proofs.algorithm.RowLemmas.{value_alignment, AreBitFields, bit_field_fits}
 use Rattle.abi_layout.proofs.rules.Existence.{rounded, rounded_is_next, ArePositive, places_exist, align_grows}
 
 nvalign_positive : (rows : List ClassLayout) (known : List Known) → AreAllSized rows known → length known ≡ length rows → (i : ℕ) (o : Option ClassLayout) → slice_get rows i ≡ o → 1 ≤ nvalign_in o
@@ -47,11 +47,14 @@ type_positive rows known sized same (Object d) = align_positive rows known sized
 -- no alignment of a base or a member is 0
 pub bases_positive : (h : Classes) (c : ClassId) (rows : List ClassLayout) (known : List Known) (ps : List Primary) → AreAllSized rows known → length known ≡ length rows → (bases : List PlacedBase) → ArePositive (components_by h rows known ps c bases)
 bases_positive h c rows known ps sized same [] = tt
-bases_positive h c rows known ps sized same (base ∷ bases) = (nvalign_positive rows known sized same (class_of_placed base).0 (slice_get rows (class_of_placed base).0) refl, bases_positive h c rows known ps sized same bases)
+bases_positive h c rows known ps sized same (base ∷ bases) = (record { align = nvalign_positive rows known sized same (class_of_placed base).0 (slice_get rows (class_of_placed base).0) refl; width = λ n e. cc }, bases_positive h c rows known ps sized same bases)
 
-pub members_positive : (rows : List ClassLayout) (known : List Known) → AreAllSized rows known → length known ≡ length rows → (members : List (Member ClassId)) → ArePositive (map (member_component rows (parts_in known)) members)
-members_positive rows known sized same [] = tt
-members_positive rows known sized same (member ∷ members) = (type_positive rows known sized same member.ty, members_positive rows known sized same members)
+pub members_positive : (rows : List ClassLayout) (known : List Known) → AreAllSized rows known → length known ≡ length rows → (members : List (Member ClassId)) → AreBitFields members → ArePositive (map (member_component rows (parts_in known)) members)
+members_positive rows known sized same [] bits = tt
+members_positive rows known sized same (member ∷ members) bits = (
+  record { align = type_positive rows known sized same member.ty; width = λ n e. (bit_field_fits rows (parts_in known) member n (bits member n (has_here member members) e)).most },
+  members_positive rows known sized same members (λ x n h e. bits x n (has_later member members x h) e),
+)
 
 -- a row by these components, and where they lie
 pub record HasArranged (first : Stage) (fs ms vs : List Component) (pod : Bool) : Type 0 where
@@ -78,8 +81,8 @@ arranged_exists first fs ms vs pod positive f m v =
     record {
       front_places = front.places;
       free_places = free.places;
-      row = record { size = size; align = last.align; dsize = if pod then size else last.dsize; nvsize = if pod then size else middle.size; nvalign = middle.align; primary = NoPrimary; base_places = []; virtual_bases = []; virtual_places = []; holders = []; member_places = member.places };
-      laid = record { fronts_placed = front.placed; members_placed = member.placed; frees_placed = free.placed; nvalign = refl; nvsize = refl; align = refl; size = rounded_is_next (max 1 last.size) last.align above; dsize = refl };
+      row = record { size = size; align = last.align; dsize = if pod then size else last.dsize; nvsize = if pod then size else middle.size; nvalign = middle.align; primary = NoPrimary; base_places = []; virtual_bases = []; virtual_places = []; holders = []; member_places = member.places; member_bits = bits_at behind ms member.places };
+      laid = record { fronts_placed = front.placed; members_placed = member.placed; bits = refl; frees_placed = free.placed; nvalign = refl; nvsize = refl; align = refl; size = rounded_is_next (max 1 last.size) last.align above; dsize = refl };
     }
 
 pub start_positive : (b : Bool) → 1 ≤ (if b then 8 else 1)

@@ -1,5 +1,5 @@
 -- The components of the next class by what is known of the classes before it are those of the rules.
-use Rattle.std.proofs.Common.{◌≡◌, ℕ, zero, suc, ◌+◌, ◌<◌, Bool, Some, List, [], ◌∷◌, ◌++◌, map, take, length, refl, ap, subst, sym, ◌∙◌, arith}
+use Rattle.std.proofs.Common.{◌≡◌, ℕ, zero, suc, ◌+◌, ◌<◌, Bool, Some, None, List, [], ◌∷◌, ◌++◌, map, take, length, refl, ap, subst, sym, ◌∙◌, arith}
 use Rattle.std.specs.Prelude.{All, IsTrue, ◌↔◌, if◌then◌else◌}
 use Rattle.std.specs.List.{slice_get}
 use Rattle.std.proofs.lemmas.Option.{slice_get_within}
@@ -82,7 +82,7 @@ next_are_bases h c class rows known members nearly ps primary has_pointer next =
     (subst (IsPossible h c) (sym (last_primary ps c primary count)) (primary_possible h nearly ps c primary next.is_primary))
 
 abbrev component_made : Bool → ℕ → ℕ → ℕ → List Part → Component
-component_made empty align size nvsize parts = record { is_empty = empty; align = align; takes = if empty then size else nvsize; parts = parts }
+component_made empty align size nvsize parts = record { is_empty = empty; align = align; takes = if empty then size else nvsize; width = None; parts = parts }
 
 kinds_same : (f g : ClassId → Bool) (h : Classes) (rows : List ClassLayout) (ps : List Primary) (parts : ClassId → List Part) (c : ClassId) (bases : List PlacedBase) → ((d : ClassId) → d.0 < c.0 → f d ≡ g d) → All (λ (base : PlacedBase). (class_of_placed base).0 < c.0) bases
     → map (placed_component f h rows ps parts c) bases ≡ map (placed_component g h rows ps parts c) bases

@@ -28,6 +28,7 @@ use Rattle.abi_layout.proofs.lists.Lists.{has_at}
 use Rattle.abi_layout.proofs.rules.KindLemmas.{contains_of, has_of}
 use Rattle.abi_layout.proofs.rules.Stages.{has_left, has_right}
 use Rattle.abi_layout.proofs.rules.AgreeingClasses.{layout_along}
+use Rattle.abi_layout.proofs.algorithm.SceneFits.{bit_fields}
 use Rattle.abi_layout.proofs.algorithm.NextArranged.{bases_positive, members_positive, arranged_exists, start_positive}
 use Rattle.abi_layout.proofs.algorithm.NextComponents.{IsNextKnown, next_class, next_same}
 
@@ -55,7 +56,7 @@ large_class h c class rows known members nearly ps primary has_pointer next too_
     let sized = next.so_far.sized in
     let count : length known ≡ length rows = next.so_far.known_each ∙ sym next.so_far.by.one_each in
     let made = arranged_exists (start_stage c has_pointer) (components_by h rows known qs c (fronts qs c class)) (members_by rows known class) (components_by h rows known qs c (free_bases h qs c)) (pod_kind (pods_in known) class) (start_positive has_pointer)
-    (bases_positive h c rows known qs sized count (fronts qs c class)) (members_positive rows known sized count class.members) (bases_positive h c rows known qs sized count (free_bases h qs c)) in
+    (bases_positive h c rows known qs sized count (fronts qs c class)) (members_positive rows known sized count class.members (bit_fields h c class next.keeps next.there)) (bases_positive h c rows known qs sized count (free_bases h qs c)) in
     record {
       size = made.row.size;
       has = record {

@@ -1,5 +1,5 @@
 -- Lemmas on the components of a class, and on its row.
-use Rattle.std.proofs.Common.{◌≡◌, ℕ, zero, suc, ◌+◌, ◌*◌, ◌<◌, ◌≤◌, Some, List, [], ◌∷◌, ◌++◌, map, take, length, get_or, refl, ap, sym, ◌∙◌, arith}
+use Rattle.std.proofs.Common.{◌≡◌, ℕ, zero, suc, ◌+◌, ◌*◌, ◌<◌, ◌≤◌, Option, Some, None, List, [], ◌∷◌, ◌++◌, map, take, length, get_or, refl, ap, sym, ◌∙◌, arith}
 use Rattle.std.specs.Option.{option_map}
 use Rattle.std.proofs.lemmas.List.{take_more, map-append}
 use Rattle.std.proofs.lemmas.Option.{slice_get-map, slice_get_read}
@@ -13,7 +13,8 @@ use Rattle.cxx_hierarchy.specs.declared.records.Scalar.{Scalar}
 use Rattle.cxx_hierarchy.specs.declared.records.Scalar.TheVariants.{Bool as TheBool, Char, SChar, UChar, Short, UShort, Int, UInt, Long, ULong, LongLong, ULongLong}
 use Rattle.cxx_hierarchy.specs.declared.records.ValueType.{ValueType}
 use Rattle.cxx_hierarchy.specs.declared.records.ValueType.TheVariants.{Number, Pointer}
-use Rattle.cxx_hierarchy.specs.Scalars.{size_of}
+use Rattle.cxx_hierarchy.specs.Scalars.{size_of, most_bits}
+use Rattle.cxx_hierarchy.specs.Hierarchies.{IsBitField}
 use Rattle.abi_emptybase.specs.declared.Part.{Part}
 use Rattle.abi_emptybase.specs.Table.{moved}
 use Rattle.abi_layout.specs.Limits.{size_limit}
@@ -22,8 +23,8 @@ use Rattle.abi_layout.specs.declared.component.Stage.{Stage}
 use Rattle.abi_layout.specs.declared.known.Known.{Known}
 use Rattle.abi_sound.specs.declared.class_layout.ClassLayout.{ClassLayout}
 use Rattle.abi_sound.specs.Places.{size_of_value}
-use Rattle.abi_layout.specs.Placements.{ArePlaced, after, after_all, copies, elements_of, size_of_type, align_of_type, parts_of_type, member_component}
-use Rattle.abi_layout.specs.invariants.Alignments.{IsAlignment, byte, two_bytes, four_bytes, eight_bytes, AreWithin, IsFit, AreFit, AreLittle}
+use Rattle.abi_layout.specs.Placements.{ArePlaced, end_by, after, after_all, copies, elements_of, size_of_type, align_of_type, parts_of_type, member_component}
+use Rattle.abi_layout.specs.invariants.Alignments.{IsAlignment, byte, two_bytes, four_bytes, eight_bytes, AreWithin, IsFitWidth, IsFit, AreFit, AreLittle}
 use Rattle.abi_layout.specs.invariants.Known.{parts_in, IsSized, AreAllSized, IsEarlierType}
 use Rattle.abi_layout.proofs.lists.Lists.{get_within, has_here, has_later}
 use Rattle.abi_layout.proofs.rules.Parts.{within_further, within_moved, within_both}
@@ -94,11 +95,56 @@ type_alignment rows known (Object d) all earlier same =
     let e = sized_of rows known d all lt (omega arith) in
     rw e.row_is e.sized.align
 
-pub member_fit : (rows : List ClassLayout) (known : List Known) (member : Member ClassId) → AreAllSized rows known → IsEarlierType (length rows) member.ty → length known ≡ length rows → elements_of member.count * size_of_type rows member.ty ≤ size_limit → IsFit (member_component rows (parts_in known) member)
-member_fit rows known member all earlier same le = record {
+-- each width is one of a bit-field
+abbrev pub AreBitFields : List (Member ClassId) → Type 0
+AreBitFields members = (member : Member ClassId) (n : ℕ) → Contains members member → member.width ≡ Some n → IsBitField member n
+
+no_more_bits : (t : Scalar) → most_bits t ≤ 8 * size_of t
+no_more_bits TheBool = omega arith
+no_more_bits Char = omega arith
+no_more_bits SChar = omega arith
+no_more_bits UChar = omega arith
+no_more_bits Short = omega arith
+no_more_bits UShort = omega arith
+no_more_bits Int = omega arith
+no_more_bits UInt = omega arith
+no_more_bits Long = omega arith
+no_more_bits ULong = omega arith
+no_more_bits LongLong = omega arith
+no_more_bits ULongLong = omega arith
+
+-- a bit-field is no larger than its type
+pub bit_field_fits : (rows : List ClassLayout) (parts : ClassId → List Part) (member : Member ClassId) (n : ℕ) → IsBitField member n → IsFitWidth (member_component rows parts member) n
+bit_field_fits rows parts member n is = record {
+  has_data = refl;
+  parts = ap (λ count. copies (elements_of count) (size_of_type rows member.ty) (parts_of_type parts member.ty)) is.single
+      ∙ ap (λ (type : FieldType ClassId). copies 1 (size_of_type rows member.ty) (parts_of_type parts type)) is.is;
+  most = let a = no_more_bits is.type in let b = is.high in let e : align_of_type rows member.ty ≡ size_of is.type = ap (align_of_type rows) is.is in omega arith;
+}
+
+-- and takes no more than 8 bytes
+pub bit_field_small : (rows : List ClassLayout) (parts : ClassId → List Part) (member : Member ClassId) (n : ℕ) → IsBitField member n → (member_component rows parts member).takes ≤ 8
+bit_field_small rows parts member n is =
+    let a = size_below is.type in
+    let e : elements_of member.count ≡ 1 = ap elements_of is.single in
+    let f : size_of_type rows member.ty ≡ size_of is.type = ap (size_of_type rows) is.is in
+    rw (e, f) (omega (arith, a))
+  where
+    size_below : (t : Scalar) → size_of t ≤ 8
+    size_below t = of (size_of t) (scalar_alignment t)
+      where
+        of : (a : ℕ) → IsAlignment a → a ≤ 8
+        of _ byte = omega arith
+        of _ two_bytes = omega arith
+        of _ four_bytes = omega arith
+        of _ eight_bytes = omega arith
+
+pub member_fit : (rows : List ClassLayout) (known : List Known) (member : Member ClassId) → AreAllSized rows known → IsEarlierType (length rows) member.ty → length known ≡ length rows → elements_of member.count * size_of_type rows member.ty ≤ size_limit → ((n : ℕ) → member.width ≡ Some n → IsBitField member n) → IsFit (member_component rows (parts_in known) member)
+member_fit rows known member all earlier same le bits = record {
   align = type_alignment rows known member.ty all earlier same;
   takes = le;
   parts = copies_within (elements_of member.count) (size_of_type rows member.ty) (parts_of_type (parts_in known) member.ty) (type_within rows known member.ty all earlier same);
+  width = λ n e. bit_field_fits rows (parts_in known) member n (bits n e);
 }
 
 pub little_more : (cs : List Component) (c : Component) → AreLittle cs → c.takes ≤ size_limit → AreLittle (cs ++ c ∷ [])
@@ -106,11 +152,11 @@ little_more [] c little one = (one, tt)
 little_more (x ∷ cs) c little one = (little.0, little_more cs c little.1 one)
 
 pub members_fit : (rows : List ClassLayout) (known : List Known) (members : List (Member ClassId)) → AreAllSized rows known → length known ≡ length rows → ((member : Member ClassId) → Contains members member → IsEarlierType (length rows) member.ty)
-    → AreLittle (map (member_component rows (parts_in known)) members) → AreFit (map (member_component rows (parts_in known)) members)
-members_fit rows known [] all same earlier little = tt
-members_fit rows known (member ∷ members) all same earlier little = (
-  member_fit rows known member all (earlier member (has_here member members)) same little.0,
-  members_fit rows known members all same (λ m h. earlier m (has_later member members m h)) little.1,
+    → AreBitFields members → AreLittle (map (member_component rows (parts_in known)) members) → AreFit (map (member_component rows (parts_in known)) members)
+members_fit rows known [] all same earlier bits little = tt
+members_fit rows known (member ∷ members) all same earlier bits little = (
+  member_fit rows known member all (earlier member (has_here member members)) same little.0 (λ n e. bits member n (has_here member members) e),
+  members_fit rows known members all same (λ m h. earlier m (has_later member members m h)) (λ m n h e. bits m n (has_later member members m h) e) little.1,
 )
 
 -- one more of a list's images
@@ -121,10 +167,16 @@ pub get_map : {X Y : Type 0} (f : X → Y) (xs : List X) (i : ℕ) (item : X) �
 get_map f xs i item lt is = slice_get-map f xs i ∙ ap (option_map f) (slice_get_read xs (length xs) i item refl lt is)
 
 -- a component that takes more than the limit makes the size pass it
-pub large_passes : (stage : Stage) (cs : List Component) (ps : List ℕ) (i : ℕ) (c : Component) (limit : ℕ) → ArePlaced stage cs ps → slice_get cs i ≡ Some c → limit < c.takes → limit < (after_all stage cs ps).size
-large_passes stage [] ps i c limit a e lt = cc
-large_passes stage (x ∷ cs) [] i c limit a e lt = absurd a
-large_passes stage (x ∷ cs) (p ∷ ps) zero c limit a e lt =
-    let same : x.takes ≡ c.takes = ap (λ (z : Component). z.takes) (let s : x ≡ c = cc in s) in
-    let g = size_grows (after stage x p) cs ps in omega arith
-large_passes stage (x ∷ cs) (p ∷ ps) (suc i) c limit a e lt = large_passes (after stage x p) cs ps i c limit a.1 e lt
+pub large_passes : (stage : Stage) (cs : List Component) (ps : List ℕ) (i : ℕ) (c : Component) (limit : ℕ) → ArePlaced stage cs ps → slice_get cs i ≡ Some c → ((n : ℕ) → c.width ≡ Some n → c.takes ≤ limit) → limit < c.takes → limit < (after_all stage cs ps).size
+large_passes stage [] ps i c limit a e small lt = cc
+large_passes stage (x ∷ cs) [] i c limit a e small lt = absurd a
+large_passes stage (x ∷ cs) (p ∷ ps) zero c limit a e small lt =
+    let same : x ≡ c = cc in
+    let takes : x.takes ≡ c.takes = ap (λ (z : Component). z.takes) same in
+    let g = size_grows (after stage x p) cs ps in
+    let end = by_width x.width (ap (λ (z : Component). z.width) same) takes in omega (arith, g, takes, end)
+  where
+    by_width : (w : Option ℕ) → w ≡ c.width → x.takes ≡ c.takes → limit < end_by w stage x p
+    by_width None e same = omega arith
+    by_width (Some n) e same = let s = small n (sym e) in absurd (omega arith)
+large_passes stage (x ∷ cs) (p ∷ ps) (suc i) c limit a e small lt = large_passes (after stage x p) cs ps i c limit a.1 e small lt

@@ -1,5 +1,5 @@
 -- What the classes before bring lies within them, so that the components of a class fit.
-use Rattle.std.proofs.Common.{◌≡◌, ℕ, zero, suc, ◌+◌, ◌<◌, ◌≤◌, ◌^◌, Bool, true, false, Option, Some, None, List, [], ◌∷◌, ◌++◌, map, length, inl, inr, ⊎_elim, refl, subst, sym, arith}
+use Rattle.std.proofs.Common.{◌≡◌, ℕ, zero, suc, ◌+◌, ◌<◌, ◌≤◌, ◌^◌, Bool, true, false, Option, Some, None, List, [], ◌∷◌, ◌++◌, map, length, inl, inr, ⊎_elim, refl, ap, subst, sym, ◌∙◌, arith}
 use Rattle.std.specs.Prelude.{if◌then◌else◌, ◌⊎◌, All}
 use Rattle.std.specs.List.{slice_get, Contains, flat_map}
 use Rattle.std.proofs.lemmas.List.Elements.{All-nil, All-cons, All-head, All-tail}
@@ -26,7 +26,7 @@ use Rattle.abi_layout.specs.declared.known.Known.{Known}
 use Rattle.abi_sound.specs.declared.class_layout.ClassLayout.{ClassLayout}
 use Rattle.abi_layout.specs.declared.placed_bases.PlacedBase.{PlacedBase}
 use Rattle.abi_sound.specs.Places.{base_place}
-use Rattle.abi_layout.specs.Placements.{part_at, nvsize_in, after_all}
+use Rattle.abi_layout.specs.Placements.{part_at, nvsize_in, after_all, member_component}
 use Rattle.abi_layout.specs.invariants.Alignments.{AreWithin, IsFit, AreFit}
 use Rattle.abi_layout.specs.invariants.Known.{empties_in, parts_in, IsSized, AreAllSized, IsEarlierType, HasLarge}
 use Rattle.abi_layout.specs.Holding.{held_base}
@@ -39,7 +39,7 @@ use Rattle.abi_layout.specs.invariants.Arrangements.{IsArranged, IsWithinLimit, 
 use Rattle.abi_layout.proofs.lists.Lists.{get_within, has_here, has_later}
 use Rattle.abi_layout.proofs.rules.Parts.{split, within_further, within_moved, within_both}
 use Rattle.abi_layout.proofs.rules.PlacingLemmas.{size_grows}
-use Rattle.abi_layout.proofs.algorithm.RowLemmas.{sized_of, large_passes}
+use Rattle.abi_layout.proofs.algorithm.RowLemmas.{sized_of, AreBitFields, bit_field_small, large_passes}
 use Rattle.abi_layout.proofs.rules.BroughtLemmas.{held_is_primary}
 use Rattle.abi_layout.proofs.rules.PlacedLemmas.{component_at}
 
@@ -83,9 +83,9 @@ fit_by x y row k parts r q sized within =
     let inner : AreWithin row.nvsize parts = subst (λ (o : Option ClassLayout). AreWithin (nvsize_in o) parts) r within in
     subst (λ (o : Option ClassLayout). IsFit (component_at y o parts)) (sym r) (subst (λ (o : Option Known). IsFit (component_at o (Some row) parts)) (sym q) (made k.is_empty inner))
   where
-    made : (b : Bool) → AreWithin row.nvsize parts → IsFit (record { is_empty = b; align = row.nvalign; takes = if b then row.size else row.nvsize; parts = parts })
-    made true w = record { align = sized.nvalign; takes = sized.size; parts = within_further row.nvsize row.size parts sized.nvsize w }
-    made false w = record { align = sized.nvalign; takes = let a = sized.nvsize in let b = sized.size in omega arith; parts = w }
+    made : (b : Bool) → AreWithin row.nvsize parts → IsFit (record { is_empty = b; align = row.nvalign; takes = if b then row.size else row.nvsize; width = None; parts = parts })
+    made true w = record { align = sized.nvalign; takes = sized.size; parts = within_further row.nvsize row.size parts sized.nvsize w; width = λ n e. cc }
+    made false w = record { align = sized.nvalign; takes = let a = sized.nvsize in let b = sized.size in omega arith; parts = w; width = λ n e. cc }
 
 placed_fit : (h : Classes) (c : ClassId) (rows : List ClassLayout) (known : List Known) (members : List (List Part)) (ps : List Primary) (list : List Subobject) (holders : List (Option ℕ)) → IsHierarchy h → IsScene h c rows known members ps list holders → AreAllSized rows known
     → (base : PlacedBase) → (class_of_placed base).0 < c.0 → IsFit (placed_component (empties_in known) h rows ps (parts_in known) c base)
@@ -122,11 +122,28 @@ earlier_type n (Object d) falls = falls d refl
 pub earlier_members : (h : Classes) (c : ClassId) (class : Class) (n : ℕ) → IsHierarchy h → class_at h c ≡ Some class → n ≡ c.0 → (member : Member ClassId) → Contains class.members member → IsEarlierType n member.ty
 earlier_members h c class n keeps e count member has = earlier_type n member.ty (λ d object. let falls = keeps.objects c d member (subst (λ (o : Option Class). Contains (members_in o) member) (sym e) has) object in omega arith)
 
+-- the widths of a class are those of bit-fields
+pub bit_fields : (h : Classes) (c : ClassId) (class : Class) → IsHierarchy h → class_at h c ≡ Some class → AreBitFields class.members
+bit_fields h c class keeps e member n has width = keeps.widths c member n (subst (λ (o : Option Class). Contains (members_in o) member) (sym e) has) width
+
+-- no bit-field takes more than the limit
+abbrev pub HasSmallFields : List Component → Type 0
+HasSmallFields cs = (i : ℕ) (c : Component) → slice_get cs i ≡ Some c → (n : ℕ) → c.width ≡ Some n → c.takes ≤ size_limit
+
+pub fields_small : (rows : List ClassLayout) (parts : ClassId → List Part) (members : List (Member ClassId)) → AreBitFields members → HasSmallFields (map (member_component rows parts) members)
+fields_small rows parts [] bits i c e n w = cc
+fields_small rows parts (m ∷ members) bits zero c e n w =
+    let same : member_component rows parts m ≡ c = cc in
+    let s = bit_field_small rows parts m n (bits m n (has_here m members) (ap (λ (z : Component). z.width) same ∙ w)) in
+    let takes : (member_component rows parts m).takes ≡ c.takes = ap (λ (z : Component). z.takes) same in
+    omega (arith, s, takes)
+fields_small rows parts (m ∷ members) bits (suc i) c e n w = fields_small rows parts members (λ x k h v. bits x k (has_later m members x h) v) i c e n w
+
 -- a member that takes more than the limit makes the size pass it
-pub large_member : (first : Stage) (fs ms vs : List Component) (pod : Bool) → HasLarge ms → IsTooLargeBy first fs ms vs pod
-large_member first fs ms vs pod has = record {
+pub large_member : (first : Stage) (fs ms vs : List Component) (pod : Bool) → HasSmallFields ms → HasLarge ms → IsTooLargeBy first fs ms vs pod
+large_member first fs ms vs pod small has = record {
   large = λ ps rs row l.
-      let p = large_passes (after_all first fs ps) ms row.member_places has.number has.component size_limit l.members_placed has.there has.large in
+      let p = large_passes (after_all first fs ps) ms row.member_places has.number has.component size_limit l.members_placed has.there (small has.number has.component has.there) has.large in
       let k = size_grows (after_all (after_all first fs ps) ms row.member_places) vs rs in
       let b = l.size.behind in omega arith;
 }
@@ -141,8 +158,8 @@ no_place_by first fs fronts ms members vs frees pod a f m v arranged within twic
 }
 
 -- what an error of a member tells
-pub member_refuses : (first : Stage) (fs ms vs : List Component) (pod : Bool) (place : ℕ) (stop : Stop) → (stop ≡ NoMemory) ⊎ ((stop ≡ Limit L6) × HasLarge ms) → IsRefusal first fs ms vs pod place stop
-member_refuses first fs ms vs pod place stop told = ⊎_elim (λ e. inl e) (λ large. inr (inl (large.0, large_member first fs ms vs pod large.1))) told
+pub member_refuses : (first : Stage) (fs ms vs : List Component) (pod : Bool) (place : ℕ) (stop : Stop) → HasSmallFields ms → (stop ≡ NoMemory) ⊎ ((stop ≡ Limit L6) × HasLarge ms) → IsRefusal first fs ms vs pod place stop
+member_refuses first fs ms vs pod place stop small told = ⊎_elim (λ e. inl e) (λ large. inr (inl (large.0, large_member first fs ms vs pod small large.1))) told
 
 -- what an error of the sizes tells
 pub size_refuses : (first : Stage) (fs fronts ms members vs frees : List Component) (pod : Bool) (place : ℕ) (stop : Stop) → fs ≡ fronts → ms ≡ members → vs ≡ frees → (stop ≡ NoMemory) ⊎ ((stop ≡ Limit L6) × IsTooLargeBy first fs ms vs pod) → IsRefusal first fronts members frees pod place stop

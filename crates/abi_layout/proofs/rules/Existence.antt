@@ -1,7 +1,8 @@
 -- There is a place for each component, and a layout for each class.
-use Rattle.std.proofs.Common.{◌≡◌, ℕ, zero, suc, ◌+◌, ◌-◌, ◌*◌, ◌/◌, ◌≤◌, Bool, true, false, List, [], ◌∷◌, refl, arith}
-use Rattle.std.specs.Prelude.{max, ◌&&◌, nat_eq}
+use Rattle.std.proofs.Common.{◌≡◌, ℕ, zero, suc, ◌+◌, ◌-◌, ◌*◌, ◌/◌, ◌%◌, ◌≤◌, Bool, true, false, Option, Some, None, List, [], ◌∷◌, refl, subst, sym, arith}
+use Rattle.std.specs.Prelude.{max, ◌&&◌, nat_eq, nat_le}
 use Rattle.std.proofs.lemmas.Bool.{eqb-true}
+use Rattle.std.proofs.lemmas.Bool.Decides.{nat_tests}
 use Rattle.std.proofs.lemmas.Nat.{div-add-mod'}
 use Rattle.std.proofs.Math.Nat.{mul-le-mul_right}
 use Rattle.abi_emptybase.specs.declared.Part.{Part}
@@ -9,9 +10,9 @@ use Rattle.abi_emptybase.specs.Table.{same_part, holds, moved, has_conflict}
 use Rattle.abi_layout.specs.declared.component.Component.{Component}
 use Rattle.abi_layout.specs.declared.component.Stage.{Stage}
 use Rattle.abi_sound.specs.Sound.{Divides}
-use Rattle.abi_layout.specs.Placements.{IsNext, IsCandidate, IsPlace, ArePlaced, after, after_all}
+use Rattle.abi_layout.specs.Placements.{IsNext, IsCandidate, IsPlace, IsBitPlace, IsPlacedBy, IsPlaced, ArePlaced, after, after_all}
 use Rattle.abi_layout.proofs.rules.Parts.{split, opposed}
-use Rattle.abi_layout.proofs.rules.PlacingLemmas.{place_at_start, first_least, place_behind, next_least, multiple_more}
+use Rattle.abi_layout.proofs.rules.PlacingLemmas.{place_at_start, first_least, place_behind, next_least, multiple_more, bit_place_here, bit_place_next}
 
 abbrev pub rounded : ℕ → ℕ → ℕ
 rounded start align = (start + (align - 1)) / align * align
@@ -80,10 +81,36 @@ place_exists stage c positive = split c.is_empty (λ b. HasPlace stage c)
         let next = rounded_is_next stage.dsize c.align positive in
         search_from stage c (top_of stage.parts) (rounded stage.dsize c.align) positive next.behind next.multiple (first_least stage c (rounded stage.dsize c.align) next taken) (omega arith)
 
--- alignments that are not 0
+-- a place for a bit-field no larger than its type
+pub record HasBitPlace (stage : Stage) (bytes width : ℕ) : Type 0 where
+  pub place : ℕ
+  pub is : IsBitPlace stage bytes width place
+
+bit_place_exists : (stage : Stage) (bytes width : ℕ) → 1 ≤ bytes → width ≤ 8 * bytes → HasBitPlace stage bytes width
+bit_place_exists stage bytes width positive most = split (nat_le (stage.free_bit % (8 * bytes) + width) (8 * bytes)) (λ b. HasBitPlace stage bytes width)
+    (λ t. record { place = stage.free_bit / 8; is = bit_place_here stage bytes width positive (grind (arith, nat_tests)) })
+    (λ f. record { place = (stage.free_bit / (8 * bytes) + 1) * bytes; is = bit_place_next stage bytes width positive most (grind (arith, nat_tests)) })
+
+-- an alignment that is not 0, and of a bit-field no more bits than its type
+pub record CanLie (c : Component) : Type 0 where
+  pub align : 1 ≤ c.align
+  pub width : (n : ℕ) → c.width ≡ Some n → n ≤ 8 * c.align
+
 abbrev pub ArePositive : List Component → Type 0
 ArePositive [] = Unit {0}
-ArePositive (c ∷ cs) = (1 ≤ c.align) × ArePositive cs
+ArePositive (c ∷ cs) = CanLie c × ArePositive cs
+
+-- a place for a component
+record IsSomewhere (stage : Stage) (c : Component) : Type 0 where
+  place : ℕ
+  is : IsPlaced stage c place
+
+somewhere : (stage : Stage) (c : Component) → CanLie c → IsSomewhere stage c
+somewhere stage c can = by c.width refl
+  where
+    by : (w : Option ℕ) → c.width ≡ w → IsSomewhere stage c
+    by None e = let made = place_exists stage c can.align in record { place = made.place; is = subst (λ w. IsPlacedBy w stage c made.place) (sym e) made.is }
+    by (Some n) e = let made = bit_place_exists stage c.align n can.align (can.width n e) in record { place = made.place; is = subst (λ w. IsPlacedBy w stage c made.place) (sym e) made.is }
 
 pub record HavePlaces (stage : Stage) (cs : List Component) : Type 0 where
   pub places : List ℕ
@@ -92,7 +119,7 @@ pub record HavePlaces (stage : Stage) (cs : List Component) : Type 0 where
 pub places_exist : (stage : Stage) (cs : List Component) → ArePositive cs → HavePlaces stage cs
 places_exist stage [] positive = record { places = []; placed = tt }
 places_exist stage (c ∷ cs) positive =
-    let here = place_exists stage c positive.0 in
+    let here = somewhere stage c positive.0 in
     let rest = places_exist (after stage c here.place) cs positive.1 in
     record { places = here.place ∷ rest.places; placed = (here.is, rest.placed) }
 

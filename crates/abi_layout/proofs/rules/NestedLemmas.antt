@@ -36,18 +36,19 @@ use Rattle.abi_layout.proofs.algorithm.Searches.{first_that, position_is}
 use Rattle.abi_layout.proofs.algorithm.CanSettleLemmas.{AreNested}
 use Rattle.abi_layout.proofs.lists.Lists.{number}
 use Rattle.abi_layout.proofs.rules.Parts.{split}
-use Rattle.abi_layout.proofs.rules.PlacingLemmas.{size_grows}
+use Rattle.abi_layout.proofs.rules.PlacingLemmas.{size_grows, whole_end}
 use Rattle.abi_layout.proofs.algorithm.RowLemmas.{sized_of}
 
 -- the place of a direct base, and where it ends
-pub own_within : (f : PlacedBase → Component) (stage : Stage) (bs : List PlacedBase) (places : List ℕ) (b : ClassId) (k : ℕ) → ((base : PlacedBase) → is_own b base ≡ true → k ≤ (f base).takes) → list_any (is_own b) bs ≡ true → ArePlaced stage (map f bs) places → own_place bs places b + k ≤ (after_all stage (map f bs) places).size
-own_within f stage [] places b k takes any placed = let e : false ≡ true = any in cc
-own_within f stage (x ∷ bs) [] b k takes any placed = absurd placed
-own_within f stage (x ∷ bs) (p ∷ places) b k takes any placed =
+pub own_within : (f : PlacedBase → Component) (stage : Stage) (bs : List PlacedBase) (places : List ℕ) (b : ClassId) (k : ℕ) → ((base : PlacedBase) → (f base).width ≡ None) → ((base : PlacedBase) → is_own b base ≡ true → k ≤ (f base).takes) → list_any (is_own b) bs ≡ true → ArePlaced stage (map f bs) places → own_place bs places b + k ≤ (after_all stage (map f bs) places).size
+own_within f stage [] places b k whole takes any placed = let e : false ≡ true = any in cc
+own_within f stage (x ∷ bs) [] b k whole takes any placed = absurd placed
+own_within f stage (x ∷ bs) (p ∷ places) b k whole takes any placed =
+    let z = whole_end stage (f x) p (whole x) in
     let g = size_grows (after stage (f x) p) (map f bs) places in
     split (is_own b x) (λ o. (o || list_any (is_own b) bs) ≡ true → (if o then p else own_place bs places b) + k ≤ (after_all (after stage (f x) p) (map f bs) places).size)
     (λ t some. let l = takes x t in omega arith)
-    (λ e rest. own_within f (after stage (f x) p) bs places b k takes rest placed.1) any
+    (λ e rest. own_within f (after stage (f x) p) bs places b k whole takes rest placed.1) any
 
 own_class : (b : ClassId) (base : PlacedBase) → is_own b base ≡ true → (class_of_placed base).0 ≡ b.0
 own_class b (Own d) e = eqb-true d.0 b.0 e
@@ -147,9 +148,9 @@ get_last [] x i e = rw e refl
 get_last (y ∷ xs) x zero e = absurd (omega arith)
 get_last (y ∷ xs) x (suc i) e = get_last xs x i (omega arith)
 
-first_within : (f : PlacedBase → Component) (stage : Stage) (x : PlacedBase) (bs : List PlacedBase) (places : List ℕ) → ArePlaced stage (map f (x ∷ bs)) places → (f x).takes ≤ (after_all stage (map f (x ∷ bs)) places).size
-first_within f stage x bs [] placed = absurd placed
-first_within f stage x bs (p ∷ places) placed = let g = size_grows (after stage (f x) p) (map f bs) places in omega arith
+first_within : (f : PlacedBase → Component) (stage : Stage) (x : PlacedBase) (bs : List PlacedBase) (places : List ℕ) → (f x).width ≡ None → ArePlaced stage (map f (x ∷ bs)) places → (f x).takes ≤ (after_all stage (map f (x ∷ bs)) places).size
+first_within f stage x bs [] whole placed = absurd placed
+first_within f stage x bs (p ∷ places) whole placed = let z = whole_end stage (f x) p whole in let g = size_grows (after stage (f x) p) (map f bs) places in omega arith
 
 -- with one class more, whose bases are placed
 pub nested_more : (h : Classes) (c : ClassId) (class : Class) (rows : List ClassLayout) (known : List Known) (members : List (List Part)) (ps : List Primary) (list : List Subobject) (holders : List (Option ℕ)) (row : ClassLayout) (primary : Primary) (first : Stage) (places : List ℕ)
@@ -197,7 +198,7 @@ nested_more h c class rows known members ps list holders row primary first place
             let listed : Contains class.bases base = subst (λ (o : Option Class). Contains (bases_in o) base) e has in
             let at = slice_get_read class.bases (length class.bases) listed.0 base refl listed.1 (sym listed.2) in
             let place = base_place_own h (rows ++ row ∷ []) c class row (front_bases primary class.bases) places e new are listed.0 base at way in
-            let size = own_within f first (front_bases primary class.bases) places base.class (nvsize_in (slice_get rows base.class.0)) (takes_enough h rows known ps c base.class sized (omega arith) (omega arith)) (front_has primary class.bases listed.0 base at way) placed in
+            let size = own_within f first (front_bases primary class.bases) places base.class (nvsize_in (slice_get rows base.class.0)) (λ x. refl) (takes_enough h rows known ps c base.class sized (omega arith) (omega arith)) (front_has primary class.bases listed.0 base at way) placed in
             let n : nvsize_in (slice_get (rows ++ row ∷ []) base.class.0) ≡ nvsize_in (slice_get rows base.class.0) = ap nvsize_in (old base.class.0 falls) in
             let m : nvsize_in (slice_get (rows ++ row ∷ []) c.0) ≡ row.nvsize = ap nvsize_in new in
             omega arith
@@ -217,7 +218,7 @@ nested_more h c class rows known members ps list holders row primary first place
         let rest = map (λ (x : Base ClassId). Own x.class) (filter (is_other_base primary) class.bases) in
         let fronts : front_bases primary class.bases ≡ VirtualBase v ∷ rest = ap (λ (q : Primary). first_base q ++ rest) virtual in
         let fits : (f (VirtualBase v)).takes ≤ (after_all first (map f (front_bases primary class.bases)) places).size =
-        subst (λ (bs : List PlacedBase). (f (VirtualBase v)).takes ≤ (after_all first (map f bs) places).size) (sym fronts) (first_within f first (VirtualBase v) rest places (subst (λ (bs : List PlacedBase). ArePlaced first (map f bs) places) fronts placed)) in
+        subst (λ (bs : List PlacedBase). (f (VirtualBase v)).takes ≤ (after_all first (map f bs) places).size) (sym fronts) (first_within f first (VirtualBase v) rest places refl (subst (λ (bs : List PlacedBase). ArePlaced first (map f bs) places) fronts placed)) in
         let takes = virtual_takes h rows known ps c v sized (omega arith) (omega arith) in
         let n : nvsize_in (slice_get (rows ++ row ∷ []) v.0) ≡ nvsize_in (slice_get rows v.0) = ap nvsize_in (old v.0 (omega arith)) in
         let m : nvsize_in (slice_get (rows ++ row ∷ []) d.0) ≡ row.nvsize = ap (λ k. nvsize_in (slice_get (rows ++ row ∷ []) k)) same ∙ ap nvsize_in new in

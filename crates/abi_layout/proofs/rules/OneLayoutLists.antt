@@ -19,7 +19,7 @@ use Rattle.abi_sound.specs.declared.class_layout.ClassLayout.{ClassLayout}
 use Rattle.abi_layout.specs.declared.placed_bases.PlacedBase.{PlacedBase}
 use Rattle.abi_layout.specs.declared.placed_bases.PlacedBase.TheVariants.{Own, VirtualBase}
 use Rattle.abi_sound.specs.Places.{number_in, nth_place}
-use Rattle.abi_layout.specs.Placements.{IsNext, ArePlaced, after_all}
+use Rattle.abi_layout.specs.Placements.{IsNext, ArePlaced, after_all, bits_at}
 use Rattle.cxx_subobject.specs.VirtualBases.{shared_class, virtual_bases}
 use Rattle.cxx_subobject.proofs.VirtualBaseLemmas.{shared_is}
 use Rattle.abi_layout.specs.invariants.OwnPlaces.{is_own}
@@ -140,6 +140,7 @@ pub record IsOneLayout (p q r s : List ℕ) (x y : ClassLayout) : Type 0 where
   pub fronts : p ≡ q
   pub frees : r ≡ s
   pub members : x.member_places ≡ y.member_places
+  pub bits : x.member_bits ≡ y.member_bits
   pub size : x.size ≡ y.size
   pub align : x.align ≡ y.align
   pub dsize : x.dsize ≡ y.dsize
@@ -151,6 +152,7 @@ layout_is_one first f m v p q r s pod x y l k = record {
   fronts = fronts;
   frees = frees;
   members = members;
+  bits = l.bits ∙ (ap (λ (st : Stage). bits_at st m x.member_places) mid ∙ (ap (bits_at (after_all first f q) m) members ∙ sym k.bits));
   size = size;
   align = align;
   dsize = l.dsize ∙ (ap (λ n. if pod then n else (after_all (after_all (after_all first f p) m x.member_places) v r).dsize) size ∙ (ap (λ (st : Stage). if pod then y.size else st.dsize) last ∙ sym k.dsize));

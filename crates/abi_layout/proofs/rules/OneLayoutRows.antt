@@ -209,4 +209,4 @@ row_is_one h rows others near other ps qs c class x y r =
     (l.virtuals ∙ sym k.virtuals)
     (virtual_places_one h rows others near other ps qs c class x y r)
     (l.holders ∙ (map_same (holder_of h ps c) (holder_of h qs c) (virtual_bases h c) (λ v has. holder_agrees h ps qs c v r.keeps r.alike) ∙ sym k.holders))
-    is.members
+    is.members is.bits

@@ -1,5 +1,5 @@
 -- What the rules say of a class depends on the classes before it alone.
-use Rattle.std.proofs.Common.{◌≡◌, ℕ, ◌*◌, ◌<◌, Bool, false, Option, Some, List, [], ◌∷◌, ◌++◌, map, length, refl, ap, subst, sym, ◌∙◌, append_assoc}
+use Rattle.std.proofs.Common.{◌≡◌, ℕ, ◌*◌, ◌<◌, Bool, false, Option, Some, None, List, [], ◌∷◌, ◌++◌, map, length, refl, ap, subst, sym, ◌∙◌, append_assoc}
 use Rattle.std.specs.Prelude.{not, ◌&&◌, ◌==◌, if◌then◌else◌}
 use Rattle.std.specs.List.{slice_get, Contains}
 use Rattle.std.proofs.lemmas.List.{append-nil}
@@ -41,10 +41,10 @@ pub record Agree (h : Classes) (n : ℕ) (rows others : List ClassLayout) (parts
   pub of_class : (d : ClassId) → d.0 < n → IsMemberType h d → parts d ≡ brought d
 
 abbrev pub base_made : Bool → Option ClassLayout → List Part → Component
-base_made empty row parts = record { is_empty = empty; align = nvalign_in row; takes = if empty then size_in row else nvsize_in row; parts = parts }
+base_made empty row parts = record { is_empty = empty; align = nvalign_in row; takes = if empty then size_in row else nvsize_in row; width = None; parts = parts }
 
-abbrev pub member_made : ℕ → ℕ → ℕ → List Part → Component
-member_made count size align parts = record { is_empty = false; align = align; takes = count * size; parts = copies count size parts }
+abbrev pub member_made : Option ℕ → ℕ → ℕ → ℕ → List Part → Component
+member_made width count size align parts = record { is_empty = false; align = align; takes = count * size; width = width; parts = copies count size parts }
 
 pub members_agree : (h : Classes) (n : ℕ) (rows others : List ClassLayout) (parts brought : ClassId → List Part) (owner : ClassId) (class : Class) → class_at h owner ≡ Some class → AreEarlier n class → Agree h n rows others parts brought
     → member_components rows parts class ≡ member_components others brought class
@@ -64,9 +64,9 @@ members_agree h n rows others parts brought owner class there earlier agree = sa
 
     one : (member : Member ClassId) → Contains (members_of h owner) member → IsEarlierType n member.ty → member_component rows parts member ≡ member_component others brought member
     one member has e =
-        ap (λ s. member_made (elements_of member.count) s (align_of_type rows member.ty) (parts_of_type parts member.ty)) (size member.ty e)
-        ∙ (ap (λ a. member_made (elements_of member.count) (size_of_type others member.ty) a (parts_of_type parts member.ty)) (align member.ty e)
-        ∙ ap (member_made (elements_of member.count) (size_of_type others member.ty) (align_of_type others member.ty)) (of_type member has member.ty refl e))
+        ap (λ s. member_made member.width (elements_of member.count) s (align_of_type rows member.ty) (parts_of_type parts member.ty)) (size member.ty e)
+        ∙ (ap (λ a. member_made member.width (elements_of member.count) (size_of_type others member.ty) a (parts_of_type parts member.ty)) (align member.ty e)
+        ∙ ap (member_made member.width (elements_of member.count) (size_of_type others member.ty) (align_of_type others member.ty)) (of_type member has member.ty refl e))
 
 -- the parts of a stage are those before, and what the components bring
 pub stage_parts : (stage : Stage) (cs : List Component) (ps : List ℕ) → (after_all stage cs ps).parts ≡ stage.parts ++ parts_at cs ps

@@ -41,7 +41,7 @@ free_by h ps c list count holders v (Some n) false same are lt e t =
     sym (ap is_free (holder_is h ps c list count holders v n x same are lt (sym e) (any_default list n (whole_of (number 0)) x (holder_below ps list count holders v n are lt (sym e)))))
 
 abbrev pub component_at : Option Known → Option ClassLayout → List Part → Component
-component_at known row parts = record { is_empty = is_empty_in known; align = nvalign_in row; takes = if is_empty_in known then size_in row else nvsize_in row; parts = parts }
+component_at known row parts = record { is_empty = is_empty_in known; align = nvalign_in row; takes = if is_empty_in known then size_in row else nvsize_in row; width = None; parts = parts }
 
 -- a component by the row of its class, and by what else is known of it
 pub placed_by : (h : Classes) (rows : List ClassLayout) (known : List Known) (ps : List Primary) (c b : ClassId) (base : PlacedBase) (s : Subobject) (row : ClassLayout) (k : Known) (parts : List Part) → b ≡ class_of_placed base → s ≡ subobject_of c base

@@ -1,5 +1,5 @@
 -- Where the bases of a class are placed, its virtual bases can be settled.
-use Rattle.std.proofs.Common.{◌≡◌, ℕ, zero, suc, ◌+◌, ◌<◌, ◌≤◌, Bool, true, false, Option, Some, None, List, [], ◌∷◌, ◌++◌, get_or, ap, subst, sym, ◌∙◌, arith}
+use Rattle.std.proofs.Common.{◌≡◌, ℕ, zero, suc, ◌+◌, ◌<◌, ◌≤◌, Bool, true, false, Option, Some, None, List, [], ◌∷◌, ◌++◌, get_or, refl, ap, subst, sym, ◌∙◌, arith}
 use Rattle.std.specs.Prelude.{if◌then◌else◌}
 use Rattle.std.specs.List.{slice_get}
 use Rattle.std.proofs.Math.Nat.{le-max_right}
@@ -107,7 +107,7 @@ class_placed_room h c class rows known members ps list holders primary has_point
     let small = within.size in
     let nested = class_placed_nested h c class rows known members ps list holders primary has_pointer a base_places keeps scene sized e own arranged within are in
     free_room (placed_component (empties_in known) h rows ps (parts_in known) c) (rows ++ row ∷ []) c (after_all (after_all (start_stage c has_pointer) fs a.front_places) ms a.member_places) (free_bases h ps c) a.free_places
-    (λ v lt. takes v lt row) (frees_below h ps c keeps) laid.frees_placed (omega arith) nested.small
+    (λ x. refl) (λ v lt. takes v lt row) (frees_below h ps c keeps) laid.frees_placed (omega arith) nested.small
   where
     takes : (v : ClassId) → v.0 < c.0 → (row : ClassLayout) → nvsize_in (slice_get (rows ++ row ∷ []) v.0) ≤ (placed_component (empties_in known) h rows ps (parts_in known) c (VirtualBase v)).takes
     takes v lt row =

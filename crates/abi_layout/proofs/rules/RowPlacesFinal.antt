@@ -23,7 +23,7 @@ use Rattle.abi_layout.specs.declared.placed_bases.PlacedBase.{PlacedBase}
 use Rattle.abi_layout.specs.declared.placed_bases.PlacedBase.TheVariants.{Own, VirtualBase}
 use Rattle.cxx_hierarchy.specs.Declarations.{is_plain_base}
 use Rattle.abi_layout.specs.Kinds.{empty_kind, pod_kind}
-use Rattle.abi_layout.specs.Placements.{part_at, parts_at, IsPlace, after_all}
+use Rattle.abi_layout.specs.Placements.{part_at, parts_at, IsPlace, IsPlaced, after_all}
 use Rattle.abi_layout.specs.invariants.Alignments.{AreWithin}
 use Rattle.abi_layout.specs.invariants.Known.{empties_in, pods_in, parts_in, members_by, AreAllSized}
 use Rattle.cxx_subobject.specs.VirtualBases.{virtual_bases}
@@ -58,7 +58,7 @@ pub record ArePlacesBy (h : Classes) (c : ClassId) (rows : List ClassLayout) (ps
 
 -- a class's row, with the virtual places by the table, gives its bases the places at which they were put
 pub places_from : (h : Classes) (c : ClassId) (class : Class) (rows : List ClassLayout) (ps : List Primary) (first : Stage) (f : PlacedBase → Component) (ms : List Component) (pod : Bool) (a : Arrangement) (r s : ClassLayout) (table : List ℕ)
-    → IsHierarchy h → length rows ≡ c.0 → class_at h c ≡ Some class → IsPossible h c (primary_of ps c) → ((v : ClassId) (p : ℕ) → primary_of ps c ≡ Virtual v → IsPlace first (f (VirtualBase v)) p → p ≡ 0)
+    → IsHierarchy h → length rows ≡ c.0 → class_at h c ≡ Some class → IsPossible h c (primary_of ps c) → ((v : ClassId) (p : ℕ) → primary_of ps c ≡ Virtual v → IsPlaced first (f (VirtualBase v)) p → p ≡ 0)
     → IsLayoutBy first (map f (fronts ps c class)) ms (map f (free_bases h ps c)) a.front_places a.free_places pod r → r.base_places ≡ own_places (fronts ps c class) a.front_places class.bases
     → IsVirtualTable h ps c (rows ++ r ∷ []) (free_table c.0 (free_bases h ps c) a.free_places) table → s.virtual_places ≡ map (λ (v : ClassId). get_or table v.0 0) (virtual_bases h c)
     → r.base_places ≡ s.base_places → s.virtual_bases ≡ virtual_bases h c → ArePlacesBy h c (rows ++ s ∷ []) ps class a.front_places a.free_places

@@ -22,7 +22,7 @@ use Rattle.abi_layout.specs.declared.placed_bases.PlacedBase.{PlacedBase}
 use Rattle.abi_layout.specs.declared.placed_bases.PlacedBase.TheVariants.{Own, VirtualBase}
 use Rattle.abi_sound.specs.declared.class_layout.ClassLayout.{ClassLayout}
 use Rattle.abi_sound.specs.Places.{base_place}
-use Rattle.abi_layout.specs.Placements.{IsPlace, ArePlaced}
+use Rattle.abi_layout.specs.Placements.{IsPlaced, ArePlaced}
 use Rattle.abi_layout.specs.PlacedBases.{is_first_base, is_other_base, front_bases, IsPossible}
 use Rattle.abi_layout.specs.invariants.OwnPlaces.{is_own, own_place, own_places}
 use Rattle.abi_layout.specs.Layouts.{primary_of}
@@ -152,13 +152,13 @@ virtual_first (Direct b) bases (suc i) v e = absurd (no_virtual (filter (is_othe
 virtual_first (Virtual w) bases zero v e = let same : w ≡ v = cc in (ap (λ x. Virtual x) same, refl)
 virtual_first (Virtual w) bases (suc i) v e = absurd (no_virtual (filter (is_other_base (Virtual w)) bases) i v e)
 
-pub first_place : (stage : Stage) (g : PlacedBase → Component) (bs : List PlacedBase) (ps : List ℕ) (x : PlacedBase) (p : ℕ) → ArePlaced stage (map g bs) ps → slice_get bs 0 ≡ Some x → slice_get ps 0 ≡ Some p → IsPlace stage (g x) p
+pub first_place : (stage : Stage) (g : PlacedBase → Component) (bs : List PlacedBase) (ps : List ℕ) (x : PlacedBase) (p : ℕ) → ArePlaced stage (map g bs) ps → slice_get bs 0 ≡ Some x → slice_get ps 0 ≡ Some p → IsPlaced stage (g x) p
 first_place stage g [] ps x p placed e f = let k : None ≡ Some x = e in cc
 first_place stage g (y ∷ bs) [] x p placed e f = absurd placed
 first_place stage g (y ∷ bs) (q ∷ ps) x p placed e f =
     let same : y ≡ x = cc in
     let is : q ≡ p = cc in
-    subst (λ n. IsPlace stage (g x) n) is (subst (λ (z : PlacedBase). IsPlace stage (g z) q) same placed.0)
+    subst (λ n. IsPlaced stage (g x) n) is (subst (λ (z : PlacedBase). IsPlaced stage (g z) q) same placed.0)
 
 -- a virtual primary base is held by the class itself
 pub whole_holds : (h : Classes) (ps : List Primary) (c v : ClassId) → primary_of ps c ≡ Virtual v → holder_of h ps c v ≡ Some (whole_of c)

@@ -11,7 +11,7 @@ use Rattle.cxx_hierarchy.specs.declared.records.Base.{Base}
 use Rattle.cxx_hierarchy.specs.Classes.{Classes, bases_of}
 use Rattle.cxx_hierarchy.specs.Hierarchies.{IsHierarchy}
 use Rattle.cxx_subobject.specs.declared.Subobject.{Subobject}
-use Rattle.cxx_subobject.specs.Subobjects.{IsSubobject, whole, shared, subobject}
+use Rattle.cxx_subobject.specs.Subobjects.{IsSubobject, whole, shared}
 use Rattle.cxx_subobject.specs.Preorder.{preorder}
 use Rattle.cxx_subobject.proofs.ListLemmas.{contains_from_has}
 use Rattle.cxx_subobject.proofs.TreeLemmas.{preorder_lists}

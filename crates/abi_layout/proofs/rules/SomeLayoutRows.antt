@@ -27,7 +27,7 @@ use Rattle.abi_sound.specs.Sound.{Divides}
 use Rattle.cxx_hierarchy.specs.Declarations.{is_plain_base}
 use Rattle.abi_sound.specs.Places.{align_in, nvalign_in}
 use Rattle.abi_layout.specs.Kinds.{is_empty, is_pod}
-use Rattle.abi_layout.specs.Placements.{IsPlace, behind, after_all, align_of_type, member_component}
+use Rattle.abi_layout.specs.Placements.{IsPlace, behind, after_all, bits_at, align_of_type, member_component}
 use Rattle.cxx_subobject.specs.VirtualBases.{virtual_bases}
 use Rattle.abi_layout.specs.PlacedBases.{free_bases, placed_component, subobject_of, IsPossible}
 use Rattle.abi_layout.specs.invariants.OwnPlaces.{own_place, own_places}
@@ -38,6 +38,9 @@ use Rattle.abi_layout.proofs.rules.Existence.{rounded, rounded_is_next, ArePosit
 use Rattle.abi_layout.proofs.rules.PlacingLemmas.{align_small}
 use Rattle.abi_layout.proofs.lists.Positives.{value_align}
 use Rattle.abi_layout.proofs.lists.LastItems.{last_one}
+use Rattle.abi_layout.proofs.lists.Lists.{has_here, has_later}
+use Rattle.abi_layout.proofs.algorithm.RowLemmas.{AreBitFields, bit_field_fits}
+use Rattle.abi_layout.proofs.algorithm.SceneFits.{bit_fields}
 use Rattle.cxx_subobject.proofs.PathLemmas.{virtual_below}
 use Rattle.abi_layout.proofs.sound.ObjectStarts.{AreUnder, objects_fall, brought_under, no_conflict}
 use Rattle.abi_layout.proofs.rules.RowPlacesTable.{held_place}
@@ -68,6 +71,7 @@ arrangement_exists first fs ms vs pod positive f m v =
       arrangement = record {
         front_places = front.places;
         member_places = member.places;
+        member_bits = bits_at after_fronts ms member.places;
         free_places = free.places;
         size = size;
         align = last.align;
@@ -81,6 +85,7 @@ arrangement_exists first fs ms vs pod positive f m v =
         laid = λ primary base_places bases places holders. record {
           fronts_placed = front.placed;
           members_placed = member.placed;
+          bits = refl;
           frees_placed = free.placed;
           nvalign = refl;
           nvsize = refl;
@@ -105,16 +110,19 @@ pub record IsReady (h : Classes) (c : ClassId) (class : Class) (rows : List Clas
 
 placed_positive : (h : Classes) (rows : List ClassLayout) (ps : List Primary) (parts : ClassId → List Part) (c : ClassId) → ((i : ℕ) → 1 ≤ nvalign_in (slice_get rows i)) → (bases : List PlacedBase) → ArePositive (map (placed_component (is_empty h) h rows ps parts c) bases)
 placed_positive h rows ps parts c each [] = tt
-placed_positive h rows ps parts c each (Own b ∷ bases) = (each b.0, placed_positive h rows ps parts c each bases)
-placed_positive h rows ps parts c each (VirtualBase v ∷ bases) = (each v.0, placed_positive h rows ps parts c each bases)
+placed_positive h rows ps parts c each (Own b ∷ bases) = (record { align = each b.0; width = λ n e. cc }, placed_positive h rows ps parts c each bases)
+placed_positive h rows ps parts c each (VirtualBase v ∷ bases) = (record { align = each v.0; width = λ n e. cc }, placed_positive h rows ps parts c each bases)
 
 type_positive : (rows : List ClassLayout) → ((i : ℕ) → 1 ≤ align_in (slice_get rows i)) → (type : FieldType ClassId) → 1 ≤ align_of_type rows type
 type_positive rows each (Value type) = (align_small _ (value_align type)).0
 type_positive rows each (Object d) = each d.0
 
-members_positive : (rows : List ClassLayout) (parts : ClassId → List Part) → ((i : ℕ) → 1 ≤ align_in (slice_get rows i)) → (ms : List (Member ClassId)) → ArePositive (map (member_component rows parts) ms)
-members_positive rows parts each [] = tt
-members_positive rows parts each (m ∷ ms) = (type_positive rows each m.ty, members_positive rows parts each ms)
+members_positive : (rows : List ClassLayout) (parts : ClassId → List Part) → ((i : ℕ) → 1 ≤ align_in (slice_get rows i)) → (ms : List (Member ClassId)) → AreBitFields ms → ArePositive (map (member_component rows parts) ms)
+members_positive rows parts each [] bits = tt
+members_positive rows parts each (m ∷ ms) bits = (
+  record { align = type_positive rows each m.ty; width = λ n e. (bit_field_fits rows parts m n (bits m n (has_here m ms) e)).most },
+  members_positive rows parts each ms (λ x n h e. bits x n (has_later m ms x h) e),
+)
 
 pub start_positive : (c : ClassId) (b : Bool) → 1 ≤ (start_stage c b).align
 start_positive c true = omega arith
@@ -130,7 +138,7 @@ pub class_arranged : (h : Classes) (c : ClassId) (class : Class) (rows : List Cl
     → HasArrangement (start_stage c has_pointer) (front_components h rows ps (object_parts h rows ps) c class) (map (member_component rows (object_parts h rows ps)) class.members) (free_components h rows ps (object_parts h rows ps) c) (is_pod h c)
 class_arranged h c class rows ps has_pointer ready =
     arrangement_exists (start_stage c has_pointer) (front_components h rows ps (object_parts h rows ps) c class) (map (member_component rows (object_parts h rows ps)) class.members) (free_components h rows ps (object_parts h rows ps) c) (is_pod h c)
-    (start_positive c has_pointer) (placed_positive h rows ps (object_parts h rows ps) c ready.nvaligns (fronts ps c class)) (members_positive rows (object_parts h rows ps) ready.aligns class.members) (placed_positive h rows ps (object_parts h rows ps) c ready.nvaligns (free_bases h ps c))
+    (start_positive c has_pointer) (placed_positive h rows ps (object_parts h rows ps) c ready.nvaligns (fronts ps c class)) (members_positive rows (object_parts h rows ps) ready.aligns class.members (bit_fields h c class ready.keeps ready.there)) (placed_positive h rows ps (object_parts h rows ps) c ready.nvaligns (free_bases h ps c))
 
 -- primary bases of the first classes, and of none behind them
 pub each_possible : (h : Classes) (n : ℕ) (ps : List Primary) → length ps ≡ n → ArePossible h n ps → (c : ClassId) → IsPossible h c (primary_of ps c)

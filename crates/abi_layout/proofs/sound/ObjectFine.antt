@@ -1,6 +1,6 @@
 -- What the rules give of each row alone: sizes in order, alignments, a byte for what is not empty, and room for a virtual
 -- pointer in what is dynamic.
-use Rattle.std.proofs.Common.{◌≡◌, ℕ, zero, suc, ◌+◌, ◌<◌, ◌≤◌, inl, inr, ⊎_elim, Bool, true, false, Option, Some, List, [], ◌∷◌, ◌++◌, map, length, refl, ap, subst, sym, ◌∙◌, arith}
+use Rattle.std.proofs.Common.{◌≡◌, ℕ, zero, suc, ◌+◌, ◌*◌, ◌<◌, ◌≤◌, inl, inr, ⊎_elim, Bool, true, false, Option, Some, None, List, [], ◌∷◌, ◌++◌, map, length, refl, ap, subst, sym, ◌∙◌, arith}
 use Rattle.std.specs.Prelude.{if◌then◌else◌, max, filter, not, ◌&&◌}
 use Rattle.std.specs.List.{slice_get, Contains}
 use Rattle.std.proofs.lemmas.Bool.{not-true, eqb-true, and_parts}
@@ -11,7 +11,7 @@ use Rattle.cxx_hierarchy.specs.declared.records.Member.{Member}
 use Rattle.cxx_hierarchy.specs.declared.records.FieldType.{FieldType}
 use Rattle.cxx_hierarchy.specs.declared.records.FieldType.TheVariants.{Value, Object}
 use Rattle.cxx_hierarchy.specs.Classes.{Class, Classes, class_at, bases_in, members_in}
-use Rattle.cxx_hierarchy.specs.Hierarchies.{IsHierarchy}
+use Rattle.cxx_hierarchy.specs.Hierarchies.{IsBitField, IsHierarchy}
 use Rattle.cxx_hierarchy.specs.VirtualBases.{IsDirectBase, HasVirtualBase}
 use Rattle.cxx_subobject.proofs.TreeLemmas.{has_filter}
 use Rattle.abi_primary.specs.declared.Primary.{Primary}
@@ -20,6 +20,7 @@ use Rattle.abi_primary.specs.Kinds.{IsDynamic}
 use Rattle.abi_primary.specs.Holder.{holder_of}
 use Rattle.abi_layout.specs.declared.component.Component.{Component}
 use Rattle.abi_layout.specs.declared.component.Stage.{Stage}
+use Rattle.abi_sound.specs.declared.class_layout.Bits.{Bits}
 use Rattle.abi_sound.specs.declared.class_layout.ClassLayout.{ClassLayout}
 use Rattle.abi_layout.specs.declared.placed_bases.PlacedBase.{PlacedBase}
 use Rattle.abi_layout.specs.declared.placed_bases.PlacedBase.TheVariants.{Own, VirtualBase}
@@ -30,8 +31,9 @@ use Rattle.abi_layout.specs.Placements.{nvsize_in, elements_of, size_of_type, al
 use Rattle.cxx_subobject.specs.VirtualBases.{virtual_bases}
 use Rattle.abi_layout.specs.PlacedBases.{first_base, is_first_base, is_other_base, front_bases, is_free, free_bases, IsPossible}
 use Rattle.abi_layout.specs.Layouts.{primary_of, fronts, object_parts, start_stage, IsLaidBy}
-use Rattle.abi_layout.specs.invariants.Alignments.{IsAlignment, byte, eight_bytes}
-use Rattle.abi_layout.proofs.rules.Stages.{Has, split, has_left, has_right, has_map, has_cases, grows}
+use Rattle.abi_layout.specs.invariants.Alignments.{IsAlignment, byte, eight_bytes, HasFreeBit}
+use Rattle.abi_layout.proofs.rules.Stages.{Has, split, has_left, has_right, has_map, has_cases, HasFitWidth, IsPut, grows}
+use Rattle.abi_layout.proofs.algorithm.RowLemmas.{bit_field_fits}
 use Rattle.abi_layout.proofs.rules.KindLemmas.{contains_of, in_filter}
 use Rattle.abi_layout.proofs.lists.Positives.{value_align, align_positive, last_align, count_positive, product_positive}
 use Rattle.abi_layout.proofs.lists.Divisions.{itself_divides}
@@ -42,7 +44,7 @@ use Rattle.abi_layout.proofs.lists.Pairs.{has_mapped}
 use Rattle.abi_layout.proofs.sound.ObjectKinds.{dynamic_has_data, HasData, by_member, by_kind, by_base, has_data}
 use Rattle.cxx_subobject.proofs.VirtualBaseLemmas.{virtual_has}
 use Rattle.abi_layout.proofs.sound.ObjectPrimaries.{HasRow, row_of, primary_possible, direct_primary, virtual_primary_of}
-use Rattle.abi_layout.proofs.sound.ObjectItems.{put_at, Item, a_base, a_member, place_item, component_item, member_items, base_items, front_items, all_items, ArePut, front_stage, mid_stage, end_stage, IsRow, front_put, all_put, member_item}
+use Rattle.abi_layout.proofs.sound.ObjectItems.{put_at, widths_fit, Item, a_base, a_member, place_item, component_item, bits_or, bits_item, member_items, base_items, front_items, all_items, ArePut, front_stage, mid_stage, end_stage, IsRow, front_put, all_put, member_item, AreFields, start_known, front_fit, bases_fit, mid_known}
 
 -- an item is a base or a member of its class
 pub data IsItem (h : Classes) (c : ClassId) (class : Class) : Item → Type 0 where
@@ -172,6 +174,13 @@ of_row h rows c row there f = record {
 pub object_below : (h : Classes) (c : ClassId) (class : Class) (member : Member ClassId) (d : ClassId) → IsHierarchy h → class_at h c ≡ Some class → Has class.members member → member.ty ≡ Object d → d.0 < c.0
 object_below h c class member d keeps at has e = keeps.objects c d member (subst (λ (o : Option Class). Contains (members_in o) member) (sym at) (contains_of class.members member has)) e
 
+-- a member that has a width is a bit-field
+pub field_is : (h : Classes) (c : ClassId) (class : Class) (member : Member ClassId) (n : ℕ) → IsHierarchy h → class_at h c ≡ Some class → Has class.members member → member.width ≡ Some n → IsBitField member n
+field_is h c class member n keeps at has e = keeps.widths c member n (subst (λ (o : Option Class). Contains (members_in o) member) (sym at) (contains_of class.members member has)) e
+
+pub fields : (h : Classes) (rows : List ClassLayout) (primaries : List Primary) (c : ClassId) (class : Class) → IsHierarchy h → class_at h c ≡ Some class → AreFields h rows primaries class
+fields h rows primaries c class keeps at = λ member has n e. bit_field_fits rows (object_parts h rows primaries) member n (field_is h c class member n keeps at has e)
+
 pub count_some : (h : Classes) (c : ClassId) (class : Class) (member : Member ClassId) → IsHierarchy h → class_at h c ≡ Some class → Has class.members member → 1 ≤ elements_of member.count
 count_some h c class member keeps at has = count_positive member.count (λ n e. (keeps.counts c member n (subst (λ (o : Option Class). Contains (members_in o) member) (sym at) (contains_of class.members member has)) e).0)
 
@@ -201,11 +210,11 @@ pub record IsRowFine (mid last : Stage) (row : ClassLayout) : Type 0 where
   pub align : row.align ≡ last.align
   pub aligns : mid.align ≤ last.align
 
-pub row_fine : (h : Classes) (rows : List ClassLayout) (primaries : List Primary) (c : ClassId) (class : Class) (has_pointer : Bool) (row : ClassLayout) → IsRow h rows primaries c class has_pointer row → IsRowFine (mid_stage h rows primaries c class has_pointer row) (end_stage h rows primaries c (mid_stage h rows primaries c class has_pointer row)) row
-row_fine h rows primaries c class has_pointer row is =
+pub row_fine : (h : Classes) (rows : List ClassLayout) (primaries : List Primary) (c : ClassId) (class : Class) (has_pointer : Bool) (row : ClassLayout) → AreFields h rows primaries class → IsRow h rows primaries c class has_pointer row → IsRowFine (mid_stage h rows primaries c class has_pointer row) (end_stage h rows primaries c (mid_stage h rows primaries c class has_pointer row)) row
+row_fine h rows primaries c class has_pointer row fit is =
     let mid = mid_stage h rows primaries c class has_pointer row in
     let last = end_stage h rows primaries c mid in
-    let g = grows mid _ _ is.frees_placed in
+    let g = grows mid _ _ (mid_known h rows primaries c class has_pointer row fit is) (bases_fit h rows primaries c (free_bases h primaries c)) is.frees_placed in
     let s : mid.size ≤ last.size = g.size in
     let a : mid.align ≤ last.align = g.align in
     let l = le-max_left 1 last.size in
@@ -218,17 +227,27 @@ row_fine h rows primaries c class has_pointer row is =
     ends true size nvsize mid last e x y = (omega arith, omega arith)
     ends false size nvsize mid last e x y = (omega arith, omega arith)
 
--- where an item before the free bases ends
-pub front_reach : (h : Classes) (rows : List ClassLayout) (primaries : List Primary) (c : ClassId) (class : Class) (has_pointer : Bool) (row : ClassLayout) (x : Item) → IsRow h rows primaries c class has_pointer row → Has (front_items primaries c class row) x
-    → (place_item h rows c x + (component_item h rows primaries c x).takes ≤ row.nvsize) × ((component_item h rows primaries c x).align ≤ row.nvalign)
-front_reach h rows primaries c class has_pointer row x is has =
-    let f = row_fine h rows primaries c class has_pointer row is in
-    let p = front_put h rows primaries c class has_pointer row is in
-    let q = put_at (component_item h rows primaries c) (place_item h rows c) (start_stage c has_pointer) (front_items primaries c class row) x p.placed has in
+-- where an item is put
+pub put_in : (h : Classes) (rows : List ClassLayout) (primaries : List Primary) (bits : List Bits) (c : ClassId) (first last : Stage) (items : List Item) (x : Item) → HasFreeBit first → ((y : Item) → Has items y → HasFitWidth (component_item h rows primaries c y)) → ArePut h rows primaries bits c first last items → Has items x
+    → IsPut first last (component_item h rows primaries c x) (place_item h rows c x) (bits_item h rows primaries bits c x)
+put_in h rows primaries bits c first last items x known fit put has =
+    subst (λ (st : Stage). IsPut first st (component_item h rows primaries c x) (place_item h rows c x) (bits_item h rows primaries bits c x)) put.ends
+    (put_at (component_item h rows primaries c) (place_item h rows c) (bits_item h rows primaries bits c) first items x known fit put.placed put.lie has)
+
+-- an item before the free bases
+pub front_is : (h : Classes) (rows : List ClassLayout) (primaries : List Primary) (c : ClassId) (class : Class) (has_pointer : Bool) (row : ClassLayout) (x : Item) → AreFields h rows primaries class → IsRow h rows primaries c class has_pointer row → Has (front_items primaries c class row) x
+    → IsPut (start_stage c has_pointer) (mid_stage h rows primaries c class has_pointer row) (component_item h rows primaries c x) (place_item h rows c x) (bits_item h rows primaries row.member_bits c x)
+front_is h rows primaries c class has_pointer row x fit is has =
+    put_in h rows primaries row.member_bits c (start_stage c has_pointer) (mid_stage h rows primaries c class has_pointer row) (front_items primaries c class row) x (start_known c has_pointer) (front_fit h rows primaries c class row fit) (front_put h rows primaries c class has_pointer row is) has
+
+-- where it ends
+pub front_reach : (h : Classes) (rows : List ClassLayout) (primaries : List Primary) (c : ClassId) (class : Class) (has_pointer : Bool) (row : ClassLayout) (x : Item) → AreFields h rows primaries class → IsRow h rows primaries c class has_pointer row → Has (front_items primaries c class row) x
+    → (8 * place_item h rows c x + (bits_item h rows primaries row.member_bits c x).first + (bits_item h rows primaries row.member_bits c x).width ≤ 8 * row.nvsize) × ((component_item h rows primaries c x).align ≤ row.nvalign)
+front_reach h rows primaries c class has_pointer row x fit is has =
+    let f = row_fine h rows primaries c class has_pointer row fit is in
+    let q = front_is h rows primaries c class has_pointer row x fit is has in
     let reach = q.reach in
     let align = q.align in
-    let size_is = ap (λ (st : Stage). st.size) p.ends in
-    let align_is = ap (λ (st : Stage). st.align) p.ends in
     let m = f.mid_size in
     let n = f.nvalign in
     (omega arith, omega arith)
@@ -265,13 +284,16 @@ fine_row h rows nearly primaries keeps laid c lt low = of_row h rows c k.row k.r
     placed : IsRow h rows primaries c k.class hp k.row
     placed = k.laid.placed
 
-    f : IsRowFine (mid_stage h rows primaries c k.class hp k.row) (end_stage h rows primaries c (mid_stage h rows primaries c k.class hp k.row)) k.row
-    f = row_fine h rows primaries c k.class hp k.row placed
+    fit : AreFields h rows primaries k.class
+    fit = fields h rows primaries c k.class keeps k.there
 
-    fp : ArePut h rows primaries c first (mid_stage h rows primaries c k.class hp k.row) (front_items primaries c k.class k.row)
+    f : IsRowFine (mid_stage h rows primaries c k.class hp k.row) (end_stage h rows primaries c (mid_stage h rows primaries c k.class hp k.row)) k.row
+    f = row_fine h rows primaries c k.class hp k.row fit placed
+
+    fp : ArePut h rows primaries k.row.member_bits c first (mid_stage h rows primaries c k.class hp k.row) (front_items primaries c k.class k.row)
     fp = front_put h rows primaries c k.class hp k.row placed
 
-    al : ArePut h rows primaries c first (end_stage h rows primaries c (mid_stage h rows primaries c k.class hp k.row)) (all_items h primaries c k.class k.row)
+    al : ArePut h rows primaries k.row.member_bits c first (end_stage h rows primaries c (mid_stage h rows primaries c k.class hp k.row)) (all_items h primaries c k.class k.row)
     al = all_put h rows primaries c k.class hp k.row placed
 
     possible : IsPossible h c (primary_of primaries c)
@@ -282,8 +304,23 @@ fine_row h rows nearly primaries keeps laid c lt low = of_row h rows c k.row k.r
         let r = has_mapped (component_item h rows primaries c) xs x has in
         subst (λ (y : Component). IsAlignment y.align) r.2 (item_align h rows primaries c k.class r.0 keeps k.there low (all_view h primaries c k.class k.row r.0 keeps k.there possible (among r.0 r.1)))
 
-    reach : (x : Item) → Has (front_items primaries c k.class k.row) x → (place_item h rows c x + (component_item h rows primaries c x).takes ≤ k.row.nvsize) × ((component_item h rows primaries c x).align ≤ k.row.nvalign)
-    reach x has = front_reach h rows primaries c k.class hp k.row x placed has
+    reach : (x : Item) → Has (front_items primaries c k.class k.row) x → (8 * place_item h rows c x + (bits_item h rows primaries k.row.member_bits c x).first + (bits_item h rows primaries k.row.member_bits c x).width ≤ 8 * k.row.nvsize) × ((component_item h rows primaries c x).align ≤ k.row.nvalign)
+    reach x has = front_reach h rows primaries c k.class hp k.row x fit placed has
+
+    -- a member has a bit
+    some_bits : (number : ℕ) (member : Member ClassId) (place : ℕ) → Has k.class.members member → Has (front_items primaries c k.class k.row) (a_member number member place) → 1 ≤ (bits_item h rows primaries k.row.member_bits c (a_member number member place)).width
+    some_bits number member place has item = by_width member.width refl
+      where
+        put : IsPut first (mid_stage h rows primaries c k.class hp k.row) (member_component rows (object_parts h rows primaries) member) place (bits_or (slice_get k.row.member_bits number))
+        put = front_is h rows primaries c k.class hp k.row (a_member number member place) fit placed item
+
+        by_width : (w : Option ℕ) → member.width ≡ w → 1 ≤ (bits_or (slice_get k.row.member_bits number)).width
+        by_width None e =
+            let is : (bits_or (slice_get k.row.member_bits number)).width ≡ 8 * (elements_of member.count * size_of_type rows member.ty) = ap (λ (b : Bits). b.width) (put.whole e) in
+            let t = type_fine h rows c low member.ty (λ d x. object_below h c k.class member d keeps k.there has x) in
+            let n = product_positive (elements_of member.count) (size_of_type rows member.ty) (count_some h c k.class member keeps k.there has) t.positive in
+            omega (arith, is, n)
+        by_width (Some n) e = let is = (put.unit n e).1.1 in let least = (field_is h c k.class member n keeps k.there has e).low in omega (arith, is, least)
 
     in_front : (base : PlacedBase) → Has (fronts primaries c k.class) base → Has (front_items primaries c k.class k.row) (a_base base)
     in_front base has = has_left (base_items (fronts primaries c k.class)) (member_items 0 k.class.members k.row.member_places) (a_base base) (has_map a_base (fronts primaries c k.class) base has)
@@ -291,7 +328,7 @@ fine_row h rows nearly primaries keeps laid c lt low = of_row h rows c k.row k.r
     dynamic : IsDynamic h c → (p : Primary) → primary_of primaries c ≡ p → (8 ≤ k.row.nvsize) × (8 ≤ k.row.nvalign)
     dynamic d NoPrimary e =
         let t : hp ≡ true = k.laid.pointer.1 (d, e) in
-        let g = grows first _ _ fp.placed in
+        let g = grows first _ _ (start_known c hp) (widths_fit (component_item h rows primaries c) (front_items primaries c k.class k.row) (front_fit h rows primaries c k.class k.row fit)) fp.placed in
         let s = g.size in
         let a = g.align in
         let size_is = ap (λ (st : Stage). st.size) fp.ends in
@@ -325,9 +362,9 @@ fine_row h rows nearly primaries keeps laid c lt low = of_row h rows c k.row k.r
     by_reason : HasData h c k.class → 1 ≤ k.row.nvsize
     by_reason (by_member member has) =
         let m = member_has (member_component rows (object_parts h rows primaries)) (front_stage h rows primaries c k.class hp) 0 k.class.members k.row.member_places member placed.members_placed has in
-        let r = (reach (a_member m.number member m.place) (has_right (base_items (fronts primaries c k.class)) (member_items 0 k.class.members k.row.member_places) (a_member m.number member m.place) m.has)).0 in
-        let t = type_fine h rows c low member.ty (λ d e. object_below h c k.class member d keeps k.there has e) in
-        let n = product_positive (elements_of member.count) (size_of_type rows member.ty) (count_some h c k.class member keeps k.there has) t.positive in
+        let item = has_right (base_items (fronts primaries c k.class)) (member_items 0 k.class.members k.row.member_places) (a_member m.number member m.place) m.has in
+        let r = (reach (a_member m.number member m.place) item).0 in
+        let n = some_bits m.number member m.place has item in
         omega arith
     by_reason (by_kind d) = let e = (dynamic d (primary_of primaries c) refl).0 in omega arith
     by_reason (by_base base has way other) =

@@ -1,6 +1,5 @@
 -- A layout of a hierarchy by the rules is sound.
-use Rattle.std.proofs.Common.{◌≡◌, ℕ, ◌+◌, ◌<◌, ◌≤◌, Bool, Option, Some, List, [], ◌∷◌, ◌++◌, length, refl, ap, subst, sym, ◌∙◌, arith}
-use Rattle.std.proofs.Math.Nat.{le-max_right}
+use Rattle.std.proofs.Common.{◌≡◌, ℕ, ◌+◌, ◌*◌, ◌<◌, ◌≤◌, inl, inr, ⊎_elim, Bool, Option, Some, None, List, [], ◌∷◌, ◌++◌, length, refl, ap, subst, sym, ◌∙◌, arith}
 use Rattle.std.specs.Prelude.{filter}
 use Rattle.std.specs.List.{slice_get}
 use Rattle.std.proofs.lemmas.Option.{slice_get_within}
@@ -9,7 +8,7 @@ use Rattle.cxx_hierarchy.specs.declared.records.ClassId.{ClassId}
 use Rattle.cxx_hierarchy.specs.declared.records.ValueType.{ValueType}
 use Rattle.cxx_hierarchy.specs.declared.records.FieldType.TheVariants.{Value, Object}
 use Rattle.cxx_hierarchy.specs.Declarations.{is_plain_base}
-use Rattle.cxx_hierarchy.specs.Classes.{Class, Classes, bases_in as class_bases_in, members_in as class_members_in}
+use Rattle.cxx_hierarchy.specs.Classes.{Class, Classes, bases_in as class_bases_in, members_in as class_members_in, width_of_member}
 use Rattle.cxx_hierarchy.specs.Hierarchies.{IsHierarchy}
 use Rattle.cxx_subobject.specs.declared.Subobject.{Subobject}
 use Rattle.cxx_subobject.specs.Subobjects.{whole_of, IsSubobject, whole, shared}
@@ -17,29 +16,38 @@ use Rattle.cxx_subobject.specs.VirtualBases.{virtual_bases}
 use Rattle.abi_primary.specs.declared.Primary.{Primary}
 use Rattle.abi_primary.specs.Holder.{holder_of}
 use Rattle.abi_sound.specs.declared.class_layout.ClassLayout.{ClassLayout}
-use Rattle.abi_sound.specs.Places.{size_of_value, size_in, align_in, nvalign_in}
+use Rattle.abi_sound.specs.Places.{Places, size_of_value, size_in, align_in, nvalign_in, first_bit}
 use Rattle.cxx_subobject.specs.declared.locations.Hop.{Hop}
 use Rattle.cxx_subobject.specs.declared.locations.Hop.TheVariants.{Inherit, Member as Element}
-use Rattle.cxx_subobject.specs.Locations.{LeadsTo}
-use Rattle.abi_sound.specs.Locations.{place_at}
-use Rattle.abi_sound.specs.Sound.{Divides, IsFullRow, AreLeavesSound, AreSubobjectsSound, IsSoundLayout}
-use Rattle.abi_layout.specs.Layouts.{IsLaidBy}
+use Rattle.cxx_subobject.specs.Locations.{IsElement, LeadsTo}
+use Rattle.abi_sound.specs.Locations.{place_at, last_member, Span, AreDisjoint, bits_of_value, leaf_span, pointer_span}
+use Rattle.abi_sound.specs.Sound.{Divides, IsFullRow, IsAligned, IsSoundClass, IsSoundLayout}
+use Rattle.abi_sound.proofs.LeafSpans.{EndsIn, one_member, value_span, span_is, some_bits}
+use Rattle.abi_sound.proofs.PrimaryParts.{primary_cases}
+use Rattle.abi_primary.specs.Kinds.{IsDynamic}
+use Rattle.abi_layout.specs.Kinds.{is_empty}
+use Rattle.abi_layout.specs.Placements.{ArePlaced, after, bits_at}
+use Rattle.abi_layout.specs.declared.component.Component.{Component}
+use Rattle.abi_layout.specs.declared.component.Stage.{Stage}
+use Rattle.abi_layout.specs.invariants.Alignments.{IsAlignment, byte, two_bytes, four_bytes, eight_bytes}
 use Rattle.abi_layout.specs.Refusals.{IsWellLaid}
 use Rattle.abi_sound.specs.Places.{places_of}
 use Rattle.abi_layout.proofs.lists.Divisions.{through_divides, itself_divides}
-use Rattle.abi_layout.proofs.lists.Positives.{value_align, align_positive}
+use Rattle.abi_layout.proofs.lists.Positives.{value_align}
 use Rattle.abi_layout.proofs.lists.Bounds.{align_divides, most}
-use Rattle.abi_layout.proofs.sound.ObjectTree.{Node, Complete, Within, Bytes, Pointer, Placement, Step, Contents, Reaches, here, down, AreArranged, IsSoundTree, contents_of, align_of, span_of, measures_of}
+use Rattle.abi_layout.proofs.sound.ObjectTree.{Node, Complete, Within, Leaf, Pointer, Placement, Step, Contents, Reaches, here, down, AreArranged, IsSoundTree, contents_of, align_of_value, align_of, span_of, data_start_of, data_end_of, measures_of}
 use Rattle.abi_layout.proofs.sound.ObjectFine.{IsFine, fine}
 use Rattle.abi_layout.proofs.sound.ObjectArranged.{arranged, object_is_sound}
 use Rattle.abi_layout.proofs.sound.ObjectOnce.{one_place}
 use Rattle.abi_layout.proofs.lists.Lists.{get_within}
-use Rattle.abi_layout.proofs.sound.ObjectPrimaries.{HasRow}
-use Rattle.abi_layout.proofs.sound.ObjectPointersSound.{pointers_sound}
-use Rattle.abi_layout.proofs.sound.ObjectPrimariesSound.{primaries_sound}
+use Rattle.abi_layout.proofs.sound.ObjectPrimaries.{HasRow, direct_primary, virtual_primary_of}
+use Rattle.abi_layout.proofs.sound.ObjectPointers.{pointer_way}
+use Rattle.abi_layout.proofs.sound.ObjectPointersSound.{inside_size, leaf_beside, pointer_inside, pointers_apart}
+use Rattle.abi_layout.proofs.sound.ObjectChains.{primary_told}
+use Rattle.abi_layout.proofs.sound.ObjectPrimariesSound.{primary_place, holder_first}
 use Rattle.abi_layout.proofs.sound.ObjectKnown.{IsLaidOut, row_of}
 use Rattle.abi_layout.proofs.sound.ObjectPaths.{last_hops, through, further, decode, node_of}
-use Rattle.abi_layout.proofs.sound.ObjectDecode.{IsPart, whole_part, inner_part, part_hops, part_valid, part_node, member_length, HasSteps, IsObjectNode, located, same_location}
+use Rattle.abi_layout.proofs.sound.ObjectDecode.{IsPart, whole_part, inner_part, part_hops, part_valid, part_node, element_within, member_length, element_step, HasSteps, IsObjectNode, located, same_location}
 
 -- the last hop, with one for no hops
 abbrev end_hop : Hop → List Hop → Hop
@@ -59,7 +67,7 @@ steps_end contents _ _ s _ _ (down n m step p q k to way) e x =
     by_node : (node : Node) (hops : List Hop) → ((y : Hop) → end_hop y hops ≡ Inherit s) → end_hop x (through n k.member step.copy node hops) ≡ Inherit s
     by_node (Complete d) hops next = end_behind x (Element k.member step.copy) (last_hops n) hops ∙ next (Element k.member step.copy)
     by_node (Within c t d) hops next = next x
-    by_node (Bytes w) hops next = end_behind x (Element k.member step.copy) (last_hops n) hops ∙ next (Element k.member step.copy)
+    by_node (Leaf d m w t) hops next = end_behind x (Element k.member step.copy) (last_hops n) hops ∙ next (Element k.member step.copy)
     by_node Pointer hops next = next x
 
 -- the whole of an object is no other subobject's node
@@ -103,74 +111,185 @@ found_at h rows nearly ps known c hops q n lt way =
       divides = tree.aligned (Complete c) n way.steps q way.reaches;
     }
 
--- a number or a pointer at a location
-value_found : (h : Classes) (rows : List ClassLayout) (nearly : List Bool) (ps : List Primary) → IsLaidOut h rows nearly ps → (c : ClassId) (type : ValueType ClassId) (hops : List Hop) → c.0 < length h → LeadsTo h c hops (Value type) → IsFound h rows ps c hops (place_at h (places_of h rows) c hops) (Bytes (size_of_value type))
-value_found h rows nearly ps known c type hops lt leads =
-    let x = located h rows nearly ps known c hops (Value type) lt leads in
-    found_at h rows nearly ps known c hops (place_at h (places_of h rows) c hops) (Bytes (size_of_value type)) lt (subst (λ (n : Node). HasSteps (contents_of h rows ps) c hops (place_at h (places_of h rows) c hops) n) x.ends x.way)
+-- a number or a pointer at a location: the member in which it ends, and the steps to it
+record IsLeafFound (h : Classes) (rows : List ClassLayout) (ps : List Primary) (c : ClassId) (hops : List Hop) (type : ValueType ClassId) (q : ℕ) : Type 0 where
+  ends : EndsIn h c hops type
+  found : IsFound h rows ps c hops q (Leaf ends.class ends.member (width_of_member h ends.class ends.member) type)
+  some : 1 ≤ bits_of_value (width_of_member h ends.class ends.member) type
 
--- numbers and pointers are sound
-leaves_sound : (h : Classes) (rows : List ClassLayout) (nearly : List Bool) (ps : List Primary) → IsHierarchy h → IsLaidBy h (length h) rows nearly ps → AreLeavesSound h (places_of h rows)
-leaves_sound h rows nearly ps keeps laid =
-    let known : IsLaidOut h rows nearly ps = record { keeps = keeps; laid = laid } in
-    let tree = object_is_sound h rows nearly ps keeps laid in
+leaf_found : (h : Classes) (rows : List ClassLayout) (nearly : List Bool) (ps : List Primary) → IsLaidOut h rows nearly ps → (c : ClassId) (type : ValueType ClassId) (hops : List Hop) → c.0 < length h → LeadsTo h c hops (Value type) → IsLeafFound h rows ps c hops type (place_at h (places_of h rows) c hops)
+leaf_found h rows nearly ps known c type hops lt leads =
+    let x = located h rows nearly ps known c hops (Value type) lt leads in
+    let e = x.ends.of in
+    let q = place_at h (places_of h rows) c hops in
     record {
-      inside = λ c type hops lt x.
-          let i = (value_found h rows nearly ps known c type hops lt x).within in
-          let m = le-max_right 1 (size_of_value type) in
-          omega (arith, i, m);
-      multiple = λ c type hops lt x. (value_found h rows nearly ps known c type hops lt x).divides;
-      apart = λ c type other hops others lt x y differ.
-          let v = value_found h rows nearly ps known c type hops lt x in
-          let w = value_found h rows nearly ps known c other others lt y in
-          let q = place_at h (places_of h rows) c hops in
-          let r = place_at h (places_of h rows) c others in
-          tree.apart (Complete c) (Bytes (size_of_value type)) (Bytes (size_of_value other)) v.way.steps w.way.steps q r v.way.reaches w.way.reaches refl refl
-          (λ e. differ (same_location (contents_of h rows ps) c hops others q r (Bytes (size_of_value type)) (Bytes (size_of_value other)) v.way w.way e))
-          (align_positive (size_of_value type) (value_align type)) (align_positive (size_of_value other) (value_align other));
+      ends = e;
+      found = found_at h rows nearly ps known c hops q (Leaf e.class e.member (width_of_member h e.class e.member) type) lt (subst (λ (n : Node). HasSteps (contents_of h rows ps) c hops q n) x.ends.node_is x.way);
+      some = some_bits h known.keeps e.class e.member e.index type e.element;
     }
 
--- class subobjects are sound
-subobjects_sound : (h : Classes) (rows : List ClassLayout) → IsHierarchy h → IsWellLaid h (length h) rows → AreSubobjectsSound h (places_of h rows)
-subobjects_sound h rows keeps well = record {
-  begins_inside = λ c d hops lt x.
-      let o = located h rows nearly ps known c hops (Object d) lt x in
-      let f = found_at h rows nearly ps known c hops (place_at h (places_of h rows) c hops) o.node lt o.way in
-      let i = f.within in
-      let p = all_arranged.positive o.node in
-      omega (arith, i, p);
-  distinct = λ c d hops others lt x y same.
-      let o = located h rows nearly ps known c hops (Object d) lt x in
-      let u = located h rows nearly ps known c others (Object d) lt y in
-      let way : HasSteps (contents_of h rows ps) c others (place_at h (places_of h rows) c hops) u.node = subst (λ q. HasSteps (contents_of h rows ps) c others q u.node) (sym same) u.way in
+-- the bits of an element end with the bytes of a value of its type
+record IsInBytes (h : Classes) (rows : List ClassLayout) (d : ClassId) (m : ℕ) (type : ValueType ClassId) : Type 0 where
+  low : first_bit rows d m < 8
+  fits : first_bit rows d m + bits_of_value (width_of_member h d m) type ≤ 8 * size_of_value type
+
+in_bytes : (h : Classes) (rows : List ClassLayout) (nearly : List Bool) (ps : List Primary) → IsLaidOut h rows nearly ps → (d : ClassId) (m i : ℕ) (type : ValueType ClassId) → IsElement h d m i (Value type) → IsInBytes h rows d m type
+in_bytes h rows nearly ps known d m i type element =
+    let k = element_step h rows nearly ps known d d (Complete d) (whole_of d) m i (Value type) (element_within h d m i (Value type) element) whole_part element in
+    let place = ((arranged h rows nearly ps known.keeps known.laid).node (Complete d)).each k.step.number k.to k.steps.there in
+    record {
+      low = subst (λ (n : Node). data_start_of rows n < 8) k.node place.low;
+      fits = subst (λ z. data_end_of h rows (Leaf d m (width_of_member h d m) type) ≤ 8 * z) k.stride (subst (λ (n : Node). data_end_of h rows n ≤ 8 * k.to.stride) k.node place.data_fits);
+    }
+
+align_most : (a : ℕ) → IsAlignment a → a ≤ 8
+align_most _ byte = omega arith
+align_most _ two_bytes = omega arith
+align_most _ four_bytes = omega arith
+align_most _ eight_bytes = omega arith
+
+aligned_by : (w : Option ℕ) (type : ValueType ClassId) (place first : ℕ) → Divides (align_of_value w type) place → first < 8 → first + bits_of_value w type ≤ 8 * size_of_value type → IsAligned w type place first
+aligned_by None type place first divides low fits = (divides, omega (arith, fits))
+aligned_by (Some n) type place first divides low fits = (low, let most = align_most (size_of_value type) (value_align type) in omega (arith, fits, most))
+
+spans_apart : (a b r s : Span) → a ≡ r → b ≡ s → AreDisjoint r s → AreDisjoint a b
+spans_apart a b r s e f apart = subst (λ (k : Span). AreDisjoint k b) (sym e) (subst (AreDisjoint r) (sym f) apart)
+
+-- the laws of one class
+module _ (h : Classes) (rows : List ClassLayout) (keeps : IsHierarchy h) (well : IsWellLaid h (length h) rows) (c : ClassId) (lt : c.0 < length h) where
+  abbrev nearly : List Bool
+  nearly = well.nearly
+
+  abbrev ps : List Primary
+  ps = well.primaries
+
+  abbrev l : Places
+  l = places_of h rows
+
+  known : IsLaidOut h rows well.nearly well.primaries
+  known = record { keeps = keeps; laid = well.by }
+
+  all_arranged : AreArranged (contents_of h rows well.primaries) (measures_of h rows)
+  all_arranged = arranged h rows well.nearly well.primaries keeps well.by
+
+  tree : IsSoundTree (contents_of h rows well.primaries) (measures_of h rows)
+  tree = object_is_sound h rows well.nearly well.primaries keeps well.by
+
+  leaf : (type : ValueType ClassId) (hops : List Hop) → LeadsTo h c hops (Value type) → IsLeafFound h rows well.primaries c hops type (place_at h (places_of h rows) c hops)
+  leaf type hops leads = leaf_found h rows well.nearly well.primaries known c type hops lt leads
+
+  is_aligned : (type : ValueType ClassId) (hops : List Hop) (d : ClassId) (m : ℕ) → LeadsTo h c hops (Value type) → last_member h (Some c) hops ≡ Some (d, m) → IsAligned (width_of_member h d m) type (place_at h l c hops) (l.first d m)
+  is_aligned type hops d m leads last =
+      let x = leaf type hops leads in
+      let e = x.ends in
+      let q = place_at h l c hops in
+      let same = one_member (last_member h (Some c) hops) e.class d e.member m e.last last in
+      let b = in_bytes h rows well.nearly well.primaries known e.class e.member e.index type e.element in
+      let here : IsAligned (width_of_member h e.class e.member) type q (l.first e.class e.member) = aligned_by (width_of_member h e.class e.member) type q (first_bit rows e.class e.member) x.found.divides b.low b.fits in
+      subst (λ (k : ClassId). IsAligned (width_of_member h k m) type q (l.first k m)) same.0 (subst (λ n. IsAligned (width_of_member h e.class n) type q (l.first e.class n)) same.1 here)
+
+  is_inside : (type : ValueType ClassId) (hops : List Hop) → LeadsTo h c hops (Value type) → (leaf_span h l c hops).start + (leaf_span h l c hops).length ≤ 8 * l.size c
+  is_inside type hops leads =
+      let x = leaf type hops leads in
+      let e = x.ends in
+      let q = place_at h l c hops in
+      let some = x.some in
+      let node = Leaf e.class e.member (width_of_member h e.class e.member) type in
+      let ends = tree.ends (Complete c) node x.found.way.steps q x.found.way.reaches (omega (arith, some)) in
+      let within = inside_size (is_empty h c) (8 * q + (first_bit rows e.class e.member + bits_of_value (width_of_member h e.class e.member) type)) (size_in (slice_get rows c.0)) (omega (arith, some)) ends in
+      subst (λ (s : Span). s.start + s.length ≤ 8 * l.size c) (sym (span_is h l c hops type e)) (omega (arith, within))
+
+  leaves_are_apart : (type other : ValueType ClassId) (hops others : List Hop) → LeadsTo h c hops (Value type) → LeadsTo h c others (Value other) → (hops ≡ others → ⊥) → AreDisjoint (leaf_span h l c hops) (leaf_span h l c others)
+  leaves_are_apart type other hops others leads also differ =
+      let x = leaf type hops leads in
+      let y = leaf other others also in
+      let e = x.ends in
+      let f = y.ends in
+      let q = place_at h l c hops in
+      let r = place_at h l c others in
+      let some = x.some in
+      let more = y.some in
+      let node = Leaf e.class e.member (width_of_member h e.class e.member) type in
+      let next = Leaf f.class f.member (width_of_member h f.class f.member) other in
+      let apart = tree.apart (Complete c) node next x.found.way.steps y.found.way.steps q r x.found.way.reaches y.found.way.reaches refl refl
+      (λ same. differ (same_location (contents_of h rows well.primaries) c hops others q r node next x.found.way y.found.way same)) (omega (arith, some)) (omega (arith, more)) in
+      spans_apart (leaf_span h l c hops) (leaf_span h l c others) (value_span h l e.class e.member type q) (value_span h l f.class f.member other r) (span_is h l c hops type e) (span_is h l c others other f)
+      (⊎_elim (λ a. inl (omega (arith, a))) (λ a. inr (omega (arith, a))) apart)
+
+  leaf_is_apart : (d : ClassId) (type : ValueType ClassId) (hops others : List Hop) → IsDynamic h d → LeadsTo h c hops (Object d) → LeadsTo h c others (Value type) → AreDisjoint (pointer_span (place_at h l c hops)) (leaf_span h l c others)
+  leaf_is_apart d type hops others dynamic leads also =
+      let x = pointer_way h rows well.nearly well.primaries known c d hops lt dynamic leads in
+      let y = leaf type others also in
+      let e = y.ends in
+      let q = place_at h l c hops in
+      let r = place_at h l c others in
+      let apart = leaf_beside h rows well.nearly well.primaries known c e.class e.member (width_of_member h e.class e.member) type x.steps y.found.way.steps q r y.some x.reaches y.found.way.reaches in
+      subst (AreDisjoint (pointer_span q)) (sym (span_is h l c others type e)) (⊎_elim (λ a. inl (omega (arith, a))) (λ a. inr (omega (arith, a))) apart)
+
+  are_distinct : (d : ClassId) (hops others : List Hop) → LeadsTo h c hops (Object d) → LeadsTo h c others (Object d) → place_at h l c hops ≡ place_at h l c others → hops ≡ others
+  are_distinct d hops others x y same =
+      let o = located h rows well.nearly well.primaries known c hops (Object d) lt x in
+      let u = located h rows well.nearly well.primaries known c others (Object d) lt y in
+      let way : HasSteps (contents_of h rows well.primaries) c others (place_at h l c hops) u.node = subst (λ q. HasSteps (contents_of h rows well.primaries) c others q u.node) (sym same) u.way in
       let o_class = part_node h o.ends.top o.node o.ends.subobject_is d o.ends.part in
       let u_class = part_node h u.ends.top u.node u.ends.subobject_is d u.ends.part in
-      same_location (contents_of h rows ps) c hops others (place_at h (places_of h rows) c hops) (place_at h (places_of h rows) c hops) o.node u.node o.way way
-      (one_place h rows nearly ps keeps well.by well.apart all_arranged c lt o.node u.node d o.way.steps way.steps (place_at h (places_of h rows) c hops) o.way.reaches way.reaches o_class u_class);
-  base_multiple = λ c d front s lt x proper.
-      let hops = front ++ Inherit s ∷ [] in
-      let o = located h rows nearly ps known c hops (Object d) lt x in
-      let f = found_at h rows nearly ps known c hops (place_at h (places_of h rows) c hops) o.node lt o.way in
+      same_location (contents_of h rows well.primaries) c hops others (place_at h l c hops) (place_at h l c hops) o.node u.node o.way way
+      (one_place h rows well.nearly well.primaries keeps well.by well.apart all_arranged c lt o.node u.node d o.way.steps way.steps (place_at h l c hops) o.way.reaches way.reaches o_class u_class)
+
+  base_is_multiple : (d : ClassId) (hops : List Hop) → LeadsTo h c hops (Object d) → Divides (l.base_align d) (place_at h l c hops)
+  base_is_multiple d hops x =
+      let o = located h rows well.nearly well.primaries known c hops (Object d) lt x in
+      let f = found_at h rows well.nearly well.primaries known c hops (place_at h l c hops) o.node lt o.way in
       let e = o.ends in
-      through_divides (nvalign_in (slice_get rows d.0)) (align_of rows o.node) (place_at h (places_of h rows) c hops) (base_divides h rows e.top d o.node e.subobject_is (λ within. fine h rows nearly ps e.top keeps well.by within) e.within e.part) f.divides;
-  object_multiple = λ c d front lt x.
+      through_divides (nvalign_in (slice_get rows d.0)) (align_of rows o.node) (place_at h l c hops) (base_divides h rows e.top d o.node e.subobject_is (λ within. fine h rows well.nearly well.primaries e.top keeps well.by within) e.within e.part) f.divides
+
+  object_is_multiple : (d : ClassId) (front : List Hop) → LeadsTo h c (front ++ Inherit (whole_of d) ∷ []) (Object d) → Divides (l.align d) (place_at h l c (front ++ Inherit (whole_of d) ∷ []))
+  object_is_multiple d front x =
       let hops = front ++ Inherit (whole_of d) ∷ [] in
-      let o = located h rows nearly ps known c hops (Object d) lt x in
-      let f = found_at h rows nearly ps known c hops (place_at h (places_of h rows) c hops) o.node lt o.way in
-      subst (λ (n : Node). Divides (align_of rows n) (place_at h (places_of h rows) c hops)) (ends_whole h (contents_of h rows ps) c d front hops (place_at h (places_of h rows) c hops) o.node o.way o.ends refl) f.divides;
-}
-  where
-    nearly : List Bool
-    nearly = well.nearly
+      let o = located h rows well.nearly well.primaries known c hops (Object d) lt x in
+      let f = found_at h rows well.nearly well.primaries known c hops (place_at h l c hops) o.node lt o.way in
+      subst (λ (n : Node). Divides (align_of rows n) (place_at h l c hops)) (ends_whole h (contents_of h rows well.primaries) c d front hops (place_at h l c hops) o.node o.way o.ends refl) f.divides
 
-    ps : List Primary
-    ps = well.primaries
+  class_begins_inside : (d : ClassId) (hops : List Hop) → LeadsTo h c hops (Object d) → place_at h l c hops < l.size c
+  class_begins_inside d hops x =
+      let o = located h rows well.nearly well.primaries known c hops (Object d) lt x in
+      let f = found_at h rows well.nearly well.primaries known c hops (place_at h l c hops) o.node lt o.way in
+      let i = f.within in
+      let p = all_arranged.positive o.node in
+      omega (arith, i, p)
 
-    known : IsLaidOut h rows nearly ps
-    known = record { keeps = keeps; laid = well.by }
+  is_bounded : l.size c ≤ 1048576
+  is_bounded =
+      let r = row_of h rows well.nearly well.primaries known c lt in
+      let s : size_in (slice_get rows c.0) ≡ r.row.size = ap size_in r.row_there in
+      let b = well.small.each c.0 r.row r.row_there in
+      omega (arith, s, b)
 
-    all_arranged : AreArranged (contents_of h rows ps) (measures_of h rows)
-    all_arranged = arranged h rows nearly ps keeps well.by
+  class_is_sound : IsSoundClass h (places_of h rows) c
+  class_is_sound = record {
+    direct = λ b is. direct_primary h rows well.nearly well.primaries c b well.by lt (sym (primary_told h rows well.nearly well.primaries known c lt) ∙ is);
+    virtual = λ v is. virtual_primary_of h rows well.nearly well.primaries c v keeps well.by lt (sym (primary_told h rows well.nearly well.primaries known c lt) ∙ is);
+    holder = λ v has. holder_first h rows well.nearly well.primaries known c v lt has;
+    positive = (fine h rows well.nearly well.primaries c keeps well.by lt).positive;
+    bounded = is_bounded;
+    one_place = λ s t valid part. primary_place h rows well.nearly well.primaries known c s t lt valid (primary_cases (places_of h rows) c s t part);
+    aligned = is_aligned;
+    base_multiple = λ d front s leads proper. base_is_multiple d (front ++ Inherit s ∷ []) leads;
+    object_multiple = object_is_multiple;
+    leaf_inside = is_inside;
+    pointer_inside = λ d hops dynamic leads. pointer_inside h rows well.nearly well.primaries known c d hops lt dynamic leads;
+    begins_inside = class_begins_inside;
+    leaves_apart = leaves_are_apart;
+    leaf_and_pointer = leaf_is_apart;
+    pointers_apart = λ d e hops others dynamic moves leads other. pointers_apart h rows well.nearly well.primaries known c d e hops others lt dynamic moves leads other;
+    distinct = are_distinct;
+  }
+
+bits_length : (st : Stage) (cs : List Component) (places : List ℕ) → ArePlaced st cs places → length (bits_at st cs places) ≡ length places
+bits_length st [] [] l = refl
+bits_length st [] (p ∷ places) l = absurd l
+bits_length st (c ∷ cs) [] l = absurd l
+bits_length st (c ∷ cs) (p ∷ places) l = let r = bits_length (after st c p) cs places l.1 in omega arith
 
 -- each row tells of all parts of its class
 rows_full : (h : Classes) (rows : List ClassLayout) (nearly : List Bool) (ps : List Primary) → IsLaidOut h rows nearly ps → (c : ClassId) (row : ClassLayout) → slice_get rows c.0 ≡ Some row → IsFullRow h c row
@@ -185,25 +304,13 @@ rows_full h rows nearly ps known c row there =
       virtuals = laid.virtuals;
       each_virtual = laid.each_virtual;
       each_holder = ap length laid.holders ∙ length-map (virtual_bases h c) (holder_of h ps c);
+      each_bits = ap length laid.placed.bits ∙ (bits_length _ _ row.member_places laid.placed.members_placed ∙ (member_length h rows nearly ps c r ∙ ap (λ (o : Option Class). length (class_members_in o)) (sym k.1)));
       each_member = member_length h rows nearly ps c r ∙ ap (λ (o : Option Class). length (class_members_in o)) (sym k.1);
     }
 
 -- a layout that is not refused is sound
 pub rules_are_sound : (h : Classes) (rows : List ClassLayout) → IsHierarchy h → IsWellLaid h (length h) rows → IsSoundLayout h rows
-rules_are_sound h rows keeps well =
-    let known : IsLaidOut h rows well.nearly well.primaries = record { keeps = keeps; laid = well.by } in
-    record {
-      full = record { one_each = well.by.one_each; each = rows_full h rows well.nearly well.primaries known };
-      sizes = record {
-        positive = λ c lt. (fine h rows well.nearly well.primaries c keeps well.by lt).positive;
-        bounded = λ c lt.
-            let r = row_of h rows well.nearly well.primaries known c lt in
-            let s : size_in (slice_get rows c.0) ≡ r.row.size = ap size_in r.row_there in
-            let b = well.small.each c.0 r.row r.row_there in
-            omega (arith, s, b);
-      };
-      leaves = leaves_sound h rows well.nearly well.primaries keeps well.by;
-      subobjects = subobjects_sound h rows keeps well;
-      pointers = pointers_sound h rows well.nearly well.primaries keeps well.by;
-      primaries = primaries_sound h rows well.nearly well.primaries keeps well.by;
-    }
+rules_are_sound h rows keeps well = record {
+  full = record { one_each = well.by.one_each; each = rows_full h rows well.nearly well.primaries (record { keeps = keeps; laid = well.by }) };
+  each = λ c lt. class_is_sound h rows keeps well c lt;
+}

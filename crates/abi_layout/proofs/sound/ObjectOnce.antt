@@ -1,5 +1,5 @@
 -- In an object no two class subobjects of one class lie at one place.
-use Rattle.std.proofs.Common.{◌≡◌, ℕ, zero, suc, ◌+◌, ◌*◌, ◌<◌, ◌≤◌, inl, inr, Bool, Option, Some, List, [], ◌∷◌, ◌++◌, map, length, refl, ap, subst, sym, ◌∙◌, arith, append_assoc}
+use Rattle.std.proofs.Common.{◌≡◌, ℕ, zero, suc, ◌+◌, ◌*◌, ◌<◌, ◌≤◌, inl, inr, Bool, Option, Some, None, List, [], ◌∷◌, ◌++◌, map, length, refl, ap, subst, sym, ◌∙◌, arith, append_assoc}
 use Rattle.std.specs.List.{slice_get}
 use Rattle.cxx_hierarchy.specs.declared.records.ClassId.{ClassId}
 use Rattle.cxx_hierarchy.specs.declared.records.Member.{Member}
@@ -17,29 +17,39 @@ use Rattle.abi_sound.specs.declared.class_layout.ClassLayout.{ClassLayout}
 use Rattle.abi_layout.specs.declared.placed_bases.PlacedBase.{PlacedBase}
 use Rattle.abi_layout.specs.Kinds.{is_empty}
 use Rattle.abi_sound.specs.Places.{size_in, members_in}
-use Rattle.abi_layout.specs.Placements.{ArePlaced, after, after_all, part_at, parts_at, parts_of_type, copies, elements_of, size_of_type, member_component}
+use Rattle.abi_layout.specs.Placements.{IsPlacedBy, IsPlaced, ArePlaced, after, after_all, part_at, parts_at, parts_of_type, copies, elements_of, size_of_type, member_component}
 use Rattle.abi_layout.specs.Brought.{brought_by}
 use Rattle.abi_layout.specs.PlacedBases.{class_of_placed, subobject_of, free_bases, placed_component}
 use Rattle.abi_layout.specs.Layouts.{fronts, front_components, free_components, placed_place, object_parts, start_stage, IsLaidBy}
 use Rattle.abi_layout.specs.Refusals.{AreApart}
-use Rattle.abi_layout.proofs.rules.Stages.{none_brought}
+use Rattle.abi_layout.proofs.rules.Stages.{none_brought, HasFitWidth, HaveFitWidths}
 use Rattle.abi_layout.proofs.rules.PartLemmas.{stage_parts}
 use Rattle.abi_layout.proofs.sound.ObjectTree.{Node, Complete, Step, Reaches, AreArranged, class_of_node, contents_of, measures_of, node_parts}
 use Rattle.abi_layout.proofs.rules.OnceLemmas.{once_moved, once_copies, once_by_repeats, unmapped}
 use Rattle.abi_layout.proofs.sound.ObjectLists.{listed_within, one_path}
 use Rattle.abi_layout.proofs.sound.ObjectPrimaries.{HasRow, row_of}
+use Rattle.abi_layout.proofs.sound.ObjectItems.{widths_fit, bases_fit}
+use Rattle.abi_layout.proofs.sound.ObjectFine.{fields}
 use Rattle.abi_layout.proofs.sound.ObjectParts.{ArePossible, are_possible, object_here}
 use Rattle.abi_layout.proofs.sound.ObjectUnfolds.{IsKnownNode, object_lists}
 
+-- what a component brings is not there before
+brings_new : (stage : Stage) (c : Component) (p : ℕ) → HasFitWidth c → IsPlaced stage c p → (x : Part) → Has c.parts x → Has stage.parts (moved p x) → ⊥
+brings_new stage c p fit is x has there = by_width c.width refl is
+  where
+    by_width : (w : Option ℕ) → c.width ≡ w → IsPlacedBy w stage c p → ⊥
+    by_width None e here = none_brought stage.parts c.parts p here.free x has there
+    by_width (Some n) e here = let none : Has [] x = subst (λ (xs : List Part). Has xs x) (fit n e).parts has in absurd none
+
 -- components placed behind a stage bring nothing twice, where each by itself does not
-pub stage_once : (stage : Stage) (cs : List Component) (ps : List ℕ) → EachOnce stage.parts → ((c : Component) → Has cs c → EachOnce c.parts) → ArePlaced stage cs ps → EachOnce (after_all stage cs ps).parts
-stage_once stage [] ps once each placed = once
-stage_once stage (c ∷ cs) [] once each placed = once
-stage_once stage (c ∷ cs) (p ∷ ps) once each placed =
+pub stage_once : (stage : Stage) (cs : List Component) (ps : List ℕ) → EachOnce stage.parts → HaveFitWidths cs → ((c : Component) → Has cs c → EachOnce c.parts) → ArePlaced stage cs ps → EachOnce (after_all stage cs ps).parts
+stage_once stage [] ps once fit each placed = once
+stage_once stage (c ∷ cs) [] once fit each placed = once
+stage_once stage (c ∷ cs) (p ∷ ps) once fit each placed =
     stage_once (after stage c p) cs ps
     (once_append stage.parts (map (moved p) c.parts) once (once_moved p c.parts (each c (inl refl)))
-    (record { none = λ x h k. let r = unmapped (moved p) c.parts x k in none_brought stage.parts c.parts p placed.0.free r.item r.has (subst (λ z. Has stage.parts z) (sym r.is) h) }))
-    (λ x h. each x (inr h)) placed.1
+    (record { none = λ x h k. let r = unmapped (moved p) c.parts x k in brings_new stage c p (fit c (inl refl)) placed.0 r.item r.has (subst (λ z. Has stage.parts z) (sym r.is) h) }))
+    (λ x h. fit x (inr h)) (λ x h. each x (inr h)) placed.1
 
 -- a complete object takes a byte at least
 pub size_positive : (h : Classes) (rows : List ClassLayout) (nearly : List Bool) (ps : List Primary) → IsLaidBy h (length h) rows nearly ps → (c : ClassId) → c.0 < length h → 1 ≤ size_in (slice_get rows c.0)
@@ -88,9 +98,9 @@ object_once h rows nearly ps keeps possible c r front member free =
     let mid = after_all start fc fp in
     let inner = after_all mid mc r.row.member_places in
     let own : EachOnce (part_at c 0 ∷ []) = (λ h. absurd h, tt) in
-    let first = stage_once start fc fp own front laid.fronts_placed in
-    let second = stage_once mid mc r.row.member_places first member laid.members_placed in
-    let third = stage_once inner vc vp second free laid.frees_placed in
+    let first = stage_once start fc fp own (bases_fit h rows ps c (fronts ps c class)) front laid.fronts_placed in
+    let second = stage_once mid mc r.row.member_places first (widths_fit (member_component rows (object_parts h rows ps)) class.members (fields h rows ps c class keeps r.there)) member laid.members_placed in
+    let third = stage_once inner vc vp second (bases_fit h rows ps c (free_bases h ps c)) free laid.frees_placed in
     let f = parts_at fc fp in
     let m = parts_at mc r.row.member_places in
     let v = parts_at vc vp in

@@ -48,7 +48,7 @@ type_parts f g (Object e) agree = agree e refl
 -- members by two tellers that agree on the classes before their class
 pub same_members : (h : Classes) (rows : List ClassLayout) (f g : ClassId → List Part) (d : ClassId) → IsHierarchy h → ((e : ClassId) → e.0 < d.0 → f e ≡ g e) → map (member_component rows f) (members_of h d) ≡ map (member_component rows g) (members_of h d)
 same_members h rows f g d keeps agree = same_map (member_component rows f) (member_component rows g) (members_of h d)
-    (λ member has. ap (member_made (elements_of member.count) (size_of_type rows member.ty) (align_of_type rows member.ty)) (type_parts f g member.ty (λ e is. agree e (keeps.objects d e member has is))))
+    (λ member has. ap (member_made member.width (elements_of member.count) (size_of_type rows member.ty) (align_of_type rows member.ty)) (type_parts f g member.ty (λ e is. agree e (keeps.objects d e member has is))))
 
 -- what is brought, by two tellers that agree on the classes before
 pub same_brought : (h : Classes) (rows : List ClassLayout) (ps : List Primary) (f g : ClassId → List Part) (c : ClassId) → IsHierarchy h → ArePossible h ps → (n : ℕ) (s : Subobject) (d : ClassId) → ((e : ClassId) → e.0 < d.0 → f e ≡ g e) → brought h rows ps f c n s d ≡ brought h rows ps g c n s d

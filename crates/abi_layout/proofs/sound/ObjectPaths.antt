@@ -39,7 +39,7 @@ use Rattle.abi_layout.proofs.rules.KindLemmas.{has_of, contains_of, in_filter}
 use Rattle.abi_layout.proofs.rules.HoldingLemmas.{is_class, test_is}
 use Rattle.abi_layout.proofs.rules.NestedLemmas.{front_has}
 use Rattle.cxx_subobject.proofs.PathLemmas.{virtual_below}
-use Rattle.abi_layout.proofs.sound.ObjectTree.{Node, Complete, Within, Bytes, Pointer, Placement, Step, Contents, start_of, Reaches, here, down, one_at, placed_base, inner_base, members_at, virtual_start, contents_of_object, contents_of}
+use Rattle.abi_layout.proofs.sound.ObjectTree.{Node, Complete, Within, Leaf, Pointer, Placement, Step, Contents, start_of, Reaches, here, down, one_at, placed_base, inner_base, members_at, virtual_start, contents_of_object, contents_of}
 use Rattle.abi_layout.proofs.rules.AgreeingParts.{primary_is_virtual}
 use Rattle.abi_layout.proofs.sound.ObjectPrimaries.{HasRow}
 use Rattle.cxx_subobject.proofs.VirtualBaseLemmas.{has_virtual}
@@ -49,14 +49,14 @@ use Rattle.abi_layout.proofs.sound.ObjectKnown.{IsLaidOut, row_of, before_of}
 abbrev pub last_hops : Node → List Hop
 last_hops (Complete c) = Inherit (whole_of c) ∷ []
 last_hops (Within c s d) = Inherit s ∷ []
-last_hops (Bytes w) = []
+last_hops (Leaf d m w t) = []
 last_hops Pointer = []
 
 -- the hops of a step from n to a node, in front of those further on
 abbrev pub through : Node → ℕ → ℕ → Node → List Hop → List Hop
 through n m copy (Complete e) hops = last_hops n ++ Element m copy ∷ hops
 through n m copy (Within c s d) hops = hops
-through n m copy (Bytes w) hops = last_hops n ++ Element m copy ∷ hops
+through n m copy (Leaf d k w t) hops = last_hops n ++ Element m copy ∷ hops
 through n m copy Pointer hops = hops
 
 abbrev pub further : Node → Step → Option Placement → (Node → List Hop) → List Hop

@@ -13,11 +13,11 @@ use Rattle.abi_primary.specs.declared.Primary.{Primary}
 use Rattle.abi_primary.specs.declared.Primary.TheVariants.{Direct, Virtual}
 use Rattle.abi_primary.specs.PrimaryBase.{is_virtual_primary, has_primary_in, has_primary}
 use Rattle.abi_sound.specs.declared.class_layout.ClassLayout.{ClassLayout}
-use Rattle.abi_sound.proofs.PrimaryParts.{IsPrimaryPart, by_direct, by_holder, primary_cases}
+use Rattle.abi_sound.proofs.PrimaryParts.{IsPrimaryPart, by_direct, by_holder}
 use Rattle.abi_sound.proofs.PlaceLemmas.{direct_place}
-use Rattle.abi_layout.specs.Layouts.{place_of, virtual_place, primary_of, IsLaidBy}
+use Rattle.abi_layout.specs.Layouts.{place_of, virtual_place, primary_of}
 use Rattle.abi_sound.specs.Places.{places_of}
-use Rattle.abi_sound.specs.Sound.{is_primary_of, ArePrimariesSound}
+use Rattle.abi_sound.specs.Sound.{is_primary_of}
 use Rattle.abi_layout.proofs.algorithm.SettledLemmas.{base_below}
 use Rattle.abi_layout.proofs.rules.AgreeingRows.{find_same, class_low}
 use Rattle.cxx_subobject.proofs.VirtualBaseLemmas.{virtual_listed}
@@ -62,14 +62,3 @@ holder_first h rows nearly ps known c v lt has =
     holder_told h rows nearly ps known c v lt has
     ∙ find_same (has_primary ps v) (λ (s : Subobject). is_primary_of (places_of h rows) v (class_of s)) (preorder h c)
     (λ s listed. holder_test h rows nearly ps known c v s lt (has_preorder h c s listed))
-
--- the primary bases of a laid hierarchy are sound
-pub primaries_sound : (h : Classes) (rows : List ClassLayout) (nearly : List Bool) (ps : List Primary) → IsHierarchy h → IsLaidBy h (length h) rows nearly ps → ArePrimariesSound h (places_of h rows)
-primaries_sound h rows nearly ps keeps laid =
-    let known : IsLaidOut h rows nearly ps = record { keeps = keeps; laid = laid } in
-    record {
-      direct = λ c b lt is. direct_primary h rows nearly ps c b laid lt (sym (primary_told h rows nearly ps known c lt) ∙ is);
-      virtual = λ c v lt is. virtual_primary_of h rows nearly ps c v keeps laid lt (sym (primary_told h rows nearly ps known c lt) ∙ is);
-      one_place = λ c s t lt valid part. primary_place h rows nearly ps known c s t lt valid (primary_cases (places_of h rows) c s t part);
-      holder = λ c v lt has. holder_first h rows nearly ps known c v lt has;
-    }

@@ -19,7 +19,7 @@ use Rattle.abi_sound.specs.Places.{places_of}
 use Rattle.abi_sound.proofs.PrimaryParts.{primary_is}
 use Rattle.abi_layout.proofs.lists.Lists.{has_at}
 use Rattle.abi_layout.proofs.rules.KindLemmas.{has_of}
-use Rattle.abi_layout.proofs.sound.ObjectTree.{Node, Complete, Within, Placement, Step, Contents, StepsTo, Reaches, here, down, class_of_node, node_of_type, contents_of}
+use Rattle.abi_layout.proofs.sound.ObjectTree.{Node, Complete, Within, Placement, Step, Contents, StepsTo, Reaches, here, down, class_of_node, node_of_member, contents_of}
 use Rattle.abi_layout.proofs.sound.ObjectKnown.{IsLaidOut}
 use Rattle.abi_layout.proofs.sound.ObjectPaths.{last_hops, through, further, decode}
 use Rattle.abi_layout.proofs.sound.ObjectDecode.{IsPart, whole_part, inner_part, part_hops, part_class, part_node, element_within, IsObjectNode}
@@ -129,16 +129,16 @@ share_step : (h : Classes) (rows : List ClassLayout) (nearly : List Bool) (ps : 
 share_step h rows nearly ps known c d n m s x k p o q lt part to way chained next =
     by_kind (step_kind h rows nearly ps known c d n s k lt part (has_of (contents_of h rows ps n) k (has_at (contents_of h rows ps n) x.number k to.there)))
   where
-    by_type : (type : FieldType ClassId) → k.node ≡ node_of_type type → IsElement h d k.member x.copy type → ShareChain h (places_of h rows) c (decode (contents_of h rows ps) (x ∷ p) n) (decode (contents_of h rows ps) (x ∷ o) n)
-    by_type (Value type) node element = absurd (none_below h (contents_of h rows ps) k.node m p q chained.top chained.class chained.subobject_is (ap (contents_of h rows ps) node) (ap class_of_node node) way chained.part)
-    by_type (Object e) node element =
+    by_type : (width : Option ℕ) (type : FieldType ClassId) → k.node ≡ node_of_member d k.member width type → IsElement h d k.member x.copy type → ShareChain h (places_of h rows) c (decode (contents_of h rows ps) (x ∷ p) n) (decode (contents_of h rows ps) (x ∷ o) n)
+    by_type width (Value type) node element = absurd (none_below h (contents_of h rows ps) k.node m p q chained.top chained.class chained.subobject_is (ap (contents_of h rows ps) node) (ap class_of_node node) way chained.part)
+    by_type width (Object e) node element =
         let inside = element_within h d k.member x.copy (Object e) element in
         let falls = known.keeps.objects d e element.member (has_at (members_of h d) k.member element.member element.there) element.type_is in
         share_element h rows ps c d e n s x k p o part to.there node element (next e e (whole_of e) (omega arith) (subst (λ (z : Node). IsPart h e z (whole_of e) e) (sym node) whole_part))
 
     by_kind : IsStepKind h c d k → ShareChain h (places_of h rows) c (decode (contents_of h rows ps) (x ∷ p) n) (decode (contents_of h rows ps) (x ∷ o) n)
     by_kind (to_base t e node valid class) = share_base h rows ps c e n t x x k p o to.there to.there node (next c e t lt (subst (λ (z : Node). IsPart h c z t e) (sym node) (inner_part t e valid class)))
-    by_kind (to_member type node each) = by_type type node (each x.copy to.within)
+    by_kind (to_member width type node each) = by_type width type node (each x.copy to.within)
     by_kind (to_pointer node) = absurd (none_below h (contents_of h rows ps) k.node m p q chained.top chained.class chained.subobject_is (ap (contents_of h rows ps) node) (ap class_of_node node) way chained.part)
 
 -- two ways from one part that end, with the chains of where they lead, at one virtual pointer

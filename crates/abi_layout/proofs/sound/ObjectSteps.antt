@@ -29,7 +29,7 @@ use Rattle.abi_layout.specs.PlacedBases.{class_of_placed, subobject_of, first_ba
 use Rattle.abi_layout.specs.Layouts.{primary_of, fronts}
 use Rattle.abi_layout.proofs.rules.Stages.{Has, has_cases, split}
 use Rattle.abi_layout.proofs.rules.KindLemmas.{contains_of, from_filter, from_map}
-use Rattle.abi_layout.proofs.sound.ObjectTree.{Node, Within, Pointer, Placement, one_at, owns_pointer, own_pointer, placed_base, inner_base, node_of_type, placed_members, members_at, virtual_start, contents_of_object, contents_of}
+use Rattle.abi_layout.proofs.sound.ObjectTree.{Node, Within, Pointer, Placement, one_at, owns_pointer, own_pointer, placed_base, inner_base, node_of_member, placed_members, members_at, virtual_start, contents_of_object, contents_of}
 use Rattle.abi_layout.proofs.sound.ObjectPrimaries.{HasRow, primary_possible}
 use Rattle.cxx_subobject.proofs.VirtualBaseLemmas.{virtual_has}
 use Rattle.abi_layout.proofs.sound.ObjectKnown.{IsLaidOut, row_of, virtual_primary_is}
@@ -40,7 +40,7 @@ use Rattle.cxx_subobject.proofs.PathLemmas.{virtual_below}
 -- what a placement in a part of class d, of an object of class c, leads to
 pub data IsStepKind (h : Classes) (c d : ClassId) (k : Placement) : Type 0 where
   to_base : (s : Subobject) (e : ClassId) → k.node ≡ Within c s e → IsSubobject h c s → class_of s ≡ Some e → IsStepKind h c d k
-  to_member : (type : FieldType ClassId) → k.node ≡ node_of_type type → ((i : ℕ) → i < k.count → IsElement h d k.member i type) → IsStepKind h c d k
+  to_member : (width : Option ℕ) (type : FieldType ClassId) → k.node ≡ node_of_member d k.member width type → ((i : ℕ) → i < k.count → IsElement h d k.member i type) → IsStepKind h c d k
   to_pointer : k.node ≡ Pointer → IsStepKind h c d k
 
 leads_more : (h : Classes) (c : ClassId) (path : List ClassId) (b : ClassId) → Leads h c path → IsDirectBase h (last_of c path) false b → Leads h c (path ++ b ∷ [])
@@ -146,28 +146,29 @@ placed_kind h rows c d bases k each has =
     to_base (subobject_of c x.0) (class_of_placed x.0) (ap (λ (z : Placement). z.node) (sym x.2)) y.valid y.class
 
 -- a member, by its placement
-record IsMemberAt (rows : List ClassLayout) (members : List (Member ClassId)) (n : ℕ) (k : Placement) : Type 0 where
+record IsMemberAt (rows : List ClassLayout) (d : ClassId) (members : List (Member ClassId)) (n : ℕ) (k : Placement) : Type 0 where
   m : ℕ
   member : Member ClassId
   there : slice_get members m ≡ Some member
   place : ℕ
-  is : k ≡ member_placement rows member place (n + m)
+  is : k ≡ member_placement rows d member place (n + m)
 
-member_at : (rows : List ClassLayout) (n : ℕ) (members : List (Member ClassId)) (places : List ℕ) (k : Placement) → Has (placed_members rows n members places) k → IsMemberAt rows members n k
-member_at rows n [] places k has = absurd has
-member_at rows n (x ∷ members) [] k has = absurd has
-member_at rows n (x ∷ members) (p ∷ places) k has = ⊎_elim
-    (λ e. let z : n ≡ n + 0 = omega arith in record { m = 0; member = x; there = refl; place = p; is = sym e ∙ ap (member_placement rows x p) z })
-    (λ r. let y = member_at rows (suc n) members places k r in
+member_at : (rows : List ClassLayout) (d : ClassId) (n : ℕ) (members : List (Member ClassId)) (places : List ℕ) (k : Placement) → Has (placed_members rows d n members places) k → IsMemberAt rows d members n k
+member_at rows d n [] places k has = absurd has
+member_at rows d n (x ∷ members) [] k has = absurd has
+member_at rows d n (x ∷ members) (p ∷ places) k has = ⊎_elim
+    (λ e. let z : n ≡ n + 0 = omega arith in record { m = 0; member = x; there = refl; place = p; is = sym e ∙ ap (member_placement rows d x p) z })
+    (λ r. let y = member_at rows d (suc n) members places k r in
     let z : suc n + y.m ≡ n + suc y.m = omega arith in
-    record { m = suc y.m; member = y.member; there = y.there; place = y.place; is = y.is ∙ ap (member_placement rows y.member y.place) z }) has
+    record { m = suc y.m; member = y.member; there = y.there; place = y.place; is = y.is ∙ ap (member_placement rows d y.member y.place) z }) has
 
 member_kind : (h : Classes) (rows : List ClassLayout) (c d : ClassId) (k : Placement) → Has (members_at h rows d) k → IsStepKind h c d k
 member_kind h rows c d k has =
-    let x = member_at rows 0 (members_of h d) (members_in (slice_get rows d.0)) k has in
+    let x = member_at rows d 0 (members_of h d) (members_in (slice_get rows d.0)) k has in
     let number : 0 + x.m ≡ x.m = omega arith in
     let count : k.count ≡ elements_of x.member.count = ap (λ (z : Placement). z.count) x.is in
-    to_member x.member.ty (ap (λ (z : Placement). z.node) x.is) (λ i lt. record {
+    let node = ap (λ (z : Placement). z.node) x.is ∙ ap (λ n. node_of_member d n x.member.width x.member.ty) (sym (ap (λ (z : Placement). z.member) x.is)) in
+    to_member x.member.width x.member.ty node (λ i lt. record {
       member = x.member;
       there = ap (slice_get (members_of h d)) (ap (λ (z : Placement). z.member) x.is ∙ number) ∙ x.there;
       type_is = refl;

@@ -5,6 +5,7 @@ use Rattle.std.specs.List.{slice_get, list_any}
 use Rattle.cxx_hierarchy.specs.declared.records.ClassId.{ClassId}
 use Rattle.cxx_hierarchy.specs.declared.records.Base.{Base}
 use Rattle.cxx_hierarchy.specs.declared.records.Member.{Member}
+use Rattle.cxx_hierarchy.specs.declared.records.ValueType.{ValueType}
 use Rattle.cxx_hierarchy.specs.declared.records.FieldType.{FieldType}
 use Rattle.cxx_hierarchy.specs.declared.records.FieldType.TheVariants.{Value, Object}
 use Rattle.cxx_hierarchy.specs.Classes.{Class, Classes, class_at, bases_of, members_of}
@@ -17,7 +18,8 @@ use Rattle.abi_primary.specs.declared.Primary.TheVariants.{None as NoPrimary, Di
 use Rattle.abi_sound.specs.declared.class_layout.ClassLayout.{ClassLayout}
 use Rattle.abi_layout.specs.declared.placed_bases.PlacedBase.{PlacedBase}
 use Rattle.cxx_hierarchy.specs.Declarations.{is_plain_base}
-use Rattle.abi_sound.specs.Places.{size_of_value, size_in, align_in, nvalign_in, members_in, base_place}
+use Rattle.abi_sound.specs.Places.{size_of_value, size_in, align_in, nvalign_in, members_in, base_place, first_bit}
+use Rattle.abi_sound.specs.Locations.{bits_of_value}
 use Rattle.abi_layout.specs.Placements.{nvsize_in, elements_of, size_of_type, copies}
 use Rattle.abi_sound.specs.Sound.{Divides}
 use Rattle.abi_layout.specs.Kinds.{Kind, is_kind, has_virtual_function, is_empty}
@@ -27,11 +29,12 @@ use Rattle.abi_layout.specs.Brought.{brought_by}
 use Rattle.abi_layout.specs.Layouts.{primary_of, fronts, placed_place, object_parts}
 
 -- a complete object of a class; a subobject, of a class, of a complete object of a class, with the virtual bases that it
--- holds and without the others; a number or a pointer of so many bytes; a virtual pointer
+-- holds and without the others; a number or a pointer, by the class that has it as a member, its number there, how wide it is where
+-- it is a bit-field, and its type; a virtual pointer
 pub data Node : Type 0 where
   Complete : ClassId → Node
   Within : ClassId → Subobject → ClassId → Node
-  Bytes : ℕ → Node
+  Leaf : ClassId → ℕ → Option ℕ → ValueType ClassId → Node
   Pointer : Node
 
 -- so many copies of a node, the first at a place, each next one a stride further; of a member its number in its class
@@ -65,10 +68,12 @@ pub data Reaches (contents : Contents) : Node → List Step → ℕ → Node →
   here : (n : Node) → Reaches contents n [] 0 n
   down : (n m : Node) (s : Step) (p : List Step) (q : ℕ) (k : Placement) → StepsTo contents n s k → Reaches contents k.node p q m → Reaches contents n (s ∷ p) (start_of k s.copy + q) m
 
--- a number that falls with each step; how far a node reaches; where its data ends; its alignment
+-- a number that falls with each step; how many bytes a node reaches; with which bit its data begins and ends, counted from the first
+-- bit of its place; its alignment
 pub record Measures : Type 0 where
   pub rank : Node → ℕ
   pub span : Node → ℕ
+  pub data_start : Node → ℕ
   pub data_end : Node → ℕ
   pub align : Node → ℕ
 
@@ -76,15 +81,21 @@ pub record Measures : Type 0 where
 pub record IsInPlace (m : Measures) (n : Node) (k : Placement) : Type 0 where
   pub falls : m.rank k.node < m.rank n
   pub spans : (e : ℕ) → e < k.count → start_of k e + m.span k.node ≤ m.span n
-  pub ends : 0 < m.data_end k.node → k.place + k.count * k.stride ≤ m.data_end n
-  pub data_fits : m.data_end k.node ≤ k.stride
+  pub begins : m.data_start n ≡ 0
+  pub low : m.data_start k.node < 8
+  pub ends : 0 < m.data_end k.node → (e : ℕ) → e < k.count → 8 * start_of k e + m.data_end k.node ≤ m.data_end n
+  pub data_fits : m.data_end k.node ≤ 8 * k.stride
   pub copies : (e f : ℕ) → e < f → f < k.count → m.span k.node ≤ k.stride
   pub aligned : (e : ℕ) → e < k.count → Divides (m.align k.node) (start_of k e)
   pub coarser : Divides (m.align k.node) (m.align n)
 
--- of two placements of one node that have data, one ends before the other begins
+-- of two nodes at these places, the data of one ends before that of the other begins
+abbrev pub LieApart : Measures → ℕ → Node → ℕ → Node → Type 0
+LieApart m q k r j = (8 * q + m.data_end k ≤ 8 * r + m.data_start j) ⊎ (8 * r + m.data_end j ≤ 8 * q + m.data_start k)
+
+-- the copies of two placements of one node lie apart, where they have data
 abbrev pub AreClear : Measures → Placement → Placement → Type 0
-AreClear m k l = 0 < m.data_end k.node → 0 < m.data_end l.node → (k.place + k.count * k.stride ≤ l.place) ⊎ (l.place + l.count * l.stride ≤ k.place)
+AreClear m k l = 0 < m.data_end k.node → 0 < m.data_end l.node → (e f : ℕ) → e < k.count → f < l.count → LieApart m (start_of k e) k.node (start_of l f) l.node
 
 -- all placements of a node
 pub record IsArranged (contents : Contents) (m : Measures) (n : Node) : Type 0 where
@@ -101,14 +112,14 @@ pub record IsSoundTree (contents : Contents) (m : Measures) : Type 0 where
   pub inside : (n k : Node) (p : List Step) (q : ℕ) → Reaches contents n p q k → q + m.span k ≤ m.span n
   pub aligned : (n k : Node) (p : List Step) (q : ℕ) → Reaches contents n p q k → Divides (m.align k) q
   pub coarser : (n k : Node) (p : List Step) (q : ℕ) → Reaches contents n p q k → Divides (m.align k) (m.align n)
-  pub ends : (n k : Node) (p : List Step) (q : ℕ) → Reaches contents n p q k → 0 < m.data_end k → q + m.data_end k ≤ m.data_end n
-  pub apart : (n k j : Node) (p o : List Step) (q r : ℕ) → Reaches contents n p q k → Reaches contents n o r j → contents k ≡ [] → contents j ≡ [] → (p ≡ o → ⊥) → 0 < m.data_end k → 0 < m.data_end j → (q + m.data_end k ≤ r) ⊎ (r + m.data_end j ≤ q)
+  pub ends : (n k : Node) (p : List Step) (q : ℕ) → Reaches contents n p q k → 0 < m.data_end k → 8 * q + m.data_end k ≤ m.data_end n
+  pub apart : (n k j : Node) (p o : List Step) (q r : ℕ) → Reaches contents n p q k → Reaches contents n o r j → contents k ≡ [] → contents j ≡ [] → (p ≡ o → ⊥) → 0 < m.data_end k → 0 < m.data_end j → LieApart m q k r j
 
 -- the class of a node, if it is a class subobject
 abbrev pub class_of_node : Node → Option ClassId
 class_of_node (Complete c) = Some c
 class_of_node (Within c s d) = Some d
-class_of_node (Bytes w) = None
+class_of_node (Leaf d m w t) = None
 class_of_node Pointer = None
 
 -- what a placement lists, where `parts` tells what a node does
@@ -142,19 +153,20 @@ placed_base h rows c base = one_at (Within c (subobject_of c base) (class_of_pla
 abbrev pub inner_base : Classes → List ClassLayout → ClassId → Subobject → ClassId → Base ClassId → Placement
 inner_base h rows c s d base = one_at (Within c (subobject s.root (s.path ++ base.class ∷ [])) base.class) (base_place h rows d base.class) (nvsize_in (slice_get rows base.class.0))
 
-abbrev pub node_of_type : FieldType ClassId → Node
-node_of_type (Value type) = Bytes (size_of_value type)
-node_of_type (Object d) = Complete d
+-- an element of the member m of class d
+abbrev pub node_of_member : ClassId → ℕ → Option ℕ → FieldType ClassId → Node
+node_of_member d m width (Value type) = Leaf d m width type
+node_of_member d m width (Object e) = Complete e
 
--- the members from the n-th on, at these places
-abbrev pub placed_members : List ClassLayout → ℕ → List (Member ClassId) → List ℕ → List Placement
-placed_members rows n [] places = []
-placed_members rows n (member ∷ members) [] = []
-placed_members rows n (member ∷ members) (place ∷ places) =
-    record { node = node_of_type member.ty; place = place; count = elements_of member.count; stride = size_of_type rows member.ty; member = n } ∷ placed_members rows (suc n) members places
+-- the members of class d from the n-th on, at these places
+abbrev pub placed_members : List ClassLayout → ClassId → ℕ → List (Member ClassId) → List ℕ → List Placement
+placed_members rows d n [] places = []
+placed_members rows d n (member ∷ members) [] = []
+placed_members rows d n (member ∷ members) (place ∷ places) =
+    record { node = node_of_member d n member.width member.ty; place = place; count = elements_of member.count; stride = size_of_type rows member.ty; member = n } ∷ placed_members rows d (suc n) members places
 
 abbrev pub members_at : Classes → List ClassLayout → ClassId → List Placement
-members_at h rows d = placed_members rows 0 (members_of h d) (members_in (slice_get rows d.0))
+members_at h rows d = placed_members rows d 0 (members_of h d) (members_in (slice_get rows d.0))
 
 -- at the start of s: the virtual primary base of its class, where s holds it, and else a virtual pointer in its place
 abbrev pub virtual_start : Classes → List ClassLayout → List Primary → ClassId → Subobject → Option ClassId → List Placement
@@ -176,39 +188,54 @@ contents_of h rows primaries (Within c s d) =
     ++ (map (inner_base h rows c s d) (filter is_plain_base (bases_of h d))
     ++ (virtual_start h rows primaries c s (virtual_primary primaries d)
     ++ own_pointer h primaries d))
-contents_of h rows primaries (Bytes w) = []
+contents_of h rows primaries (Leaf d m w t) = []
 contents_of h rows primaries Pointer = []
 
 abbrev pub rank_of : Node → ℕ
 rank_of (Complete c) = 2 * c.0 + 2
 rank_of (Within c s d) = 2 * d.0 + 1
-rank_of (Bytes w) = 0
+rank_of (Leaf d m w t) = 0
 rank_of Pointer = 0
+
+-- of a bit-field the byte in which it begins counts alone
+abbrev pub span_of_value : Option ℕ → ValueType ClassId → ℕ
+span_of_value None type = max 1 (size_of_value type)
+span_of_value (Some n) type = 1
+
+abbrev pub align_of_value : Option ℕ → ValueType ClassId → ℕ
+align_of_value None type = size_of_value type
+align_of_value (Some n) type = 1
 
 abbrev pub span_of : List ClassLayout → Node → ℕ
 span_of rows (Complete c) = max 1 (size_in (slice_get rows c.0))
 span_of rows (Within c s d) = max 1 (nvsize_in (slice_get rows d.0))
-span_of rows (Bytes w) = max 1 w
+span_of rows (Leaf d m w t) = span_of_value w t
 span_of rows Pointer = 8
 
+abbrev pub data_start_of : List ClassLayout → Node → ℕ
+data_start_of rows (Complete c) = 0
+data_start_of rows (Within c s d) = 0
+data_start_of rows (Leaf d m w t) = first_bit rows d m
+data_start_of rows Pointer = 0
+
 abbrev pub data_end_of : Classes → List ClassLayout → Node → ℕ
-data_end_of h rows (Complete c) = if is_empty h c then 0 else size_in (slice_get rows c.0)
-data_end_of h rows (Within c s d) = if is_empty h d then 0 else nvsize_in (slice_get rows d.0)
-data_end_of h rows (Bytes w) = w
-data_end_of h rows Pointer = 8
+data_end_of h rows (Complete c) = 8 * (if is_empty h c then 0 else size_in (slice_get rows c.0))
+data_end_of h rows (Within c s d) = 8 * (if is_empty h d then 0 else nvsize_in (slice_get rows d.0))
+data_end_of h rows (Leaf d m w t) = first_bit rows d m + bits_of_value w t
+data_end_of h rows Pointer = 64
 
 abbrev pub align_of : List ClassLayout → Node → ℕ
 align_of rows (Complete c) = align_in (slice_get rows c.0)
 align_of rows (Within c s d) = nvalign_in (slice_get rows d.0)
-align_of rows (Bytes w) = w
+align_of rows (Leaf d m w t) = align_of_value w t
 align_of rows Pointer = 8
 
 abbrev pub measures_of : Classes → List ClassLayout → Measures
-measures_of h rows = record { rank = rank_of; span = span_of rows; data_end = data_end_of h rows; align = align_of rows }
+measures_of h rows = record { rank = rank_of; span = span_of rows; data_start = data_start_of rows; data_end = data_end_of h rows; align = align_of rows }
 
 -- what a node lists: a class subobject lists itself and those in it, with their places
 abbrev pub node_parts : Classes → List ClassLayout → List Primary → Node → List Part
 node_parts h rows primaries (Complete c) = object_parts h rows primaries c
 node_parts h rows primaries (Within c s d) = brought_by h rows primaries (object_parts h rows primaries) c s d
-node_parts h rows primaries (Bytes w) = []
+node_parts h rows primaries (Leaf d m w t) = []
 node_parts h rows primaries Pointer = []

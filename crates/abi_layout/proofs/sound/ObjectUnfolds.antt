@@ -33,7 +33,7 @@ use Rattle.abi_layout.proofs.rules.Parts.{split}
 use Rattle.abi_layout.proofs.rules.PlacedLemmas.{moved_none}
 use Rattle.abi_layout.proofs.rules.BroughtLemmas.{brought_is}
 use Rattle.abi_layout.proofs.lists.Lists.{get_within}
-use Rattle.abi_layout.proofs.sound.ObjectTree.{Node, Complete, Within, Bytes, Pointer, Placement, class_of_node, placed_parts, owns_pointer, one_at, own_pointer, placed_base, inner_base, node_of_type, placed_members, members_at, virtual_start, contents_of_object, contents_of, node_parts}
+use Rattle.abi_layout.proofs.sound.ObjectTree.{Node, Complete, Within, Leaf, Pointer, Placement, class_of_node, placed_parts, owns_pointer, one_at, own_pointer, placed_base, inner_base, node_of_member, placed_members, members_at, virtual_start, contents_of_object, contents_of, node_parts}
 use Rattle.abi_layout.proofs.rules.OnceLemmas.{unmapped}
 use Rattle.abi_layout.proofs.sound.ObjectLists.{own_part, ListsParts}
 use Rattle.abi_layout.proofs.sound.ObjectParts.{ArePossible, front_below, free_below, object_here}
@@ -60,17 +60,17 @@ bases_listed h rows ps c (base ∷ bases) =
     (placed_once (node_parts h rows ps) (Within c (subobject_of c base) (class_of_placed base)) (placed_place h rows c base) (nvsize_in (slice_get rows (class_of_placed base).0)))
     ∙ ap (λ t. map (moved (placed_place h rows c base)) (brought_by h rows ps (object_parts h rows ps) c (subobject_of c base) (class_of_placed base)) ++ t) (bases_listed h rows ps c bases)
 
-type_listed : (h : Classes) (rows : List ClassLayout) (ps : List Primary) (type : FieldType ClassId) → node_parts h rows ps (node_of_type type) ≡ parts_of_type (object_parts h rows ps) type
-type_listed h rows ps (Value type) = refl
-type_listed h rows ps (Object d) = refl
+type_listed : (h : Classes) (rows : List ClassLayout) (ps : List Primary) (d : ClassId) (n : ℕ) (width : Option ℕ) (type : FieldType ClassId) → node_parts h rows ps (node_of_member d n width type) ≡ parts_of_type (object_parts h rows ps) type
+type_listed h rows ps d n width (Value type) = refl
+type_listed h rows ps d n width (Object e) = refl
 
 -- members list what their components bring
-members_listed : (h : Classes) (rows : List ClassLayout) (ps : List Primary) (n : ℕ) (members : List (Member ClassId)) (places : List ℕ) → flat_map (placed_parts (node_parts h rows ps)) (placed_members rows n members places) ≡ parts_at (map (member_component rows (object_parts h rows ps)) members) places
-members_listed h rows ps n [] places = refl
-members_listed h rows ps n (member ∷ members) [] = refl
-members_listed h rows ps n (member ∷ members) (place ∷ places) =
-    ap (λ t. map (moved place) (copies (elements_of member.count) (size_of_type rows member.ty) t) ++ flat_map (placed_parts (node_parts h rows ps)) (placed_members rows (suc n) members places)) (type_listed h rows ps member.ty)
-    ∙ ap (λ t. map (moved place) (copies (elements_of member.count) (size_of_type rows member.ty) (parts_of_type (object_parts h rows ps) member.ty)) ++ t) (members_listed h rows ps (suc n) members places)
+members_listed : (h : Classes) (rows : List ClassLayout) (ps : List Primary) (d : ClassId) (n : ℕ) (members : List (Member ClassId)) (places : List ℕ) → flat_map (placed_parts (node_parts h rows ps)) (placed_members rows d n members places) ≡ parts_at (map (member_component rows (object_parts h rows ps)) members) places
+members_listed h rows ps d n [] places = refl
+members_listed h rows ps d n (member ∷ members) [] = refl
+members_listed h rows ps d n (member ∷ members) (place ∷ places) =
+    ap (λ t. map (moved place) (copies (elements_of member.count) (size_of_type rows member.ty) t) ++ flat_map (placed_parts (node_parts h rows ps)) (placed_members rows d (suc n) members places)) (type_listed h rows ps d n member.width member.ty)
+    ∙ ap (λ t. map (moved place) (copies (elements_of member.count) (size_of_type rows member.ty) (parts_of_type (object_parts h rows ps) member.ty)) ++ t) (members_listed h rows ps d (suc n) members places)
 
 pointer_listed : (h : Classes) (rows : List ClassLayout) (ps : List Primary) (b : Bool) → flat_map (placed_parts (node_parts h rows ps)) (if b then one_at Pointer 0 8 ∷ [] else []) ≡ []
 pointer_listed h rows ps true = refl
@@ -109,7 +109,7 @@ object_unfolds : (h : Classes) (rows : List ClassLayout) (ps : List Primary) →
 object_unfolds h rows ps keeps possible c class e =
     let f = placed_parts (node_parts h rows ps) in
     let members : flat_map f (members_at h rows c) ≡ parts_at (map (member_component rows (object_parts h rows ps)) class.members) (members_in (slice_get rows c.0)) =
-    members_listed h rows ps 0 (members_of h c) (members_in (slice_get rows c.0)) ∙ ap (λ (o : Option Class). parts_at (map (member_component rows (object_parts h rows ps)) (members_of_class o)) (members_in (slice_get rows c.0))) e in
+    members_listed h rows ps c 0 (members_of h c) (members_in (slice_get rows c.0)) ∙ ap (λ (o : Option Class). parts_at (map (member_component rows (object_parts h rows ps)) (members_of_class o)) (members_in (slice_get rows c.0))) e in
     let pieces = four_pieces f (map (placed_base h rows c) (fronts ps c class)) (members_at h rows c) (map (placed_base h rows c) (free_bases h ps c)) (own_pointer h ps c)
     (parts_at (front_components h rows ps (object_parts h rows ps) c class) (map (placed_place h rows c) (fronts ps c class)))
     (parts_at (map (member_component rows (object_parts h rows ps)) class.members) (members_in (slice_get rows c.0)))
@@ -123,30 +123,30 @@ within_unfolds h rows ps keeps possible c s d =
     let f = placed_parts (node_parts h rows ps) in
     let pieces = four_pieces f (members_at h rows d) (map (inner_base h rows c s d) (filter is_plain_base (bases_of h d))) (virtual_start h rows ps c s (virtual_primary ps d)) (own_pointer h ps d)
     (member_parts h rows (object_parts h rows ps) d) (flat_map (base_brings h rows (brought_by h rows ps (object_parts h rows ps) c) s d) (bases_of h d)) (virtual_brings (brought_by h rows ps (object_parts h rows ps) c) (held_base h ps c s d))
-    (members_listed h rows ps 0 (members_of h d) (members_in (slice_get rows d.0))) (inner_listed h rows ps c s d (bases_of h d)) (virtual_listed h rows ps c s (virtual_primary ps d)) (pointer_listed h rows ps (owns_pointer h ps d)) in
+    (members_listed h rows ps d 0 (members_of h d) (members_in (slice_get rows d.0))) (inner_listed h rows ps c s d (bases_of h d)) (virtual_listed h rows ps c s (virtual_primary ps d)) (pointer_listed h rows ps (owns_pointer h ps d)) in
     brought_is h rows ps (object_parts h rows ps) c keeps possible.before s d ∙ ap (λ t. part_at d 0 ∷ t) (sym pieces)
 
 -- nodes of the classes of the hierarchy
 abbrev pub IsKnownNode : Classes → Node → Type 0
 IsKnownNode h (Complete c) = c.0 < length h
 IsKnownNode h (Within c s d) = d.0 < length h
-IsKnownNode h (Bytes w) = Unit {0}
+IsKnownNode h (Leaf d m w t) = Unit {0}
 IsKnownNode h Pointer = Unit {0}
 
-type_known : (h : Classes) (type : FieldType ClassId) → ((e : ClassId) → type ≡ Object e → e.0 < length h) → IsKnownNode h (node_of_type type)
-type_known h (Value type) low = tt
-type_known h (Object e) low = low e refl
+type_known : (h : Classes) (d : ClassId) (n : ℕ) (width : Option ℕ) (type : FieldType ClassId) → ((e : ClassId) → type ≡ Object e → e.0 < length h) → IsKnownNode h (node_of_member d n width type)
+type_known h d n width (Value type) low = tt
+type_known h d n width (Object e) low = low e refl
 
-placed_known : (h : Classes) (rows : List ClassLayout) (n : ℕ) (members : List (Member ClassId)) (places : List ℕ) (k : Placement) → ((member : Member ClassId) (e : ClassId) → Has members member → member.ty ≡ Object e → e.0 < length h) → Has (placed_members rows n members places) k → IsKnownNode h k.node
-placed_known h rows n [] places k low has = absurd has
-placed_known h rows n (member ∷ members) [] k low has = absurd has
-placed_known h rows n (member ∷ members) (place ∷ places) k low has = ⊎_elim
-    (λ e. subst (λ (x : Placement). IsKnownNode h x.node) e (type_known h member.ty (λ x is. low member x (inl refl) is)))
-    (λ r. placed_known h rows (suc n) members places k (λ m x there is. low m x (inr there) is) r)
+placed_known : (h : Classes) (rows : List ClassLayout) (d : ClassId) (n : ℕ) (members : List (Member ClassId)) (places : List ℕ) (k : Placement) → ((member : Member ClassId) (e : ClassId) → Has members member → member.ty ≡ Object e → e.0 < length h) → Has (placed_members rows d n members places) k → IsKnownNode h k.node
+placed_known h rows d n [] places k low has = absurd has
+placed_known h rows d n (member ∷ members) [] k low has = absurd has
+placed_known h rows d n (member ∷ members) (place ∷ places) k low has = ⊎_elim
+    (λ e. subst (λ (x : Placement). IsKnownNode h x.node) e (type_known h d n member.width member.ty (λ x is. low member x (inl refl) is)))
+    (λ r. placed_known h rows d (suc n) members places k (λ m x there is. low m x (inr there) is) r)
     has
 
 members_known : (h : Classes) (rows : List ClassLayout) → IsHierarchy h → (d : ClassId) → d.0 < length h → (k : Placement) → Has (members_at h rows d) k → IsKnownNode h k.node
-members_known h rows keeps d lt k has = placed_known h rows 0 (members_of h d) (members_in (slice_get rows d.0)) k (λ member e there is. let f = keeps.objects d e member (contains_from_has (members_of h d) member there) is in omega arith) has
+members_known h rows keeps d lt k has = placed_known h rows d 0 (members_of h d) (members_in (slice_get rows d.0)) k (λ member e there is. let f = keeps.objects d e member (contains_from_has (members_of h d) member there) is in omega arith) has
 
 pointer_known : (h : Classes) (b : Bool) (k : Placement) → Has (if b then one_at Pointer 0 8 ∷ [] else []) k → IsKnownNode h k.node
 pointer_known h true k has = ⊎_elim (λ e. subst (λ (x : Placement). IsKnownNode h x.node) e tt) (λ r. absurd r) has
@@ -205,11 +205,11 @@ object_lists h rows ps keeps possible = record { below = λ n i k is there. belo
     below : (n : Node) (k : Placement) → IsKnownNode h n → Has (contents_of h rows ps n) k → IsKnownNode h k.node
     below (Complete c) k is has = object_known h rows ps keeps possible c is (class_at h c) refl k has
     below (Within c s d) k is has = within_known h rows ps keeps possible c s d is k has
-    below (Bytes w) k is has = absurd has
+    below (Leaf d m w t) k is has = absurd has
     below Pointer k is has = absurd has
 
     unfolds : (n : Node) → IsKnownNode h n → node_parts h rows ps n ≡ own_part (class_of_node n) ++ flat_map (placed_parts (node_parts h rows ps)) (contents_of h rows ps n)
     unfolds (Complete c) is = let class = get_within h c.0 is in object_unfolds h rows ps keeps possible c class.0 class.1
     unfolds (Within c s d) is = within_unfolds h rows ps keeps possible c s d
-    unfolds (Bytes w) is = refl
+    unfolds (Leaf d m w t) is = refl
     unfolds Pointer is = refl

@@ -18,6 +18,7 @@ use Rattle.abi_primary.specs.declared.Primary.{Primary}
 use Rattle.abi_primary.specs.declared.Primary.TheVariants.{Virtual}
 use Rattle.abi_layout.specs.declared.component.Component.{Component}
 use Rattle.abi_layout.specs.declared.component.Stage.{Stage}
+use Rattle.abi_sound.specs.declared.class_layout.Bits.{Bits}
 use Rattle.abi_sound.specs.declared.class_layout.ClassLayout.{ClassLayout}
 use Rattle.abi_layout.specs.declared.placed_bases.PlacedBase.{PlacedBase}
 use Rattle.abi_layout.specs.declared.placed_bases.PlacedBase.TheVariants.{Own, VirtualBase}
@@ -30,7 +31,7 @@ use Rattle.abi_layout.specs.PlacedBases.{subobject_of}
 use Rattle.abi_layout.specs.Brought.{brought_by}
 use Rattle.abi_layout.specs.Layouts.{primary_of, fronts, placed_place, object_parts, start_stage, IsLaidBy}
 use Rattle.abi_layout.specs.invariants.Alignments.{eight_bytes}
-use Rattle.abi_layout.proofs.rules.Stages.{Has, split, has_left, has_right, has_map, has_cases, IsPut}
+use Rattle.abi_layout.proofs.rules.Stages.{Has, split, has_left, has_right, has_map, has_cases, HasFitWidth, IsPut}
 use Rattle.abi_layout.proofs.rules.KindLemmas.{from_filter}
 use Rattle.abi_layout.proofs.algorithm.SettledLemmas.{base_below}
 use Rattle.cxx_subobject.proofs.PathLemmas.{virtual_below}
@@ -40,9 +41,9 @@ use Rattle.abi_layout.proofs.sound.ObjectTree.{Within, Pointer, Placement, Measu
 use Rattle.abi_layout.proofs.sound.ObjectKinds.{dynamic_has_data}
 use Rattle.abi_layout.proofs.rules.AgreeingParts.{primary_is_virtual}
 use Rattle.abi_layout.proofs.sound.ObjectPrimaries.{HasRow, row_of, virtual_primary_of, virtual_at_start}
-use Rattle.abi_layout.proofs.sound.ObjectItems.{put_at, AreApart, apart_back, pairs_placed, Item, a_base, a_member, place_item, component_item, member_items, base_items, front_items, ArePut, mid_stage, front_put, placement_of, members_are, member_item, members_differ}
-use Rattle.abi_layout.proofs.sound.ObjectFine.{plain_edge, IsItem, is_own, is_virtual_base, is_member, plain_front, virtual_front, IsFine, fine, type_fine, object_below, item_align, row_fine}
-use Rattle.abi_layout.proofs.sound.ObjectRows.{item_has_data, own_has, own_two, Owns, owns, type_falls}
+use Rattle.abi_layout.proofs.sound.ObjectItems.{AreApart, apart_back, pairs_placed, Item, a_base, a_member, place_item, component_item, bits_or, bits_item, AreFields, start_known, front_fit, member_items, base_items, front_items, ArePut, mid_stage, front_put, placement_of, members_are, member_item, members_differ}
+use Rattle.abi_layout.proofs.sound.ObjectFine.{plain_edge, IsItem, is_own, is_virtual_base, is_member, plain_front, virtual_front, IsFine, fine, type_fine, object_below, fields, item_align, row_fine, put_in}
+use Rattle.abi_layout.proofs.sound.ObjectRows.{item_has_data, own_has, own_two, Owns, owns, type_falls, narrow, first_of}
 use Rattle.abi_layout.proofs.sound.ObjectPlaced.{Stands, in_place, clear_of, base_stands, pointer_stands, member_stands, own_in_place, own_clear, arranged_by, laid_out}
 
 -- the placements of a subobject, by the items of its class
@@ -51,7 +52,7 @@ base_at h rows primaries c s d (Own b) = one_at (Within c (subobject s.root (s.p
 base_at h rows primaries c s d (VirtualBase v) = one_at (if holds_base h primaries c s v then Within c (shared_base v) v else Pointer) 0 (nvsize_in (slice_get rows v.0))
 
 abbrev within_place : Classes → List ClassLayout → List Primary → ClassId → Subobject → ClassId → Item → Placement
-within_place h rows primaries c s d = placement_of rows (base_at h rows primaries c s d)
+within_place h rows primaries c s d = placement_of rows d (base_at h rows primaries c s d)
 
 abbrev own_item : Base ClassId → Item
 own_item base = a_base (Own base.class)
@@ -74,12 +75,12 @@ virtual_are h rows primaries c s d (Some v) = refl
 
 within_is : (h : Classes) (rows : List ClassLayout) (nearly : List Bool) (primaries : List Primary) (c : ClassId) (s : Subobject) (d : ClassId) (k : HasRow h rows nearly primaries d) → contents_of h rows primaries (Within c s d) ≡ map (within_place h rows primaries c s d) (inner_items primaries d k.class k.row) ++ own_pointer h primaries d
 within_is h rows nearly primaries c s d k =
-    let members : members_at h rows d ≡ placed_members rows 0 k.class.members k.row.member_places =
-    ap (λ (o : Option Class). placed_members rows 0 (class_members_in o) (members_in (slice_get rows d.0))) k.there ∙ ap (λ (o : Option ClassLayout). placed_members rows 0 k.class.members (members_in o)) k.row_there in
+    let members : members_at h rows d ≡ placed_members rows d 0 k.class.members k.row.member_places =
+    ap (λ (o : Option Class). placed_members rows d 0 (class_members_in o) (members_in (slice_get rows d.0))) k.there ∙ ap (λ (o : Option ClassLayout). placed_members rows d 0 k.class.members (members_in o)) k.row_there in
     let bases : map (inner_base h rows c s d) (filter is_plain_base (bases_of h d)) ≡ map (inner_base h rows c s d) (filter is_plain_base k.class.bases) = ap (λ (o : Option Class). map (inner_base h rows c s d) (filter is_plain_base (bases_in o))) k.there in
     laid_out (within_place h rows primaries c s d) (member_items 0 k.class.members k.row.member_places) (map own_item (filter is_plain_base k.class.bases)) (virtual_items (virtual_primary primaries d))
     (members_at h rows d) (map (inner_base h rows c s d) (filter is_plain_base (bases_of h d))) (virtual_start h rows primaries c s (virtual_primary primaries d)) (own_pointer h primaries d)
-    (members_are rows (base_at h rows primaries c s d) 0 k.class.members k.row.member_places ∙ sym members) (own_are h rows primaries c s d (filter is_plain_base k.class.bases) ∙ sym bases) (virtual_are h rows primaries c s d (virtual_primary primaries d))
+    (members_are rows d (base_at h rows primaries c s d) 0 k.class.members k.row.member_places ∙ sym members) (own_are h rows primaries c s d (filter is_plain_base k.class.bases) ∙ sym bases) (virtual_are h rows primaries c s d (virtual_primary primaries d))
 
 virtual_item : (o : Option ClassId) (x : Item) → Has (virtual_items o) x → (v : ClassId) × (o ≡ Some v) × (a_base (VirtualBase v) ≡ x)
 virtual_item None x has = absurd has
@@ -166,39 +167,40 @@ inner_item h rows nearly primaries d class _ keeps laid lt (inner_member n membe
 inner_item h rows nearly primaries d class _ keeps laid lt (inner_own b edge) = is_own b edge
 inner_item h rows nearly primaries d class _ keeps laid lt (inner_virtual v e) = is_virtual_base v (virtual_primary_of h rows nearly primaries d v keeps laid lt e).0
 
-within_stands : (h : Classes) (rows : List ClassLayout) (nearly : List Bool) (primaries : List Primary) (c : ClassId) (s : Subobject) (d : ClassId) (class : Class) (x : Item) → IsHierarchy h → IsLaidBy h (length h) rows nearly primaries → d.0 < length h → class_at h d ≡ Some class → ((b : ClassId) → b.0 < d.0 → IsFine h rows b) → IsInner h primaries d class x
-    → Stands (measures_of h rows) (component_item h rows primaries d x) (place_item h rows d x) (within_place h rows primaries c s d x) × (rank_of (within_place h rows primaries c s d x).node < 2 * d.0 + 1)
-within_stands h rows nearly primaries c s d class _ keeps laid lt at low (inner_member n member place has) =
+within_stands : (h : Classes) (rows : List ClassLayout) (nearly : List Bool) (primaries : List Primary) (c : ClassId) (s : Subobject) (d : ClassId) (class : Class) (row : ClassLayout) (first last : Stage) (x : Item) → IsHierarchy h → IsLaidBy h (length h) rows nearly primaries → d.0 < length h → class_at h d ≡ Some class → slice_get rows d.0 ≡ Some row → ((b : ClassId) → b.0 < d.0 → IsFine h rows b) → IsInner h primaries d class x
+    → IsPut first last (component_item h rows primaries d x) (place_item h rows d x) (bits_item h rows primaries row.member_bits d x)
+    → Stands (measures_of h rows) (component_item h rows primaries d x) (place_item h rows d x) (bits_item h rows primaries row.member_bits d x) (within_place h rows primaries c s d x) × (rank_of (within_place h rows primaries c s d x).node < 2 * d.0 + 1)
+within_stands h rows nearly primaries c s d class row first last _ keeps laid lt at there low (inner_member n member place has) put =
     let below = λ (e : ClassId) (is : member.ty ≡ Object e). object_below h d class member e keeps at has is in
-    let f = type_falls d member.ty below in
-    (member_stands h rows (object_parts h rows primaries) n member place (type_fine h rows d low member.ty below), f)
-within_stands h rows nearly primaries c s d class _ keeps laid lt at low (inner_own b edge) =
+    let f = type_falls d n member.width member.ty below in
+    (member_stands h rows first last (object_parts h rows primaries) d n member place (bits_or (slice_get row.member_bits n)) (type_fine h rows d low member.ty below) (narrow h d class member keeps at has) put (first_of rows d row n there), f)
+within_stands h rows nearly primaries c s d class row first last _ keeps laid lt at there low (inner_own b edge) put =
     let l = base_below h d b keeps edge in
     let place : base_place h rows d b ≡ placed_place h rows d (Own b) = omega arith in (
-      subst (λ p. Stands (measures_of h rows) (component_item h rows primaries d (a_base (Own b))) p (within_place h rows primaries c s d (a_base (Own b)))) place
+      subst (λ p. Stands (measures_of h rows) (component_item h rows primaries d (a_base (Own b))) p (bits_item h rows primaries row.member_bits d (a_base (Own b))) (within_place h rows primaries c s d (a_base (Own b)))) place
           (base_stands h rows c (subobject s.root (s.path ++ b ∷ [])) b (brought_by h rows primaries (object_parts h rows primaries) d (subobject_of d (Own b)) b) (base_place h rows d b) (low b l)),
       omega arith,
     )
-within_stands h rows nearly primaries c s d class _ keeps laid lt at low (inner_virtual v e) =
+within_stands h rows nearly primaries c s d class row first last _ keeps laid lt at there low (inner_virtual v e) put =
     let x = virtual_primary_of h rows nearly primaries d v keeps laid lt e in
     let l = virtual_below h keeps d v x.0 in
     let place : 0 ≡ placed_place h rows d (VirtualBase v) = sym (virtual_at_start h rows nearly primaries d v keeps laid lt e) in
     let parts = brought_by h rows primaries (object_parts h rows primaries) d (shared_base v) v in
-    split (holds_base h primaries c s v) (λ t. Stands (measures_of h rows) (component_item h rows primaries d (a_base (VirtualBase v))) (placed_place h rows d (VirtualBase v)) (one_at (if t then Within c (shared_base v) v else Pointer) 0 (nvsize_in (slice_get rows v.0))) × (rank_of (if t then Within c (shared_base v) v else Pointer) < 2 * d.0 + 1))
-    (λ t. (subst (λ p. Stands (measures_of h rows) (component_item h rows primaries d (a_base (VirtualBase v))) p (one_at (Within c (shared_base v) v) 0 (nvsize_in (slice_get rows v.0)))) place (base_stands h rows c (shared_base v) v parts 0 (low v l)), omega arith))
-    (λ f. (subst (λ p. Stands (measures_of h rows) (component_item h rows primaries d (a_base (VirtualBase v))) p (one_at Pointer 0 (nvsize_in (slice_get rows v.0)))) place (pointer_stands h rows v parts 0 (low v l) x.1 (dynamic_has_data h keeps v x.1)), omega arith))
+    split (holds_base h primaries c s v) (λ t. Stands (measures_of h rows) (component_item h rows primaries d (a_base (VirtualBase v))) (placed_place h rows d (VirtualBase v)) (bits_item h rows primaries row.member_bits d (a_base (VirtualBase v))) (one_at (if t then Within c (shared_base v) v else Pointer) 0 (nvsize_in (slice_get rows v.0))) × (rank_of (if t then Within c (shared_base v) v else Pointer) < 2 * d.0 + 1))
+    (λ t. (subst (λ p. Stands (measures_of h rows) (component_item h rows primaries d (a_base (VirtualBase v))) p (bits_item h rows primaries row.member_bits d (a_base (VirtualBase v))) (one_at (Within c (shared_base v) v) 0 (nvsize_in (slice_get rows v.0)))) place (base_stands h rows c (shared_base v) v parts 0 (low v l)), omega arith))
+    (λ f. (subst (λ p. Stands (measures_of h rows) (component_item h rows primaries d (a_base (VirtualBase v))) p (bits_item h rows primaries row.member_bits d (a_base (VirtualBase v))) (one_at Pointer 0 (nvsize_in (slice_get rows v.0)))) place (pointer_stands h rows v parts 0 (low v l) x.1 (dynamic_has_data h keeps v x.1)), omega arith))
 
 -- a subobject is arranged
 pub within_arranged : (h : Classes) (rows : List ClassLayout) (nearly : List Bool) (primaries : List Primary) (c : ClassId) (s : Subobject) (d : ClassId) → IsHierarchy h → IsLaidBy h (length h) rows nearly primaries → d.0 < length h → IsArranged (contents_of h rows primaries) (measures_of h rows) (Within c s d)
 within_arranged h rows nearly primaries c s d keeps laid lt =
     arranged_by (contents_of h rows primaries) m (Within c s d) placement items (own_pointer h primaries d) (within_is h rows nearly primaries c s d k)
     (λ x has. each x has)
-    (pairs_weaker (AreApart component place) (λ x y. AreClear m (placement x) (placement y)) items
-    (λ x y a b apart. clear_of m component place x y (placement x) (placement y) (stands x a).0 (stands y b).0 apart)
-    (pairs_among (AreApart component place) front items (λ x y r. apart_back component place x y r) (pairs_placed component place first front put.placed) (λ y has. inner_among primaries d k.class k.row y has) (inner_differ h primaries d k.class k.row keeps k.there)))
+    (pairs_weaker (AreApart component place bits) (λ x y. AreClear m (placement x) (placement y)) items
+    (λ x y a b apart. clear_of m component place bits x y (placement x) (placement y) (stands x a).0 (stands y b).0 apart)
+    (pairs_among (AreApart component place bits) front items (λ x y r. apart_back component place bits x y r) (pairs_placed component place bits first front (start_known d k.laid.has_pointer) fits put.placed put.lie) (λ y has. inner_among primaries d k.class k.row y has) (inner_differ h primaries d k.class k.row keeps k.there)))
     (λ p has. let o = own_has h primaries d p has in subst (λ (z : Placement). IsInPlace m (Within c s d) z) o.1 (own (owns h rows nearly primaries d k o.0)))
     (own_two h rows primaries d)
-    (λ x p a has. let o = own_has h primaries d p has in subst (λ (z : Placement). AreClear m (placement x) z) o.1 (own_clear m first last (component x) (place x) (placement x) (stands x a).0 (put_is x a) (owns h rows nearly primaries d k o.0).dsize))
+    (λ x p a has. let o = own_has h primaries d p has in subst (λ (z : Placement). AreClear m (placement x) z) o.1 (own_clear m first last (component x) (place x) (bits x) (placement x) refl (stands x a).0 (put_is x a) (owns h rows nearly primaries d k o.0).free_bit))
   where
     m : Measures
     m = measures_of h rows
@@ -227,7 +229,16 @@ within_arranged h rows nearly primaries c s d keeps laid lt =
     placement : Item → Placement
     placement = within_place h rows primaries c s d
 
-    put : ArePut h rows primaries d first last front
+    bits : Item → Bits
+    bits = bits_item h rows primaries k.row.member_bits d
+
+    widths : AreFields h rows primaries k.class
+    widths = fields h rows primaries d k.class keeps k.there
+
+    fits : (x : Item) → Has front x → HasFitWidth (component x)
+    fits = front_fit h rows primaries d k.class k.row widths
+
+    put : ArePut h rows primaries k.row.member_bits d first last front
     put = front_put h rows primaries d k.class k.laid.has_pointer k.row k.laid.placed
 
     low : (b : ClassId) → b.0 < d.0 → IsFine h rows b
@@ -239,11 +250,11 @@ within_arranged h rows nearly primaries c s d keeps laid lt =
     item : (x : Item) → Has items x → IsItem h d k.class x
     item x has = inner_item h rows nearly primaries d k.class x keeps laid lt (view x has)
 
-    stands : (x : Item) → Has items x → Stands m (component x) (place x) (placement x) × (rank_of (placement x).node < 2 * d.0 + 1)
-    stands x has = within_stands h rows nearly primaries c s d k.class x keeps laid lt k.there low (view x has)
+    put_is : (x : Item) → Has items x → IsPut first last (component x) (place x) (bits x)
+    put_is x has = put_in h rows primaries k.row.member_bits d first last front x (start_known d k.laid.has_pointer) fits put (inner_among primaries d k.class k.row x has)
 
-    put_is : (x : Item) → Has items x → IsPut first last (component x) (place x)
-    put_is x has = subst (λ (st : Stage). IsPut first st (component x) (place x)) put.ends (put_at component place first front x put.placed (inner_among primaries d k.class k.row x has))
+    stands : (x : Item) → Has items x → Stands m (component x) (place x) (bits x) (placement x) × (rank_of (placement x).node < 2 * d.0 + 1)
+    stands x has = within_stands h rows nearly primaries c s d k.class k.row first last x keeps laid lt k.there k.row_there low (view x has) (put_is x has)
 
     size_is : nvsize_in (slice_get rows d.0) ≡ k.row.nvsize
     size_is = ap nvsize_in k.row_there
@@ -256,14 +267,14 @@ within_arranged h rows nearly primaries c s d keeps laid lt =
 
     each : (x : Item) → Has items x → IsInPlace m (Within c s d) (placement x)
     each x has =
-        let f = row_fine h rows primaries d k.class k.laid.has_pointer k.row k.laid.placed in
+        let f = row_fine h rows primaries d k.class k.laid.has_pointer k.row widths k.laid.placed in
         let t = stands x has in
         let p = put_is x has in
         let l = f.mid_size in
         let r = le-max_right 1 (nvsize_in (slice_get rows d.0)) in
         let a = p.align in
         let b = f.nvalign in
-        in_place m (Within c s d) first last (component x) (place x) (placement x) t.0 p t.1 (omega (arith, l, r, size_is))
+        in_place m (Within c s d) first last (component x) (place x) (bits x) (placement x) t.0 p t.1 refl (omega (arith, l, r, size_is))
         (λ other. let e : (if is_empty h d then 0 else nvsize_in (slice_get rows d.0)) ≡ nvsize_in (slice_get rows d.0) = ap (λ b. if b then 0 else nvsize_in (slice_get rows d.0)) (item_has_data h rows primaries d k.class x keeps k.there (item x has) other) in omega (arith, l, e, size_is))
         (align_divides (component x).align (nvalign_in (slice_get rows d.0)) (item_align h rows primaries d k.class x keeps k.there low (item x has)) here.nvalign (omega (arith, a, b, align_is)))
 
@@ -273,4 +284,4 @@ within_arranged h rows nearly primaries c s d keeps laid lt =
         let a = here.dynamic_align o.dynamic in
         let r = le-max_right 1 (nvsize_in (slice_get rows d.0)) in
         let e : (if is_empty h d then 0 else nvsize_in (slice_get rows d.0)) ≡ nvsize_in (slice_get rows d.0) = ap (λ b. if b then 0 else nvsize_in (slice_get rows d.0)) (dynamic_has_data h keeps d o.dynamic) in
-        own_in_place h rows (Within c s d) (omega arith) (omega (arith, n, r)) (omega (arith, e, n)) (align_divides 8 (nvalign_in (slice_get rows d.0)) eight_bytes here.nvalign (omega (arith, a)))
+        own_in_place h rows (Within c s d) (omega arith) refl (omega (arith, n, r)) (omega (arith, e, n)) (align_divides 8 (nvalign_in (slice_get rows d.0)) eight_bytes here.nvalign (omega (arith, a)))

@@ -25,11 +25,11 @@ use Rattle.abi_layout.specs.Repeats.{SomeRepeats}
 
 -- the stage behind a virtual pointer, if there is one, with these class subobjects
 abbrev pub stage_with : Bool → List Part → Stage
-stage_with has_pointer parts = record { dsize = if has_pointer then 8 else 0; size = if has_pointer then 8 else 0; align = if has_pointer then 8 else 1; parts = parts }
+stage_with has_pointer parts = record { dsize = if has_pointer then 8 else 0; free_bit = if has_pointer then 64 else 0; size = if has_pointer then 8 else 0; align = if has_pointer then 8 else 1; parts = parts }
 
 -- the row of a class that is arranged so, with its primary base, its virtual bases, and the places of its bases
 abbrev pub row_from : Arrangement → Primary → (base_places : List ℕ) (virtual_bases : List ClassId) (virtual_places : List ℕ) (holders : List (Option Subobject)) → ClassLayout
-row_from a primary base_places virtual_bases virtual_places holders = record { size = a.size; align = a.align; dsize = a.dsize; nvsize = a.nvsize; nvalign = a.nvalign; primary = primary; base_places = base_places; virtual_bases = virtual_bases; virtual_places = virtual_places; holders = holders; member_places = a.member_places }
+row_from a primary base_places virtual_bases virtual_places holders = record { size = a.size; align = a.align; dsize = a.dsize; nvsize = a.nvsize; nvalign = a.nvalign; primary = primary; base_places = base_places; virtual_bases = virtual_bases; virtual_places = virtual_places; holders = holders; member_places = a.member_places; member_bits = a.member_bits }
 
 -- the row is the layout by these components, whichever the primary base is and wherever the bases lie; and the class
 -- subobjects are those of the last stage

@@ -26,7 +26,7 @@ use Rattle.abi_layout.specs.Layouts.{place_of, placed_place, virtual_place, prim
 
 -- the row with these virtual bases, their places, and what holds each
 abbrev pub filled_row : ClassLayout → (virtual_bases : List ClassId) (virtual_places : List ℕ) (holders : List (Option Subobject)) → ClassLayout
-filled_row row virtual_bases virtual_places holders = record { size = row.size; align = row.align; dsize = row.dsize; nvsize = row.nvsize; nvalign = row.nvalign; primary = row.primary; base_places = row.base_places; virtual_bases = virtual_bases; virtual_places = virtual_places; holders = holders; member_places = row.member_places }
+filled_row row virtual_bases virtual_places holders = record { size = row.size; align = row.align; dsize = row.dsize; nvsize = row.nvsize; nvalign = row.nvalign; primary = row.primary; base_places = row.base_places; virtual_bases = virtual_bases; virtual_places = virtual_places; holders = holders; member_places = row.member_places; member_bits = row.member_bits }
 
 -- all that objects of the classes before c bring is of classes before c
 pub record AreSmaller (c : ClassId) (known : List Known) : Type 0 where

@@ -81,7 +81,7 @@ members_by rows known class = member_components rows (parts_in known) class
 
 -- where nothing is placed
 abbrev pub empty_stage : Stage
-empty_stage = record { dsize = 0; size = 0; align = 1; parts = [] }
+empty_stage = record { dsize = 0; free_bit = 0; size = 0; align = 1; parts = [] }
 
 -- a component takes more than the limit of sizes
 pub record HasLarge (components : List Component) : Type 0 where

@@ -10,9 +10,9 @@ use Rattle.path_model.specs.States.{is_body}
 use Rattle.abi_sound.specs.declared.class_layout.ClassLayout.{ClassLayout}
 use Rattle.abi_sound.specs.Places.{places_of}
 use Rattle.abi_slots.specs.Slots.{AreSlots}
-use Rattle.abi_count.specs.Counts.{all_words, most_words}
+use Rattle.abi_tables.specs.Counts.{all_words, most_words}
 use Rattle.abi_layout.specs.AbiLayouts.{IsAbiLayout}
-use Rattle.abi_code.specs.Bounds.{IsSmall}
+use Rattle.abi_lower.specs.Bounds.{IsSmall}
 use Rattle.cxxabi_cmd.specs.declared.listing.Listing.{Listing}
 use Rattle.cxxabi_cmd.specs.declared.status.Status.TheVariants.{Refused}
 use Rattle.cxxabi_cmd.specs.declared.verdict.Accepted.{Accepted}

@@ -9,11 +9,9 @@ use Rattle.path_heap.specs.declared.state.Cell.{Cell}
 use Rattle.path_heap.specs.declared.state.ObjectRow.{ObjectRow}
 use Rattle.path_heap.specs.declared.state.Part.{Part}
 use Rattle.path_heap.specs.declared.heap.Heap.{Heap}
+use Rattle.path_heap.specs.Blanks.{no_cell}
 use Rattle.path_heap.specs.Running.{entry_at}
-
--- the cell of a part past the end: nothing was begun
-abbrev pub no_cell : Cell
-no_cell = record { object = 0; phase = Raw; class = record { 0 = 0 }; whole = 0; owner = record { 0 = 0 } }
+use Rattle.path_heap.specs.invariants.Cuts.{IsObjectAt}
 
 abbrev pub cell_or : Option Cell → Cell
 cell_or None = no_cell
@@ -46,12 +44,12 @@ view_number EndingBases whole top = top
 view_number Ended whole top = top
 
 -- the part's cell in another phase
-abbrev pub marked_cell : Phase → Part → Cell → Cell
-marked_cell phase part cell = record { object = cell.object; phase = phase; class = part.class; whole = part.whole; owner = part.owner }
+abbrev pub marked_cell : Phase → Part → Cell
+marked_cell phase part = record { phase = phase; class = part.class; whole = part.whole; owner = part.owner }
 
 -- one cell is in another phase, and nothing else has changed
 pub record Marked (old new : Heap) (part : Part) (phase : Phase) : Type 0 where
-  pub cells : new.cells.items ≡ slice_set old.cells.items part.number (marked_cell phase part (cell_at old part.number))
+  pub cells : new.cells.items ≡ slice_set old.cells.items part.number (marked_cell phase part)
   pub leaves : new.leaves.items ≡ old.leaves.items
   pub objects : new.objects.items ≡ old.objects.items
   pub tops : new.tops.items ≡ old.tops.items
@@ -88,20 +86,17 @@ closed_row row = record { class = row.class; start = row.start; is_closed = true
 pub record Closed (old new : Heap) (part : Part) : Type 0 where
   pub cells : new.cells.items ≡ old.cells.items
   pub leaves : new.leaves.items ≡ old.leaves.items
-  pub objects : new.objects.items ≡ (if nat_eq (row_at old (cell_at old part.number).object).start part.number
-      then slice_set old.objects.items (cell_at old part.number).object (closed_row (row_at old (cell_at old part.number).object)) else old.objects.items)
+  pub object : ℕ
+  pub found : IsObjectAt old.objects.items part.number object
+  pub objects : new.objects.items ≡ (if nat_eq (row_at old object).start part.number then slice_set old.objects.items object (closed_row (row_at old object)) else old.objects.items)
   pub tops : new.tops.items ≡ old.tops.items
   pub around : new.around.items ≡ old.around.items
-
--- a raw cell of heap object k
-abbrev pub raw_cell : ℕ → Cell
-raw_cell k = record { object = k; phase = Raw; class = record { 0 = 0 }; whole = 0; owner = record { 0 = 0 } }
 
 -- behind the others there are an object of class c, and for each of its numbers a cell and a leaf
 pub record Made (old new : Heap) (c : ClassId) (size start : ℕ) : Type 0 where
   pub start_is : start ≡ length old.cells.items
   pub fits : length old.cells.items + size ≤ 2 ^ 32
-  pub cells : new.cells.items ≡ old.cells.items ++ replicate size (raw_cell (length old.objects.items))
+  pub cells : new.cells.items ≡ old.cells.items ++ replicate size no_cell
   pub leaves : new.leaves.items ≡ old.leaves.items ++ replicate size Unset
   pub objects : new.objects.items ≡ old.objects.items ++ record { class = c; start = start; is_closed = false } ∷ []
   pub tops : new.tops.items ≡ old.tops.items ++ replicate size None

@@ -10,9 +10,9 @@ use Rattle.path_machine.specs.declared.state.PathState.{PathState}
 use Rattle.path_machine.specs.Tellings.{is_told}
 use Rattle.path_machine.specs.Turns.{IsAtStep, taken_by, budget_of, ended_with}
 use Rattle.abi_sound.specs.Places.{Places}
-use Rattle.abi_told.specs.declared.ending.End.{End}
-use Rattle.abi_told.specs.declared.ending.End.TheVariants.{Done, Undefined, OutOfSteps, Limit}
-use Rattle.abi_told.specs.Told.{IsRun, ending_of, passes, text_at, text_limit}
+use Rattle.text_told.specs.declared.ending.End.{End}
+use Rattle.text_told.specs.declared.ending.End.TheVariants.{Done, Undefined, OutOfSteps, Limit}
+use Rattle.text_told.specs.Told.{IsRun, ending_of, passes, text_at, text_limit}
 
 -- the end that an answer is; none of a step that was taken
 abbrev pub end_by : Turn → Option End

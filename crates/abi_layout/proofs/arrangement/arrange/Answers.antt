@@ -31,7 +31,7 @@ returns-in_err-member_places-clause-limit c =
     rw (p.1, p.2) (⊎_elim (λ e. inl e)
     (λ past. inr (
       past.0,
-      members_past_by (start_stage c.args.c c.args.has_pointer) c.place_all.new.placing.stage fs c.args.members.now c.args.frees.now c.args.is_pod places
+      members_past_by (start_stage c.args.c c.args.has_pointer) c.place_bases.new.placing.stage fs c.args.members.now c.args.frees.now c.args.is_pod places
           (subst (λ (s : Stage). ArePlaced s fs places) first c.in_ok-front_places.ensures.placed)
           (c.in_ok-front_places.ensures.after ∙ ap (λ (s : Stage). after_all s fs places) first) past.1,
     ))
@@ -46,7 +46,7 @@ returns-in_err-free_places-clause-limit c =
     rw (p.1, p.2) (⊎_elim (λ e. inl e)
     (λ past. inr (
       past.0,
-      frees_past (start_stage c.args.c c.args.has_pointer) c.place_all.new.placing.stage c.place_all-2.new.placing.stage fs c.args.members.now c.args.frees.now c.args.is_pod places c.in_ok-member_places.member_places
+      frees_past (start_stage c.args.c c.args.has_pointer) c.place_bases.new.placing.stage c.place_all.new.placing.stage fs c.args.members.now c.args.frees.now c.args.is_pod places c.in_ok-member_places.field-0.places
           (subst (λ (s : Stage). ArePlaced s fs places) first c.in_ok-front_places.ensures.placed)
           (c.in_ok-front_places.ensures.after ∙ ap (λ (s : Stage). after_all s fs places) first)
           c.in_ok-member_places.ensures.placed c.in_ok-member_places.ensures.after past.1,
@@ -56,15 +56,15 @@ returns-in_err-free_places-clause-limit c =
 pub push_placed-requires-clause-places : goal.push_placed-requires-clause-places
 push_placed-requires-clause-places c =
     let small = c.in_ok-member_places.ensures.placing.size in
-    let is : c.place_all-2.new.placing.stage.size ≡ (after_all c.place_all.new.placing.stage c.args.members.now c.in_ok-member_places.member_places).size = ap (λ (s : Stage). s.size) c.in_ok-member_places.ensures.after in
-    subst (λ (ps : List ℕ). All (λ (p : ℕ). p ≤ size_limit) ps) (sym c.as_slice.ensures) (placed_little c.place_all.new.placing.stage c.args.members.now c.in_ok-member_places.member_places c.in_ok-member_places.ensures.placed (omega arith))
+    let is : c.place_all.new.placing.stage.size ≡ (after_all c.place_bases.new.placing.stage c.args.members.now c.in_ok-member_places.field-0.places).size = ap (λ (s : Stage). s.size) c.in_ok-member_places.ensures.after in
+    subst (λ (ps : List ℕ). All (λ (p : ℕ). p ≤ size_limit) ps) (sym c.as_slice.ensures) (placed_little c.place_bases.new.placing.stage c.args.members.now c.in_ok-member_places.field-0.places c.in_ok-member_places.ensures.placed (omega arith))
 
 pub returns-clause-within : goal.returns-clause-within
 returns-clause-within c =
-    let places = c.in_ok-member_places.member_places in
+    let places = c.in_ok-member_places.field-0.places in
     let members = c.args.members.now in
     let are : c.push_placed.new.list ≡ parts_at members places = c.in_ok-push_placed.ensures ∙ (ap (λ (xs : List Part). xs ++ parts_at members c.as_slice.result.now) c.new-member_parts.ensures ∙ ap (λ (ps : List ℕ). parts_at members ps) c.as_slice.ensures) in
-    arranged_within c.place_all.new.placing c.place_all-2.new.placing c.place_all-3.new.placing members c.args.frees.now c.args.is_pod c.in_ok-front_places.front_places places c.in_ok-free_places.free_places
+    arranged_within c.place_bases.new.placing c.place_all.new.placing c.place_bases-2.new.placing members c.args.frees.now c.args.is_pod c.in_ok-front_places.front_places places c.in_ok-member_places.field-0.bits c.in_ok-free_places.free_places
     c.whole_size-size.result c.size_of_kind-dsize.result c.size_of_kind-nvsize.result c.push_placed.new.list
     c.requires.members c.in_ok-member_places.ensures.placed c.in_ok-member_places.ensures.after are
     c.in_ok-member_places.ensures.placing c.in_ok-free_places.ensures.placing c.in_ok-free_places.ensures.after c.whole_size-size.ensures c.size_of_kind-nvsize.ensures

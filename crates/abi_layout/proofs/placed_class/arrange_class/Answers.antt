@@ -12,7 +12,7 @@ use Rattle.abi_layout.specs.Layouts.{start_stage}
 use Rattle.abi_layout.specs.invariants.Arrangements.{components_by}
 use Rattle.abi_layout.specs.Repeats.{SomeRepeats}
 use Rattle.abi_layout.proofs.algorithm.RowLemmas.{members_fit}
-use Rattle.abi_layout.proofs.algorithm.SceneFits.{placed_all_fit, nvsize_small, earlier_members, member_refuses, size_refuses, repeat_refuses, no_place_by}
+use Rattle.abi_layout.proofs.algorithm.SceneFits.{placed_all_fit, bit_fields, fields_small, nvsize_small, earlier_members, member_refuses, size_refuses, repeat_refuses, no_place_by}
 use Rattle.abi_layout.proofs.placed_class.arrange_class.Goals as goal
 
 pub placed_components-requires-clause-fits : goal.placed_components-requires-clause-fits
@@ -41,6 +41,7 @@ returns-in_err-members-clause-refused c =
     rw (p.1, p.2)
     (member_refuses (start_stage x.c c.args.has_pointer) (components_by x.h.now x.rows.now x.known.now x.primaries.now x.c c.args.front.now) (members_by x.rows.now x.known.now c.args.class.now)
     (components_by x.h.now x.rows.now x.known.now x.primaries.now x.c c.args.free.now) c.args.is_pod c.args.class.now.at c.in_err-members.field-0.0
+    (fields_small x.rows.now (parts_in x.known.now) c.args.class.now.members (bit_fields x.h.now x.c c.args.class.now c.keeps.ensures c.requires.class))
     (subst (λ (xs : List (Member ClassId)). (c.in_err-members.field-0.0 ≡ NoMemory) ⊎ ((c.in_err-members.field-0.0 ≡ Limit L6) × HasLarge (map (member_component x.rows.now (parts_in x.known.now)) xs))) c.as_slice.ensures c.in_err-members.ensures.limit))
 
 pub arrange-requires-clause-fronts : goal.arrange-requires-clause-fronts
@@ -56,7 +57,7 @@ arrange-requires-clause-members c =
     let same : length x.known.now ≡ length x.rows.now = c.requires.scene.known_each ∙ sym c.requires.scene.row_each in
     subst AreFit (sym (c.deref-2.ensures.value ∙ are))
     (members_fit x.rows.now x.known.now class.members c.requires.sized same
-    (earlier_members x.h.now x.c class (length x.rows.now) c.keeps.ensures c.requires.class c.requires.scene.row_each) (subst AreLittle are c.in_ok-members.ensures.little))
+    (earlier_members x.h.now x.c class (length x.rows.now) c.keeps.ensures c.requires.class c.requires.scene.row_each) (bit_fields x.h.now x.c class c.keeps.ensures c.requires.class) (subst AreLittle are c.in_ok-members.ensures.little))
 
 pub arrange-requires-clause-frees : goal.arrange-requires-clause-frees
 arrange-requires-clause-frees c =

@@ -23,6 +23,7 @@ returns-clause-placing c =
         same = λ q. table_of_all old c.add.new.self _ c.requires.table (rest_is old.listed c.as_slice-parts.result.now parts c.as_slice-parts.ensures) c.in_ok-add.ensures.ok q ∙ ap (λ n. holds (take n parts) q) (sym all);
       };
       align = c.requires.align;
+      free_bit = c.requires.free_bit;
       dsize = c.requires.dsize;
       size = c.requires.size;
       parts = c.requires.parts;

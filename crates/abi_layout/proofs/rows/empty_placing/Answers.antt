@@ -8,6 +8,7 @@ pub returns-clause-placing : goal.returns-clause-placing
 returns-clause-placing c = record {
   table = record { within = omega arith; same = λ q. ap (λ (t : List Part). holds t q) c.new-2.ensures };
   align = byte;
+  free_bit = record { inside = omega arith; last = omega arith };
   dsize = omega arith;
   size = omega arith;
   parts = subst (λ (ps : List Part). AreWithin 0 ps) (sym c.new.ensures) tt;

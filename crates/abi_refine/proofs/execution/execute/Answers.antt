@@ -2,7 +2,7 @@ use Rattle.std.proofs.Common.{refl, subst, sym}
 use Rattle.cxx_subobject.specs.Parts.{most_subobjects}
 use Rattle.byte_code.specs.declared.code.Code.{Code}
 use Rattle.byte_machine.specs.MachineState.{code_of, fixed_in, image_of, parts_of, state_of}
-use Rattle.abi_ops.specs.Setups.{setup}
+use Rattle.code_ops.specs.Setups.{setup}
 use Rattle.abi_refine.specs.Standing.{StandsIn, state_after}
 use Rattle.abi_refine.proofs.Beginning.{is_begun, stands_in}
 use Rattle.abi_refine.proofs.Executing.{fixed_same}

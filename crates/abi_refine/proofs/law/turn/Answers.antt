@@ -1,5 +1,5 @@
 use Rattle.byte_machine.specs.MachineState.{code_of, fixed_in, state_of}
-use Rattle.abi_ops.specs.Setups.{setup}
+use Rattle.code_ops.specs.Setups.{setup}
 use Rattle.abi_refine.proofs.Turning.{has_turn_in, turn_agrees_in}
 use Rattle.abi_refine.proofs.law.turn.Goals as goal
 

@@ -1,7 +1,7 @@
 use Rattle.std.proofs.Common.{◌≡◌, take}
 use Rattle.abi_sound.specs.Places.{places_of}
 use Rattle.byte_machine.specs.MachineState.{state_of}
-use Rattle.abi_lines.specs.RawTexts.{raw_texts, shown}
+use Rattle.text_bytes.specs.RawTexts.{raw_texts, shown}
 use Rattle.abi_refine.proofs.run.lines_of.Given as goal
 
 -- the lines so far

@@ -2,7 +2,7 @@ use Rattle.std.proofs.Common.{◌≡◌, ℕ, ◌+◌, ◌++◌, List, refl, sym
 use Rattle.foundation.proofs.Members.{Has, has_from_contains}
 use Rattle.byte_machine.specs.declared.turn.RawOut.{RawOut}
 use Rattle.byte_machine.specs.MachineState.{code_of, fixed_in, state_of}
-use Rattle.abi_ops.specs.Setups.{setup}
+use Rattle.code_ops.specs.Setups.{setup}
 use Rattle.abi_refine.specs.Executions.{lines_in}
 use Rattle.abi_refine.proofs.Executing.{answers, ends_answered, ends_counted, ends_executing, ends_run, goes_on, has_turned, less_left, lines_are, more_taken, passes_executing, passes_run, stands_now, texts_told}
 use Rattle.abi_refine.proofs.Going.{starts}

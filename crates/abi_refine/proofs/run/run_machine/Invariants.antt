@@ -1,6 +1,6 @@
 use Rattle.std.proofs.Common.{◌≡◌, false}
 use Rattle.byte_machine.specs.MachineState.{code_of, image_of, parts_of, state_of, has_failed}
-use Rattle.abi_ops.specs.Setups.{setup}
+use Rattle.code_ops.specs.Setups.{setup}
 use Rattle.abi_refine.proofs.Executing.{IsAtTurn}
 use Rattle.abi_refine.proofs.run.run_machine.Given as goal
 

@@ -1,4 +1,4 @@
-use Rattle.abi_ops.specs.Setups.{setup}
+use Rattle.code_ops.specs.Setups.{setup}
 use Rattle.abi_world.proofs.Worlds.{are_numbered, has_world}
 use Rattle.abi_world.proofs.built.build.Goals as goal
 

@@ -1,11 +1,11 @@
 use Rattle.std.proofs.Common.{◌≡◌, ℕ, List, length, ap, subst, sym, ◌∙◌}
 use Rattle.abi_sound.specs.Places.{places_of}
-use Rattle.abi_ops.specs.Setups.{setup}
+use Rattle.code_ops.specs.Setups.{setup}
 use Rattle.abi_slots.specs.declared.words.Group.{Group}
 use Rattle.abi_slots.specs.declared.words.TypeInfo.{TypeInfo}
 use Rattle.abi_slots.specs.declared.words.VttWord.{VttWord}
 use Rattle.abi_image.specs.Conditions.{HaveOwnNames, AllNameTables, AreKnownGroups, AreKnownInfos}
-use Rattle.abi_plans.proofs.Names.{one_group}
+use Rattle.agree_events.proofs.Names.{one_group}
 use Rattle.abi_world.specs.Made.{AreAllTables}
 use Rattle.abi_world.proofs.Named.{all_vtts_name}
 use Rattle.abi_world.proofs.Known.{groups_fine}

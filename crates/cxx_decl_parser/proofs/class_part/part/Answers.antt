@@ -1,6 +1,6 @@
 use Rattle.std.proofs.Common.{rules, refl, sym, ap, Bool, false, List, ◌∷◌, ◌++◌, [], ◌∙◌, append_assoc}
 use Rattle.cxx_grammar.specs.declared.sort.Sort.TheVariants.{Public, Virtual, Void, Name, OwnName, OpenParen, CloseParen, Colon, Tilde}
-use Rattle.cxx_grammar.specs.Table.{Only, AName, ABlock, ParamsEnd, AfterDeclared, AfterType, AfterOwnName, AfterVirtual, PartsEnd, scalar_rest}
+use Rattle.cxx_grammar.specs.Table.{Only, AName, ABlock, ParamsEnd, AfterScalar, AfterType, AfterOwnName, AfterVirtual, PartsEnd, scalar_rest}
 use Rattle.cxx_grammar.specs.invariants.Run.{run}
 use Rattle.cxx_grammar.proofs.Steps.{then_same, takes}
 use Rattle.cxx_syntax.specs.Parts as parts
@@ -35,4 +35,4 @@ pub returns-in-Tilde-clause-follows : goal.returns-in-Tilde-clause-follows
 returns-in-Tilde-clause-follows c = λ m. then_same (λ x. x.1.now) (outside m) (outside m) (PartsEnd ∷ []) (Only OwnName ∷ Only OpenParen ∷ Only CloseParen ∷ ABlock ∷ []) (PartsEnd ∷ []) (c.args.front.first ∷ c.args.rest.now) c.args.rest.now _ (λ k. takes _ PartsEnd Tilde (Only OwnName ∷ Only OpenParen ∷ Only CloseParen ∷ ABlock ∷ PartsEnd ∷ []) c.args.front.first c.args.rest.now (outside m) k refl (search rules) refl refl) (c.destructor.ensures.follows m)
 
 pub returns-in-Boolean-clause-follows : goal.returns-in-Boolean-clause-follows
-returns-in-Boolean-clause-follows c = λ m. then_same (λ x. x.1.now) (outside m) (outside m) (PartsEnd ∷ []) (scalar_rest c.args.front.first.sort ++ (AfterDeclared ∷ [])) (PartsEnd ∷ []) (c.args.front.first ∷ c.args.rest.now) c.args.rest.now _ (λ k. turns.scalar_part (c.args.front.first ∷ c.args.rest.now) c.args.front.first c.args.rest.now (outside m) k refl (search rules) ∙ ap (run c.args.rest.now (outside m)) (sym (append_assoc (scalar_rest c.args.front.first.sort) (AfterDeclared ∷ []) (PartsEnd ∷ k)))) (c.scalar_part.ensures.follows m)
+returns-in-Boolean-clause-follows c = λ m. then_same (λ x. x.1.now) (outside m) (outside m) (PartsEnd ∷ []) (scalar_rest c.args.front.first.sort ++ (AfterScalar ∷ [])) (PartsEnd ∷ []) (c.args.front.first ∷ c.args.rest.now) c.args.rest.now _ (λ k. turns.scalar_part (c.args.front.first ∷ c.args.rest.now) c.args.front.first c.args.rest.now (outside m) k refl (search rules) ∙ ap (run c.args.rest.now (outside m)) (sym (append_assoc (scalar_rest c.args.front.first.sort) (AfterScalar ∷ []) (PartsEnd ∷ k)))) (c.scalar_part.ensures.follows m)

@@ -9,8 +9,8 @@ use Rattle.path_effects.proofs.Telling.{when_ok}
 use Rattle.path_effects.proofs.Typing.{copy_typed}
 use Rattle.path_effects.proofs.copies.copy.Goals as goal
 
-pub returns-clause-copied : goal.returns-clause-copied
-returns-clause-copied c = when_ok c.copy.result _ _ (λ told e s w p q scene seen typed clear to_is from_is.
+pub returns : goal.returns
+returns c = when_ok c.copy.result _ _ (λ told e s w p q scene seen typed clear to_is from_is.
     let h = c.args.world.now.h.now in
     let heap = c.args.heap.now in
     let to = c.args.to.now in
@@ -23,4 +23,4 @@ returns-clause-copied c = when_ok c.copy.result _ _ (λ told e s w p q scene see
     let b = arrow_ready h s.objects u _ (clear_back h s.objects (arrow v) _ clear) k (seen_value h e s seen from (PointerType k) t.source) in
     let x = names_at h s.objects v k a p to_is c.in-Pointer.target (c.in-Pointer.ensures h heap s scene) in
     let y = names_at h s.objects u k b q from_is c.in-Pointer-value.source (c.in-Pointer-value.ensures h heap s scene) in
-    told s.objects p q scene.heap_stands x.points y.points x.begun y.begun x.of_class y.of_class) c.copy.ensures.copied
+    told s.objects p q scene.heap_stands x.points y.points x.begun y.begun x.of_class y.of_class) c.copy.ensures

@@ -1,6 +1,7 @@
-use Rattle.std.proofs.Common.{Bool, ap, subst, ◌∙◌, List}
+use Rattle.std.proofs.Common.{Bool, None, ap, subst, ◌∙◌, List}
 use Rattle.std.specs.Prelude.{if◌then◌else◌, not}
 use Rattle.cxx_hierarchy.specs.declared.records.ValueType.TheVariants.{Pointer as PointerType}
+use Rattle.cxx_program.specs.Typed.{whole}
 use Rattle.path_model.specs.Values.{argument_value}
 use Rattle.path_model.specs.Uses.{Use, argument_uses}
 use Rattle.path_model.specs.Effects.{truth}
@@ -16,8 +17,8 @@ returns c = λ e s k scene seen one other clear.
     let b = c.args.b.now in
     let us : List Use = argument_uses s a in
     let vs : List Use = argument_uses s b in
-    let m = c.argument_value-one.ensures e s (PointerType k) scene seen one (clear_front h s.objects us vs clear) in
-    let n = c.argument_value-other.ensures e s (PointerType k) scene seen other (clear_back h s.objects us vs clear) in
+    let m = c.argument_value-one.ensures e s None (PointerType k) scene seen (whole a (PointerType k) one) (clear_front h s.objects us vs clear) in
+    let n = c.argument_value-other.ensures e s None (PointerType k) scene seen (whole b (PointerType k) other) (clear_back h s.objects us vs clear) in
     let same = c.is_same.ensures h cs (argument_value s a) (argument_value s b) c.requires.world.hierarchy m n in
     let e_ = c.holds.ensures ∙ ap (λ (x : Bool). if c.args.differ then not x else x) same in
     subst (λ (x : Bool). Means h cs c.truth.result (truth x)) e_ (c.truth.ensures h cs)

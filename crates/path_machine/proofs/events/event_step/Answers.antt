@@ -5,7 +5,7 @@ use Rattle.path_machine.proofs.events.event_step.Goals as goal
 -- src/events.rt:207:1
 pub returns-in_ok-next-in-Some : goal.returns-in_ok-next-in-Some
 returns-in_ok-next-in-Some c = steps c.args.run.now.world.h.now c.args.run.now.program.now c.args.machine.now c.happen.new.machine c.resume.new.machine c.args.frame c.advance.new.self c.in-Some.event c.args.outs.now c.tell_event.new.outs c.in_ok-next-in-Some.next
-    (c.in-Some.ensures c.args.run.now.world.h.now c.args.run.now.program.now) c.in_ok-tell_event-in-Some.ensures c.happen.ensures (λ classes e events. c.in_ok-advance-in-Some.ensures c.args.run.now.program.now classes e events c.requires.setup.are_bodies) c.in_ok-next-in-Some.ensures
+    (c.in-Some.ensures c.args.run.now.world.h.now c.args.run.now.program.now) c.in_ok-tell_event-in-Some.ensures c.in_ok-happen-in-Some.ensures (λ classes e events. c.in_ok-advance-in-Some.ensures c.args.run.now.program.now classes e events c.requires.setup.are_bodies) c.in_ok-next-in-Some.ensures
 
 -- src/events.rt:207:1
 pub returns-in-None : goal.returns-in-None

@@ -17,4 +17,4 @@ returns c = λ e s f below outs t clear.
     copy_agrees h sizes program c.go_on.new.machine (with_frames s _) c.args.class (value see c.args.to.now) (value see c.args.from.now) outs (λ p q names other.
     let x = copied h c.args.class p q s.objects in
     c.in_ok-go_on.ensures h sizes program (with_objects s x) f below
-    (taken_heaped h sizes program c.args.machine.now c.copy.new.heap c.args.frame s f below x t (c.in_ok-copy.ensures.copied e see (wanted f) p q scene clear.given.seen clear.given.typed clear.clear names other) refl))
+    (taken_heaped h sizes program c.args.machine.now c.copy.new.heap c.args.frame s f below x t (c.in_ok-copy.ensures e see (wanted f) p q scene clear.given.seen clear.given.typed clear.clear names other) refl))

@@ -1,4 +1,5 @@
-use Rattle.std.proofs.Common.{subst, sym}
+use Rattle.std.proofs.Common.{None, subst, sym}
+use Rattle.cxx_program.specs.Typed.{whole}
 use Rattle.path_heap.specs.Stands.{Means}
 use Rattle.path_values.specs.Conversions.{CanConvert}
 use Rattle.path_model.specs.Values.{argument_value, converted}
@@ -23,7 +24,7 @@ returns c = λ e s f below t taken clear returns fits.
     let scene = c.scene_of-scene.ensures h sizes program s f below taken in
     let r = return_converts h e see clear.given.seen (wanted f) a t returns fits clear.given.back clear.clear in
     let found = taken.body_stands.same_found in
-    let m1 = c.argument_value-result.ensures e see t scene clear.given.seen fits r.argument in
+    let m1 = c.argument_value-result.ensures e see None t scene clear.given.seen (whole a t fits) r.argument in
     let m2 = c.convert-found.ensures s.objects v taken.machine_stands.heap_stands m1 (subst (CanConvert h s.objects v) (sym found) r.found) in
     let m3 = subst (λ x. Means h s.objects.classes c.convert-found.result (converted v x)) found m2 in
     let u = converted v f.found in

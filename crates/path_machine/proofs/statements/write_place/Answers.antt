@@ -18,4 +18,4 @@ returns c = λ e s f below outs t clear.
     write_agrees h sizes program c.go_on.new.machine (with_frames s _) c.args.place.now (argument_value see c.args.x.now) (value see c.args.place.now.pointer) outs (λ p names.
     let x = leaf_set s.objects (leaf_at p c.args.place.now) (argument_value see c.args.x.now) in
     c.in_ok-go_on.ensures h sizes program (with_objects s x) f below
-    (taken_heaped h sizes program c.args.machine.now c.write.new.heap c.args.frame s f below x t (c.write.ensures e see (wanted f) p scene clear.given.seen clear.given.typed clear.clear names) refl))
+    (taken_heaped h sizes program c.args.machine.now c.write.new.heap c.args.frame s f below x t (c.in_ok-write.ensures e see (wanted f) p scene clear.given.seen clear.given.typed clear.clear names) refl))

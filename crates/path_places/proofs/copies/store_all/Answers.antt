@@ -23,5 +23,5 @@ loop-i-preserved c =
       leaves = omega arith;
       values = omega arith;
       stores = stores_next c.args.heap.now c.loop-i.heap c.set_leaf.new.self c.args.leaves.now c.args.values.now (i - 1) _ _ (omega arith) (omega arith)
-          (subst (λ n. StoresFrom c.args.heap.now c.loop-i.heap c.args.leaves.now c.args.values.now n) (sym e) c.loop-i.invariant.stores) c.set_leaf.ensures;
+          (subst (λ n. StoresFrom c.args.heap.now c.loop-i.heap c.args.leaves.now c.args.values.now n) (sym e) c.loop-i.invariant.stores) c.in_ok-set_leaf.ensures;
     }

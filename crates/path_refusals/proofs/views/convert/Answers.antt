@@ -8,6 +8,9 @@ use Rattle.path_refusals.proofs.views.convert.Goals as goal
 pub returns-in-Number-clause-is : goal.returns-in-Number-clause-is
 returns-in-Number-clause-is c = λ s x stands m. nothing c.args.moment.now.world.h.now s ∙ ap (λ (k : Conversion). refused c.args.moment.now.world.h.now s (convert x k)) (sym c.in-Number.is)
 
+pub returns-in-Bits-clause-is : goal.returns-in-Bits-clause-is
+returns-in-Bits-clause-is c = λ s x stands m. nothing c.args.moment.now.world.h.now s ∙ ap (λ (k : Conversion). refused c.args.moment.now.world.h.now s (convert x k)) (sym c.in-Bits.is)
+
 pub returns-in-Null-clause-is : goal.returns-in-Null-clause-is
 returns-in-Null-clause-is c = λ s x stands m. nothing c.args.moment.now.world.h.now s ∙ ap (λ (k : Conversion). refused c.args.moment.now.world.h.now s (convert x k)) (sym c.in-Null.is)
 

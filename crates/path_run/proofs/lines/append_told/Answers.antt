@@ -1,8 +1,8 @@
 use Rattle.std.proofs.Common.{◌++◌, List, ℕ, true, ap, sym, ◌∙◌}
 use Rattle.std.proofs.lemmas.List.{append-nil}
 use Rattle.abi_sound.specs.Places.{places_of}
-use Rattle.abi_out.specs.OutTexts.{out_text}
-use Rattle.abi_told.proofs.Texts.{text_all, text_more}
+use Rattle.text_told.specs.OutTexts.{out_text}
+use Rattle.text_told.proofs.Texts.{text_all, text_more}
 use Rattle.path_run.proofs.lines.append_told.Goals as goal
 
 pub append_out-requires-clause-told : goal.append_out-requires-clause-told

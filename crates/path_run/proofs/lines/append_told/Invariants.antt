@@ -1,6 +1,6 @@
 use Rattle.std.proofs.Common.{◌≡◌, ◌++◌, take}
 use Rattle.abi_sound.specs.Places.{places_of}
-use Rattle.abi_out.specs.OutTexts.{text_of}
+use Rattle.text_told.specs.OutTexts.{text_of}
 use Rattle.path_run.proofs.lines.append_told.Given as goal
 
 -- the lines so far stand behind the text

@@ -1,6 +1,6 @@
 use Rattle.std.proofs.Common.{◌≡◌, ◌≤◌, ◌∙◌, ℕ, List, ◌++◌, ◌∷◌, [], map, length, arith, ap}
 use Rattle.std.proofs.lemmas.List.{take_all}
-use Rattle.abi_out.proofs.Steps.{map_one_more}
+use Rattle.text_told.proofs.Steps.{map_one_more}
 use Rattle.path_run.proofs.SizeLists.{row_size, sizes_are}
 use Rattle.path_run.proofs.sizes.sizes_of.Goals as goal
 

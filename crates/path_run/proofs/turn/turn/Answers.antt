@@ -5,8 +5,8 @@ use Rattle.path_model.specs.declared.outs.Out.{Out}
 use Rattle.path_machine.specs.Turns.{taken_by}
 use Rattle.path_machine.specs.Tellings.{is_told}
 use Rattle.abi_sound.specs.Places.{places_of}
-use Rattle.abi_told.specs.Told.{text_limit}
-use Rattle.abi_told.proofs.Telling.{steps_told}
+use Rattle.text_told.specs.Told.{text_limit}
+use Rattle.text_told.proofs.Telling.{steps_told}
 use Rattle.path_run.specs.invariants.Going.{all_told}
 use Rattle.path_run.proofs.Turning.{ends_run, goes_on, lines_are, passes_limit, traced}
 use Rattle.path_run.proofs.turn.turn.Goals as goal

@@ -12,7 +12,7 @@ use Rattle.abi_sound.proofs.sound_layout.SoundLayout.place.Goals as goal
 
 -- a place is below 1,048,576
 small : (h : Classes) (rows : List ClassLayout) (c : ClassId) (s : Subobject) → IsSoundLayout h rows → c.0 < length h → IsSubobject h c s → place_of h rows c s < 1048576
-small h rows c s sound lt is = let b = below h rows sound c s lt is in let m = sound.sizes.bounded c lt in omega (arith, b, m)
+small h rows c s sound lt is = let b = below h rows sound c s lt is in let m = (sound.each c lt).bounded in omega (arith, b, m)
 
 pub sum_of_path-requires-clause-small : goal.sum_of_path-requires-clause-small
 sum_of_path-requires-clause-small g c =

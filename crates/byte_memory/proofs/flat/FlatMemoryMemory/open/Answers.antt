@@ -1,14 +1,15 @@
-use Rattle.std.proofs.Common.{rules, arith, ◌≡◌, ◌+◌, ◌-◌, ◌*◌, ◌/◌, ◌≤◌, ◌∙◌, length, max, ap, refl, take, ◌++◌, [], ◌∷◌, ◌<◌, true, replicate, not, Option, None, ℕ}
+use Rattle.std.proofs.Common.{rules, arith, ◌≡◌, ◌+◌, ◌-◌, ◌*◌, ◌/◌, ◌≤◌, ◌∙◌, length, max, ap, refl, take, ◌++◌, [], ◌∷◌, ◌<◌, true, replicate, not}
 use Rattle.std.specs.Result.{is_ok}
 use Rattle.std.specs.Prelude.{vec_len}
 use Rattle.std.proofs.lemmas.Grind.{common_steps}
 use Rattle.byte_memory.specs.declared.memory.Region.{Region}
+use Rattle.byte_memory.specs.declared.cells.Cell.{Cell}
 use Rattle.std.proofs.lemmas.List.Elements.{All-push}
 use Rattle.std.proofs.lemmas.List.Sums.{sum_by-append}
 use Rattle.byte_memory.specs.Regions.{rounded}
-use Rattle.byte_memory.specs.Cells.{byte_of}
+use Rattle.byte_memory.specs.Words.{bits_in}
 use Rattle.byte_memory.proofs.Ascending.{IsAscendingBy-push}
-use Rattle.byte_memory.proofs.ByteCells.{byte_of-unset_after, byte_of_past}
+use Rattle.byte_memory.proofs.CellBits.{bits_in-unset_after, bits_in_past}
 use Rattle.byte_memory.proofs.flat.FlatMemoryMemory.open.Goals as goal
 
 pub returns : goal.returns
@@ -20,8 +21,9 @@ returns c =
     let regions = rw (pushed, c.try_reserve.ensures.items) at c.push.ensures.items in
     let cells = rw resized at c.resize.ensures.items in
     let whole : take (c.max-start.result + c.args.size) c.args.self.now.cells.items ≡ c.args.self.now.cells.items = grind (arith, common_steps) in
-    let bytes : byte_of c.resize.new.self.items ≡ byte_of c.args.self.now.cells.items = ap byte_of (cells ∙ ap (λ front. front ++ replicate {A = Option ℕ} (c.max-start.result + c.args.size - vec_len c.args.self.now.cells) None) whole) ∙ byte_of-unset_after c.args.self.now.cells.items (c.max-start.result + c.args.size - vec_len c.args.self.now.cells) in
-    (record { aligned = omega (arith, start); positive = omega (arith, start); limit = omega (arith, start, c.args.self.now.total, c.requires.room); above = search rules; fresh = λ a past. byte_of_past c.args.self.now.cells.items a (omega (arith, start)) }, rw (regions, bytes) refl)
+    let unset : Cell = record { value = 0; set = 0 } in
+    let bits : bits_in c.resize.new.self.items ≡ bits_in c.args.self.now.cells.items = ap bits_in (cells ∙ ap (λ front. front ++ replicate (c.max-start.result + c.args.size - vec_len c.args.self.now.cells) unset) whole) ∙ bits_in-unset_after c.args.self.now.cells.items (c.max-start.result + c.args.size - vec_len c.args.self.now.cells) in
+    (record { aligned = omega (arith, start); positive = omega (arith, start); limit = omega (arith, start, c.args.self.now.total, c.requires.room); above = search rules; fresh = λ place past. bits_in_past c.args.self.now.cells.items place (omega (arith, start, past)) }, rw (regions, bits) refl)
 
 pub invariant_of-self-else-is_err-3 : goal.invariant_of-self-else-is_err-3
 invariant_of-self-else-is_err-3 c =

@@ -1,8 +1,0 @@
-use Rattle.abi_casts.proofs.Joining.{cast_can, cast_answers}
-use Rattle.abi_casts.proofs.laws.casts.Goals as goal
-
-pub returns-clause-can : goal.returns-clause-can
-returns-clause-can _ h rows x placed memory start parts s c stands few there class dynamic = cast_can h rows x placed memory start stands parts s c few there class dynamic
-
-pub returns-clause-answer : goal.returns-clause-answer
-returns-clause-answer _ h rows x placed memory start s c target result stands there class dynamic casts = cast_answers h rows x placed memory start stands s c target result there class dynamic casts

@@ -1,8 +1,0 @@
-use Rattle.std.proofs.Common.{drop}
-use Rattle.abi_ops.specs.Setups.{setup}
-use Rattle.abi_code.specs.invariants.Codes.{routines_from}
-use Rattle.abi_code.specs.invariants.Lowerings.{Completes}
-use Rattle.abi_code.proofs.lowering.Lowering.rows.Given as goal
-
-abbrev pub invariant-loop-r : goal.invariant-loop-r
-invariant-loop-r g l = Completes (setup l.self.h.now (g.L.SoundLayout.rows l.self.layout.now) l.self.program.now) l.rows l.next (routines_from (drop l.r-index l.list))

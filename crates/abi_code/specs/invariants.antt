@@ -1,4 +1,0 @@
-pub mod Numbers
-pub mod Codes
-pub mod Runs
-pub mod Lowerings

@@ -1,5 +1,0 @@
-pub mod Pushed
-pub mod MemberSteps
-pub mod CopySteps
-pub mod CoverSteps
-pub mod Near

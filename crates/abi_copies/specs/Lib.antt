@@ -1,3 +1,0 @@
-pub mod CopyTests
-pub mod CopyOps
-pub mod invariants

@@ -1,8 +1,0 @@
-use Rattle.std.proofs.Common.{◌≡◌}
-use Rattle.abi_sound.specs.Places.{places_of}
-use Rattle.abi_count.specs.Counts.{words_to}
-use Rattle.abi_count.specs.invariants.Weights.{cut}
-use Rattle.abi_count.proofs.check.all_words.Given as goal
-
-abbrev pub invariant-loop-n : goal.invariant-loop-n
-invariant-loop-n g l = l.sum ≡ cut (words_to l.h (places_of l.h (g.L.SoundLayout.rows l.layout)) l.n)

@@ -1,7 +1,0 @@
-use Rattle.std.proofs.Common.{◌≡◌, take}
-use Rattle.cxx_subobject.specs.invariants.Counts.{own_bases}
-use Rattle.abi_count.specs.invariants.Weights.{cut, number_of}
-use Rattle.abi_count.proofs.numbers.base_sum.Given as goal
-
-abbrev pub invariant-loop-base : goal.invariant-loop-base
-invariant-loop-base l = l.sum ≡ cut (own_bases (number_of l.numbers) (take l.base-index l.bases))

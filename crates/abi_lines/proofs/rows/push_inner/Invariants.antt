@@ -1,6 +1,0 @@
-use Rattle.std.proofs.Common.{◌≡◌, ◌++◌, map, take}
-use Rattle.abi_lines.specs.LeafRows.{inner_row}
-use Rattle.abi_lines.proofs.rows.push_inner.Given as goal
-
-abbrev pub invariant-loop-row : goal.invariant-loop-row
-invariant-loop-row l = l.rows.items ≡ l.fn.rows.items ++ map (inner_row l.place l.name) (take l.row-index l.inside)

@@ -1,4 +1,0 @@
-pub mod LeafRows
-pub mod RawDumps
-pub mod RawTexts
-pub mod Reads

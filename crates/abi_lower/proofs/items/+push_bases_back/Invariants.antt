@@ -1,5 +1,0 @@
-use Rattle.std.proofs.Common.{length}
-use Rattle.abi_lower.proofs.items.+push_bases_back.Given as goal
-
-abbrev pub decreases-push_bases_back : goal.decreases-push_bases_back
-decreases-push_bases_back l = length l.bases.now

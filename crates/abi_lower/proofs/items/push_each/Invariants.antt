@@ -1,8 +1,0 @@
-use Rattle.std.proofs.Common.{◌≡◌, ◌++◌, take}
-use Rattle.path_plan.specs.Plans.{InFull}
-use Rattle.abi_lower.specs.Items.{shared_items}
-use Rattle.abi_lower.specs.invariants.ItemCodes.{item_codes}
-use Rattle.abi_lower.proofs.items.push_each.Given as goal
-
-abbrev pub invariant-loop-v : goal.invariant-loop-v
-invariant-loop-v l = l.list ≡ l.fn.list ++ item_codes (shared_items InFull (take l.v-index l.order))

@@ -1,6 +1,0 @@
-use Rattle.std.proofs.Common.{◌≡◌, ◌++◌, take}
-use Rattle.abi_ops.specs.Operands.{ops_of}
-use Rattle.abi_ops.proofs.operands.push_done.Given as goal
-
-abbrev pub invariant-loop-op : goal.invariant-loop-op
-invariant-loop-op l = l.ops ≡ l.fn.ops ++ ops_of (take l.op-index l.list)

@@ -1,5 +1,0 @@
-use Rattle.std.proofs.Common.{length}
-use Rattle.abi_ops.proofs.places.+push_passed_used.Given as goal
-
-abbrev pub decreases-push_passed_used : goal.decreases-push_passed_used
-decreases-push_passed_used g l = length l.passed.now

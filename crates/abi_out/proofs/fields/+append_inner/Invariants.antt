@@ -1,5 +1,0 @@
-use Rattle.std.proofs.Common.{length}
-use Rattle.abi_out.proofs.fields.+append_inner.Given as goal
-
-abbrev pub decreases-append_inner : goal.decreases-append_inner
-decreases-append_inner l = length l.hops.now

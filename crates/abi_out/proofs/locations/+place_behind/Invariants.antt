@@ -1,5 +1,0 @@
-use Rattle.std.proofs.Common.{length}
-use Rattle.abi_out.proofs.locations.+place_behind.Given as goal
-
-abbrev pub decreases-place_behind : goal.decreases-place_behind
-decreases-place_behind g l = length l.hops.now

@@ -1,6 +1,0 @@
-use Rattle.std.proofs.Common.{◌≡◌, ◌++◌, map, take}
-use Rattle.abi_out.specs.Pointers.{moved}
-use Rattle.abi_out.proofs.pointers.push_moved.Given as goal
-
-abbrev pub invariant-loop-pointer : goal.invariant-loop-pointer
-invariant-loop-pointer l = l.list.items ≡ l.fn.list.items ++ map (moved l.by) (take l.pointer-index l.inside)

@@ -1,5 +1,0 @@
-pub mod Fields
-pub mod Pointers
-pub mod Dumps
-pub mod OutTexts
-pub mod invariants

@@ -1,9 +1,0 @@
--- Each law is a lemma.
-use Rattle.abi_plan_turns.proofs.BodyTurns.{constructor_turn, destructor_turn}
-use Rattle.abi_plan_turns.proofs.laws.ends_of_bodies_agree.Goals as goal
-
-pub returns-clause-constructor : goal.returns-clause-constructor
-returns-clause-constructor c = constructor_turn
-
-pub returns-clause-destructor : goal.returns-clause-destructor
-returns-clause-destructor c = destructor_turn

@@ -1,9 +1,0 @@
--- Each law is a lemma.
-use Rattle.abi_plans.proofs.Planned.{planned_step, planned_body}
-use Rattle.abi_plans.proofs.laws.parts_go_on.Goals as goal
-
-pub returns-clause-event : goal.returns-clause-event
-returns-clause-event c = planned_step
-
-pub returns-clause-body : goal.returns-clause-body
-returns-clause-body c = planned_body

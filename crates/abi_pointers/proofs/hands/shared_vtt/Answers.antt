@@ -1,5 +1,0 @@
-use Rattle.abi_pointers.proofs.Known.{virtual_known}
-use Rattle.abi_pointers.proofs.hands.shared_vtt.Goals as goal
-
-pub has_virtual-requires-clause-known : goal.has_virtual-requires-clause-known
-has_virtual-requires-clause-known g c = virtual_known c.args.site.now.h.now c.keeps.ensures c.args.c c.args.v c.requires.known c.requires.base

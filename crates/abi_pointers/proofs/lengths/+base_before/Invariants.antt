@@ -1,5 +1,0 @@
-use Rattle.std.proofs.Common.{length}
-use Rattle.abi_pointers.proofs.lengths.+base_before.Given as goal
-
-abbrev pub decreases-base_before : goal.decreases-base_before
-decreases-base_before g l = length l.bases.now

@@ -1,5 +1,0 @@
-use Rattle.std.proofs.Common.{length}
-use Rattle.abi_pointers.proofs.lengths.+base_sum.Given as goal
-
-abbrev pub decreases-base_sum : goal.decreases-base_sum
-decreases-base_sum g l = length l.bases.now

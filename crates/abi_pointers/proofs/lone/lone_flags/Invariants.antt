@@ -1,7 +1,0 @@
-use Rattle.std.proofs.Common.{◌≡◌, length}
-use Rattle.abi_sound.specs.Places.{places_of}
-use Rattle.abi_pointers.specs.ClassTables.{TellLone}
-use Rattle.abi_pointers.proofs.lone.lone_flags.Given as goal
-
-abbrev pub invariant-loop-n : goal.invariant-loop-n
-invariant-loop-n g l = record { size : length l.flags.items ≡ l.n; tell : TellLone l.h (places_of l.h (g.L.SoundLayout.rows l.layout)) l.flags.items }

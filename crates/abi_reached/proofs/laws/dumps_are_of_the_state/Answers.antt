@@ -1,5 +1,0 @@
-use Rattle.abi_reached.proofs.Dumps.{dumps_are_of_the_state}
-use Rattle.abi_reached.proofs.laws.dumps_are_of_the_state.Goals as goal
-
-pub returns : goal.returns
-returns c = dumps_are_of_the_state

@@ -1,3 +1,0 @@
-pub mod Rights
-pub mod Statements
-pub mod invariants

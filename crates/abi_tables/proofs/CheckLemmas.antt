@@ -1,0 +1,39 @@
+-- The words of all classes, step by step.
+use Rattle.std.proofs.Common.{◌≡◌, ℕ, suc, ◌+◌, ◌<◌, zero, true, List, [], ◌∷◌, length, get_or, ap, subst, sym, arith, add-one}
+use Rattle.std.specs.Prelude.{All}
+use Rattle.cxx_hierarchy.specs.declared.records.ClassId.{ClassId}
+use Rattle.cxx_hierarchy.specs.Classes.{Classes}
+use Rattle.cxx_hierarchy.specs.Hierarchies.{IsHierarchy}
+use Rattle.cxx_subobject.specs.Subobjects.{IsSubobject, whole, whole_of}
+use Rattle.cxx_subobject.specs.VirtualBases.{virtual_bases}
+use Rattle.cxx_subobject.proofs.VirtualBaseLemmas.{virtual_has}
+use Rattle.abi_primary.specs.Kinds.{IsDynamic}
+use Rattle.abi_primary.proofs.KindLemmas.{base_dynamic}
+use Rattle.abi_sound.specs.Places.{Places}
+use Rattle.abi_slots.specs.Views.{is_dynamic}
+use Rattle.abi_slots.proofs.Chains.{same_some}
+use Rattle.abi_slots.proofs.Heads.{test_dynamic}
+use Rattle.abi_vtt.specs.Vtts.{has_virtual, HasDynamicClass}
+use Rattle.abi_tables.specs.Counts.{class_words, words_to}
+use Rattle.abi_tables.specs.invariants.Weights.{cut}
+use Rattle.abi_tables.proofs.VttSums.{first_of}
+
+pub virtual_dynamic : (h : Classes) (c : ClassId) → has_virtual h c ≡ true → IsDynamic h c
+virtual_dynamic h c e = let r = first_of (virtual_bases h c) e in base_dynamic h c r.0 (virtual_has h c r.0 r.1)
+
+pub one_all : {X : Type 0} (P : X → Type 0) (x : X) → P x → All P (x ∷ [])
+one_all P x holds zero d lt = holds
+one_all P x holds (suc k) d lt = absurd (omega arith)
+
+pub whole_valid : (h : Classes) (c : ClassId) → IsSubobject h c (whole_of c)
+whole_valid h c = whole [] tt
+
+pub whole_dynamic : (h : Classes) → IsHierarchy h → (c : ClassId) → is_dynamic h c ≡ true → HasDynamicClass h (whole_of c)
+whole_dynamic h keeps c e d class = subst (λ b. IsDynamic h b) (same_some c d class) (test_dynamic h keeps c e)
+
+-- of all, the one at a place
+pub all_at : {X : Type 0} (P : X → Type 0) (xs : List X) (i : ℕ) (x : X) → All P xs → i < length xs → x ≡ get_or xs i x → P x
+all_at P xs i x all lt is = subst P (sym is) (all i x lt)
+
+pub one_class_more : (h : Classes) (l : Places) (n : ℕ) → cut (words_to h l n + class_words h l (record { 0 = n })) ≡ cut (words_to h l (n + 1))
+one_class_more h l n = ap (λ k. cut (words_to h l k)) (sym (add-one n))

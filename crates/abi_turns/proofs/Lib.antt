@@ -1,4 +1,0 @@
-pub mod Statements
-pub mod StatementKinds
-pub mod Ends
-pub mod Turns

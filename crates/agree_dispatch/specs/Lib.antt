@@ -1,0 +1,5 @@
+pub mod Standing
+pub mod Words
+pub mod Results
+pub mod Pointers
+pub mod CastStanding

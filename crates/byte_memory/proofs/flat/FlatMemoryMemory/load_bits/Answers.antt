@@ -1,0 +1,23 @@
+use Rattle.std.proofs.Common.{rules, arith, ◌≡◌, ◌∙◌, ◌*◌, ◌+◌, ap, sym, None}
+use Rattle.byte_memory.specs.Bits.{number_from}
+use Rattle.byte_memory.specs.Regions.{fault_at}
+use Rattle.byte_memory.specs.Store.{byte_span}
+use Rattle.byte_memory.specs.Words.{bits_in}
+use Rattle.byte_memory.proofs.BitNumbers.{number_from-word}
+use Rattle.byte_memory.proofs.Reached.{reached}
+use Rattle.byte_memory.proofs.flat.FlatMemoryMemory.load_bits.Goals as goal
+
+pub read_word-word-requires-clause-within : goal.read_word-word-requires-clause-within
+read_word-word-requires-clause-within c = rw c.deref-2.ensures.value (reached _ _ _ _ c.args.self.now.ends (rw c.deref.ensures.value at c.in_ok-check.ensures))
+
+pub returns-clause-value : goal.returns-clause-value
+returns-clause-value c =
+    let regions = c.args.self.now.regions.items in
+    let bit = bits_in c.args.self.now.cells.items in
+    let span = c.byte_span-span.ensures in
+    let reach = rw c.deref.ensures.value at c.in_ok-check.ensures in
+    let inside : fault_at regions c.args.at (byte_span c.args.first c.args.bits) ≡ None = ap (fault_at regions c.args.at) (sym span) ∙ reach in
+    let read = rw c.deref-2.ensures.value at c.read_word-word.ensures.bits in
+    let number : c.number_in.result ≡ number_from bit (8 * c.args.at + c.args.first) c.args.bits =
+    c.number_in.ensures.value ∙ number_from-word bit c.args.at c.byte_span-span.result c.args.first c.args.bits c.read_word-word.result (omega arith) read in
+    rw (inside, ← number) (search rules)

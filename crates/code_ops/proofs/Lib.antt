@@ -1,0 +1,4 @@
+pub mod Bases
+pub mod Pushes
+pub mod Members
+pub mod BitFields

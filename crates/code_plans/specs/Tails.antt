@@ -1,0 +1,30 @@
+-- What is left of a plan, as code has it, and the numbers of the blocks at which routines begin.
+use Rattle.std.specs.Prelude.{◌≡◌, ℕ, List}
+use Rattle.cxx_hierarchy.specs.declared.records.ClassId.{ClassId}
+use Rattle.path_plan.specs.Plans.{Form}
+use Rattle.abi_sound.specs.declared.class_layout.ClassLayout.{ClassLayout}
+use Rattle.abi_slots.specs.declared.code_numbers.CodeRow.{CodeRow}
+use Rattle.code_ops.specs.Setups.{Setup, Routine}
+use Rattle.code_ops.specs.Routines.{IsRoutine, start_by}
+use Rattle.code_ops.specs.declared.routines.Course.{Course}
+use Rattle.code_blocks.specs.declared.items.Item.{Item as ItemCode}
+use Rattle.code_blocks.specs.Items.{Item}
+use Rattle.code_blocks.specs.Blocks.{Place, first_place}
+use Rattle.code_blocks.specs.Lowered.{IsEnd}
+use Rattle.code_blocks.specs.invariants.ItemCodes.{form_of, item_codes}
+use Rattle.code_plans.specs.declared.plan_sites.ClassPlan.{ClassPlan}
+use Rattle.code_plans.specs.declared.plan_sites.PlanSite.{PlanSite}
+use Rattle.code_plans.specs.PlanSites.{plan_setup}
+
+-- the codes are those of an end of a plan
+pub record AreLeft (x : Setup) (course : Course) (form : Form) (c : ClassId) (codes : List ItemCode) : Type 0 where
+  pub left : List Item
+  pub is : codes ≡ item_codes left
+  pub end : IsEnd x course form c left
+
+abbrev pub IsLeftOf : {L : Type 0} → (L → List ClassLayout) → PlanSite L → ClassPlan → List ItemCode → Type 0
+IsLeftOf rows site plan codes = AreLeft (plan_setup rows site) plan.course (form_of plan.form) plan.class codes
+
+-- each routine of the program begins at the block that the numbers of code give
+pub record StartsBy (x : Setup) (at : Place → ℕ) (numbers : List CodeRow) : Type 0 where
+  pub each : (r : Routine) → IsRoutine x r → at (first_place x r) ≡ start_by x numbers r

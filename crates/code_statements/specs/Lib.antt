@@ -1,0 +1,5 @@
+pub mod Rights
+pub mod Statements
+pub mod invariants
+pub mod CopyTests
+pub mod CopyOps

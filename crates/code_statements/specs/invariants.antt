@@ -1,0 +1,4 @@
+pub mod Fits
+pub mod Sites
+pub mod CopyFits
+pub mod Pushes

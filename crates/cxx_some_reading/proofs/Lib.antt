@@ -1,9 +1,0 @@
-pub mod Vectors
-pub mod Meanings
-pub mod Fronts
-pub mod Rights
-pub mod Statements
-pub mod Parts
-pub mod Items
-pub mod Runs
-pub mod Owners

@@ -1,0 +1,4 @@
+pub mod Paged
+pub mod Pages
+pub mod Slots
+pub mod Columns

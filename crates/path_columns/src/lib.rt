@@ -1,0 +1,17 @@
+//! Columns: lists of items by number, of which memory holds only those pages in which an item was set.
+//!
+//! A column is a list that is made longer by a blank item, as often as is wanted, at no cost. Its pages are found in two steps, by
+//! tables that are pages themselves, so that a number that nothing was set near to takes no memory but four bytes for each 256.
+//! This crate owns what stands at a number (`specs/Paged.antt`).
+//!
+//! The layer above may rely on the calls of `Column`: a contract sees the list and the blank item. `set` alone takes memory, and
+//! alone can want it.
+#![tactic(auto)]
+
+pub mod column;
+pub mod pages;
+pub mod slots;
+
+pub use crate::column::Column;
+pub use crate::pages::Pages;
+pub use crate::slots::Slots;

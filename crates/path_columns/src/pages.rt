@@ -1,0 +1,112 @@
+//! Numbers by number, in pages.
+
+ghost use Rattle.std.specs.Prelude.{◌≡◌, ◌<◌, ℕ, IfOk, OnErr, nat_eq, if◌then◌else◌, slice_index_or, length, slice_set};
+ghost use Rattle.path_columns.specs.Paged.{ArePages};
+
+use foundation::NoMemory;
+use std::alloc::Global;
+
+/// How many numbers a page has.
+const WIDTH: u32 = 64;
+
+/// Makes a list longer, until it has this place.
+pub(crate) fn reach<T: Copy + Drop>(
+    list: &mut Vec<T>,
+    place: usize,
+    blank: T,
+) -> Result<(), NoMemory>
+    ensures same { (i : ℕ) → slice_index_or list.new.items i blank ≡ slice_index_or list.old.items i blank }
+    ensures reached { IfOk result (λ _. place < length list.new.items) }
+{
+    while list.len() <= place {
+        list.push(blank)?;
+    }
+    Ok(())
+}
+
+/// A number for each number, 0 where none was set. Memory is taken for those pages of 64 numbers in which one was set.
+#[derive(Drop)]
+pub struct Pages {
+    /// Where the page of each 64 numbers stands among the pages, counted from 1; 0 where it is not there.
+    table: Vec<u32>,
+    /// The pages, one behind the other.
+    entries: Vec<u32>,
+    /// How many pages there are.
+    count: u32,
+    ghost paged: { ArePages (λ p. slice_index_or table.items p 0) entries.items 0 64 count },
+}
+
+impl Pages {
+    ghost use Rattle.path_columns.specs.Pages.{number_at};
+
+    /// Nothing is set. It takes no memory.
+    pub fn new(alloc: Global) -> Pages
+        ensures { (n : ℕ) → number_at result n ≡ 0 }
+    {
+        Pages {
+            table: Vec::new(alloc),
+            entries: Vec::new(alloc),
+            count: 0,
+        }
+    }
+
+    /// Where a page stands, counted from 1; 0 where it is not there.
+    fn place(&self, page: u32) -> u32
+        ensures { result ≡ slice_index_or self.now.table.items page 0 }
+    {
+        match self.table.get(page as usize) {
+            Some(place) => *place,
+            None => 0,
+        }
+    }
+
+    /// The number that was set at a number; 0 where none was.
+    pub fn get(&self, n: u32) -> u32
+        ensures { result ≡ number_at self.now n }
+    {
+        let place = self.place(n / WIDTH);
+        if place == 0 {
+            return 0;
+        }
+        let at = (place - 1) as usize * WIDTH as usize + (n % WIDTH) as usize;
+        match self.entries.get(at) {
+            Some(number) => *number,
+            None => 0,
+        }
+    }
+
+    /// Opens a page, where it is not there: where it stands, counted from 1.
+    ///
+    /// Errors: want of memory. Each number has what it had.
+    fn open(&mut self, page: u32) -> Result<u32, NoMemory>
+        ensures same { (n : ℕ) → number_at self.new n ≡ number_at self.old n }
+        ensures open { IfOk result (λ place. (0 < place) × (slice_index_or self.new.table.items page 0 ≡ place)) }
+    {
+        let place = self.place(page);
+        if place > 0 {
+            return Ok(place);
+        }
+        if self.count == u32::MAX {
+            return Err(NoMemory);
+        }
+        reach(&mut self.table, page as usize, 0)?;
+        let count = self.count + 1;
+        self.table[page as usize] = count;
+        self.count = count;
+        Ok(count)
+    }
+
+    /// Sets the number of a number.
+    ///
+    /// Errors: want of memory. Each number then has what it had.
+    pub fn set(&mut self, n: u32, number: u32) -> Result<(), NoMemory>
+        ensures set { IfOk result (λ _. (m : ℕ) → number_at self.new m ≡ (if nat_eq m n then number else number_at self.old m)) }
+        ensures kept { OnErr result ((m : ℕ) → number_at self.new m ≡ number_at self.old m) }
+    {
+        let place = self.open(n / WIDTH)?;
+        let at = (place - 1) as usize * WIDTH as usize + (n % WIDTH) as usize;
+        reach(&mut self.entries, at, 0)?;
+        self.entries[at] = number;
+        Ok(())
+    }
+}

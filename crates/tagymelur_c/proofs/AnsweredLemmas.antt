@@ -1,0 +1,99 @@
+-- From what the program's call says of a sink to what stands in a buffer.
+use Rattle.std.proofs.Common.{◌≡◌, ℕ, ◌<◌, Option, Some, None, List, [], ◌++◌, take, drop, length, refl, sym, ◌∙◌, ap, subst, arith}
+use Rattle.std.proofs.lemmas.List.{append_assoc, take-append-drop}
+use Rattle.cxxabi_cmd.specs.declared.status.Status.{Status}
+use Rattle.cxxabi_cmd.specs.declared.status.Status.TheVariants.{Done, Refused, Usage, Undefined, OutOfSteps, Limit, ReadFault, WriteFault, NoMemory}
+use Rattle.cxxabi_cmd.specs.Statuses.{code_of}
+use Rattle.cxxabi_cmd.specs.Output.{Answers, BreaksOff, IsAnswered, IsSilent}
+use Rattle.tagymelur_c.specs.Answered.{IsWhole, IsFront}
+
+-- a code below 6 is that of an answer
+answered_of : (status : Status) → code_of status < 6 → IsAnswered status
+answered_of Done low = tt
+answered_of (Refused rule at) low = tt
+answered_of (Undefined number line) low = tt
+answered_of OutOfSteps low = tt
+answered_of (Limit limit) low = tt
+answered_of Usage low = tt
+answered_of ReadFault low = absurd (omega (arith, low))
+answered_of WriteFault low = absurd (omega (arith, low))
+answered_of NoMemory low = absurd (omega (arith, low))
+
+abbrev told_list : Option (List ℕ) → List ℕ
+told_list None = []
+told_list (Some xs) = xs
+
+same_list : (xs ys : List ℕ) → Some xs ≡ Some ys → xs ≡ ys
+same_list xs ys e = ap told_list e
+
+-- the sink had nothing, and has these bytes
+answers_from : (words : List (List ℕ)) (bytes taken : List ℕ) (before after : Option (List ℕ)) (status : Status) → before ≡ Some [] → after ≡ Some taken →
+    Answers words bytes before after status → Answers words bytes (Some []) (Some taken) status
+answers_from words bytes taken before after status b a found =
+    subst (λ (o : Option (List ℕ)). Answers words bytes o (Some taken) status) b (subst (λ (o : Option (List ℕ)). Answers words bytes before o status) a found)
+
+breaks_from : (words : List (List ℕ)) (bytes taken : List ℕ) (before after : Option (List ℕ)) → before ≡ Some [] → after ≡ Some taken →
+    BreaksOff words bytes before after → BreaksOff words bytes (Some []) (Some taken)
+breaks_from words bytes taken before after b a found =
+    subst (λ (o : Option (List ℕ)). BreaksOff words bytes o (Some taken)) b (subst (λ (o : Option (List ℕ)). BreaksOff words bytes before o) a found)
+
+-- the sink has the whole text of the answer
+pub whole_of : (words : List (List ℕ)) (bytes taken text : List ℕ) (before after : Option (List ℕ)) (status : Status) → before ≡ Some [] → after ≡ Some taken → text ≡ taken →
+    (IsAnswered status → Answers words bytes before after status) → code_of status < 6 → IsWhole words bytes (code_of status) text
+whole_of words bytes taken text before after status b a e answers low =
+    let found : Answers words bytes (Some []) (Some taken) status = answers_from words bytes taken before after status b a (answers (answered_of status low)) in
+    record { answer = found.answer; output = found.output; same = ap code_of found.same; is = e ∙ same_list taken found.answer.text found.text }
+
+front_of_text : (words : List (List ℕ)) (bytes taken : List ℕ) (status : Status) (n : ℕ) → Answers words bytes (Some []) (Some taken) status → IsFront words bytes (take n taken)
+front_of_text words bytes taken status n found =
+    record { answer = found.answer; output = found.output; rest = drop n taken; is = sym (same_list taken found.answer.text found.text) ∙ sym (take-append-drop n taken) }
+
+front_of_front : (words : List (List ℕ)) (bytes taken : List ℕ) (n : ℕ) → BreaksOff words bytes (Some []) (Some taken) → IsFront words bytes (take n taken)
+front_of_front words bytes taken n found =
+    let part : taken ≡ take found.part.count found.answer.text = same_list taken (take found.part.count found.answer.text) found.part.taken in
+    let behind : List ℕ = drop found.part.count found.answer.text in
+    record {
+      answer = found.answer;
+      output = found.output;
+      rest = drop n taken ++ behind;
+      is = sym (take-append-drop found.part.count found.answer.text) ∙ ap (λ (t : List ℕ). t ++ behind) (sym part ∙ sym (take-append-drop n taken)) ∙ append_assoc (take n taken) (drop n taken) behind;
+    }
+
+nothing_taken : (taken : List ℕ) (n : ℕ) (before after : Option (List ℕ)) → before ≡ Some [] → after ≡ Some taken → after ≡ before → n < length taken → ⊥
+nothing_taken taken n before after b a same short =
+    let none : length taken ≡ 0 = ap length (same_list taken [] (sym a ∙ same ∙ b)) in omega (arith, none, short)
+
+-- the front of what the sink took is a front of the answer's text, where the sink took more
+pub front_of : (words : List (List ℕ)) (bytes taken : List ℕ) (before after : Option (List ℕ)) (status : Status) (n : ℕ) → before ≡ Some [] → after ≡ Some taken → n < length taken →
+    (IsAnswered status → Answers words bytes before after status) → (status ≡ WriteFault → BreaksOff words bytes before after) → (IsSilent status → after ≡ before) → IsFront words bytes (take n taken)
+front_of words bytes taken before after Done n b a short answers breaks silent = front_of_text words bytes taken Done n (answers_from words bytes taken before after Done b a (answers tt))
+front_of words bytes taken before after (Refused rule at) n b a short answers breaks silent = front_of_text words bytes taken (Refused rule at) n (answers_from words bytes taken before after (Refused rule at) b a (answers tt))
+front_of words bytes taken before after (Undefined number line) n b a short answers breaks silent = front_of_text words bytes taken (Undefined number line) n (answers_from words bytes taken before after (Undefined number line) b a (answers tt))
+front_of words bytes taken before after OutOfSteps n b a short answers breaks silent = front_of_text words bytes taken OutOfSteps n (answers_from words bytes taken before after OutOfSteps b a (answers tt))
+front_of words bytes taken before after (Limit limit) n b a short answers breaks silent = front_of_text words bytes taken (Limit limit) n (answers_from words bytes taken before after (Limit limit) b a (answers tt))
+front_of words bytes taken before after Usage n b a short answers breaks silent = front_of_text words bytes taken Usage n (answers_from words bytes taken before after Usage b a (answers tt))
+front_of words bytes taken before after WriteFault n b a short answers breaks silent = front_of_front words bytes taken n (breaks_from words bytes taken before after b a (breaks refl))
+front_of words bytes taken before after ReadFault n b a short answers breaks silent = absurd (nothing_taken taken n before after b a (silent tt) short)
+front_of words bytes taken before after NoMemory n b a short answers breaks silent = absurd (nothing_taken taken n before after b a (silent tt) short)
+
+-- the whole of what the sink took is a front of the answer's text, where the code is that of a sink that failed
+pub front_of_fault : (words : List (List ℕ)) (bytes taken text : List ℕ) (before after : Option (List ℕ)) (status : Status) → before ≡ Some [] → after ≡ Some taken → text ≡ taken →
+    (status ≡ WriteFault → BreaksOff words bytes before after) → code_of status ≡ 7 → IsFront words bytes text
+front_of_fault words bytes taken text before after WriteFault b a e breaks is =
+    let found : BreaksOff words bytes (Some []) (Some taken) = breaks_from words bytes taken before after b a (breaks refl) in
+    let part : taken ≡ take found.part.count found.answer.text = same_list taken (take found.part.count found.answer.text) found.part.taken in
+    let behind : List ℕ = drop found.part.count found.answer.text in
+    record {
+      answer = found.answer;
+      output = found.output;
+      rest = behind;
+      is = sym (take-append-drop found.part.count found.answer.text) ∙ ap (λ (t : List ℕ). t ++ behind) (sym part ∙ sym e);
+    }
+front_of_fault words bytes taken text before after Done b a e breaks is = absurd (omega (arith, is))
+front_of_fault words bytes taken text before after (Refused rule at) b a e breaks is = absurd (omega (arith, is))
+front_of_fault words bytes taken text before after (Undefined number line) b a e breaks is = absurd (omega (arith, is))
+front_of_fault words bytes taken text before after OutOfSteps b a e breaks is = absurd (omega (arith, is))
+front_of_fault words bytes taken text before after (Limit limit) b a e breaks is = absurd (omega (arith, is))
+front_of_fault words bytes taken text before after Usage b a e breaks is = absurd (omega (arith, is))
+front_of_fault words bytes taken text before after ReadFault b a e breaks is = absurd (omega (arith, is))
+front_of_fault words bytes taken text before after NoMemory b a e breaks is = absurd (omega (arith, is))

@@ -1,0 +1,15 @@
+pub mod Bytes
+pub mod BitReads
+pub mod Zips
+pub mod Placed
+pub mod RowPlaces
+pub mod RowSteps
+pub mod LeafHops
+pub mod RowsOfLeaves
+pub mod Contents
+pub mod Found
+pub mod Addresses
+pub mod LeafReads
+pub mod DumpReads
+pub mod CallReads
+pub mod RawReads

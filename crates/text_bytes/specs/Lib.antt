@@ -1,0 +1,5 @@
+pub mod LeafRows
+pub mod RawDumps
+pub mod RawTexts
+pub mod Reads
+pub mod invariants

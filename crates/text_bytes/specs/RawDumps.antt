@@ -1,0 +1,107 @@
+-- The text of a dump, read from memory.
+use Rattle.std.specs.Prelude.{ℕ, ◌-◌, ◌^◌, Bool, false, nat_eq, if◌then◌else◌, Option, Some, None, Result, Ok, Err, List, [], ◌++◌, codes, map, take}
+use Rattle.std.specs.List.{flat_map}
+use Rattle.std.specs.Fmt.{decimal, signed_decimal}
+use Rattle.std.specs.Int.{w64, to_le_bytes}
+use Rattle.cxx_hierarchy.specs.declared.records.ClassId.{ClassId}
+use Rattle.cxx_hierarchy.specs.declared.records.ValueType.{ValueType}
+use Rattle.cxx_hierarchy.specs.declared.records.ValueType.TheVariants.{Number, Pointer}
+use Rattle.cxx_hierarchy.specs.Classes.{Classes, width_of_member}
+use Rattle.cxx_hierarchy.specs.Scalars.{size_of, is_signed}
+use Rattle.abi_sound.specs.Places.{Places, size_of_value}
+use Rattle.abi_sound.specs.Locations.{bits_of_value}
+use Rattle.byte_memory.specs.Store.{Store, load_of, load_bits_of}
+use Rattle.byte_memory.specs.declared.memory.MemoryFault.{MemoryFault}
+use Rattle.byte_code.specs.Numbers.{signed_in}
+use Rattle.byte_machine.specs.declared.heap.Opened.{Opened}
+use Rattle.byte_machine.specs.Heap.{object_at}
+use Rattle.byte_machine.specs.Running.{moved}
+use Rattle.abi_print.specs.Texts.{location_text}
+use Rattle.abi_print.specs.LayoutTexts.{bits_text, name_of, value_text}
+use Rattle.text_told.specs.declared.items.Item.{Item}
+use Rattle.text_told.specs.Fields.{member_at, value_type}
+use Rattle.text_told.specs.Pointers.{pointers_of}
+use Rattle.text_told.specs.Dumps.{by_place, byte_text, bytes_touched, lines_from, pointer_item, unset_text}
+use Rattle.text_bytes.specs.declared.rows.LeafRow.{LeafRow}
+use Rattle.text_bytes.specs.LeafRows.{leaf_rows}
+
+-- addresses
+
+-- the number of the heap object that has an address, and how far behind the start of that it is; nothing where none has it
+abbrev pub place_text : ℕ → Option Opened → List ℕ
+place_text at None = []
+place_text at (Some object) = location_text object.number (at - object.start)
+
+-- an address: `null` for 0, else its object and the place there
+abbrev pub address_text : List Opened → ℕ → List ℕ
+address_text objects at = if nat_eq at 0 then codes "null" else place_text at (object_at objects at)
+
+-- leaves
+
+-- the low bytes of a word as hexadecimal digits, from the lowest on
+abbrev pub bytes_text : ℕ → ℕ → List ℕ
+bytes_text size word = flat_map byte_text (take size (to_le_bytes w64 word))
+
+-- a word of a leaf: the bytes of a number, and a pointer as an address
+abbrev pub word_text : List Opened → ValueType ClassId → ℕ → List ℕ
+word_text objects (Number t) word = bytes_text (size_of t) word
+word_text objects (Pointer c) word = address_text objects word
+
+-- what a load of a leaf of this type answers; bytes that it cannot read are shown as unset
+abbrev pub loaded_text : List Opened → ValueType ClassId → Result ℕ MemoryFault → List ℕ
+loaded_text objects type (Ok word) = word_text objects type word
+loaded_text objects type (Err fault) = unset_text (size_of_value type)
+
+-- the bits of a type are read as two's complement
+abbrev pub is_signed_value : ValueType ClassId → Bool
+is_signed_value (Number t) = is_signed t
+is_signed_value (Pointer c) = false
+
+-- what a load of so many bits of this type answers: their number; bits that it cannot read are shown as unset
+abbrev pub number_text : ValueType ClassId → ℕ → Result ℕ MemoryFault → List ℕ
+number_text type width (Ok low) = signed_decimal (signed_in (2 ^ width) (is_signed_value type) low)
+number_text type width (Err fault) = codes "--"
+
+-- what stands in the leaf at an address: its bytes, and of a bit-field its first bit, its width and its number (ISO C++03 9.6)
+abbrev pub read_text : Store → List Opened → ℕ → Option ℕ → ℕ → ValueType ClassId → List ℕ
+read_text memory objects at None first type = loaded_text objects type (load_of memory at (size_of_value type))
+read_text memory objects at (Some width) first type = bits_text first width ++ codes " " ++ number_text type width (load_bits_of memory at first width)
+
+-- the leaf at an address: what stands there, its type and its name
+abbrev pub row_text : Classes → Store → List Opened → ℕ → Option ℕ → ℕ → ValueType ClassId → List ℕ → List ℕ
+row_text h memory objects at width first type name = read_text memory objects at width first type ++ codes " " ++ value_text h type ++ codes " " ++ name
+
+-- objects
+
+abbrev pub row_by_type : Classes → Store → List Opened → ℕ → LeafRow → Option ℕ → Option (ValueType ClassId) → Item
+row_by_type h memory objects start row width None = record { place = row.place; first = 0; size = 0; text = [] }
+row_by_type h memory objects start row width (Some type) = record {
+  place = row.place;
+  first = row.first;
+  size = bytes_touched row.first (bits_of_value width type);
+  text = row_text h memory objects (moved start row.place) width row.first type row.name;
+}
+
+-- a leaf of an object that starts there
+abbrev pub row_item : Classes → Store → List Opened → ℕ → LeafRow → Item
+row_item h memory objects start row = row_by_type h memory objects start row (width_of_member h row.class row.number) (value_type (member_at h (Some row.class) row.number))
+
+-- what lies in an object of class c: its virtual pointers, which are those that the layout gives to a complete object, and its leaves as they stand in memory
+abbrev pub raw_items : Classes → Places → Store → List Opened → ℕ → ClassId → List Item
+raw_items h l memory objects start c = map (pointer_item h) (pointers_of h l c) ++ map (row_item h memory objects start) (leaf_rows h l c)
+
+abbrev pub class_of_object : Opened → ClassId
+class_of_object object = record { 0 = object.class }
+
+-- the dump of a heap object: its number, class and size, and what lies in it by place, with the gaps
+abbrev pub object_text : Classes → Places → Store → List Opened → Opened → List ℕ
+object_text h l memory objects object = codes "dump #" ++ decimal object.number ++ codes " " ++ name_of h (class_of_object object) ++ codes " " ++ decimal (l.size (class_of_object object))
+    ++ lines_from (l.size (class_of_object object)) 0 (by_place (l.size (class_of_object object)) (raw_items h l memory objects object.start (class_of_object object)))
+
+abbrev pub dump_by : Classes → Places → Store → List Opened → Option Opened → List ℕ
+dump_by h l memory objects None = []
+dump_by h l memory objects (Some object) = object_text h l memory objects object
+
+-- the dump of the heap object that has an address
+abbrev pub raw_dump : Classes → Places → Store → List Opened → ℕ → List ℕ
+raw_dump h l memory objects at = dump_by h l memory objects (object_at objects at)

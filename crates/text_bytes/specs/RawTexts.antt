@@ -1,0 +1,84 @@
+-- The text of what a byte machine tells, by its own memory and heap objects.
+use Rattle.std.specs.Prelude.{ℕ, ◌<◌, Bool, true, false, not, nat_eq, ◌&&◌, if◌then◌else◌, Option, Some, None, List, [], ◌∷◌, ◌++◌, codes, filter, length}
+use Rattle.std.specs.List.{flat_map}
+use Rattle.std.specs.Fmt.{signed_decimal}
+use Rattle.cxx_hierarchy.specs.Classes.{Classes}
+use Rattle.cxx_overrider.specs.declared.FunctionId.{FunctionId}
+use Rattle.abi_sound.specs.Places.{Places}
+use Rattle.abi_slots.specs.declared.code_numbers.BlockKind.TheVariants.{Plain}
+use Rattle.abi_slots.specs.declared.code_numbers.CodeRow.{CodeRow}
+use Rattle.abi_slots.specs.CodeRows.{kind_number}
+use Rattle.byte_memory.specs.Store.{Store}
+use Rattle.byte_machine.specs.declared.heap.Opened.{Opened}
+use Rattle.byte_machine.specs.declared.turn.RawOut.{RawOut}
+use Rattle.byte_machine.specs.declared.turn.RawOut.TheVariants.{Number, Address, Class, Dump, Call, Built, Ending}
+use Rattle.byte_machine.specs.Heap.{object_at}
+use Rattle.abi_print.specs.LayoutTexts.{name_of}
+use Rattle.abi_print.specs.TableTexts.{function_text}
+use Rattle.text_bytes.specs.RawDumps.{address_text, raw_dump}
+
+-- the code of a plain function begins at a block
+abbrev pub begins_at : ℕ → CodeRow → Bool
+begins_at block row = nat_eq row.code block && nat_eq (kind_number row.kind) (kind_number Plain)
+
+-- the function whose code begins at a block
+abbrev pub function_at : List CodeRow → ℕ → Option FunctionId
+function_at [] block = None
+function_at (row ∷ rows) block = if begins_at block row then Some row.function else function_at rows block
+
+abbrev pub function_in : Classes → Option FunctionId → List ℕ
+function_in h None = []
+function_in h (Some f) = function_text h f
+
+-- what is told, without the line feed at its end; `rows` are the numbers of all code, by which a call names its function
+abbrev pub raw_line : Classes → Places → List CodeRow → Store → List Opened → RawOut → List ℕ
+raw_line h l rows memory objects (Number z) = signed_decimal z
+raw_line h l rows memory objects (Address at) = address_text objects at
+raw_line h l rows memory objects (Class c) = name_of h (record { 0 = c })
+raw_line h l rows memory objects (Dump at) = raw_dump h l memory objects at
+raw_line h l rows memory objects (Call block this) = codes "call " ++ function_in h (function_at rows block) ++ codes " " ++ address_text objects this
+raw_line h l rows memory objects (Built c at) = codes "built " ++ name_of h (record { 0 = c }) ++ codes " " ++ address_text objects at
+raw_line h l rows memory objects (Ending c at) = codes "ending " ++ name_of h (record { 0 = c }) ++ codes " " ++ address_text objects at
+
+-- the text of what is told: a line, or the lines of a dump
+abbrev pub raw_text : Classes → Places → List CodeRow → Store → List Opened → RawOut → List ℕ
+raw_text h l rows memory objects raw = raw_line h l rows memory objects raw ++ 10 ∷ []
+
+-- calls, and the ends of constructions and begins of destructions, are told in a trace alone
+abbrev pub is_traced : RawOut → Bool
+is_traced (Number z) = false
+is_traced (Address at) = false
+is_traced (Class c) = false
+is_traced (Dump at) = false
+is_traced (Call block this) = true
+is_traced (Built c at) = true
+is_traced (Ending c at) = true
+
+-- what is told without a trace too
+abbrev pub printed : List RawOut → List RawOut
+printed told = filter (λ raw. not (is_traced raw)) told
+
+-- what a run shows: all that it tells where it is traced, else what is printed
+abbrev pub shown : Bool → List RawOut → List RawOut
+shown true told = told
+shown false told = printed told
+
+-- the text of what is shown, in order
+abbrev pub raw_texts : Classes → Places → List CodeRow → Store → List Opened → List RawOut → List ℕ
+raw_texts h l rows memory objects told = flat_map (raw_text h l rows memory objects) told
+
+-- the object that is to be dumped
+
+abbrev pub IsKnown : Classes → Option Opened → Type 0
+IsKnown h None = Unit {0}
+IsKnown h (Some object) = object.class < length h
+
+-- an object that is to be dumped is of a class of the hierarchy
+abbrev pub HasText : Classes → List Opened → RawOut → Type 0
+HasText h objects (Number z) = Unit {0}
+HasText h objects (Address at) = Unit {0}
+HasText h objects (Class c) = Unit {0}
+HasText h objects (Dump at) = IsKnown h (object_at objects at)
+HasText h objects (Call block this) = Unit {0}
+HasText h objects (Built c at) = Unit {0}
+HasText h objects (Ending c at) = Unit {0}

@@ -1,0 +1,14 @@
+pub mod LastMembers
+pub mod Leading
+pub mod Sorting
+pub mod Objects
+pub mod Contents
+pub mod Steps
+pub mod RunDumps
+pub mod Leaves
+pub mod Outs
+pub mod Telling
+pub mod Texts
+pub mod Ends
+pub mod Lines
+pub mod OneText

@@ -1,0 +1,92 @@
+-- Where a location lies by a layout, and the name, type and bits of a leaf.
+use Rattle.std.specs.Prelude.{ℕ, ◌<◌, Option, Some, None, List, [], ◌∷◌, ◌++◌, codes, length, slice_get}
+use Rattle.std.specs.Fmt.{decimal}
+use Rattle.std.specs.Option.{option_or}
+use Rattle.cxx_hierarchy.specs.declared.records.ClassId.{ClassId}
+use Rattle.cxx_hierarchy.specs.declared.records.Member.{Member}
+use Rattle.cxx_hierarchy.specs.declared.records.FieldType.{FieldType}
+use Rattle.cxx_hierarchy.specs.declared.records.FieldType.TheVariants.{Value, Object}
+use Rattle.cxx_hierarchy.specs.declared.records.ValueType.{ValueType}
+use Rattle.cxx_hierarchy.specs.Classes.{Classes, members_of, width_of_member}
+use Rattle.cxx_subobject.specs.declared.locations.Hop.{Hop}
+use Rattle.cxx_subobject.specs.declared.locations.Hop.TheVariants.{Inherit, Member as MemberHop}
+use Rattle.cxx_subobject.specs.declared.locations.Location.{Location}
+use Rattle.cxx_subobject.specs.Subobjects.{class_of}
+use Rattle.cxx_subobject.specs.Locations.{LeadsTo}
+use Rattle.abi_sound.specs.Places.{Places}
+use Rattle.abi_sound.specs.Locations.{place_at, element_class}
+use Rattle.abi_print.specs.LayoutTexts.{subobject_text}
+use Rattle.abi_print.specs.Texts.{location_text}
+
+-- a location names a part of this type in an object of a class of the hierarchy
+pub record Names (h : Classes) (type : FieldType ClassId) (at : Location) : Type 0 where
+  pub known : at.class.0 < length h
+  pub leads : LeadsTo h at.class at.hops type
+
+-- a location names a class subobject
+abbrev pub NamesPart : Classes → Location → Type 0
+NamesPart h at = (d : ClassId) × Names h (Object d) at
+
+-- the place of a location in its heap object, in bytes
+abbrev pub place_in : Classes → Places → Location → ℕ
+place_in h l at = place_at h l at.class at.hops
+
+-- `#n+off`: the number of the heap object, and the place in it
+abbrev pub part_text : Classes → Places → Location → List ℕ
+part_text h l at = location_text at.object (place_in h l at)
+
+-- the member of a number of a class
+abbrev pub member_at : Classes → Option ClassId → ℕ → Option (Member ClassId)
+member_at h None m = None
+member_at h (Some d) m = slice_get (members_of h d) m
+
+-- the subobject that declares a field, and nothing where that is the whole
+abbrev pub before_field : List ℕ → List ℕ
+before_field [] = []
+before_field (x ∷ text) = x ∷ text ++ codes "::"
+
+abbrev pub index_text : Option ℕ → ℕ → List ℕ
+index_text None i = []
+index_text (Some count) i = codes "[" ++ decimal i ++ codes "]"
+
+-- a member by its name, and an element of an array by its index behind that
+abbrev pub element_text : Option (Member ClassId) → ℕ → List ℕ
+element_text None i = []
+element_text (Some member) i = member.name ++ index_text member.count i
+
+-- the field to which the hops lead from what is of class c: inside a member it follows a `.`
+abbrev pub inner_text : Classes → Option ClassId → List Hop → List ℕ
+inner_text h c [] = []
+inner_text h c (Inherit s ∷ hops) = codes "." ++ before_field (subobject_text h s) ++ inner_text h (class_of s) hops
+inner_text h c (MemberHop m i ∷ hops) = element_text (member_at h c m) i ++ inner_text h (element_class h c m) hops
+
+-- a field of a complete object
+abbrev pub field_text : Classes → List Hop → List ℕ
+field_text h [] = []
+field_text h (Inherit s ∷ hops) = before_field (subobject_text h s) ++ inner_text h (class_of s) hops
+field_text h (MemberHop m i ∷ hops) = []
+
+abbrev pub value_in : FieldType ClassId → Option (ValueType ClassId)
+value_in (Value type) = Some type
+value_in (Object d) = None
+
+-- the type of a member that is a number or a pointer, or an array of them
+abbrev pub value_type : Option (Member ClassId) → Option (ValueType ClassId)
+value_type None = None
+value_type (Some member) = value_in member.ty
+
+-- the type of the leaf to which the hops lead from what is of class c
+abbrev pub type_behind : Classes → Option ClassId → List Hop → Option (ValueType ClassId)
+type_behind h c [] = None
+type_behind h c (Inherit s ∷ hops) = type_behind h (class_of s) hops
+type_behind h c (MemberHop m i ∷ hops) = option_or (type_behind h (element_class h c m) hops) (value_type (member_at h c m))
+
+-- the width of a member, by the class that declares it and its number there, where it is a bit-field (ISO C++03 9.6)
+abbrev pub width_of : Classes → Option (ClassId × ℕ) → Option ℕ
+width_of h None = None
+width_of h (Some member) = width_of_member h member.0 member.1
+
+-- the first bit of the value of a member, in the byte at its place
+abbrev pub first_of : Places → Option (ClassId × ℕ) → ℕ
+first_of l None = 0
+first_of l (Some member) = l.first member.0 member.1
