@@ -1,5 +1,4 @@
-"""Calls clang++ and g++, and reads what clang++ says of classes: its tree as JSON, and its record layouts."""
-import json
+"""Calls clang++ and g++, and reads the record layouts of clang++."""
 import os
 import re
 import shutil
@@ -10,12 +9,13 @@ from dataclasses import dataclass, field
 from .problem import Problem
 
 STANDARDS = ["gnu++98", "gnu++11", "gnu++14", "gnu++17", "gnu++20"]
+YEARS = {"199711": "98", "201103": "11", "201402": "14", "201703": "17", "202002": "20", "202302": "23"}
 
 
 def need(command):
     """The command, or the sentence that says how to get it."""
     if shutil.which(command) is None:
-        package = {"clang++": "clang", "c++filt": "binutils"}.get(command, command)
+        package = {"clang++": "clang", "c++filt": "binutils", "ar": "binutils", "strip": "binutils", "objdump": "binutils", "cc": "gcc", "dpkg-deb": "dpkg"}.get(command, command)
         raise Problem(f"{command} is not on the path, and this tool calls it: apt-get install {package}", 2)
     return command
 
@@ -32,65 +32,55 @@ def unit(files):
     return "".join(f'#include "{os.path.abspath(file)}"\n' for file in files)
 
 
-def standard_of(text, flags):
-    """The lowest standard by which clang takes the text, as a list of flags; the user's own where there is one."""
-    if any(flag.startswith("-std=") for flag in flags):
-        standards = [None]
-    else:
-        standards = STANDARDS
-    first = None
-    for standard in standards:
-        chosen = [*flags, *([f"-std={standard}"] if standard else [])]
-        _, said, good = call(["clang++", "-x", "c++", "-w", "-fsyntax-only", *chosen, "-"], text)
-        if good:
-            return chosen
-        first = first or said
-    errors = [line for line in (first or "").splitlines() if "error" in line]
-    raise Problem("clang++ does not take the source, so its classes are not known. Mend it, or give flags after -- (as -I FOLDER). It says:\n  " + "\n  ".join(errors[:5] or ["nothing"]))
+def version():
+    """The name and version of the compiler, as it says it."""
+    output, _, _ = call(["clang++", "--version"])
+    found = re.search(r"clang version (\d+(?:\.\d+)*)", output)
+    return "clang++ " + found[1] if found else "clang++"
 
 
-class _Places:
-    """Files and lines of the tree, which clang prints only where they change."""
-
-    def __init__(self):
-        self.file, self.line = "", 0
-
-    def see(self, place):
-        if "offset" in place:
-            self.file = place.get("file", self.file)
-            self.line = place.get("line", self.line)
-            place["file"], place["line"] = self.file, self.line
-        return place
+def standard_by(flags):
+    """The standard by which clang reads a text with these flags, and whether it is the compiler's own default."""
+    given = next((flag[len("-std="):] for flag in reversed(flags) if flag.startswith("-std=")), "")
+    if given:
+        return given, False
+    output, _, _ = call(["clang++", "-x", "c++", *flags, "-dM", "-E", "-"], "")
+    year = YEARS.get((re.search(r"__cplusplus (\d+)", output) or ["", ""])[1], "")
+    return (("c++" if "__STRICT_ANSI__" in output else "gnu++") + year if year else "its own standard"), True
 
 
-# The declarations of which classes are made; all other nodes are dropped while the tree is read.
-KEPT = {
-    "TranslationUnitDecl", "NamespaceDecl", "LinkageSpecDecl", "CXXRecordDecl", "ClassTemplateDecl", "ClassTemplateSpecializationDecl",
-    "TemplateArgument", "FieldDecl", "CXXMethodDecl", "CXXConstructorDecl", "CXXDestructorDecl", "CXXConversionDecl", "AccessSpecDecl",
-    "EnumDecl", "EnumConstantDecl", "ConstantExpr", "TypedefDecl", "TypeAliasDecl", "FunctionTemplateDecl", "ParmVarDecl",
-    "TemplateTypeParmDecl", "NonTypeTemplateParmDecl", "TemplateTemplateParmDecl",
-}
+def with_standard(flags):
+    """The flags with the standard by which clang reads a text, so that another compiler goes by it too."""
+    standard, is_default = standard_by(flags)
+    return [*flags, f"-std={standard}"] if is_default and "++" in standard else flags
 
 
-def tree(text, flags):
-    """The declarations of a text as nested dicts, by clang's JSON."""
-    output, said, good = call(["clang++", "-x", "c++", "-w", "-fsyntax-only", "-Xclang", "-ast-dump=json", *flags, "-"], text)
-    places = _Places()
+FIRST = "// read by "
 
-    def keep(node):
-        kind = node.get("kind")
-        if kind is None:
-            return places.see(node)
-        if kind not in KEPT and not kind.endswith("Attr"):
-            inner = [child for child in node.get("inner", []) if child and child.get("kind") == "ConstantExpr"] if kind == "ImplicitCastExpr" else []
-            return inner[0] if inner else None if "id" in node and len(node) > 4 else node
-        if "inner" in node:
-            node["inner"] = [child for child in node["inner"] if child is not None and "kind" in child]
-        return node
 
-    if not good:
-        raise Problem(f"clang++ gives no tree of the source: {said.strip().splitlines()[-1:]}")
-    return json.loads(output, object_hook=keep)
+def first_line(flags, source=""):
+    """The comment that says by which compiler and standard a source of C++ was read, and what named the standard."""
+    standard, is_default = standard_by(flags)
+    by = f"its default {standard}" if is_default else f"{standard}, as {source + ' says' if source else 'the flags say'}"
+    return f"{FIRST}{version()} by {by}\n"
+
+
+def errors_of(text, flags):
+    """The lines by which clang refuses a text; none where it takes it."""
+    _, said, good = call(["clang++", "-x", "c++", "-w", "-fsyntax-only", *flags, "-"], text)
+    return [] if good else [line for line in said.splitlines() if "error" in line] or said.splitlines()[-1:] or ["nothing"]
+
+
+def need_taken(text, flags, refused="clang++ does not take the source, so its classes are not known. Mend it, or give flags after -- (as -I FOLDER)"):
+    """Ends with a problem where clang does not take a text by these flags. The problem names the standards by which it does."""
+    errors = errors_of(text, flags)
+    if not errors:
+        return
+    standard, _ = standard_by(flags)
+    others = [one for one in STANDARDS if one != standard and not errors_of(text, [*flags, f"-std={one}"])]
+    if others:
+        raise Problem(f"the source is not C++ by {standard}, but by {' and '.join(others)}: give -- -std={others[0]}. {version()} says of {standard}:\n  " + "\n  ".join(errors[:5]))
+    raise Problem(f"{refused}. It says:\n  " + "\n  ".join(errors[:5]))
 
 
 @dataclass
@@ -104,9 +94,11 @@ class RecordLayout:
     nvsize: int = 0
     nvalign: int = 0
     rows: list = field(default_factory=list)
+    bits: dict = field(default_factory=dict)  # by the number of the row: the first and the last bit of a bit-field, from the start of the class
+    is_empty: bool = False
 
 
-LINE = re.compile(r"\s*(\d+)(?::[\d-]+)? \| ( *)(.*)")
+LINE = re.compile(r"\s*(\d+)(?::([\d-]+))? \| ( *)(.*)")
 SIZES = re.compile(r"(sizeof|dsize|align|nvsize|nvalign)=(\d+)")
 SORTS = [
     ("(primary virtual base)", "primary virtual base"), ("(primary base)", "primary base"), ("(virtual base)", "virtual base"), ("(base)", "base"),
@@ -139,14 +131,17 @@ def _read_line(found, current, line):
         for key, value in SIZES.findall(line):
             setattr(current, {"sizeof": "size"}.get(key, key), int(value))
         return None if "nvalign=" in line or ("sizeof=" in line and line.rstrip().endswith("]")) else current
-    place, depth, words = int(row[1]), len(row[2]) // 2, row[3]
+    place, depth, words = int(row[1]), len(row[3]) // 2, row[4]
     if not current.rows and not current.name:
-        current.name = re.sub(r" \(empty\)$", "", words)
+        current.name, current.is_empty = re.sub(r" \(empty\)$", "", words), words.endswith(" (empty)")
         found[re.sub(r"^(struct|class|union) ", "", current.name)] = current
         return current
     empty = words.endswith(" (empty)")
     words = words[:-len(" (empty)")] if empty else words
     sort = next((sort for mark, sort in SORTS if words.endswith(mark)), "field")
+    if row[2]:
+        first, _, last = row[2].partition("-")
+        current.bits[len(current.rows)] = (8 * place + int(first or 0), 8 * place + int(last or first)) if last else (8 * place, 8 * place - 1)
     current.rows.append((place, depth, sort, words))
     return current
 

@@ -106,9 +106,9 @@ def plain(symbol):
 def ours(text):
     """The words of the whole group of each class, by the program's text."""
     found = {}
-    for table in table_text.read(text):
+    for table in (table for one in table_text.read(text) for table in one.tables):
         if "@" not in table.group:
-            found.setdefault(table.group, []).extend(_ours(word) for _, word in table.words)
+            found.setdefault(table.group, []).extend(_ours(word.text) for word in table.words)
     return found
 
 

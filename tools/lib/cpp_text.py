@@ -19,7 +19,8 @@ def class_text(one, bodies=True):
 
 def field_text(part):
     length = "" if part.length is None else f"[{part.length}]"
-    return f"{part.type} {part.name}{length};"
+    width = "" if part.width is None else f" : {part.width}"
+    return f"{part.type} {part.name}{length}{width};"
 
 
 def function_text(part, bodies):

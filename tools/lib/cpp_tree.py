@@ -3,17 +3,22 @@ import os
 import re
 from dataclasses import dataclass, field
 
-from . import clang
+from . import clang_tree
 
 
 @dataclass
 class Member:
-    """A non-static data member, with its type as clang writes it; `cannot` says why it cannot be said, if so."""
+    """A non-static data member, with its type as clang writes it, and what its layout says of it: the type as the source writes it is `written` then."""
 
     name: str
     type: str
     access: str
-    cannot: str = ""
+    is_bit_field: bool = False
+    attribute: str = ""
+    written: str = ""
+    place: object = None
+    bits: object = None
+    inside: list = field(default_factory=list)
 
 
 @dataclass
@@ -33,6 +38,7 @@ class Base:
     type: str
     virtual: bool
     access: str
+    place: object = None
 
 
 @dataclass
@@ -47,14 +53,30 @@ class Record:
     bases: list = field(default_factory=list)
     members: list = field(default_factory=list)
     methods: list = field(default_factory=list)
-    has_constructor: bool = False
+    constructors: int = 0
     destructor: object = None
-    cannot: str = ""
+    attribute: str = ""
+    is_abstract: bool = False
+    is_tagged: bool = True  # whether it has a name of its own, and not one by a typedef
     parts: list = field(default_factory=list)  # members, methods and the destructor, in their order
+    dropped: dict = field(default_factory=dict)  # what a class of the workbench has no place for, counted by its sort
+    layout: object = None
 
     @property
     def name(self):
         return self.names[0]
+
+    @property
+    def is_unnameable(self):
+        """Whether no text of C++ can name the class, or an argument of its template."""
+        return "(unnamed" in self.name or "(lambda" in self.name or "?" in self.name
+
+    @property
+    def is_nameless(self):
+        return not self.is_tagged and self.name.endswith(")") and "(unnamed at " in self.name
+
+    def drop(self, sort):
+        self.dropped[sort] = self.dropped.get(sort, 0) + 1
 
 
 @dataclass
@@ -66,28 +88,45 @@ class Names:
     typedefs: dict = field(default_factory=dict)
     constants: dict = field(default_factory=dict)
     order: list = field(default_factory=list)
+    incomplete: dict = field(default_factory=dict)  # the specialisations that the source does not complete, with the file of each
 
     def record(self, name):
-        return self.records.get(spelled(name))
+        """The class of a name, also by typedefs."""
+        name, seen = spelled(name), set()
+        while name not in self.records and name in self.typedefs and name not in seen:
+            seen.add(name)
+            name = spelled(self.typedefs[name])
+        return self.records.get(name)
 
 
 WORDS = re.compile(r"\b(?:struct|class|union|enum|typename)\s+")
-PLACE = re.compile(r"\((?:anonymous|unnamed|lambda)(?: struct| class| union| enum)? at [^()]*:(\d+):(\d+)\)")
+PLACE = re.compile(r"\((?:anonymous|unnamed)(?: struct| class| union| enum)? at ")
+BOOL = re.compile(r"\b_Bool\b")
 INLINE = re.compile(r"\b(?:__cxx11|__1|_V2)::")
 
 
 def spelled(name):
     """One spelling for the several that clang has of one name."""
-    name = PLACE.sub(r"(unnamed at \1:\2)", name)
-    name = INLINE.sub("", WORDS.sub("", name)).replace("_Bool", "bool")
+    name = PLACE.sub("(unnamed at ", BOOL.sub("bool", name))
+    name = INLINE.sub("", WORDS.sub("", name)).replace("(void)", "()")
     return re.sub(r"\s*([<>,*&()\[\]])\s*", r"\1", name).strip()
 
 
 def read(text, flags):
     """The names of a translation unit."""
     names = Names()
-    _Walk(names).declarations(clang.tree(text, flags), [""], "public")
+    walk = _Walk(names)
+    for declaration in clang_tree.declarations(text, flags):
+        walk.declarations({"inner": [declaration]}, [""])
+    names.incomplete = {name: file for name, file in names.incomplete.items() if spelled(name) not in names.records}
     return names
+
+
+def read_tree(tree):
+    """The walk of a tree that was read whole: its names, the classes with their nodes as `pairs`; it takes classes of bodies too."""
+    walk = _NodeWalk(Names())
+    walk.declarations(tree, [""])
+    return walk
 
 
 SHAPING_ATTRIBUTES = {
@@ -97,7 +136,7 @@ SHAPING_ATTRIBUTES = {
 
 
 def _shaping(node):
-    """Why an attribute changes the layout of a declaration in a way that cannot be said."""
+    """The attribute of a declaration that can change its layout."""
     for child in node.get("inner", []):
         if child["kind"] in SHAPING_ATTRIBUTES:
             return SHAPING_ATTRIBUTES[child["kind"]]
@@ -113,6 +152,13 @@ def _children(node, kind):
     return [child for child in node.get("inner", []) if child["kind"] == kind]
 
 
+def _value(constant):
+    """The value that an enum's constant is given; None where it is the next one."""
+    inner = [one for child in constant.get("inner", []) for one in [child, *child.get("inner", [])]]
+    values = [one["value"] for one in inner if one["kind"] == "ConstantExpr" and one.get("value", "").lstrip("-").isdigit()]
+    return int(values[0]) if values else None
+
+
 NO_PARAMETER = (None, None, None)  # of a template: type, default and name
 
 
@@ -123,18 +169,20 @@ class _Walk:
         self.parameters = {}
         self.unnamed = {}
 
-    def declarations(self, node, scopes, access):
+    def declarations(self, node, scopes):
         """Reads what a scope declares; `scopes` are the spellings of its name, each with its '::'."""
         for child in node.get("inner", []):
             kind = child["kind"]
             around = self.scopes_of.get(child.get("parentDeclContextId"), scopes)
+            if not around:
+                continue  # what belongs to a template, and is no class before its arguments are known
             if kind in ("NamespaceDecl", "LinkageSpecDecl"):
                 inner = scopes
                 if kind == "NamespaceDecl" and not child.get("isInline"):
                     inner = [scope + child.get("name", "(anonymous namespace)") + "::" for scope in scopes]
                 self.scopes_of[child["id"]] = inner
                 self.scopes_of[child.get("originalNamespace", child)["id"]] = inner
-                self.declarations(child, inner, access)
+                self.declarations(child, inner)
             elif kind == "ClassTemplateDecl":
                 self.template(child, around)
             elif kind in ("CXXRecordDecl", "ClassTemplateSpecializationDecl"):
@@ -150,8 +198,16 @@ class _Walk:
         for index, child in enumerate(child for child in node.get("inner", []) if child["kind"].endswith("ParmDecl")):
             default = _type(child["defaultArg"]) if "defaultArg" in child else known.get(index, NO_PARAMETER)[1]
             known[index] = (_type(child), default, child.get("name"))
+        for pattern in _children(node, "CXXRecordDecl"):
+            self.pattern(pattern)
         for one in _children(node, "ClassTemplateSpecializationDecl"):
             self.record(one, scopes)
+
+    def pattern(self, node):
+        """Marks what is declared in a template itself."""
+        self.scopes_of[node["id"]] = []
+        for child in _children(node, "CXXRecordDecl"):
+            self.pattern(child)
 
     def typedef(self, node, scopes):
         """A second name of a type, or the one name that a class or enum without a name has for linkage."""
@@ -162,13 +218,21 @@ class _Walk:
             elif name not in self.names.records and name not in self.names.enums:
                 last = self.unnamed.get(scopes[0])
                 if isinstance(last, Record):
-                    last.names.insert(0, name)
-                    self.names.records[name] = last
+                    self.rename(last, name)
                 elif last:
                     self.names.enums[name] = last
 
+    def rename(self, record, name):
+        """Gives a class without a name the name of its typedef; the classes inside of it have it in theirs."""
+        old = record.name
+        for one in self.names.order[self.names.order.index(record):]:
+            if one is record or one.name.startswith(old + "::"):
+                one.names.insert(0, name + one.name[len(old):])
+                self.names.records[one.name] = one
+
     def enum(self, node, scopes):
-        values = [int(one["value"]) for constant in _children(node, "EnumConstantDecl") for one in _children(constant, "ConstantExpr") if one.get("value", "").lstrip("-").isdigit()]
+        given = [_value(constant) for constant in _children(node, "EnumConstantDecl")]
+        values = [value for value in given if value is not None]
         fixed = node.get("fixedUnderlyingType", {})
         under = fixed.get("desugaredQualType", fixed.get("qualType"))
         if under is None:
@@ -186,8 +250,8 @@ class _Walk:
         scope = name + "::" if node.get("scopedEnumTag") else name[:len(name) - len(node.get("name", ""))]
         found, value = {}, -1
         for constant in _children(node, "EnumConstantDecl"):
-            given = [one["value"] for one in _children(constant, "ConstantExpr") if "value" in one]
-            value = int(given[0]) if given and given[0].lstrip("-").isdigit() else value + 1
+            given = _value(constant)
+            value = value + 1 if given is None else given
             found.setdefault(str(value), scope + constant.get("name", ""))
         return found
 
@@ -220,23 +284,23 @@ class _Walk:
         inner = node.get("inner", [])
         if inner and all(child["kind"] == "TemplateArgument" for child in inner):
             return ", ".join(self.argument(child, kind) for child in inner)
-        return node.get("name") or ("" if "isPack" in node or not inner else "?")
+        return "" if "isPack" in node else "?"
 
     def record(self, node, scopes):
         if node.get("isImplicit") or not node.get("completeDefinition"):
+            if node["kind"] == "ClassTemplateSpecializationDecl":
+                self.names.incomplete.setdefault(self.spellings(node, scopes)[0], _place(node).get("file", ""))
             return
-        spellings = self.spellings(node, scopes)
-        self.scopes_of[node["id"]] = [name + "::" for name in spellings]
+        spellings = _by_constructor(node, self.spellings(node, scopes))
+        inner = [name + "::" for name in spellings] + (scopes if "name" not in node else [])
+        self.scopes_of[node["id"]] = inner
         full = spelled(spellings[0])
         if full in self.names.records and self.names.records[full].name == full:
             return
-        data = node.get("definitionData", {})
-        loc = node.get("loc", {})
-        loc = loc.get("expansionLoc", loc)
-        one = Record([spelled(name) for name in spellings], node.get("tagUsed", "struct"), loc.get("file", ""), loc.get("line", 0), data.get("isPOD", False))
-        one.cannot = _shaping(node)
-        if one.tag == "union":
-            one.cannot = "it is a union"
+        data, place = node.get("definitionData", {}), _place(node)
+        one = Record([spelled(name) for name in spellings], node.get("tagUsed", "struct"), place.get("file", ""), place.get("line", 0), data.get("isPOD", False))
+        one.is_tagged, one.is_abstract = "name" in node, data.get("isAbstract", False)
+        one.attribute = _shaping(node)
         for name in reversed(one.names):
             known = self.names.records.get(name)
             if known is None or name == one.name:
@@ -245,7 +309,7 @@ class _Walk:
         if "name" not in node:
             self.unnamed[scopes[0]] = one
         one.bases = [Base(_type(base), base.get("isVirtual", False), base["access"]) for base in node.get("bases", [])]
-        self.parts(node, one, [name + "::" for name in spellings])
+        self.parts(node, one, inner)
 
     def parts(self, node, one, scopes):
         access = "public" if one.tag != "class" else "private"
@@ -256,22 +320,59 @@ class _Walk:
             elif kind == "FieldDecl":
                 one.members.append(_member(child, access))
                 one.parts.append(one.members[-1])
-            elif kind in ("CXXMethodDecl", "CXXConversionDecl") and not child.get("isImplicit") and child.get("storageClass") != "static":
-                one.methods.append(_method(child, access))
-                one.parts.append(one.methods[-1])
-            elif kind == "CXXConstructorDecl" and not child.get("isImplicit"):
-                one.has_constructor = True
-            elif kind == "CXXDestructorDecl" and not child.get("isImplicit"):
-                one.destructor = _method(child, access)
-                one.parts.append(one.destructor)
-        self.declarations(node, scopes, access)
+            elif kind in DROPPED:
+                one.drop(DROPPED[kind])
+            elif kind in FUNCTIONS and not child.get("isImplicit"):
+                self.function(child, one, access)
+        self.declarations(node, scopes)
+
+    def function(self, node, one, access):
+        if node.get("storageClass") == "static":
+            one.drop("static functions")
+        elif node["kind"] == "CXXConstructorDecl":
+            one.constructors += 1
+        elif node["kind"] == "CXXDestructorDecl":
+            one.destructor = _method(node, access)
+            one.parts.append(one.destructor)
+        else:
+            one.methods.append(_method(node, access))
+            one.parts.append(one.methods[-1])
+
+
+FUNCTIONS = {"CXXMethodDecl", "CXXConversionDecl", "CXXConstructorDecl", "CXXDestructorDecl"}
+DROPPED = {
+    "VarDecl": "static members", "FriendDecl": "friends", "FunctionTemplateDecl": "function templates", "EnumDecl": "enumerations", "TypedefDecl": "typedefs",
+    "TypeAliasDecl": "typedefs",
+}
+
+
+def _by_constructor(node, spellings):
+    """The name of a specialisation whose arguments the tree does not show, by the parameter of a constructor."""
+    if "?" not in spellings[0]:
+        return spellings
+    for constructor in _children(node, "CXXConstructorDecl"):
+        found = re.fullmatch(r"void \((?:const )?(.*) &&?\)(?: noexcept.*)?", _type(constructor))
+        if found and re.sub(r"<.*", "", found[1]) == re.sub(r"<.*", "", spellings[0]):
+            return [found[1], *spellings]
+    return spellings
+
+
+class _NodeWalk(_Walk):
+    """A walk that keeps the node of each class."""
+
+    def __init__(self, names):
+        super().__init__(names)
+        self.pairs = []
+
+    def record(self, node, scopes):
+        before = len(self.names.order)
+        super().record(node, scopes)
+        if len(self.names.order) > before:
+            self.pairs.append((self.names.order[before], node))
 
 
 def _member(node, access):
-    cannot = _shaping(node)
-    if node.get("isBitfield"):
-        cannot = "a bit-field"
-    return Member(node.get("name", ""), _type(node), access, cannot)
+    return Member(node.get("name", ""), _type(node), access, node.get("isBitfield", False), _shaping(node))
 
 
 def _method(node, access):
@@ -288,10 +389,15 @@ def _may_be_default(argument, default):
     return not re.fullmatch(r"[a-z ]+", plain) or plain == spelled(argument)
 
 
-def _unnamed(node):
+def _place(node):
+    """Where a declaration stands; that of the text that uses a macro."""
     place = node.get("loc", {})
-    place = place.get("expansionLoc", place)
-    return f"(unnamed at {place.get('line', 0)}:{place.get('col', 0)})"
+    return place.get("expansionLoc", place)
+
+
+def _unnamed(node):
+    place = _place(node)
+    return f"(unnamed at {place.get('file', '')}:{place.get('line', 0)}:{place.get('col', 0)})"
 
 
 def is_in(record, files):

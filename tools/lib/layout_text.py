@@ -24,12 +24,14 @@ class Base:
 
 @dataclass
 class Member:
-    """A data member that the class itself declares; a length stands for an array."""
+    """A data member that the class itself declares; a length stands for an array. A bit-field has a width, and a first bit in its byte."""
 
     place: int
     type: str
     length: object
     name: str
+    first: int = 0
+    width: object = None
 
     @property
     def is_object(self):
@@ -38,6 +40,16 @@ class Member:
     @property
     def shown_type(self):
         return self.type if self.length is None else f"{self.type}[{self.length}]"
+
+    @property
+    def told(self):
+        """The member with its type, as it is declared."""
+        return f"{self.shown_type} {self.name}" + ("" if self.width is None else f" : {self.width}")
+
+    @property
+    def start(self):
+        """Where its value begins, in bytes; that of a bit-field in eighths."""
+        return self.place if self.width is None else self.place + self.first / 8
 
 
 @dataclass
@@ -54,6 +66,16 @@ class Layout:
     bases: list = field(default_factory=list)
     members: list = field(default_factory=list)
 
+    @property
+    def title(self):
+        """What stands over a picture of the class."""
+        return f"{self.name}: size {self.size}, align {self.align}, dsize {self.dsize}, nvsize {self.nvsize}, primary {self.primary}"
+
+    @property
+    def virtual_primary(self):
+        """The name of the primary base where it is virtual, else nothing."""
+        return self.primary[len("virtual "):] if self.primary.startswith("virtual ") else ""
+
 
 SIZES = {
     "bool": 1, "char": 1, "signed char": 1, "unsigned char": 1, "short": 2, "unsigned short": 2, "int": 4, "unsigned int": 4,
@@ -61,6 +83,7 @@ SIZES = {
 }
 HEAD = re.compile(r"class (\w+) size (\d+) align (\d+) dsize (\d+) nvsize (\d+) nvalign (\d+)$")
 FIELD = re.compile(r"(\d+) field (.+?)(?:\[(\d+)\])? (\w+)$")
+BITS = re.compile(r"(\d+) bits (\d+) (\d+) (.+) (\w+)$")
 BASE = re.compile(r"(\d+) base (\*?)([\w/]+)$")
 
 
@@ -78,20 +101,24 @@ def read(text):
 
 
 def _read_line(layout, line):
-    base, member = BASE.match(line), FIELD.match(line)
+    base, member, bits = BASE.match(line), FIELD.match(line), BITS.match(line)
     if line.startswith("primary "):
         layout.primary = line[len("primary "):]
     elif base:
         layout.bases.append(Base(int(base[1]), base[3].split("/"), bool(base[2])))
     elif member:
         layout.members.append(Member(int(member[1]), member[2], int(member[3]) if member[3] else None, member[4]))
+    elif bits:
+        layout.members.append(Member(int(bits[1]), bits[4], None, bits[5], int(bits[2]), int(bits[3])))
     else:
         return False
     return True
 
 
 def member_size(layouts, member):
-    """The bytes of a member, its elements together."""
+    """The bytes of a member, its elements together; those of a bit-field in eighths."""
+    if member.width is not None:
+        return member.width / 8
     if member.type.endswith("*"):
         one = 8
     else:

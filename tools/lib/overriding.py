@@ -17,17 +17,27 @@ class Functions:
     def __init__(self, records):
         mangled = sorted({method.mangled for record in records for method in record.methods if method.mangled})
         output, _, _ = clang.call(["c++filt"], "\n".join(mangled) + "\n") if mangled else ("", "", True)
-        self.plain = dict(zip(mangled, output.splitlines()))
+        # a mark of the library's version is no part of a name that overrides another
+        self.plain = dict(zip(mangled, re.sub(r"\[abi:\w+\]", "", output).splitlines()))
         self.names = {}
         self.taken = {}
+        self.known = {}
         self.parameters = {}
+        self.results = {}
 
     def signature(self, method):
         """The text of the demangled name behind the class."""
+        if id(method) not in self.known:
+            self.known[id(method)] = self.found_signature(method)
+        return self.known[id(method)]
+
+    def found_signature(self, method):
         text = self.plain.get(method.mangled, method.mangled or method.name + method.type)
         at = text.find("::" + method.name + "(")
         if at < 0:
             at = text.find("::operator ")
+        if text.startswith("_Z"):  # c++filt takes no letters beyond ASCII
+            return spelled(method.name + method.type)
         return spelled(text[at + 2:]) if at >= 0 else spelled(text)
 
     def word(self, method):
@@ -45,8 +55,8 @@ def plain_word(name):
     """A name that the grammar takes, for a function, an operator or a conversion."""
     if name.startswith("operator") and not re.match(r"\w", name[8:9] or "x"):
         rest = name[8:].strip()
-        return "operator_" + OPERATORS.get(rest, re.sub(r"\W+", "_", rest).strip("_") or "other")
-    return safe(re.sub(r"\W+", "_", name).strip("_"))
+        return "operator_" + OPERATORS.get(rest, re.sub(r"\W+", "_", rest, flags=re.ASCII).strip("_") or "other")
+    return safe(re.sub(r"\W+", "_", name, flags=re.ASCII).strip("_"))
 
 
 # The words of our language, and those of C++ that it leaves out: none of them is a name.

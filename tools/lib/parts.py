@@ -1,118 +1,169 @@
-"""An object as a tree of parts: bases, members, virtual pointers and padding, each with its place and bytes."""
+"""An object as a tree of parts: bases, members, virtual pointers and padding, each with its place and bytes.
+
+No two boxes of the tree cross: one holds the other, or they lie apart. An empty base takes no bytes and may lie over anything,
+so it is a mark of size 0. What no other part takes is padding.
+"""
+import sys
 from dataclasses import dataclass, field
 
-from . import layout_text, source
+from . import amounts, layout_text, program, source
+from .problem import Problem
 
-DEEPEST = 6
+DEEPEST = 40_000  # calls inside each other: members inside members, at most 1,024 classes
 
 
 @dataclass
 class Part:
-    """sort: whole, base, shared base, held base, empty base, member, object, virtual pointer, padding or tail padding."""
+    """sort: whole, base, shared base, held base, empty base, member, object, element, repeat, virtual pointer, padding or tail padding.
+
+    Place and size are in bytes; those of a bit-field, and of padding beside one, have eighths. `name` is what a picture writes into the
+    box, and `told` what the part is, in words.
+    """
 
     sort: str
     place: int
     size: int
     name: str
-    type: str = ""
+    told: str
     parts: list = field(default_factory=list)
-    places: int = 0
 
     @property
     def end(self):
         return self.place + self.size
+
+    @property
+    def is_mark(self):
+        return self.sort == "empty base"
+
+    @property
+    def is_padding(self):
+        return self.sort in ("padding", "tail padding")
+
+    @property
+    def tip(self):
+        """What the part is, with its bytes."""
+        if self.is_mark:
+            return f"{self.told}: no bytes, at {self.place}"
+        return f"{self.told}: {amounts.size_text(self.size)} at {amounts.place_text(self.place)}"
+
+    def all(self):
+        """This part and all below it, each before its own parts."""
+        waiting = [self]
+        while waiting:
+            one = waiting.pop()
+            yield one
+            waiting += reversed(one.parts)
 
 
 class Objects:
     """The parts of the classes of a source, by its layouts."""
 
     def __init__(self, text, layout_words):
+        sys.setrecursionlimit(max(sys.getrecursionlimit(), DEEPEST))
         self.text = text
         self.classes = source.classes(text)
         self.layouts = layout_text.read(layout_words)
         self.dynamic = source.dynamic_classes(self.classes)
+        self.empty = source.empty_classes(self.classes)
 
-    def has_data(self, name):
-        one = self.classes[name]
-        return bool(one.fields) or any(base.virtual or self.has_data(base.name) for base in one.bases) or name in self.dynamic
+    @classmethod
+    def of_text(cls, text):
+        """Those of a source, which the program lays out."""
+        objects = cls(text, program.text_of(["layout"], text))
+        if not objects.layouts:
+            raise Problem("the source has no class; give one that defines a class")
+        return objects
 
-    def whole(self, name, depth=0, place=0):
+    def named(self, name):
+        """The names of the classes that a tool is asked for: one, or all where there is no name."""
+        if name and name not in self.layouts:
+            raise Problem(f"no class {name} is in the source; it has {', '.join(list(self.layouts)[:8])}{' and others' if len(self.layouts) > 8 else ''}")
+        return [name] if name else list(self.layouts)
+
+    def whole(self, name, place=0):
         """The object of a class, with its parts at their places in it moved by `place`."""
         layout = self.layouts[name]
-        whole = Part("whole", place, layout.size, name)
+        whole = Part("whole", place, layout.size, name, f"object of {name}")
         holders = self.holders(name)
-        whole.parts = self.inside(name, name, layout, [], holders, place, depth)
+        subobjects = _Subobjects(self, name, holders, place)
+        whole.parts = subobjects.inside(name, [], False)
         for base in layout.bases:
             if base.shared and len(base.names) == 1 and base.names[0] not in holders.values():
-                whole.parts.append(self.base(name, base, holders, place, depth))
+                whole.parts.append(subobjects.base(base, "shared base"))
         self.pad(whole, layout.dsize + place)
         return whole
 
     def holders(self, name):
         """Which subobject holds which virtual base: the first in preorder whose primary base it is."""
         layout, held = self.layouts[name], {}
-        paths = [(("whole",), name)] + [((base.shared, *base.names), base.class_name) for base in layout.bases]
+        paths = [((False,), name)] + [((base.shared, *base.names), base.class_name) for base in layout.bases]
         for path, class_name in paths:
-            primary = self.layouts[class_name].primary
-            virtual = primary[len("virtual "):] if primary.startswith("virtual ") else None
+            virtual = self.layouts[class_name].virtual_primary
             if virtual and virtual not in held.values():
                 held[path] = virtual
         return held
 
-    def inside(self, whole, name, layout, names, holders, place, depth, shared=False):
-        """The parts of one subobject of a whole: its own bases, its virtual pointer and its members."""
-        key = (shared, *names) if names else ("whole",)
-        start = place + self.place_of(layout, names, shared)
-        own = self.layouts[name]
-        found = []
-        for base in self.classes[name].bases:
-            if not base.virtual:
-                inner = self.find(layout, [*names, base.name], shared)
-                found.append(self.base(whole, inner, holders, place, depth))
-        held = holders.get(key)
-        if held:
-            inner = self.find(layout, [held], True)
-            found.append(self.base(whole, inner, holders, place, depth, "held base"))
-        if name in self.dynamic and (own.primary == "none" or (own.primary.startswith("virtual ") and not held)):
-            found.append(Part("virtual pointer", start, 8, "vptr", f"virtual pointer of {name}"))
-        found += [self.member(member, start, depth) for member in own.members]
-        return found
-
-    def find(self, layout, names, shared):
-        return next(base for base in layout.bases if base.names == names and base.shared == shared)
-
-    def place_of(self, layout, names, shared):
-        return self.find(layout, names, shared).place if names else 0
-
-    def base(self, whole, base, holders, place, depth, sort=""):
-        name = base.class_name
-        own = self.layouts[name]
-        empty = not self.has_data(name)
-        sort = sort or ("empty base" if empty else "shared base" if base.shared and len(base.names) == 1 else "base")
-        size = max(1, own.nvsize)
-        part = Part(sort, place + base.place, size, ("*" if base.shared and len(base.names) == 1 else "") + name, f"base {base.text}")
-        part.parts = self.inside(whole, name, self.layouts[whole], base.names, holders, place, depth, base.shared)
-        self.pad(part, part.end)
-        return part
-
-    def member(self, member, start, depth):
+    def member(self, member, start):
+        """A member of a subobject that begins at `start`; of an array of classes the first element stands for all."""
         size = layout_text.member_size(self.layouts, member)
-        part = Part("member", start + member.place, size, member.name, member.shown_type)
-        if member.is_object and depth < DEEPEST:
-            part.sort = "object"
-            if member.length is None:
-                inside = self.whole(member.type, depth + 1, part.place)
-                part.parts = inside.parts
+        part = Part("member", start + member.start, size, member.name, member.told)
+        if not member.is_object:
+            return part
+        part.sort = "object"
+        if member.length is None:
+            part.parts = self.whole(member.type, part.place).parts
+            return part
+        one = self.layouts[member.type].size
+        first = Part("element", part.place, one, f"{member.name}[0]", f"{member.type} {member.name}[0]", self.whole(member.type, part.place).parts)
+        part.parts = [first]
+        if member.length > 1:
+            last = member.length - 1
+            rest = f"{member.name}[1]" if last == 1 else f"{member.name}[1] to {member.name}[{last}]"
+            part.parts.append(Part("repeat", first.end, size - one, rest, f"{member.type} {rest}, {'' if last == 1 else 'each '}as {member.name}[0]"))
         return part
 
     def pad(self, part, data_end):
-        """Adds what no part of it takes: padding, and tail padding behind the end of the data."""
-        at = part.place
-        for inner in sorted((one for one in part.parts if one.sort != "empty base"), key=lambda one: one.place):
-            if inner.place > at:
-                part.parts.append(Part("padding", at, inner.place - at, "pad", f"padding of {part.name}"))
-            at = max(at, inner.end)
-        if part.end > at and (part.parts or part.sort != "empty base"):
-            tail = "tail padding" if part.sort in ("whole",) and at >= data_end else "padding"
-            part.parts.append(Part(tail, at, part.end - at, "pad" if tail == "padding" else "tail", f"{tail} of {part.name}"))
-        part.parts.sort(key=lambda one: (one.place, one.sort == "empty base"))
+        """Adds what no box of it takes: padding, and tail padding behind the end of the data."""
+        at, found = part.place, []
+        for inner in sorted((one for one in part.parts if not one.is_mark), key=lambda one: one.place):
+            found += self.padding(part, at, inner.place, data_end)
+            at = inner.end
+        part.parts += found + self.padding(part, at, part.end, data_end)
+        part.parts.sort(key=lambda one: (one.place, one.is_mark))
+
+    def padding(self, part, start, end, data_end):
+        if start >= end:
+            return []
+        sort, name = ("tail padding", "tail") if part.sort == "whole" and start >= data_end else ("padding", "pad")
+        return [Part(sort, start, end - start, name, f"{sort} of {part.name}")]
+
+
+class _Subobjects:
+    """The parts of the base subobjects of one object: a base has its own bases, virtual pointer and members inside."""
+
+    def __init__(self, objects, name, holders, place):
+        self.objects, self.holders, self.place = objects, holders, place
+        self.bases = {(base.shared, *base.names): base for base in objects.layouts[name].bases}
+
+    def inside(self, name, names, shared):
+        """The parts of the subobject with this path, which is of this class."""
+        objects, key = self.objects, (shared, *names)
+        start = self.place + (self.bases[key].place if names else 0)
+        own, held = objects.layouts[name], self.holders.get(key)
+        found = [self.base(self.bases[(*key, base.name)], "base") for base in objects.classes[name].bases if not base.virtual]
+        if held:
+            found.append(self.base(self.bases[True, held], "held base"))
+        if name in objects.dynamic and (own.primary == "none" or (own.virtual_primary and not held)):
+            found.append(Part("virtual pointer", start, 8, "vptr", f"virtual pointer of {name}"))
+        return found + [objects.member(member, start) for member in own.members]
+
+    def base(self, base, sort):
+        name = base.class_name
+        shown = ("*" if sort != "base" else "") + name
+        part = Part(sort, self.place + base.place, self.objects.layouts[name].nvsize, shown, f"{sort} {name}")
+        if name in self.objects.empty:
+            part.sort, part.size, part.told = "empty base", 0, f"empty {part.told}"
+        part.parts = self.inside(name, base.names, base.shared)
+        if not part.is_mark:
+            self.objects.pad(part, part.end)
+        return part

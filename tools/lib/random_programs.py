@@ -21,6 +21,7 @@ class Maker:
     def program(self, count):
         """A source of so many classes that runs to its end, or an empty text where no such source was found."""
         names = [f"K{number}" for number in range(count)]
+        self.hidden = self.random.choice([4, 4, 4, 40])  # how many bases of a hundred are private
         lines = [line for number, name in enumerate(names) for line in self.one(name, names[:number])]
         return settled(lines + self.main(names))
 
@@ -31,7 +32,7 @@ class Maker:
         """The lines of one class over those before it."""
         share = self.random.choice([0, 40, 40, 100])
         chosen = self.random.sample(before, min(len(before), self.random.choice([0, 1, 1, 2, 2, 3])))
-        bases = [("virtual " if self.chance(share) else "") + ("private " if self.chance(4) else "") + one for one in chosen]
+        bases = [("virtual " if self.chance(share) else "") + ("private " if self.chance(self.hidden) else "") + one for one in chosen]
         fields = [f"{self.random.choice(SCALARS)} {name.lower()}m{number}" for number in range(self.random.randrange(3))]
         lines = [f"struct {name}{' : ' + ', '.join(bases) if bases else ''} {{", *[field + ";" for field in fields]]
         if self.random.choice(before + [None, None]) is None or fields:
@@ -84,7 +85,8 @@ class Maker:
         for name in self.random.sample(names, min(len(names), 3)) + names[-1:]:
             made, base = self.local(), self.local()
             upper = self.random.choice(names)
-            lines += [f"{name}* {made} = new {name};", f"{upper}* {base} = {made};", f"bool {base}b = {base} != 0;", f"print({base}b);"]
+            cast = f"({upper}*)" if self.hidden > 4 else ""  # a base that is private can be reached by a cast in parentheses alone
+            lines += [f"{name}* {made} = new {name};", f"{upper}* {base} = {cast}{made};", f"bool {base}b = {base} != 0;", f"print({base}b);"]
             for pointer, of in [(made, name), (base, upper), (base, upper)]:
                 lines += self.statement(pointer, of, names, FUNCTIONS)
             back = self.local()

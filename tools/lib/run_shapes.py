@@ -135,4 +135,17 @@ def dump(part):
     return Run(f"{classes}int main() {{ B* p = new B; dump(p); }}\n", made(1 + 15 // part) + 2, 1)
 
 
+def large_arrays(part):
+    """Objects of arrays of bool, of which nothing is set, until the heap is full."""
+    members = "".join(f" bool b{n}[4096];" for n in range(15 // part))
+    return f"struct A {{{members} }};\nint main() {{ while (true) {{ A* p = new A; }} }}\n"
+
+
+def deep_members(part):
+    """Objects of 60 elements of a chain of empty classes, each made by the base of the one before, until 4,096 are open."""
+    count = 1_000 // part
+    chain = "struct C0 {};\n" + "".join(f"struct C{n} : C{n - 1} {{}};\n" for n in range(1, count))
+    return f"{chain}struct H {{ H() {{ X* p = new X; }} }};\nstruct X : H {{ C{count - 1} m[60]; }};\nint main() {{ X* p = new X; }}\n"
+
+
 RUNS = [loop, calls, thunks, shared_thunks, casts, cross_casts, small_news, news, deep_news, shared_news, copies, many_objects, text, dump, dumps]

@@ -18,10 +18,13 @@ class Base:
 
 @dataclass
 class Field:
+    """A data member; a length stands for an array, and a width for a bit-field."""
+
     type: str
     name: str
     length: object
     access: str
+    width: object = None
 
 
 @dataclass
@@ -143,12 +146,14 @@ class _Reader:
         kind, name = self.type(), self.take()
         if self.ahead() == "(":
             return self.function("function", virtual, kind, name, access)
-        length = None
+        length, width = None, None
         if self.skip("["):
             length = int(self.take())
             self.take("]")
+        elif self.skip(":"):
+            width = int(self.take())
         self.take(";")
-        return Field(kind, name, length, access)
+        return Field(kind, name, length, access, width)
 
     def function(self, kind, virtual, result, name, access):
         self.take("(")
@@ -178,5 +183,14 @@ def dynamic_classes(found):
     for one in found.values():
         own = any(function.virtual for function in one.functions)
         if own or any(base.virtual or base.name in names for base in one.bases):
+            names.add(one.name)
+    return names
+
+
+def empty_classes(found):
+    """The names of the classes without data: no member, no virtual pointer, and bases that are all empty."""
+    names, dynamic = set(), dynamic_classes(found)
+    for one in found.values():
+        if not one.fields and one.name not in dynamic and all(base.name in names for base in one.bases):
             names.add(one.name)
     return names

@@ -1,68 +1,144 @@
-"""Reads the text of `tables`, and draws tables with their address points and targets."""
+"""Reads the text of `tables`, and says of each word what it leads to."""
 import re
 from dataclasses import dataclass, field
-from xml.sax.saxutils import escape
+
+WORD = 8
+ENTRY = re.compile(r"(func|complete|deleting) (\S+)(?: this (-?\d+))?(?: vcall (-?\d+))?(?: return (vbase )?(-?\d+)(?: (-?\d+))?)?$")
+ENDS = {"func": "", "complete": ", which ends the object", "deleting": ", which ends the object and frees it"}
+
+
+@dataclass
+class Word:
+    number: int
+    text: str
+
+    @property
+    def sort(self):
+        """offset for the words before the address point, entry for those behind it, and none for an entry that runs nothing."""
+        return "offset" if self.number < 0 else "none" if self.text.split()[0] in ("pure", "unused") else "entry"
 
 
 @dataclass
 class Table:
-    """A table of a group: the subobject that it belongs to, its place, and its words as number and text."""
+    """A table: the group that it stands in, the class of the subobject that it belongs to, its place, and its words."""
 
     group: str
     owner: str
     place: int
     words: list = field(default_factory=list)
 
+    @property
+    def name(self):
+        return f"{self.owner}@{self.place}"
+
+
+@dataclass
+class ClassTables:
+    """All of one class: its tables with those of its construction groups, its VTT, and the lines of its type information."""
+
+    name: str
+    tables: list = field(default_factory=list)
+    vtt: list = field(default_factory=list)
+    typeinfo: list = field(default_factory=list)
+
 
 def read(text):
-    """The tables of a text, in their order."""
-    tables, group = [], ""
-    for line in text.splitlines():
-        head = re.match(r"table (\w+)@(\d+)$", line)
-        word = re.match(r"(-?\d+) (.*)$", line)
-        if line.startswith("group "):
-            group = line[len("group "):]
-        elif head:
-            tables.append(Table(group, head[1], int(head[2])))
-        elif line.startswith(("vtt ", "typeinfo ", "base ")):
-            group = ""
-        elif word and tables and group:
-            tables[-1].words.append((int(word[1]), word[2]))
-    return tables
+    """The classes of a text, in their order. A class ends with its type information, or with the text."""
+    found, lines = [], text.splitlines()
+    current, group, words = ClassTables(""), "", None
+    for number, line in enumerate(lines):
+        first, rest = line.split(" ", 1)
+        if first == "group":
+            group, current.name = rest, current.name or rest
+        elif first == "table":
+            owner, place = rest.split("@")
+            current.tables.append(Table(group, owner, int(place)))
+            words = current.tables[-1].words
+        elif first == "vtt":
+            words = current.vtt
+        elif first in ("typeinfo", "base"):
+            current.name = current.name or rest.split()[0]
+            current.typeinfo.append(line)
+            if not lines[number + 1:number + 2] or not lines[number + 1].startswith("base "):
+                found.append(current)
+                current, group, words = ClassTables(""), "", None
+        else:
+            words.append(Word(int(first), rest))
+    return found + ([current] if current.tables else [])
 
 
-def drawn(text, plain):
-    tables = read(text)
-    return _plain(tables) if plain else _svg(tables)
+def served(table_name, group, name):
+    """Which virtual pointer leads to a table, and when."""
+    place = table_name.split("@")[1]
+    if group == name:
+        return f"the table of the pointer at {place} of a complete {name}"
+    return f"the table of the pointer at {place} while the {group.split('@')[0]} at {group.split('@')[1].split()[0]} is under construction or destruction"
 
 
-def _plain(tables):
-    lines = [] if tables else ["no tables"]
+def title(table, name):
+    """A heading for a table."""
+    return f"{table.name}{'' if table.group == name else f' of {table.group}'}: {served(table.name, table.group, name)}"
+
+
+def leads(word, table, tables):
+    """What a word of a table leads to, in words. Places count from the start of the complete object."""
+    sort, *rest = word.text.split()
+    if sort == "vbase":
+        return f"{rest[1]} lies {rest[0]} bytes from here, at {table.place + int(rest[0])}"
+    if sort == "vcall":
+        return f"what runs for {rest[1]} lies {rest[0]} bytes from here, at {table.place + int(rest[0])}"
+    if sort == "top":
+        return f"the start of the view, at {table.place + int(rest[0])}"
+    if sort == "typeinfo":
+        return f"the type information of {rest[0]}, which typeid names"
+    if sort in ("pure", "unused"):
+        return f"{rest[0]} is pure: nothing runs" if sort == "pure" else "nothing: no call comes through this word"
+    return _runs(ENTRY.match(word.text), table, tables)
+
+
+def _runs(entry, table, tables):
+    kind, function, this, vcall, by_word, first, second = entry.groups()
+    told = f"runs {function}{ENDS[kind]}, this at {table.place}"
+    if this is not None:
+        told = f"a thunk adds {this} to this"
+        place = table.place + int(this)
+        if vcall is not None:
+            told += f", then the word {int(vcall) // WORD} of the table there"
+            place += _vcall(tables, table.group, place, int(vcall) // WORD)
+        told += f", and runs {function}{ENDS[kind]}, this at {place}"
+    if by_word:
+        told += f"; to the result it adds the word {int(first) // WORD} of the result's own table, then {second}"
+    elif first:
+        told += f"; to the result it adds {first}"
+    return told
+
+
+def _vcall(tables, group, place, number):
+    """The vcall word of this number in the table of the group at a place."""
     for table in tables:
-        lines.append(f"{table.group}: table of {table.owner} at {table.place}")
-        for number, word in table.words:
-            point = "->" if number == 0 else "  "
-            lines.append(f"  {point} {number:4} | {word}")
-        if not any(number >= 0 for number, _ in table.words):
-            lines.append("  ->      | (the address point; no entry)")
-    return "\n".join(lines) + "\n"
+        if (table.group, table.place) == (group, place):
+            for word in table.words:
+                if word.number == number and word.text.startswith("vcall "):
+                    return int(word.text.split()[1])
+    raise ValueError(f"no vcall word {number} in the table at {place} of {group}")
 
 
-def _svg(tables):
-    lines, top, widest = [], 20, 300
-    if not tables:
-        lines, top = ['<text x="20" y="20" font-size="13">no tables</text>'], 40
-    for table in tables:
-        rows = table.words + ([] if any(number >= 0 for number, _ in table.words) else [(0, "no entry")])
-        width = 60 + max(len(word) for _, word in rows) * 7 + 20
-        widest = max(widest, width + 160)
-        lines.append(f'<text x="20" y="{top}" font-size="13" font-weight="bold">{escape(table.group)}: table of {table.owner} at {table.place}</text>')
-        for row, (number, word) in enumerate(rows):
-            y = top + 8 + row * 20
-            shade = "#cfe3f5" if number < 0 else "#fff3c4"
-            lines.append(f'<g class="word"><rect x="110" y="{y}" width="{width}" height="20" fill="{shade}" stroke="#222222"/><text x="116" y="{y + 14}" font-size="11">{number}</text><text x="160" y="{y + 14}" font-size="11">{escape(word)}</text></g>')
-            if number == 0:
-                lines.append(f'<text x="20" y="{y + 5}" font-size="10">address point</text><path d="M101,{y + 1} L109,{y + 1}" stroke="#000000" stroke-width="2"/>')
-        top += 8 + len(rows) * 20 + 30
-    head = f'<svg xmlns="http://www.w3.org/2000/svg" width="{widest}" height="{top}" viewBox="0 0 {widest} {top}" font-family="DejaVu Sans Mono, Menlo, Consolas, monospace">\n<rect width="{widest}" height="{top}" fill="#ffffff"/>\n'
-    return head + "\n".join(lines) + "\n</svg>\n"
+def target(word):
+    """The table to which a word of a VTT leads: its name and its group."""
+    name, group = word.text.split(" of ", 1)
+    return name, group
+
+
+def typeinfo_told(line):
+    """What a line of type information says."""
+    words = line.split()
+    if words[0] == "base":
+        number = int(words[2])
+        access = f"{'virtual, ' if number & 1 else ''}{'public' if number & 2 else 'not public'}"
+        place = number >> 8
+        return f"{words[1]}: {access}, " + (f"as far as the word {place // WORD} of the object's table says" if number & 1 else f"at {place}")
+    if words[2] != "vmi":
+        return f"{words[1]} has no base" if words[2] == "class" else f"{words[1]} has one public base at 0, {words[3]}"
+    flags = int(words[4])
+    told = [text for bit, text in ((1, "a class is there twice"), (2, "a shared base is reached twice")) if flags & bit]
+    return f"{words[1]} has {words[6]} base{'' if words[6] == '1' else 's'}" + (f"; {' and '.join(told)}" if told else "")

@@ -1,6 +1,5 @@
 """Runs a command on an input, and takes its processor seconds, its seconds by the clock and its memory."""
 import os
-import resource
 import subprocess
 import tempfile
 import time
@@ -52,8 +51,13 @@ def once(command, source, seconds, folder=None):
         told.seek(0)
         front = told.read(KEPT)
         told.seek(max(0, size - KEPT))
-        unseen = resource.getrusage(resource.RUSAGE_SELF).ru_maxrss
-        return Timed(status, front, told.read(), size, used.ru_utime + used.ru_stime, clock, used.ru_maxrss, unseen)
+        return Timed(status, front, told.read(), size, used.ru_utime + used.ru_stime, clock, used.ru_maxrss, own_kilobytes())
+
+
+def own_kilobytes():
+    """The most memory that this program had in use; `getrusage` counts that of the process that began it, too."""
+    with open("/proc/self/status", encoding="ascii") as status:
+        return next(int(line.split()[1]) for line in status if line.startswith("VmHWM:"))
 
 
 def ended(process, last):

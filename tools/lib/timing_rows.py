@@ -18,6 +18,7 @@ class Row:
     source: Callable
     unit: str = ""
     limit: str = ""  # the last line of a limit that may be met
+    most: int = 0  # the megabytes that a run may have in use; 0: any
 
 
 def spelled(function):
@@ -54,6 +55,11 @@ def made_row(shape):
     return row("run", shape, lambda part: shapes.with_main(shape(part)))
 
 
+def room_row(shape, limit, most):
+    """A run by `paths` that meets a limit, with the megabytes that it may have in use."""
+    return Row(f"paths-{spelled(shape)}", "paths", spelled(shape), lambda part: ["paths", "--steps", BUDGET], shape, limit=limit, most=most)
+
+
 def gen_row():
     return Row("gen", "gen", "gen 1000", lambda part: ["gen", str(1000 // part)], lambda part: "")
 
@@ -62,7 +68,8 @@ def rows():
     """All rows, group by group."""
     return [*[run_row(shape, command, unit) for shape, unit in RUNS for command in ("run", "paths")], gen_row(),
             *[row("check", shape) for shape in TEXTS + HIERARCHIES + WORST], *[row(command, shape) for command in ("layout", "tables") for shape in HIERARCHIES],
-            *[row("run", shape) for shape in PROGRAMS], *[made_row(shape) for shape in MADE]]
+            *[row("run", shape) for shape in PROGRAMS], *[made_row(shape) for shape in MADE],
+            room_row(run_shapes.large_arrays, "limit L8", 50), room_row(run_shapes.deep_members, "limit L10", 50)]
 
 
 @dataclass

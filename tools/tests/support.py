@@ -15,11 +15,7 @@ def run(tool, *words, text="", environment=None):
     return subprocess.run([sys.executable, os.path.join(TOOLS, tool), *words], input=text, capture_output=True, encoding="utf-8", env=environment)
 
 
-def _is_built():
-    return os.path.basename(program.path()) != "tagymelur" or os.path.dirname(program.path()) != program.TOP
-
-
-needs_program = unittest.skipUnless(_is_built(), "the program is not built: ./tagymelur builds it")
+needs_program = unittest.skipUnless(os.access(program.path(), os.X_OK), "the program is not built: ./tagymelur builds it")
 
 
 def needs(*commands):

@@ -1,18 +1,23 @@
 """./tagymelur with a stand-in for the command `rt`: what it tells, that it builds once, and what it says where a proof fails."""
 import os
+import pty
 import shutil
+import signal
 import stat
 import subprocess
 import tempfile
+import time
 import unittest
 
 import support
 from lib import program
 
 STAND_IN = """#!/bin/sh
+[ "$1" = ci ] || { echo rt 1; exit; }
 echo "$*: $(ls crates | tr '\\n' ' ')$(cat crates.txt | wc -l) $(find . -name '*.edit' -o -name out)" >> "$RT_CALLS"
 printf '== foundation\\nlogic=proved\\nrt: foundation proved\\nrt: b is kept: an earlier run proved it\\nrt: c: trying its must-fail edits (1)\\n'
 [ "${RT_STATUS:-0}" = 0 ] || exit 1
+if [ -n "${RT_SLEEPS:-}" ]; then sleep 300 & echo $! > "$RT_SLEEPS"; wait; fi
 mkdir -p crates/tagymelur/out && printf '#!/bin/sh\\necho ran "$@"\\ncat\\n' > crates/tagymelur/out/tagymelur && chmod +x crates/tagymelur/out/tagymelur
 """
 CRATES = """# the four crates of the program, and one beside it
@@ -22,6 +27,15 @@ c: b
 elsewhere: c
 tagymelur: c
 """
+
+
+def is_running(number):
+    """Whether a process runs; one that ended and is not yet asked for its status does not."""
+    try:
+        with open(f"/proc/{number}/stat", encoding="utf-8") as file:
+            return file.read().rsplit(")", 1)[1].split()[0] != "Z"
+    except OSError:
+        return False
 
 
 @support.needs("bash", "awk", "tar")
@@ -43,9 +57,9 @@ class Build(unittest.TestCase):
         with open(os.path.join(self.top, name), "w", encoding="utf-8") as file:
             file.write(text)
 
-    def run_script(self, *words, status="0"):
-        environment = dict(os.environ, PATH=os.path.join(self.top, "bin") + os.pathsep + os.environ["PATH"], RT_STATUS=status, RT_CALLS=self.calls)
-        return subprocess.run([os.path.join(self.top, "tagymelur"), *words], input="text\n", capture_output=True, encoding="utf-8", env=environment)
+    def run_script(self, *words, status="0", top=None):
+        environment = dict(os.environ, PATH=os.path.join(self.top, "bin") + os.pathsep + os.environ["PATH"], RT_STATUS=status, RT_CALLS=self.calls, XDG_CACHE_HOME=os.path.join(self.top, "cache"))
+        return subprocess.run([os.path.join(top or self.top, "tagymelur"), *words], input="text\n", capture_output=True, encoding="utf-8", env=environment)
 
     def test_it_tells_how_far_it_is_and_builds_once(self):
         done = self.run_script("check")
@@ -55,14 +69,96 @@ class Build(unittest.TestCase):
         self.assertNotIn("3 of 4", done.stderr)
         again = self.run_script("layout", "D")
         self.assertEqual((again.returncode, again.stdout, again.stderr), (0, "ran layout D\ntext\n", ""))
+        self.assertEqual(self.builds(), [["ci:", "b", "c", "foundation", "tagymelur", "4"]])
+
+    def builds(self):
+        """The calls of `rt` that built."""
         with open(self.calls, encoding="utf-8") as file:
-            calls = file.read().splitlines()
-        self.assertEqual([line.split() for line in calls], [["ci:", "b", "c", "foundation", "tagymelur", "4"]])
+            return [line.split() for line in file.read().splitlines() if line.startswith("ci")]
+
+    def test_a_built_program_serves_other_checkouts_and_touched_files(self):
+        self.run_script("check")
+        with tempfile.TemporaryDirectory() as room:
+            other = os.path.join(room, "other")
+            shutil.copytree(self.top, other, ignore=shutil.ignore_patterns("out", "cache", "bin", "calls"))
+            done = self.run_script("check", top=other)
+            self.assertEqual((done.returncode, done.stdout, done.stderr), (0, "ran check\ntext\n", ""))
+            self.assertEqual(len(self.builds()), 1)
+            os.makedirs(os.path.join(other, "crates/b/src"))
+            with open(os.path.join(other, "crates/b/src/lib.rt"), "w", encoding="utf-8") as file:
+                file.write("// another source\n")
+            os.utime(os.path.join(other, "crates/b/src/lib.rt"), (time.time() + 5, time.time() + 5))
+            self.assertIn("proving and building", self.run_script("check", top=other).stderr)
+            self.assertEqual(len(self.builds()), 2)
+
+    def test_a_build_that_is_stopped_ends_what_it_started(self):
+        for number in (signal.SIGTERM, signal.SIGINT, signal.SIGHUP):
+            sleeper = os.path.join(self.top, f"sleeper{number}")
+            environment = dict(os.environ, PATH=os.path.join(self.top, "bin") + os.pathsep + os.environ["PATH"], RT_CALLS=self.calls, RT_SLEEPS=sleeper)
+            script = subprocess.Popen([os.path.join(self.top, "tagymelur"), "check"], stdin=subprocess.DEVNULL, stdout=subprocess.PIPE, stderr=subprocess.PIPE, env=environment, encoding="utf-8")
+            self.wait_for(lambda: os.path.exists(sleeper) and os.path.getsize(sleeper) > 0)
+            with open(sleeper, encoding="utf-8") as file:
+                started = int(file.read())
+            script.send_signal(number)
+            text, told = script.communicate(timeout=20)
+            self.assertEqual((script.returncode, text), (128 + number, ""))
+            self.assertIn("the build was stopped", told)
+            self.wait_for(lambda: not is_running(started))
+
+    def wait_for(self, holds):
+        for _ in range(200):
+            if holds():
+                return
+            time.sleep(0.05)
+        self.fail("it did not come to it in ten seconds")
 
     def test_a_failed_proof(self):
         done = self.run_script("check", status="1")
         self.assertEqual((done.returncode, done.stdout), (70, ""))
         self.assertIn("the program could not be built; the whole log is", done.stderr)
+
+    def at_a_terminal(self, *words, program, text=""):
+        """What the script writes to standard output and to a terminal, for a program that is there."""
+        os.makedirs(os.path.join(self.top, "crates/tagymelur/out"), exist_ok=True)
+        self.write("crates/tagymelur/out/tagymelur", program)
+        os.chmod(os.path.join(self.top, "crates/tagymelur/out/tagymelur"), stat.S_IRWXU)
+        os.utime(os.path.join(self.top, "crates/tagymelur/out/tagymelur"), (4e9, 4e9))
+        master, terminal = pty.openpty()
+        environment = dict(os.environ, PATH=os.path.join(self.top, "bin") + os.pathsep + os.environ["PATH"])
+        done = subprocess.run([os.path.join(self.top, "tagymelur"), *words], input=text, stdout=subprocess.PIPE, stderr=terminal, env=environment, encoding="utf-8")
+        os.set_blocking(master, False)
+        try:
+            told = os.read(master, 65536).decode()
+        except BlockingIOError:
+            told = ""
+        os.close(master)
+        os.close(terminal)
+        return done.returncode, done.stdout, told.replace("\r\n", "\n")
+
+    def test_what_is_told_at_a_terminal(self):
+        usage = "#!/bin/sh\necho usage\nexit 2\n"
+        for words in ([], ["--help"]):
+            status, text, told = self.at_a_terminal(*words, program=usage)
+            self.assertEqual((status, text), (2, "usage\n"))
+            self.assertIn("The source comes on standard input", told)
+            for command in ("check", "layout", "tables", "run", "paths", "gen N"):
+                self.assertIn(f"\n  {command} ", told)
+        sentences = set()
+        for number in (6, 7, 8, 9):
+            status, text, told = self.at_a_terminal("check", program=f"#!/bin/sh\nexit {number}\n")
+            self.assertEqual((status, text), (number, ""))
+            self.assertRegex(told, r"^tagymelur: .*\n$")
+            sentences.add(told)
+        self.assertEqual(len(sentences), 4)
+        self.assertEqual(self.at_a_terminal("check", program="#!/bin/sh\ncat\nexit 1\n", text="refused\n"), (1, "refused\n", ""))
+        self.assertEqual(self.run_script("check").stderr, "")
+
+    @support.needs_program
+    def test_the_program_itself_at_a_terminal(self):
+        self.assertEqual(self.at_a_terminal("check", program=f'#!/bin/sh\nexec "{program.path()}" "$@" < /\n'), (6, "", "tagymelur: the source could not be read from standard input; give a file: < FILE\n"))
+        status, text, told = self.at_a_terminal("--help", program=f'#!/bin/sh\nexec "{program.path()}" "$@"\n')
+        self.assertEqual((status, text), (2, "usage\n"))
+        self.assertIn("layout [CLASS]", told)
 
     def test_changed_sources_are_built_again(self):
         self.run_script("check")

@@ -117,14 +117,14 @@ class CrossCheck(unittest.TestCase):
     def test_bad_input(self):
         for words, text, said in ((["-"], "struct A { int x;", "refused E2 Syntax at 17"), (["/nowhere"], "", "cannot be read"), ([], "", "give a source")):
             done = support.run("cross-check", *words, text=text)
-            self.assertIn(done.returncode, (1, 2))
+            self.assertEqual(done.returncode, 2)
             self.assertIn(said, done.stderr)
             self.assertNotIn("Traceback", done.stderr)
 
     def test_an_empty_source(self):
         done = support.run("cross-check", "-", text="")
-        self.assertEqual(done.returncode, 0, done.stderr)
-        self.assertIn("0 classes of 1 sources compared", done.stdout)
+        self.assertEqual((done.returncode, done.stdout), (2, ""))
+        self.assertIn("there is no class to compare", done.stderr)
 
 
 @support.needs("clang++", "g++")

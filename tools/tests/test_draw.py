@@ -1,18 +1,25 @@
-"""tools/draw: the picture is XML with one box for each part, boxes of one row do not overlap, and bad input is told."""
+"""tools/draw: each leaf has its box, no padding lies over a leaf, boxes of one lane do not overlap, and bad input is told."""
 import os
+import re
 import tempfile
 import unittest
 import xml.etree.ElementTree as tree
 
+import leaves
 import support
-from lib import layout_text, parts, picture, program, table_text
+from lib import parts, picture, program, random_source, table_picture, table_text
 
 EXAMPLES = os.path.join(program.TOP, "examples")
+STREAMS = os.path.join(os.path.dirname(os.path.abspath(__file__)), "streams.cc")
 SVG = "{http://www.w3.org/2000/svg}"
 HELD = "struct A { virtual void f() {} }; struct B : virtual A { int b; }; struct C : virtual A { int c; }; struct D : B, C {};"
 MANY = "".join(f"struct B{n} {{ {['int x;', 'virtual void f() {} char c;', '', 'long a; short b;'][n % 4]} }};" for n in range(20)) + "struct D : " + ", ".join(f"B{n}" for n in range(20)) + " { int own; };"
+EMPTY = """struct E {}; struct E2 : E {}; struct A : E2 { int x; };
+struct B1 : E {}; struct B2 : E {}; struct M : B1, B2 {}; struct X : M { virtual void f() {} }; struct D : virtual X { long d; };
+"""
+ARRAYS = "struct P { char c; int i; }; struct Q { P p[3]; char text[200]; short last; P* q[20]; E e[2]; };"
 
-DIAMOND_TEXT = """D: size 56, align 8, data 56, as a base 40
+DIAMOND_TEXT = """D: size 56, align 8, dsize 56, nvsize 40, primary B1
 0       8       16      24      32      40      48      56
 | vptr  | b1    | vptr  | b2    | d     | vptr  | v     |
 '- B1 ---------''- B2 ---------'        '- *V ---------'
@@ -37,8 +44,25 @@ base V -6141
 """
 
 
+def objects_of(text):
+    return parts.Objects(text, program.text_of(["layout"], text))
+
+
 def groups(document):
-    return [one for one in document.iter(SVG + "g")]
+    return [one for one in document.iter(SVG + "g") if one.find(SVG + "title") is not None]
+
+
+def boxes_of_rows(document):
+    """Each box as its class, its tooltip, the bytes that it covers in its row, and where it is drawn."""
+    for row in document.iter(SVG + "g"):
+        if row.get("class") == "row":
+            start, unit = int(row.get("data-start")), float(row.get("data-unit"))
+            for one in row.iter(SVG + "g"):
+                box = one.find(SVG + "rect")
+                if box is not None and one.get("class") != "row":
+                    x, wide = float(box.get("x")) - picture.MARGIN, float(box.get("width"))
+                    place = round(start + x / unit)
+                    yield one.get("class"), one.find(SVG + "title").text, range(place, place + round(wide / unit)), (float(box.get("y")), x, x + wide)
 
 
 def example(name):
@@ -57,37 +81,103 @@ class Draw(unittest.TestCase):
         document = tree.fromstring(self.drawn(example("diamond.cpp"), "D"))
         kinds = sorted(one.get("class") for one in groups(document))
         self.assertEqual(kinds, sorted(["whole", "base", "base", "shared-base"] + ["virtual-pointer"] * 3 + ["member"] * 4))
+        tips = [one.find(SVG + "title").text for one in groups(document)]
+        self.assertIn("virtual pointer of V: 8 bytes at 40", tips)
+        self.assertIn("long v: 8 bytes at 48", tips)
 
-    def test_one_box_for_each_field_of_all_classes(self):
-        text = example("layout.cpp")
-        layouts = layout_text.read(program.text_of(["layout"], text))
-        document = tree.fromstring(self.drawn(text))
-        tips = [one.find(SVG + "title").text for one in groups(document) if one.get("class") in ("member", "object")]
-        for layout in layouts.values():
-            for member in layout.members:
-                self.assertIn(f"{member.shown_type} {member.name}: {layout_text.member_size(layouts, member)} bytes at {member.place}", tips)
+    def judge(self, objects, name):
+        """Each leaf of a class has its box, or lies among elements that are alike; padding and leaves make up the object."""
+        whole, found = objects.whole(name), leaves.of_class(objects.classes, objects.layouts, name)
+        boxes, alike, padding = set(), [], []
+        for part in whole.all():
+            if part.sort in ("member", "virtual pointer"):
+                boxes.add((part.place, part.size, part.told))
+            elif part.sort == "repeat":
+                alike.append(range(part.place, part.end))
+            elif part.is_padding:
+                padding.append(range(part.place, part.end))
+        taken = set()
+        for leaf in found:
+            taken.update(range(leaf.place, leaf.end))
+            self.assertTrue((leaf.place, leaf.size, leaf.told) in boxes or any(leaf.place in one and leaf.end - 1 in one for one in alike), f"{leaf} of {name} has no box")
+        hidden = [byte for one in alike for byte in one]
+        bytes_of_padding = [byte for one in padding for byte in one]
+        self.assertEqual(len(bytes_of_padding), len(set(bytes_of_padding)), name)
+        self.assertFalse(taken & set(bytes_of_padding), f"padding of {name} lies over a leaf")
+        self.assertEqual(taken | set(bytes_of_padding) | set(hidden), set(range(objects.layouts[name].size)), name)
+        self.assertLessEqual({(place, size, told) for place, size, told in boxes}, {(leaf.place, leaf.size, leaf.told) for leaf in found}, name)
+
+    def test_leaves_and_padding_of_two_thousand_random_classes(self):
+        count = 0
+        for _, text in random_source.sources(2000, 7):
+            objects = objects_of(text)
+            for name in objects.layouts:
+                self.judge(objects, name)
+                count += 1
+        self.assertGreaterEqual(count, 2000)
+
+    @support.needs("clang++")
+    def test_leaves_and_padding_of_the_streams(self):
+        done = support.run("from-cpp", "--all", STREAMS)
+        self.assertEqual(done.returncode, 0, done.stderr)
+        objects = objects_of(done.stdout)
+        self.assertGreater(len(objects.layouts), 100)
+        for name in objects.layouts:
+            self.judge(objects, name)
+
+    def test_empty_bases_cover_nothing(self):
+        objects = objects_of(EMPTY + ARRAYS)
+        for name in objects.layouts:
+            self.judge(objects, name)
+        self.assertEqual([part.sort for part in objects.whole("A").parts], ["member", "empty base"])
+        self.assertEqual([(part.tip) for part in objects.whole("D").all() if part.sort == "virtual pointer"], ["virtual pointer of D: 8 bytes at 0", "virtual pointer of X: 8 bytes at 16"])
+        self.assertIn("0   4\n| x |\n^ E2, E (empty)\n", self.drawn(EMPTY, "A", "--text"))
+        marks = [one for one in groups(tree.fromstring(self.drawn(EMPTY, "A"))) if one.get("class") == "empty-base"]
+        self.assertEqual([one.find(SVG + "title").text for one in marks], ["empty base E2: no bytes, at 0", "empty base E: no bytes, at 0"])
+        self.assertEqual([one.find(SVG + "rect") for one in marks], [None, None])
+
+    def test_arrays_show_one_element_and_its_padding(self):
+        whole = objects_of(EMPTY + ARRAYS).whole("Q")
+        array = whole.parts[0]
+        self.assertEqual([part.tip for part in array.all()], ["P[3] p: 24 bytes at 0", "P p[0]: 8 bytes at 0", "char c: 1 byte at 0", "padding of P: 3 bytes at 1", "int i: 4 bytes at 4", "P p[1] to p[2], each as p[0]: 16 bytes at 8"])
+
+    def test_the_boxes_of_a_picture_are_the_parts(self):
+        for text in (HELD, MANY, EMPTY + ARRAYS, example("diamond.cpp"), example("layout.cpp")):
+            objects = objects_of(text)
+            for name in objects.layouts:
+                document, covered = tree.fromstring(self.drawn(text, name)), {}
+                for sort, tip, row, _ in boxes_of_rows(document):
+                    covered.setdefault((sort, tip), set()).update(row)
+                for part in objects.whole(name).all():
+                    if not part.is_mark:
+                        shown = covered[part.sort.replace(" ", "-"), part.tip]
+                        self.assertLessEqual(shown, {byte for one in objects.whole(name).all() if one.tip == part.tip for byte in range(one.place, one.end)})
+                        self.assertIn(part.place, shown)
 
     def test_boxes_do_not_overlap_and_stay_inside(self):
-        for text in (HELD, MANY, example("diamond.cpp"), example("layout.cpp")):
+        for text in (HELD, MANY, EMPTY + ARRAYS, example("diamond.cpp"), example("layout.cpp")):
             document = tree.fromstring(self.drawn(text))
             width, height = float(document.get("width")), float(document.get("height"))
-            boxes = [[float(one.find(SVG + "rect").get(key)) for key in ("x", "y", "width", "height")] for one in groups(document)]
-            for index, (x, y, wide, high) in enumerate(boxes):
-                self.assertTrue(x >= 0 and y >= 0 and x + wide <= width and y + high <= height)
-                for other_x, other_y, other_wide, _ in boxes[:index]:
-                    self.assertTrue(other_y != y or x + 0.15 >= other_x + other_wide or other_x + 0.15 >= x + wide)
+            drawn = [one for _, _, _, one in boxes_of_rows(document)]
+            for index, (y, x, end) in enumerate(drawn):
+                self.assertTrue(x >= 0 and y >= 0 and end + picture.MARGIN <= width and y + picture.ROW <= height)
+                for other_y, other_x, other_end in drawn[:index]:
+                    self.assertTrue(other_y != y or x + 0.15 >= other_end or other_x + 0.15 >= end)
+
+    def test_rows_of_64_bytes_and_names_without_room(self):
+        text = "struct A { " + " ".join(f"char flag_with_a_name{n};" for n in range(70)) + " long end; };"
+        document = tree.fromstring(self.drawn(text))
+        self.assertEqual([row.get("data-start") for row in document.iter(SVG + "g") if row.get("class") == "row"], ["0", "64"])
+        told = " ".join("".join(one.itertext()) for one in document.iter(SVG + "text") if one.get("class") == "names")
+        for number in range(70):
+            self.assertRegex(told, rf"\b{number} char flag_with_a_name{number}\b")
+        self.assertEqual(len(re.findall(r"\bchar\b", told)), 70)
+        self.assertIn(".. 64 to 192: char[200] text goes on\n", self.drawn(EMPTY + ARRAYS, "Q", "--text"))
 
     def test_a_holder_has_an_arrow(self):
         document = tree.fromstring(self.drawn(HELD, "D"))
         self.assertEqual([one.get("class") for one in groups(document)].count("held-base"), 1)
         self.assertEqual(len([one for one in document.iter(SVG + "path") if one.get("marker-end")]), 1)
-
-    def test_leaves_cover_the_object(self):
-        for text in (HELD, MANY, example("diamond.cpp")):
-            objects = parts.Objects(text, program.text_of(["layout"], text))
-            for name, layout in objects.layouts.items():
-                whole = objects.whole(name)
-                self.assertEqual(covered(whole), set(range(layout.size)), name)
 
     def test_a_terminal(self):
         self.assertEqual(self.drawn(example("diamond.cpp"), "--text", "D"), DIAMOND_TEXT)
@@ -95,40 +185,72 @@ class Draw(unittest.TestCase):
     def test_a_file_for_each_class(self):
         with tempfile.TemporaryDirectory() as folder:
             self.drawn(HELD, "--folder", folder)
-            self.assertEqual(sorted(os.listdir(folder)), ["A.svg", "B.svg", "C.svg", "D.svg"])
-
-    def test_the_tables_of_a_class(self):
-        document = tree.fromstring(self.drawn(HELD, "--tables", "B"))
-        words = [line for line in program.text_of(["tables", "B"], HELD).split("vtt ")[0].splitlines() if not line.startswith(("group ", "table "))]
-        self.assertEqual([one.findall(SVG + "text")[1].text for one in groups(document) if one.get("class") == "word" and "no entry" not in tree.tostring(one, "unicode")], [line.split(" ", 1)[1] for line in words])
-        self.assertIn("D: table of A at ", self.drawn(HELD, "--tables", "--text"))
-        self.assertEqual(self.drawn("struct A { int x; };", "--tables", "--text"), "no tables\n")
-        with tempfile.TemporaryDirectory() as folder:
             self.drawn(HELD, "--tables", "--folder", folder)
-            self.assertEqual(sorted(os.listdir(folder)), ["A.svg", "B.svg", "C.svg", "D.svg"])
+            self.assertEqual(sorted(os.listdir(folder)), [name + ending for name in "ABCD" for ending in (".svg", ".tables.svg")])
+
+    def test_options_between_the_words(self):
+        with tempfile.TemporaryDirectory() as folder:
+            source = os.path.join(folder, "held.src")
+            with open(source, "w", encoding="utf-8") as file:
+                file.write(HELD)
+            self.drawn("", "D", "--folder", folder, source)
+            self.assertEqual(sorted(os.listdir(folder)), ["D.svg", "held.src"])
 
     def test_bad_input(self):
-        for words, text, said in ((["Nobody"], HELD, "no class Nobody is in the source"), (["--tables", "Nobody"], HELD, "no class Nobody is in the source"), ([], "struct A { A a; };", "refused E5"), ([], "", "no class"), (["D", "/nowhere"], "", "cannot be read")):
+        for words, text, status, said in ((["Nobody"], HELD, 1, "no class Nobody is in the source"), (["--tables", "Nobody"], HELD, 1, "no class Nobody is in the source"), ([], "struct A { A a; };", 1, "refused E5"), ([], "", 1, "no class"), (["D", "/nowhere"], "", 2, "cannot be read")):
             done = support.run("draw", *words, text=text)
-            self.assertEqual(done.returncode, 1)
+            self.assertEqual(done.returncode, status)
             self.assertIn(said, done.stderr)
             self.assertNotIn("Traceback", done.stderr)
 
 
 class Tables(unittest.TestCase):
     def test_the_words_of_tables(self):
-        tables = table_text.read(TABLES)
-        self.assertEqual([(table.group, table.owner, table.place, len(table.words)) for table in tables], [("D", "D", 0, 4), ("D", "V", 16, 4)])
-        self.assertEqual(tables[1].words[3], (0, "func D::f this 0 vcall -24"))
+        one, = table_text.read(TABLES)
+        self.assertEqual([(table.group, table.name, len(table.words)) for table in one.tables], [("D", "D@0", 4), ("D", "V@16", 4)])
+        self.assertEqual(one.tables[1].words[3], table_text.Word(0, "func D::f this 0 vcall -24"))
+        self.assertEqual((len(one.vtt), len(one.typeinfo)), (2, 2))
+
+    def test_what_each_word_leads_to(self):
+        one, = table_text.read(TABLES)
+        told = [table_text.leads(word, table, one.tables) for table in one.tables for word in table.words]
+        self.assertEqual(told, [
+            "V lies 16 bytes from here, at 16", "the start of the view, at 0", "the type information of D, which typeid names", "runs D::f, this at 0",
+            "what runs for V::f lies -16 bytes from here, at 0", "the start of the view, at 0", "the type information of D, which typeid names",
+            "a thunk adds 0 to this, then the word -3 of the table there, and runs D::f, this at 0"])
+        self.assertEqual([table_text.typeinfo_told(line) for line in one.typeinfo], ["D has 1 base", "V: virtual, public, as far as the word -3 of the object's table says"])
 
     def test_one_box_for_each_word(self):
-        document = tree.fromstring(table_text.drawn(TABLES, False))
-        self.assertEqual(len([one for one in groups(document) if one.get("class") == "word"]), 8)
-        self.assertIn("->    0 | func D::f this 0 vcall -24", table_text.drawn(TABLES, True))
+        document = tree.fromstring(table_picture.picture(table_text.read(TABLES)))
+        counts = {sort: len([one for one in document.iter(SVG + "g") if one.get("class") == sort]) for sort in ("word", "vtt", "typeinfo")}
+        self.assertEqual(counts, {"word": 8, "vtt": 2, "typeinfo": 2})
+        names = {one.get("id") for one in document.iter(SVG + "text")}
+        for link in document.iter(SVG + "a"):
+            self.assertIn(link.get("href")[1:], names)
+        self.assertIn("->    0 | func D::f this 0 vcall -24 | a thunk adds 0", table_picture.plain(table_text.read(TABLES)))
+
+    @support.needs_program
+    def test_the_place_of_this_is_that_of_the_overrider(self):
+        """A thunk leads to a subobject of the class whose function runs, for all entries of random classes."""
+        entries = 0
+        for _, text in random_source.sources(200, 11):
+            objects = objects_of(text)
+            for one in table_text.read(program.text_of(["tables"], text)):
+                for table in one.tables:
+                    for word in table.words:
+                        told = table_text.leads(word, table, one.tables)
+                        runs = re.search(r"runs (\w+)::.* this at (\d+)", told)
+                        if runs:
+                            bases = [(base.class_name, base.place) for base in objects.layouts[one.name].bases] + [(one.name, 0)]
+                            self.assertIn((runs[1], int(runs[2])), bases, f"{one.name} {table.name} {word.text}")
+                            entries += 1
+        self.assertGreater(entries, 150)
+
+    @support.needs_program
+    def test_a_class_without_tables(self):
+        done = support.run("draw", "--tables", "--text", text="struct A { int x; };")
+        self.assertEqual(done.stdout, "the type information of A\n          | typeinfo A class | A has no base\n")
 
 
-def covered(part):
-    """The bytes of the leaves below a part."""
-    if not part.parts:
-        return set(range(part.place, part.end))
-    return set().union(*(covered(inner) for inner in part.parts))
+if __name__ == "__main__":
+    unittest.main()

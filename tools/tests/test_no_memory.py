@@ -140,7 +140,7 @@ class NoMemory(unittest.TestCase):
             file.write("#!/bin/sh\necho 5\n")
         os.chmod(script, stat.S_IRWXU)
         idle = self.compiled("int main(void) { return 0; }\n")
-        for program, words, told in [(script, ["run"], "is no binary"), ("/nowhere/tagymelur", ["run"], "cannot be read"), (idle, ["run"], "could be refused"), (idle, [], "WORDS"), (idle, ["--every", "0", "run"], "no number above 0")]:
+        for program, words, told in [(script, ["run"], "is no binary"), ("/nowhere/tagymelur", ["run"], "cannot be run"), (idle, ["run"], "could be refused"), (idle, [], "WORDS"), (idle, ["--every", "0", "run"], "no number above 0")]:
             done = self.tried(program, *words)
             self.assertEqual((done.returncode, done.stdout), (2, ""), words)
             self.assertIn(told, done.stderr)

@@ -1,10 +1,12 @@
 """The examples of the pages are what the program answers: README.md, and those of docs/ that show a source with its answer."""
 import os
 import re
+import subprocess
+import tempfile
 import unittest
 
 import support
-from lib import program
+from lib import layout_text, program
 
 
 def page(*path):
@@ -58,9 +60,8 @@ class Readme(unittest.TestCase):
         self.assertEqual("".join(shown[at + 1:]), support.run("draw", "--text", "D", text=example("diamond.cpp")).stdout)
 
     def test_the_layout_beside_clang(self):
-        left = [line[:45].rstrip() for line in block(self.text, "$ ./tagymelur layout D").splitlines()[1:]]
-        # the first line is cut in two
-        self.assertEqual(" ".join(left).split(), program.text_of(["layout", "D"], example("diamond.cpp")).split())
+        left = [line[:56].rstrip() for line in block(self.text, "$ ./tagymelur layout D").splitlines()[1:]]
+        self.assertEqual([line for line in left if line], program.text_of(["layout", "D"], example("diamond.cpp")).splitlines())
 
     def test_the_tables(self):
         told = program.text_of(["tables", "D"], example("diamond.cpp")).splitlines()
@@ -76,6 +77,163 @@ class Readme(unittest.TestCase):
         named = set(re.findall(r"^\| `tools/(\S+)` \|", self.text, re.M))
         tools = {name for name in os.listdir(support.TOOLS) if os.path.isfile(os.path.join(support.TOOLS, name))}
         self.assertEqual(named, tools - {"definition-lines", "worked-cases"})
+
+
+PAGES = ["README.md", *sorted(os.path.join("docs", name) for name in os.listdir(os.path.join(program.TOP, "docs")) if name.endswith(".md"))]
+CLASS = re.compile(r"(?:struct|class) \w+(?: : [\w, ]+)? \{(?:[^{}]|\{[^{}]*\})*\};")
+
+
+def commands(text):
+    """Each command of a page that stands behind a `$`, with the lines that it is said to print."""
+    for found in blocks(text):
+        for one in re.split(r"^\$ ", found, flags=re.M)[1:]:
+            command, _, shown = one.partition("\n")
+            yield command, shown.splitlines()
+
+
+def is_front(shown, told):
+    """Whether the lines are those that are told, where `..` stands for any lines."""
+    if not shown:
+        return not told
+    if shown[0].strip() == "..":
+        return any(is_front(shown[1:], told[number:]) for number in range(len(told) + 1))
+    return bool(told) and shown[0].rstrip() == told[0].rstrip() and is_front(shown[1:], told[1:])
+
+
+@support.needs_program
+@support.needs("sh")
+class Commands(unittest.TestCase):
+    """Each command of README and docs that is shown with what it prints."""
+
+    def run_in_shell(self, command):
+        script = command.replace("./tagymelur", f'"{program.path()}"')
+        done = subprocess.run(["sh", "-c", script], cwd=program.TOP, stdout=subprocess.PIPE, stderr=subprocess.STDOUT, encoding="latin-1", env=dict(os.environ, TAGYMELUR=program.path()))
+        return done.stdout.splitlines()
+
+    def test_what_they_print(self):
+        seen = {}
+        for name in PAGES:
+            for command, shown in commands(page(name)):
+                if "  " not in command and not (name == "README.md" and command.startswith("./tagymelur tables")):  # blocks with two columns or remarks have tests of their own
+                    told = seen.setdefault(command, self.run_in_shell(command))
+                    self.assertTrue(is_front(shown, told), f"{name}: {command}: {told}")
+        self.assertGreater(len(seen), 10)
+
+    def test_the_questions_of_readme_are_answered(self):
+        asked = re.findall(r"^\| [^|`]*(?:`\w+`[^|`]*)*\? \| `([^`]*)` \| \[(\w+\.md)\]", page("README.md"), re.M)
+        self.assertEqual(len(asked), 10)
+        known = {command for command, _ in commands(page("docs", "QUESTIONS.md"))}
+        for command, target in asked:
+            self.assertIn(command, known)
+            self.assertTrue(os.path.exists(os.path.join(program.TOP, "docs", target)))
+
+    def test_what_else_is_called_is_there(self):
+        """Each option of a tool that a page names stands in the text of the tool."""
+        texts = {}
+        for name in PAGES:
+            for tool, words in re.findall(r"tools/([a-z-]+)((?: [^\s`|<>]+)*)", page(name)):
+                if os.path.isfile(os.path.join(support.TOOLS, tool)):
+                    told = texts.setdefault(tool, page("tools", tool))
+                    for option in re.findall(r"(?<=\s)--[a-z][a-z-]*", words.split(" -- ")[0]):
+                        self.assertIn(option, told, f"{name}: tools/{tool}{words}")
+        self.assertGreater(len(texts), 8)
+
+    def test_the_links_lead_to_files(self):
+        for name in PAGES:
+            for target in re.findall(r"\]\(([^)#:]+)(?:#[^)]*)?\)", page(name)):
+                self.assertTrue(os.path.exists(os.path.join(program.TOP, os.path.dirname(name), target)), f"{name}: {target}")
+
+
+@support.needs_program
+class Sources(unittest.TestCase):
+    """The classes that pages show are taken, and have the sizes and words that the pages say."""
+
+    def shown(self, name):
+        """Each block of a page, with the classes that were shown last, as a source. A class that is shown again begins a new source."""
+        text, source = page("docs", name), ""
+        for block in re.findall(r"^```\n(.*?)^```|((?:^    .*\n)+)", text, re.S | re.M):
+            block, source = "".join(block), source if not CLASS.search("".join(block)) else ""
+            for part in block.split("\n\n"):
+                for found in self.columns(part):
+                    if {one.split()[1] for one in found} & {one.split()[1] for one in CLASS.findall(source)}:
+                        source = ""
+                    source = f"{source} {' '.join(found)}".strip()
+                    yield source, part, bool(found)
+
+    def columns(self, part):
+        """The classes of a part; of two columns the left one is read first, and where both define one class, they are two sources."""
+        left, right = [], []
+        for one in CLASS.finditer(part):
+            if ".." not in one[0]:
+                (right if one.start() - part.rfind("\n", 0, one.start()) > 34 else left).append(one[0])
+        alike = {one.split()[1] for one in left} & {one.split()[1] for one in right}
+        return [left, right] if alike else [left + right]
+
+    def test_they_are_taken(self):
+        count = 0
+        for name in ("LAYOUT.md", "TABLES.md", "COMPILERS.md", "OBJECTS.md"):
+            for source, _, fresh in self.shown(name):
+                if fresh:
+                    answer, count = program.answer(["check"], source)[0].strip(), count + 1
+                    said = answer == f"{len(CLASS.findall(source))} classes" or answer in page("docs", name) or answer.startswith("refused E24") and "Here C is refused" in page("docs", name)
+                    self.assertTrue(said, f"{name}: {source}: {answer}")
+        self.assertGreater(count, 15)
+
+    def test_sizes(self):
+        """Behind a class, or behind its row of bytes, stands `size N`."""
+        count = 0
+        for name in ("LAYOUT.md", "COMPILERS.md"):
+            for source, part, _ in self.shown(name):
+                said = re.findall(r"(?m)struct (\w+)(?:(?!struct)[^\n])*\};\s+size (\d+)", part) + re.findall(r"(?m)^ *(\w+) +0 .*\bsize (\d+)", part)
+                layouts = layout_text.read(program.text_of(["layout"], source)) if said else {}
+                for one, size in said:
+                    self.assertEqual(layouts[one].size, int(size), f"{name}: {one} of {source}")
+                    count += 1
+        self.assertGreaterEqual(count, 8)
+
+    def test_words_of_tables(self):
+        """Each word of a table in a block of TABLES is one of the tables of the classes before it."""
+        count, word = 0, r"(-\d+  (?:vbase -?\d+ \w+|vcall -?\d+ [\w:]+|top -?\d+|typeinfo \w+)|\b0  func [\w:]+(?:  this -?\d+ vcall -?\d+)?)"
+        for source, part, _ in self.shown("TABLES.md"):
+            found = re.findall(word, part)
+            told = set(program.text_of(["tables"], source).splitlines()) if found else set()
+            for one in found:
+                self.assertIn(re.sub(r"  +", " ", one), told)
+                count += 1
+        self.assertGreater(count, 10)
+
+
+@support.needs_program
+@support.needs("g++", "clang++")
+class Mistakes(unittest.TestCase):
+    """The five programs of COMPILERS.md, and what the compilers of its versions make of them."""
+
+    def test_each_program(self):
+        text = page("docs", "COMPILERS.md")
+        text = text[text.index("## Mistakes that programs show"):]
+        said = [[cell.strip() for cell in line.split("|")[1:-1]] for line in re.findall(r"^\| a .*$", text, re.M)]
+        programs = [found for found in blocks(text) if "int main()" in found]
+        self.assertEqual((len(said), len(programs)), (5, 5))
+        for (_, right, *_), source in zip(said, programs):
+            answer = program.text_of(["run"], source)
+            self.assertEqual(re.sub(r"#\d+\+\d+", "#", answer).split(), right.split())
+        versions = [subprocess.run([name, "-dumpversion"], stdout=subprocess.PIPE, encoding="utf-8").stdout for name in ("g++", "clang++")]
+        if not versions[0].startswith("12") or not versions[1].startswith("14"):
+            self.skipTest("g++ 12 and clang++ 14 are not here")
+        with tempfile.TemporaryDirectory() as folder:
+            for number, source in enumerate(programs):
+                with open(os.path.join(folder, f"{number}.cpp"), "w", encoding="utf-8") as file:
+                    file.write(source)
+            done = support.run("cross-run", *[os.path.join(folder, f"{number}.cpp") for number in range(5)])
+        judges = done.stdout.rsplit("judges: ", 1)[1].strip().split(", ")
+        for judge in judges:
+            for number, cells in enumerate(said):
+                claim = cells[1 + ["g++", "clang++", "clang++ with libc++abi"].index(judge) + 1]
+                found = re.search(rf"{number}\.cpp: {re.escape(judge)} prints \[(.*?)\] where", done.stdout)
+                if claim == "not taken":
+                    self.assertIn("a name that one class hides is called ambiguous: 1", done.stdout)
+                else:
+                    self.assertEqual(" ".join(re.findall(r"'([^']*)'", found[1])) if found else cells[1], claim, f"{judge}, {cells[0]}")
 
 
 @support.needs_program

@@ -100,7 +100,7 @@ class SameRuns(unittest.TestCase):
     def test_bad_input(self):
         empty = os.path.join(self.top, "empty")
         os.mkdir(empty)
-        for words, status in [([empty], 1), ([os.path.join(self.top, "nowhere.cpp")], 1), ([self.write("usage.cpp", "usage\n")], 2), ([], 2), (["--steps", "0", empty], 2), (["--steps", "4000001", empty], 2), (["--seconds", "x", empty], 2)]:
+        for words, status in [([empty], 2), ([os.path.join(self.top, "nowhere.cpp")], 2), ([self.write("usage.cpp", "usage\n")], 2), ([], 2), (["--steps", "0", empty], 2), (["--steps", "4000001", empty], 2), (["--seconds", "x", empty], 2)]:
             done = self.compare(*words)
             self.assertEqual(done.returncode, status, words)
             self.assertNotIn("Traceback", done.stderr)

@@ -8,18 +8,23 @@ import unittest
 import support
 from lib import timed
 
-# It reads its source, prints its command and says how it ends: `run` well, `gen` by a limit, `layout` by the one that some texts meet.
+# It reads its source, prints its command and says how it ends: `run` well, `gen` by a limit, `layout` by the one that some texts meet,
+# and `paths` by the limit of a source that is known, with 60 MB in use for arrays, or never.
 STAND_IN = r"""
 #include <stdio.h>
 #include <string.h>
 #include <unistd.h>
 
+char room[60 << 20];
+
 int main(int count, char **words) {
-    char part[4096];
-    while (read(0, part, sizeof part) > 0) {}
+    char part[4096], first[14] = "";
+    for (int n; (n = read(0, part, sizeof part)) > 0;) if (n > 13 && first[0] == 0) memcpy(first, part, 13);
     if (strcmp(words[1], "gen") == 0) { puts("limit L8"); return 5; }
     if (strcmp(words[1], "layout") == 0) { puts("limit L9"); return 5; }
     if (strcmp(words[1], "tables") == 0) { printf("%d\n", (int)getpid()); return 0; }
+    if (strcmp(words[1], "paths") == 0 && strcmp(first, "struct A { bo") == 0) { memset(room, 1, sizeof room); puts("limit L8"); return 5; }
+    if (strcmp(words[1], "paths") == 0 && strcmp(first, "struct C0 {};") == 0) { puts("limit L10"); return 5; }
     if (strcmp(words[1], "paths") == 0) { pause(); }
     for (int n = 0; strcmp(words[1], "check") == 0 && n < 1000; n++) puts("line");
     puts(words[1]);
@@ -62,6 +67,14 @@ class Timings(unittest.TestCase):
         self.assertEqual((done.returncode, done.stderr), (0, ""))
         self.assertEqual(self.cells(done, "chain")[2], "`limit L9`")
 
+    def test_the_room_that_a_run_may_take(self):
+        done = self.timings("--only", "paths-deep-members")
+        self.assertEqual((done.returncode, done.stderr), (0, ""))
+        self.assertEqual(self.cells(done, "deep-members")[2], "`limit L10`")
+        done = self.timings("--only", "paths-large-arrays")
+        self.assertEqual(done.returncode, 1)
+        self.assertRegex(done.stderr, r"wrong: paths-large-arrays has 6\d MB in use; at most 50 are wanted\n")
+
     def test_answers_that_must_not_come(self):
         for row, told in [("layout-pairs", "layout-pairs at 1/4 ended with status 5: limit L9"), ("gen", "gen at 1/1 ended with status 5: limit L8"), ("paths-loop", "paths-loop at 1/1 took more than 1 seconds")]:
             done = self.timings("--seconds", "1", "--only", row)
@@ -88,7 +101,7 @@ class Timings(unittest.TestCase):
         with open(script, "w", encoding="utf-8") as file:
             file.write("#!/bin/sh\n")
         for words, environment, told in [
-            ([], {"TAGYMELUR": "/nowhere/tagymelur"}, "cannot be read"), (["--only", "gen"], {"TAGYMELUR": script}, "is no binary"), (["--only", "compilers"], {"PATH": "/nowhere"}, "apt-get install clang"),
+            ([], {"TAGYMELUR": "/nowhere/tagymelur"}, "cannot be run"), (["--only", "gen"], {"TAGYMELUR": script}, "is no binary"), (["--only", "compilers"], {"PATH": "/nowhere"}, "apt-get install clang"),
             (["--only", "nothing"], {}, "no row and no group nothing"), (["--runs", "0"], {}, "no number above 0"), (["--runs"], {}, "expected one argument"),
         ]:
             done = self.timings(*words, **environment) if "TAGYMELUR" not in environment else support.run("timings", *words, environment=dict(os.environ, **environment))

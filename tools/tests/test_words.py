@@ -25,7 +25,7 @@ class Words(unittest.TestCase):
     def test_files_that_are_not_there(self):
         for name in ("cross-check", "same-runs", "worked-cases", "from-cpp"):
             done = support.run(name, "/nowhere/file")
-            self.assertEqual((done.returncode, done.stdout), (1, ""), name)
+            self.assertEqual((done.returncode, done.stdout), (2, ""), name)
             self.assertIn("/nowhere/file cannot be read", done.stderr)
             self.assertNotIn("Traceback", done.stderr)
 

@@ -1,0 +1,145 @@
+"""Tagymelur from Python: the answers of the program as typed values.
+
+    import tagymelur
+    tagymelur.check(text)                     how many classes a source has
+    tagymelur.layout(text)["D"].size          the layouts by class name; `layout(text, "D")` is one
+    tagymelur.tables(text)["D"].groups        virtual tables, VTT and type information
+    tagymelur.run(text).lines                 what main prints; `trace=True` gives the events too
+    tagymelur.paths(text).lines               the same by the machine of paths
+    for one in tagymelur.many(texts, tagymelur.layout):
+        one.value or one.error
+
+A source that is not taken raises `Refused`, a run that ends otherwise than by its end `Undefined`, `OutOfSteps` or `Limit`. Each has `rule`,
+`line`, `sentence` and, where there are such, `at`, `column`, `section` and the `lines` that were printed before. `Unavailable` is raised where the
+program cannot be run. The program is the one that the variable TAGYMELUR names, else the one of the repository or of the package.
+"""
+import os
+from concurrent.futures import ThreadPoolExecutor
+from dataclasses import dataclass
+
+_HERE = os.path.dirname(os.path.abspath(__file__))
+# The readers of answers are those of the tools: beside this folder in the repository, and in the package's own folder where it is installed.
+for _folder in (os.path.join(_HERE, "..", "..", "tools"), os.path.join(_HERE, "..", "..", "..", "tagymelur", "tools")):
+    if os.path.isfile(os.path.join(_folder, "lib", "answers.py")):
+        __path__.append(_folder)
+        break
+
+from .lib import answers as _answers, class_tables as _class_tables, layout_text as _layout_text  # noqa: E402
+from .lib.answers import End, Event, Run  # noqa: E402
+from .lib.class_tables import ClassTables  # noqa: E402
+from .lib.layout_text import Layout  # noqa: E402
+from .lib.problem import Problem as _Problem  # noqa: E402
+
+__all__ = ["Answer", "ClassTables", "End", "Error", "Event", "Layout", "Limit", "OutOfSteps", "Refused", "Run", "Unavailable", "Undefined", "check", "layout", "many", "paths", "run", "tables"]
+
+
+class Error(Exception):
+    """An answer that is no success."""
+
+    def __init__(self, end, lines=()):
+        self.end, self.lines = end, list(lines)
+        self.status, self.rule, self.name = end.status, end.rule, end.name
+        self.at, self.line, self.column = end.at, end.line, end.column
+        self.sentence, self.section = end.sentence, end.section
+        place = f" in line {end.line}" if end.line else ""
+        super().__init__(f"{' '.join(filter(None, [end.rule, end.name])) or end.kind}{place}: {end.sentence}")
+
+    def __reduce__(self):
+        return type(self), (self.end, self.lines)
+
+
+class Refused(Error):
+    """The source is not taken."""
+
+
+class Undefined(Error):
+    """A step of the run is undefined."""
+
+
+class OutOfSteps(Error):
+    """The budget of steps was spent."""
+
+
+class Limit(Error):
+    """A limit was met."""
+
+
+class Unavailable(Exception):
+    """The program is not there, has no memory, or cannot read or write."""
+
+
+_ERRORS = {"refused": Refused, "undefined": Undefined, "out of steps": OutOfSteps, "limit": Limit}
+
+
+def _checked(end, lines=()):
+    if end.kind == "usage":
+        raise ValueError(end.sentence)
+    if end.kind in _ERRORS:
+        raise _ERRORS[end.kind](end, lines)
+    if end.kind != "done":
+        raise Unavailable(f"{end.sentence or 'the program ended'} (status {end.status})")
+
+
+def _asked(call, *words):
+    try:
+        return call(*words)
+    except _Problem as problem:
+        raise Unavailable(str(problem)) from None
+
+
+def _text(words, source):
+    text, end = _asked(_answers.ask, words, source)
+    _checked(end)
+    return text
+
+
+def check(source):
+    """How many classes the source has."""
+    return int(_text(["check"], source).split()[0])
+
+
+def layout(source, name=None):
+    """The layouts of all classes by name, or that of one class."""
+    found = _layout_text.read(_text(["layout"] + ([] if name is None else [name]), source))
+    return found if name is None else found[name]
+
+
+def tables(source, name=None):
+    """The tables of all classes by name, or those of one class."""
+    found = _class_tables.read(_text(["tables"] + ([] if name is None else [name]), source))
+    return found if name is None else found[name]
+
+
+def run(source, steps=None, trace=False):
+    """What `main` prints on the byte machine."""
+    found = _asked(_answers.run, source, "run", steps, trace)
+    _checked(found.end, found.lines)
+    return found
+
+
+def paths(source, steps=None):
+    """What `main` prints on the machine of paths."""
+    found = _asked(_answers.run, source, "paths", steps)
+    _checked(found.end, found.lines)
+    return found
+
+
+@dataclass
+class Answer:
+    """What a call gave for one of many sources: its value, or the error that it raised."""
+
+    source: str
+    value: object = None
+    error: object = None
+
+
+def many(sources, call=layout, processors=None):
+    """An `Answer` for each source, in their order. The program runs side by side on all processors, or on so many."""
+    def one(source):
+        try:
+            return Answer(source, call(source))
+        except (Error, Unavailable) as error:
+            return Answer(source, None, error)
+
+    with ThreadPoolExecutor(processors or os.cpu_count()) as pool:
+        yield from pool.map(one, sources)

@@ -1,0 +1,173 @@
+"""Which members a class has when it is said: each at its place in C++, or the reason why that cannot be."""
+from dataclasses import replace
+
+from . import stand_ins
+from .stand_ins import MOST_ALIGN, MOST_ELEMENTS, Piece
+
+UNION = "unnamed unions"
+
+
+class Misplaced(Exception):
+    """A member or a class that the rules of the language lay out in another way, with the words that say how."""
+
+
+def effective_align(record):
+    """The alignment that a class has when it is said."""
+    return min(record.layout.align, MOST_ALIGN)
+
+
+class Plan:
+    """The pieces of one class. `changes` has the way in which each piece is another type; `unlike` what of the layout is not kept."""
+
+    def __init__(self, record, types, is_empty, left_out):
+        self.record, self.types, self.is_empty, self.left_out = record, types, is_empty, left_out
+        self.by_member, self.changes, self.unlike = {}, {}, ""
+        self.pos, self.align = self.start()
+        self.members()
+        self.tail()
+
+    def start(self):
+        """Where the members begin, and the alignment that bases and the virtual pointer bring."""
+        end, align = 0, 1
+        for place, depth, sort, _ in self.record.layout.rows:
+            if depth == 1 and sort == "virtual pointer":
+                end, align = max(end, 8), 8
+        for base in self.record.bases:
+            one = self.types.kind(base.type).record
+            align = max(align, effective_align(one))
+            if base.virtual:
+                align = 8
+            elif not self.is_empty(one):
+                end = max(end, base.place + one.layout.nvsize)
+        return end, align
+
+    def limit(self, index):
+        """The first byte behind a member that belongs to another one, or to a virtual base."""
+        layout, members = self.record.layout, self.record.members
+        bases = [row[0] for row in layout.rows if row[1] == 1 and "virtual base" in row[2] and row[0] >= self.pos]
+        end = min([layout.size, *bases]) if bases else layout.size
+        return next((one.place for one in members[index:] if one.place is not None and one.place >= self.pos and not one.is_bit_field), end)
+
+    def members(self):
+        members, index = self.record.members, 0
+        wide = self.needs_wide()
+        self.aligned = next((one for one in members if wide and one.attribute and not one.is_bit_field and self.can_be_aligned(one)), None)
+        while index < len(members):
+            member = members[index]
+            index += 1
+            if member.is_bit_field:
+                run = [member]
+                while index < len(members) and members[index].is_bit_field:
+                    run.append(members[index])
+                    index += 1
+                self.bit_fields(run, self.limit(index), wide)
+            else:
+                self.by_member[id(member)] = self.member(member, self.limit(index))
+
+    def can_be_aligned(self, member):
+        """Whether scalars of the alignment of the class can take the bytes of a member."""
+        kind, align = self.types.kind(member.type), effective_align(self.record)
+        return kind.sort != "object" and member.place % align == 0 and self.types.size(kind) * kind.count % align == 0
+
+    def needs_wide(self):
+        """Whether the alignment of the class is that of no member but bit-fields, or comes from an attribute."""
+        others = [self.types.align(self.types.kind(one.type)) for one in self.record.members if not one.is_bit_field]
+        return max([self.align, *others]) < effective_align(self.record)
+
+    def bit_fields(self, run, limit, is_wide):
+        sized = [(one, self.types.size(self.types.kind(one.type))) for one in run]
+        found = stand_ins.bits(sized, self.pos, limit, is_wide)
+        for piece in found:
+            self.put(piece, stand_ins.width(piece.word))
+        self.by_member[id(run[0])] = found
+        self.count("bit-fields", len(run))
+
+    def member(self, member, limit):
+        """The pieces of a member; none for an array of length 0."""
+        kind = self.types.kind(member.type)
+        size, align = self.types.size(kind), self.types.align(kind)
+        if kind.sort == "object" and kind.record in self.left_out:
+            kind = replace(kind, sort="bytes" if size else "unknown", note=member.type, change="classes that are left out")
+        if member is self.aligned:
+            kind = replace(kind, sort="bytes", change="members with an alignment attribute")
+            size, align, kind.length = size * kind.count, effective_align(self.record), None
+        if kind.sort == "unknown":
+            size = limit - member.place
+            align = next(width for width in stand_ins.WIDTHS if member.place % width == 0 and size % width == 0 and width <= self.record.layout.align)
+        if kind.count == 0:
+            self.count("arrays of length 0, which take no place", 1)
+            return []
+        if member.attribute == "no_unique_address" and kind.sort == "object" and self.is_empty(kind.record):
+            self.count("empty members without an address of their own", 1)
+            return []
+        found = self.padding(member, align)
+        self.need_place(member, kind, min(align, MOST_ALIGN))
+        return found + self.said(member, kind, size, align)
+
+    def said(self, member, kind, size, align):
+        is_union = kind.sort == "object" and kind.record.tag == "union" and kind.record.is_nameless
+        if is_union or kind.sort in ("bytes", "unknown"):
+            note = f"union {{ {'; '.join(member.inside)} }}" if is_union and kind.length is None else member.written
+            found = stand_ins.pieces(member.place, member.place + size * kind.count, min(align, MOST_ALIGN), member.name or "unnamed", member.access, note)
+            self.count(UNION if is_union else kind.change, 1)
+        elif kind.sort != "object" and kind.count > MOST_ELEMENTS:
+            # as few elements as can be, since the program counts each as a part
+            found = stand_ins.pieces(member.place, member.place + size * kind.count, effective_align(self.record), member.name, member.access, member.written)
+            self.count("arrays of more than 4,096 elements", 1)
+        else:
+            found = self.arrays(member, kind, size)
+            if kind.change:
+                self.count(kind.change, 1)
+        self.pos = max(self.pos, member.place + size * kind.count)
+        self.align = max(self.align, min(align, MOST_ALIGN))
+        return found
+
+    def arrays(self, member, kind, size):
+        """One member, or several where an array has more elements than one may have."""
+        found, done = [], 0
+        while done < kind.count:
+            count = min(MOST_ELEMENTS, kind.count - done)
+            note = f"more of {member.name}" if done else member.written if kind.note else ""
+            length = None if kind.length is None else count
+            found.append(Piece(kind, member.name or "unnamed", length, member.place + done * size, member.access, note))
+            done += count
+        return found
+
+    def padding(self, member, align):
+        """Scalars before a member whose alignment no scalar has."""
+        natural = -(-self.pos // min(align, MOST_ALIGN)) * min(align, MOST_ALIGN)
+        if align <= MOST_ALIGN or natural >= member.place:
+            return []
+        self.unlike = self.unlike or f"its alignment is said as {MOST_ALIGN} in place of {self.record.layout.align}, and the places are kept by padding"
+        found = stand_ins.pieces(self.pos, member.place, 1, "padding", member.access, f"padding before {member.name or 'the next member'}, of alignment {align}")
+        self.pos = member.place
+        return found
+
+    def need_place(self, member, kind, align):
+        """Ends the plan where the rules put a member elsewhere; a member with empty classes may lie elsewhere by the rules too."""
+        natural = -(-self.pos // align) * align
+        has_empty = kind.sort == "object"
+        if member.place < natural or (member.place > natural and not has_empty) or member.place % align:
+            why = member.attribute or self.record.attribute or "its attributes"
+            raise Misplaced(f"its member {member.name or 'without name'} lies at {member.place}, where the rules put it at {natural}: {why}")
+
+    def put(self, piece, align):
+        self.pos, self.align = max(self.pos, piece.place + align * (piece.length or 1)), max(self.align, align)
+
+    def tail(self):
+        """What is left behind the last member: padding where the alignment of the class is one that no scalar has."""
+        layout = self.record.layout
+        self.behind = []
+        if layout.align > MOST_ALIGN:
+            self.unlike = f"its alignment is said as {MOST_ALIGN} in place of {layout.align}, and the places are kept by padding"
+            natural = max(-(-self.pos // self.align) * self.align, 1)
+            if natural < layout.size and not any("virtual base" in row[2] for row in layout.rows):
+                self.behind = stand_ins.pieces(self.pos, layout.size, MOST_ALIGN, "padding", "public", f"padding up to a multiple of {layout.align}")
+                self.align = max([self.align, *(stand_ins.width(piece.word) for piece in self.behind)])
+        if self.align != effective_align(self.record):
+            has_bits = any(member.is_bit_field for member in self.record.members)
+            why = self.record.attribute or ("no scalar over its bit-fields has that" if has_bits else "the attributes of its members")
+            raise Misplaced(f"its alignment is {layout.align}, where the rules give {self.align}: {why}")
+
+    def count(self, change, number):
+        self.changes[change] = self.changes.get(change, 0) + number

@@ -1,0 +1,149 @@
+"""Each tool ends clearly: whatever it is given, a sentence and the stated status, and never a traceback."""
+import os
+import shutil
+import subprocess
+import sys
+import tempfile
+import unittest
+
+import support
+from lib import program
+
+SOURCE = "struct A { char c; int i; virtual void f() {} };\nint main() { print(1); }\n"
+# what is C++ too, and a test for gcc-tests
+CPP = "// { dg-do run }\n#include <cstdio>\nstruct A { int x; };\nint main() { puts(\"1\"); }\n"
+NO_SOURCE = "Dear reader,\n\tthis is no source: \"at all\" # \x01\n"
+# for each tool the words that take a source, where {} is its file, or nothing where it comes on standard input
+TAKING = {
+    "as-json": ["layout", "--source", "{}"], "cross-check": ["{}"], "cross-run": ["{}"], "draw": ["A", "{}"], "explain": ["check"], "from-cpp": ["{}"], "gcc-tests": ["{}"],
+    "no-memory": ["--about", "2", "check"], "padding": ["A", "{}"], "page": ["{}"], "run-cpp": ["{}"], "same-runs": ["{}"], "worked-cases": ["{}"],
+}
+WITHOUT = {"large-source": [], "timings": ["--list"], "definition-lines": [], "package": ["made"], "c-library": ["made"]}  # these take none, and these words do well
+NO_WORDS = {
+    "as-json": 2, "c-library": 2, "cross-check": 2, "cross-run": 2, "definition-lines": 0, "draw": 1, "explain": 2, "from-cpp": 2, "gcc-tests": 2, "large-source": 0, "no-memory": 2, "package": 2, "padding": 1,
+    "page": 1, "run-cpp": 2, "same-runs": 2, "worked-cases": 2,
+}
+ODD = {
+    "as-json": [["nosuch"], ["run", "A"], ["layout", "--steps", "3"], ["run", "--steps", "0"], ["run", "--steps", "9" * 30]], "c-library": [["--built"], ["made", "--built", "/nowhere/library"], ["made", "more"]],
+    "package": [["made", "--version", "new"], ["made", "--library", "/nowhere"], ["/dev/null/x"]], "page": [["--nothing"]],
+    "cross-check": [["--random", "-5"], ["--random", "0"], ["--random", "x"], ["--only", "cc"]], "cross-run": [["--random", "-5"], ["--seed", "x"], ["--keep"]],
+    "definition-lines": [["more"]], "draw": [["A", "B", "C"], ["--folder"], ["--nothing"]], "explain": [["--code", "E99"], ["--code", ""]],
+    "from-cpp": [["--class"], ["--program", "--print", "{}"], ["--print", "{}", "{}"], ["--program", "--all", "{}"]], "gcc-tests": [["--jobs", "0", "{}"], ["--jobs", "x", "{}"], ["--table"]],
+    "run-cpp": [["--nothing", "{}"], ["--trace"]], "large-source": [["nosuch"], ["chain", "99"], ["chain", "1", "2"]], "no-memory": [["nosuch"], ["--every", "0", "check"], ["--jobs", "-1", "check"]],
+    "padding": [["A", "B", "C"]], "same-runs": [["--steps", "0", "x"], ["--seconds", "-1", "x"]], "timings": [["--only", "nosuch"], ["--runs", "0"]], "worked-cases": [["--nothing"]],
+}
+# the status where a source is empty or is none of the language; each other tool has 1. A program that asks for no memory there, or
+# whose allocations cannot be counted, is told by no-memory with status 2
+EMPTY = {"as-json": 0, "cross-check": 2, "cross-run": 2, "explain": 0, "gcc-tests": 2, "no-memory": (0, 2), "same-runs": 0}
+WRONG = {"cross-check": 2, "cross-run": 2, "gcc-tests": 2, "no-memory": (0, 2), "same-runs": 0}
+COMPILERS = {"c-library": ["made"], "cross-check": ["{}"], "cross-run": ["{}"], "from-cpp": ["{}"], "gcc-tests": ["{}"], "no-memory": ["check"], "run-cpp": ["{}"], "timings": ["--only", "compilers"]}
+OF_CPP = {"from-cpp", "gcc-tests", "run-cpp"}
+NAMES = sorted(name for name in os.listdir(support.TOOLS) if os.path.isfile(os.path.join(support.TOOLS, name)))
+
+
+@support.needs_program
+@support.needs("g++", "clang++", "gcc", "sh")
+class Ends(unittest.TestCase):
+    def setUp(self):
+        self.folder = tempfile.mkdtemp()
+        self.addCleanup(shutil.rmtree, self.folder)
+
+    def write(self, name, text):
+        path = os.path.join(self.folder, name)
+        with open(path, "w", encoding="latin-1") as file:
+            file.write(text)
+        return path
+
+    def proper(self, name):
+        """A file that a tool takes."""
+        return self.write("source.cpp", CPP) if name in OF_CPP else self.write("source.src", SOURCE)
+
+    def end(self, name, words, status, file="", sink=None, **environment):
+        """Runs a tool, whose words take a file; the file comes on standard input too."""
+        command = [sys.executable, os.path.join(support.TOOLS, name), *(word.replace("{}", file) for word in words)]
+        given = open(file or os.devnull, "rb")
+        with given, open(sink or os.devnull, "w", encoding="utf-8") as out:
+            done = subprocess.run(command, stdin=given, stdout=out if sink else subprocess.PIPE, stderr=subprocess.PIPE, encoding="utf-8", env=dict(os.environ, **environment), cwd=self.folder, timeout=120)
+        what = f"{name} {words} {file} {sink} {environment.keys()}: {done.stderr}"
+        self.assertIn(done.returncode, status if isinstance(status, tuple) else (status,), what)
+        self.assertNotIn("Traceback", done.stderr, what)
+        self.assertNotIn("Exception", done.stderr, what)
+        if done.returncode == 2 or done.returncode and name not in ("explain", "as-json"):  # these tell it in their answer
+            self.assertRegex(done.stderr, rf"(?m)^(tools/)?{name}: \S.*\S$|^usage|^The words", what)
+        return done.stderr
+
+    def test_each_tool_is_listed(self):
+        self.assertEqual(sorted([*TAKING, *WITHOUT]), NAMES)
+        self.assertEqual(sorted(ODD), NAMES)
+
+    def test_no_words(self):
+        for name, status in NO_WORDS.items():
+            self.end(name, [], status)
+
+    def test_odd_words(self):
+        for name, some in ODD.items():
+            for words in some:
+                self.end(name, words, 2, self.write("source.src", SOURCE))
+
+    def test_an_empty_file(self):
+        for name, words in TAKING.items():
+            self.end(name, words, EMPTY.get(name, 1), self.write("empty.src", ""))
+
+    def test_a_file_that_is_no_source(self):
+        for name, words in TAKING.items():
+            self.end(name, words, WRONG.get(name, 1), self.write("letter.src", NO_SOURCE))
+
+    def test_a_missing_file_or_a_folder(self):
+        for name, words in TAKING.items():
+            if "{}" in words:
+                for place in ("/nowhere/file.src", self.folder):
+                    told = self.end(name, [word.replace("{}", place) for word in words], 2)
+                    self.assertIn(place, told)
+
+    def test_standard_input_that_is_a_folder_or_closed(self):
+        for name, words in TAKING.items():
+            tool = os.path.join(support.TOOLS, name)
+            for line in ('"$@" < /', '"$@" <&-'):
+                done = subprocess.run(["sh", "-c", line, "sh", tool, *(word.replace("{}", "-") for word in words)], stdout=subprocess.PIPE, stderr=subprocess.PIPE, encoding="utf-8", cwd=self.folder)
+                self.assertEqual((done.returncode, done.stdout), (2, ""), f"{name} {line}: {done.stderr}")
+                self.assertRegex(done.stderr, rf"^{name}: .*\n$")
+
+    def test_no_compiler(self):
+        source = self.write("source.src", SOURCE)
+        for name, words in COMPILERS.items():
+            self.assertIn("apt-get install" if name != "no-memory" else "gcc is missing", self.end(name, words, 2, source, PATH=self.folder))
+
+    def test_no_program(self):
+        for name, words in {**TAKING, "timings": ["--only", "run"], "package": ["made"]}.items():
+            if name not in ("worked-cases", "from-cpp"):
+                self.assertIn("/nowhere/tagymelur", self.end(name, words, 2, self.proper(name), TAGYMELUR="/nowhere/tagymelur"))
+
+    def test_an_output_that_cannot_be_written(self):
+        source = self.write("source.src", SOURCE)
+        for name, words in {**TAKING, **WITHOUT}.items():
+            if name != "worked-cases":
+                self.end(name, words, 2, self.proper(name), sink="/dev/full")
+        self.end("from-cpp", ["--program", "{}"], 2, self.proper("from-cpp"), sink="/dev/full")
+        self.end("gcc-tests", ["--table", "/dev/null/x", "{}"], 2, self.proper("gcc-tests"))
+        for words in (["A", "{}", "--folder", "/dev/null/x"], ["A", "{}", "--folder", source]):
+            self.end("draw", words, 2, source)
+        self.end("cross-run", ["{}", "--keep", "/dev/null/x"], 2, source)
+
+    def test_a_program_that_is_not_built(self):
+        """No tool builds it: in a copy without the program the tool says how it is built."""
+        top = os.path.join(self.folder, "copy")
+        shutil.copytree(support.TOOLS, os.path.join(top, "tools"), ignore=shutil.ignore_patterns("tests", "__pycache__"))
+        os.symlink(os.path.join(program.TOP, "docs"), os.path.join(top, "docs"))
+        with open(os.path.join(top, "tagymelur"), "w", encoding="utf-8") as script:
+            script.write("#!/bin/sh\ntouch started\n")
+        os.chmod(os.path.join(top, "tagymelur"), 0o755)
+        environment = {key: value for key, value in os.environ.items() if key != "TAGYMELUR"}
+        for name in ("draw", "padding", "page"):
+            done = subprocess.run([os.path.join(top, "tools", name)], input=SOURCE, capture_output=True, encoding="utf-8", env=environment, cwd=top)
+            self.assertEqual((done.returncode, done.stdout), (2, ""))
+            self.assertIn("the program is not built; ./tagymelur check < examples/diamond.cpp proves and builds it", done.stderr)
+        self.assertFalse(os.path.exists(os.path.join(top, "started")))
+
+
+if __name__ == "__main__":
+    unittest.main()

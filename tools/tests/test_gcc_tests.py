@@ -1,0 +1,89 @@
+"""tools/gcc-tests on small tests in the form of gcc's, and tools/cross-run on programs that are said again."""
+import os
+import tempfile
+import unittest
+
+import support
+from lib.saying import nested
+
+PASSES = "// { dg-do run }\nextern \"C\" void abort();\nint n = 3;\nint main() { if (n != 3) abort(); return 0; }\n"
+FAILS = PASSES.replace("n != 3", "n == 3")
+STATUS = "// { dg-do run }\nint main() { return 7; }\n"
+UNSAID = "// { dg-do run }\nint main() { throw 1; }\n"
+UNDEFINED = "// { dg-do run }\nint main() { int *p = 0; return *p; }\n"
+PRINTS = "// { dg-do run }\n// { dg-output \"one.*two\" }\nextern \"C\" int printf(const char *, ...);\nint main() { printf(\"one\\n\"); printf(\"two\\n\"); }\n"
+OTHER = "// { dg-do run { target ilp32 } }\nint main() { return sizeof(long) != 4; }\n"
+COMPILED = "// { dg-do compile }\nint main() { return 1; }\n"
+
+
+@support.needs_program
+@support.needs("clang++", "c++filt")
+class GccTests(unittest.TestCase):
+    def told(self, tests, *words):
+        with tempfile.TemporaryDirectory() as folder:
+            for name, text in tests.items():
+                with open(os.path.join(folder, name), "w", encoding="utf-8") as file:
+                    file.write(text)
+            return support.run("gcc-tests", *words, folder)
+
+    def test_what_came_of_each(self):
+        tests = {"a.C": PASSES, "b.C": FAILS, "c.C": STATUS, "d.C": UNSAID, "e.C": UNDEFINED, "f.C": PRINTS, "g.C": PRINTS.replace("one.*two", "three"), "h.C": OTHER, "i.C": COMPILED}
+        done = self.told(tests)
+        self.assertEqual(done.returncode, 1, done.stderr)
+        words = {line[10:].split(":")[0]: line[:9].strip() for line in done.stdout.splitlines()[:-1]}
+        self.assertEqual(words, {"a.C": "passes", "b.C": "differs", "c.C": "differs", "d.C": "not said", "e.C": "refused", "f.C": "passes", "g.C": "differs", "h.C": "not meant"})
+        self.assertIn("d.C: throw: the language has no exceptions\n", done.stdout)
+        self.assertIn("c.C: it ends with status 7\n", done.stdout)
+        self.assertTrue(done.stdout.splitlines()[-1].startswith("8 tests: "))
+
+    def test_the_table(self):
+        with tempfile.TemporaryDirectory() as folder:
+            path = os.path.join(folder, "table.md")
+            done = self.told({"a.C": PASSES, "d.C": UNSAID, "e.C": UNSAID}, "--table", path)
+            self.assertEqual(done.returncode, 0)
+            with open(path, encoding="utf-8") as file:
+                self.assertEqual(file.read().splitlines()[2:], ["| passes |  | 1: a |", "| not said | throw: the language has no exceptions | 2: d e |"])
+
+    def test_bad_words(self):
+        for words in ([], ["/nowhere"], [support.TOOLS]):
+            done = support.run("gcc-tests", *words)
+            self.assertEqual((done.returncode, done.stdout), (2, ""))
+            self.assertNotIn("Traceback", done.stderr)
+
+    def test_the_standard(self):
+        """A test is read by the standard that it names, or else by the lowest one that takes it."""
+        lowest = "// { dg-do run }\nint main() { return __cplusplus == 199711L ? 0 : 1; }\n"
+        later = "// { dg-do run }\nint main() { int *p = nullptr; return !p && __cplusplus == 201103L ? 0 : 1; }\n"
+        named = "// { dg-do run { target c++14 } }\nint main() { return __cplusplus == 201402L ? 0 : 1; }\n"
+        done = self.told({"a.C": lowest, "b.C": later, "c.C": named, "d.C": lowest.replace("run }", "run }\n// { dg-options \"-std=c++17\" }")})
+        self.assertEqual([line[:9].strip() for line in done.stdout.splitlines()[:-1]], ["passes", "passes", "passes", "differs"], done.stdout)
+
+
+class Nested(unittest.TestCase):
+    def test_variables_are_written_where_they_are_used(self):
+        lines = ["struct K0 {", "virtual long f0() {", "print(typeid(*this));", "return 5;", "}", "};", "int main() {", "K0* v1 = new K0;", "long v2 = v1->f0();", "print(v2);", "K0* v3 = v1;", "bool v3b = v3 != 0;", "if (v3b) {", "print(v3b);", "}", "}"]
+        text = nested.Nesting("\n".join(lines)).text()
+        self.assertIn('printf("K%d\\n", typeid(*this) == typeid(K0) ? 0 : -1);', text)
+        self.assertIn('printf("%ld\\n", (v1->f0()));', text)
+        self.assertIn("if ((static_cast<K0 *>(v1) != 0)) {", text)
+        self.assertNotIn("v2", text)
+
+    @support.needs_program
+    @support.needs("clang++", "c++filt")
+    def test_a_program_said_again_prints_the_same(self):
+        done = support.run("cross-run", "--random", "2", "--seed", "7", "--nested")
+        self.assertEqual((done.returncode, done.stderr), (0, ""), done.stdout)
+        self.assertEqual(done.stdout, "2 programs agree, 0 differ, 0 that a compiler does not take, 0 passed over; judges: from-cpp --program\n")
+
+    @support.needs_program
+    @support.needs("clang++", "c++filt")
+    def test_a_program_that_cannot_be_said_again(self):
+        """A pointer that is printed: the way back has no words for it, and says so."""
+        done = support.run("cross-run", "--nested", "-", text="struct K0 {\nlong m;\n};\nint main() {\nK0* v1 = new K0;\nprint(v1);\n}\n")
+        self.assertEqual((done.returncode, done.stderr), (0, ""), done.stdout)
+        self.assertIn("not taken by from-cpp --program: another reason: printf of %d: a value of the type ", done.stdout)
+        self.assertIn("0 programs agree, 0 differ, 1 that a compiler does not take, 0 passed over", done.stdout)
+
+
+if __name__ == "__main__":
+    unittest.main()

@@ -1,0 +1,137 @@
+"""tools/package and tools/c-library: what they hold, README's lines after the package is unpacked, lintian, and bad input."""
+import os
+import re
+import subprocess
+import tempfile
+import unittest
+
+import support
+from lib import manual, program, proved
+
+with open(os.path.join(program.TOP, "README.md"), encoding="utf-8") as file:
+    README = file.read()
+
+
+def call(words, **more):
+    return subprocess.run(words, stdout=subprocess.PIPE, stderr=subprocess.PIPE, encoding="utf-8", **more)
+
+
+@support.needs_program
+@support.needs("dpkg-deb", "strip", "objdump")
+class Package(unittest.TestCase):
+    @classmethod
+    def setUpClass(cls):
+        cls.room = tempfile.TemporaryDirectory()
+        done = support.run("package", os.path.join(cls.room.name, "made"), "--version", "1.2")
+        if done.returncode:
+            raise AssertionError(done.stderr)
+        cls.package, cls.packed = done.stdout.splitlines()
+        cls.root, cls.trial = os.path.join(cls.room.name, "root"), os.path.join(cls.room.name, "try")
+        subprocess.run(["dpkg-deb", "-x", cls.package, cls.root], check=True)
+        os.mkdir(cls.trial)
+        own = os.path.join(cls.root, "usr/lib/tagymelur")
+        for name in os.listdir(own):
+            os.symlink(os.path.join(own, name), os.path.join(cls.trial, name))
+
+    @classmethod
+    def tearDownClass(cls):
+        cls.room.cleanup()
+
+    def line(self, text):
+        """A line of a shell in the folder of the trial, with no kit on the path."""
+        plain = {name: value for name, value in os.environ.items() if name != "TAGYMELUR"}
+        return call(["bash", "-c", text], cwd=self.trial, env={**plain, "PATH": "/usr/bin:/bin"})
+
+    def test_what_it_holds(self):
+        names = set(call(["bash", "-c", f"cd {self.root} && find . -type f -o -type l"]).stdout.splitlines())
+        tools = [name for name in os.listdir(os.path.join(self.root, "usr/lib/tagymelur/tools")) if name != "lib"]
+        self.assertGreater(len(tools), 8)
+        wanted = ["usr/bin/tagymelur", "usr/share/man/man1/tagymelur.1.gz", "usr/share/doc/tagymelur/copyright", "usr/share/doc/tagymelur/PROVED", "usr/lib/python3/dist-packages/tagymelur/__init__.py",
+                  "usr/share/bash-completion/completions/tagymelur", "usr/share/zsh/vendor-completions/_tagymelur"]
+        wanted += [f"usr/bin/tagymelur-{name}" for name in tools] + [f"usr/share/man/man1/tagymelur-{name}.1.gz" for name in tools]
+        self.assertEqual([name for name in wanted if f"./{name}" not in names], [])
+        self.assertEqual([name for name in names if "__pycache__" in name or "/tests/" in name], [])
+        self.assertIn("Version: 1.2\n", call(["dpkg-deb", "-f", self.package]).stdout)
+
+    def test_the_lines_of_the_readme(self):
+        tried = re.findall(r"^    (\./tagymelur (\w+) +< examples/\S+) +# prints (\w+)", README, re.M)
+        self.assertEqual(len(tried), 4)
+        for words, command, said in tried:
+            done = self.line(words)
+            self.assertEqual((done.returncode, done.stderr), (0, ""))
+            self.assertTrue(done.stdout.startswith("class E" if command == "layout" else said), done.stdout)
+        self.assertIn("'- B1 ---------''- B2 ---------'", self.line("tools/draw --text D < examples/diamond.cpp").stdout)
+        self.assertIn("two final overriders", self.line("tools/explain check < examples/overriders.cpp").stderr)
+        self.assertIn("The run of main", self.line("tools/page examples/construction.cpp").stdout)
+        self.assertEqual(self.line("ls examples/first.cpp | while read one; do crates/tagymelur/out/tagymelur run < $one; done").stdout, "5\n")
+
+    def test_the_questions_of_the_readme(self):
+        """Each command says in the folder of the trial what it says in the repository."""
+        asked = re.findall(r"^\| [^|]*\? \| `([^`]*)` \|", README, re.M)
+        self.assertEqual(len(asked), 10)
+        for command in asked:
+            here = call(["bash", "-c", command.replace("./tagymelur", f'"{program.path()}"')], cwd=program.TOP, env={**os.environ, "TAGYMELUR": program.path()})
+            done = self.line(command)
+            self.assertEqual((done.returncode, done.stdout, done.stderr), (here.returncode, here.stdout, here.stderr), command)
+            self.assertTrue(done.stdout)
+
+    def test_a_command_of_the_path(self):
+        """It names places of the installed package; here it is called with those of the unpacked one."""
+        with open(os.path.join(self.root, "usr/bin/tagymelur-draw"), encoding="utf-8") as file:
+            script = file.read().replace("/usr/lib/", f"{self.root}/usr/lib/")
+        done = self.line(f"sh -c '{script}' draw --text D < examples/diamond.cpp")
+        self.assertEqual((done.returncode, done.stderr), (0, ""))
+        self.assertIn("'- B1 ---------''- B2 ---------'", done.stdout)
+
+    def test_the_module(self):
+        done = self.line(f"PYTHONPATH={self.root}/usr/lib/python3/dist-packages python3 -c \"import tagymelur; print(tagymelur.layout(open('examples/diamond.cpp').read(), 'D').size)\"")
+        self.assertEqual((done.stdout, done.stderr), ("56\n", ""))
+
+    def test_the_completion(self):
+        done = self.line(f"cd /; source {self.root}/usr/share/bash-completion/completions/tagymelur; _tagymelur tagymelur la; echo ${{COMPREPLY[0]}}; _tagymelur tagymelur-draw --tab; echo ${{COMPREPLY[0]}}")
+        self.assertEqual(done.stdout, "layout\n--tables\n")
+
+    def test_what_was_proved(self):
+        with open(os.path.join(self.root, "usr/share/doc/tagymelur/PROVED"), encoding="utf-8") as file:
+            lines = file.read().splitlines()
+        self.assertTrue(lines[0].startswith("kit: "))
+        sums = dict(reversed(line.split("  ")[:2]) for line in lines if re.match(r"[0-9a-f]{64}  ", line))
+        self.assertEqual(list(sums), proved.needed())
+        self.assertEqual(sums["cxx_text"], proved.sum_of("cxx_text"))
+        self.assertNotIn("worked_cases", sums)
+        told = proved.said(program.binary())
+        self.assertEqual(any(line.startswith("NOT KNOWN TO BE PROVED") for line in lines), any(name not in told for name in sums))
+
+    def test_the_tar_file(self):
+        subprocess.run(["tar", "-C", self.room.name, "-xf", self.packed], check=True)
+        folder = os.path.join(self.room.name, "tagymelur-1.2")
+        self.assertEqual({"tagymelur", "tools", "docs", "examples", "python", "man", "completions", "LICENSE", "README.md", "PROVED", "crates"}, set(os.listdir(folder)))
+        with open(os.path.join(folder, "examples", "diamond.cpp"), encoding="utf-8") as file:
+            self.assertEqual(call([os.path.join(folder, "tagymelur"), "check"], stdin=file).stdout, "4 classes\n")
+
+    @support.needs("lintian")
+    def test_lintian(self):
+        done = call(["lintian", "--allow-root", "--fail-on", "error", self.package])
+        self.assertEqual(done.returncode, 0, done.stdout)
+
+
+class Words(unittest.TestCase):
+    def test_bad_input(self):
+        for tool, words, variable, status, said in [
+                ("package", (), None, 2, "usage: "), ("package", ("/tmp/x", "--version", "new"), None, 2, "digits and dots"), ("package", ("/tmp/x",), "/nowhere/program", 2, "cannot be run"),
+                ("package", ("/tmp/x",), os.path.join(program.TOP, "README.md"), 2, "is no binary"), ("package", ("/dev/null/x",), "/bin/true", 2, "cannot be made"),
+                ("package", ("/tmp/x", "--library", "/nowhere"), "/bin/true", 2, "has no libtagymelur.a"), ("c-library", (), None, 2, "usage: "), ("c-library", ("/tmp/x", "--built", "/nowhere/file"), None, 2, "is not there")]:
+            done = support.run(tool, *words, environment={**os.environ, **({"TAGYMELUR": variable} if variable else {})})
+            self.assertEqual((done.returncode, done.stdout), (status, ""), (tool, words))
+            self.assertIn(said, done.stderr)
+            self.assertNotIn("Traceback", done.stderr)
+
+    def test_a_manual_page(self):
+        page = manual.of_tool("none", "1", "usage: tools/none [-h]\n\nDoes nothing.\n\n.TH is no request here\n")
+        self.assertIn("tagymelur\\-none \\- does nothing\n", page)
+        self.assertIn("\\&.TH is no request", page)
+        self.assertIn(".B check\n", manual.of_program("1"))
+
+
+if __name__ == "__main__":
+    unittest.main()

@@ -1,0 +1,213 @@
+"""tools/from-cpp --program and tools/run-cpp on small programs of C++, each with one construct, beside what both compilers' programs print."""
+import glob
+import os
+import re
+import subprocess
+import tempfile
+import unittest
+
+import support
+from lib import clang, problem
+from lib.saying import back, beside, runs, source
+
+FOLDER = os.path.join(os.path.dirname(os.path.abspath(__file__)), "programs")
+CASES = sorted(glob.glob(os.path.join(FOLDER, "*.cc")))
+FLAGS = ["-std=gnu++98"]
+HEADERS = "#include <cassert>\n#include <cstdio>\n#include <cstdlib>\n#include <iostream>\n#include <typeinfo>\n"
+CPP11 = {"lambdas"}
+ALONE = {"statics", "ends", "asserts", "namespaces", "streams", "lambdas"}  # they have objects outside of functions, end early, or name the outermost scope
+
+
+def written(path):
+    with open(path, encoding="utf-8") as file:
+        return file.read()
+
+
+def flags_of(path):
+    return ["-std=gnu++11"] if name_of(path) in CPP11 else FLAGS
+
+
+def name_of(path):
+    return os.path.basename(path)[:-3]
+
+
+def wanted(path):
+    """What a program prints, and its status: the last line of the file beside it."""
+    text, _, status = written(path[:-3] + ".txt").rpartition("status ")
+    return text, int(status)
+
+
+def together(paths):
+    """The programs as one text, each in a namespace of its own, run by its number."""
+    parts = [f"namespace n_{name_of(path)} {{\n{body_of(written(path))}\n}}\n" for path in paths]
+    rows = "".join(f"    case {number}: return n_{name_of(path)}::run();\n" for number, path in enumerate(paths))
+    return HEADERS + "".join(parts) + "int main(int, char **words) {\n    switch (std::atoi(words[1])) {\n" + rows + "    }\n    return 99;\n}\n"
+
+
+def body_of(text):
+    """A program without its includes, whose main is a function `run` that returns 0 at its end."""
+    text = re.sub(r"^#include.*$", "", text, flags=re.M).rstrip()
+    head, _, rest = text.rpartition("int main() {")
+    return head + "int run() {" + rest[:-1] + "return 0; }"
+
+
+def printed_together(compiler, paths):
+    """What the programs print, built by a compiler as one."""
+
+    def work(folder):
+        program = os.path.join(folder, "programs")
+        _, said, good = clang.call([compiler, "-w", "-O0", *FLAGS, "-x", "c++", "-", "-o", program], together(paths))
+        if not good:
+            raise AssertionError(said)
+        done = [subprocess.run([program, str(number)], stdout=subprocess.PIPE, timeout=20) for number in range(len(paths))]
+        return [(one.stdout.decode("latin-1"), one.returncode) for one in done]
+
+    return clang.in_folder(work)
+
+
+def said_of(path, flags=None):
+    return source.said(clang.unit([path]), flags or flags_of(path))
+
+
+@support.needs("clang++", "c++filt")
+class Programs(unittest.TestCase):
+    def test_there_are_forty_of_them(self):
+        self.assertGreaterEqual(len(CASES), 40)
+
+    @support.needs_program
+    def test_both_machines_print_what_is_wanted(self):
+        for path in CASES:
+            said = said_of(path)
+            for machine in ("run", "paths"):
+                with self.subTest(name_of(path), machine=machine):
+                    ran = runs.run(said, (machine,))
+                    self.assertEqual((ran.output.text, ran.output.status), wanted(path), ran.why)
+
+    @support.needs("g++")
+    def test_both_compilers_print_what_is_wanted(self):
+        paths = [path for path in CASES if name_of(path) not in ALONE]
+        for compiler in ("g++", "clang++"):
+            for path, printed in zip(paths, printed_together(compiler, paths)):
+                with self.subTest(name_of(path), compiler=compiler):
+                    self.assertEqual(printed, wanted(path))
+            for path in CASES:
+                if name_of(path) in ALONE:
+                    with self.subTest(name_of(path), compiler=compiler):
+                        self.assertEqual(beside.built(compiler, [path], flags_of(path)), wanted(path))
+
+
+def refused(text, flags=None):
+    """The sentence with which a text is refused."""
+
+    def work(folder):
+        path = os.path.join(folder, "bad.cc")
+        with open(path, "w", encoding="utf-8") as file:
+            file.write(text)
+        try:
+            said_of(path, flags)
+        except problem.Problem as error:
+            return str(error)
+        return ""
+
+    return clang.in_folder(work)
+
+
+@support.needs("clang++", "c++filt")
+class Refusals(unittest.TestCase):
+    def test_what_cannot_be_said_stops_with_its_place_and_reason(self):
+        for text, place, word in (
+            ("int main() {\n    throw 1;\n}\n", "2:5", "throw cannot be said: the language has no exceptions"),
+            ("int main() {\n  again:\n    goto again;\n}\n", "2:3", "the language has no jumps"),
+            ("int main() {\n    asm(\"nop\");\n}\n", "2:5", "inline assembly"),
+            ("int main() { double d = 1.5; return d + 1 > 2; }\n", "1:", "floating-point"),
+            ("int f() { return 1; }\nint main() { int (*p)() = f; return p(); }\n", "2:", "a pointer or reference to a function"),
+            ("union U { int a; long b; };\nint main() { U u; u.a = 1; return u.a; }\n", "1:1", "a union"),
+            ("struct B { int low : 3; };\nint main() { B b; b.low = 1; return 0; }\n", "1:", "a bit-field"),
+            ("int main() { int a[3]; int *p = a; p++; return 0; }\n", "1:", "arithmetic on pointers"),
+            ("struct A { virtual ~A() {} };\nint main() { A a; A &b = dynamic_cast<A &>(a); A &c = a; struct D : A {}; D &d = dynamic_cast<D &>(c); }\n", "2:", "dynamic_cast to a reference"),
+            ("struct T { T *me; T(T *t) : me(t) {} };\nstruct H { T t; H() : t((T *)0), u(&t) {} T u; };\nint main() { H h; }\n", "2:", "under construction"),
+            ("int f();\nint main() { return f(); }\n", "2:", "a call of f cannot be said: the function is not defined"),
+            ("#include <cstdio>\nint f() { return puts(\"f\"); }\nstruct A { A(int) { puts(\"A\"); } };\nstruct B : A { A a; B() : A(1), a(f()) {} };\nint main() { B b; }\n", "4:", "it would be calculated before"),
+        ):
+            with self.subTest(word):
+                said = refused(text)
+                self.assertIn(word, said)
+                self.assertRegex(said, rf"bad\.cc:{re.escape(place)}")
+
+    def test_texts_that_are_no_programs(self):
+        self.assertIn("no main", refused("int f() { return 0; }\n"))
+        self.assertIn("is not taken", refused("int main() { return x; }\n"))
+        self.assertIn("'vector' file not found", refused("#include <vector>\nint main() {}\n"))
+
+    @support.needs_program
+    def test_a_program_above_a_limit_is_told_so_before_it_runs(self):
+        lines = "".join(f"    a += b * {number};\n" for number in range(12000))
+        self.assertIn("262144 are the most", refused(f"int main() {{\n    int a = 0, b = 1;\n{lines}    return a != 0;\n}}\n"))
+
+
+@support.needs("clang++", "c++filt")
+class RunCpp(unittest.TestCase):
+    @support.needs_program
+    def test_an_undefined_step_is_named_with_its_place(self):
+        done = support.run("run-cpp", os.path.join(FOLDER, "..", "undefined.cc"))
+        self.assertEqual((done.stdout, done.returncode), ("1\n", 3))
+        self.assertRegex(done.stderr, r"undefined\.cc:5:5: undefined U2 Dangling\n")
+
+    @support.needs_program
+    def test_a_trace_has_the_names_of_the_program(self):
+        done = support.run("run-cpp", "--trace", os.path.join(FOLDER, "constructor_parameters.cc"))
+        self.assertEqual(done.returncode, 0, done.stderr)
+        lines = [re.sub(r"#\d+", "#", line) for line in done.stdout.splitlines()]
+        self.assertEqual(lines[:5], ["call main", "A 4", "built A #+0", "call B::id #+0", "B 3 2"])
+        self.assertFalse([line for line in lines if "plan" in line or "_call" in line])
+
+    @support.needs_program
+    @support.needs("g++")
+    def test_beside_the_compilers(self):
+        done = support.run("run-cpp", "--beside", os.path.join(FOLDER, "comma.cc"))
+        self.assertEqual((done.returncode, done.stderr), (0, "run-cpp: g++ prints the same\nrun-cpp: clang++ prints the same\n"))
+
+    @support.needs_program
+    def test_the_text_is_put_back_by_from_cpp(self):
+        path = os.path.join(FOLDER, "printf_formats.cc")
+        said = support.run("from-cpp", "--program", path)
+        self.assertEqual(said.returncode, 0, said.stderr)
+        ran = runs.run(said_of(path))
+        self.assertRegex(said.stdout, r"\A// read by clang\+\+ \d.* by its default gnu\+\+\d\d\n")
+        self.assertEqual(back.put_back(said.stdout, ran.printed).text, wanted(path)[0])
+        given = support.run("from-cpp", "--program", path, "--", "-std=gnu++98")
+        self.assertRegex(given.stdout, r"\A// read by clang\+\+ \d.* by gnu\+\+98, as the flags say\n")
+
+    def test_output_that_is_of_no_run(self):
+        source = '// read by clang++ 14.0.6 by gnu++98, as the flags say\n// #1+0 "sum %d\\n"\nint main() {}\n'
+        with tempfile.NamedTemporaryFile("w", suffix=".src") as file:
+            file.write(source)
+            file.flush()
+            for printed, status, text, aside in (
+                ("#1+0\n3\n", 0, "sum 3\n", ""),
+                ("4\n#1+0\nlimit L5\n", 1, "4\n", "limit L5\n"),
+                ("#1+7\n", 1, "", "from-cpp: the lines are none of a run of this source"),
+                ("#1+0\nmany\n", 1, "", "from-cpp: the lines are none of a run of this source"),
+                ("#1+0\n", 1, "", "from-cpp: the lines are none of a run of this source"),
+            ):
+                done = support.run("from-cpp", "--print", file.name, text=printed)
+                self.assertEqual((done.returncode, done.stdout), (status, text), done.stderr)
+                self.assertTrue(done.stderr.startswith(aside) and "Traceback" not in done.stderr, done.stderr)
+        done = support.run("from-cpp", "--print", __file__, text="1\n")
+        self.assertEqual((done.returncode, done.stdout), (1, ""))
+        self.assertIn("the file is none that tools/from-cpp --program gave", done.stderr)
+
+    def test_a_standard_by_which_it_is_no_program(self):
+        done = support.run("run-cpp", os.path.join(FOLDER, "lambdas.cc"), "--", "-std=gnu++98")
+        self.assertEqual((done.returncode, done.stdout), (1, ""))
+        self.assertIn("the source is not C++ by gnu++98, but by gnu++11", done.stderr)
+
+    def test_bad_words(self):
+        for words, status in (([], 2), (["/nowhere.cc"], 2), ([os.path.join(FOLDER, "..", "broken.cc")], 1)):
+            done = support.run("run-cpp", *words)
+            self.assertEqual((done.returncode, done.stdout), (status, ""))
+            self.assertNotIn("Traceback", done.stderr)
+
+
+if __name__ == "__main__":
+    unittest.main()
