@@ -51,12 +51,18 @@ def _of_said(restating, record, ours):
         return "it would be empty" if ours.is_empty else "it would not be empty"
     if _bases(original) != _bases(ours):
         return "a base or virtual pointer of it would lie at another place"
-    places = {row[3].split()[-1]: row[0] for row in ours.rows if row[1] == 1 and row[2] == "field"}
+    places = {row[3].split()[-1]: ours.bits.get(number, row[0]) for number, row in enumerate(ours.rows) if row[1] == 1 and row[2] == "field"}
     for those in plan.by_member.values():
         for piece in those:
-            if places.get(piece.said) != piece.place:
-                return f"its member {piece.said} would lie at {places.get(piece.said)} in place of {piece.place}"
+            place = piece.place if piece.width is None else piece.bits
+            if places.get(piece.said) != place:
+                return f"its member {piece.said} would lie at {_shown(places.get(piece.said))} in place of {_shown(place)}"
     return ""
+
+
+def _shown(place):
+    """A place in words: a byte, or the first and the last bit of a bit-field."""
+    return f"the bits {place[0]} to {place[1]}" if isinstance(place, tuple) else place
 
 
 def _bases(layout):

@@ -152,14 +152,14 @@ class _Class:
             name = f"{base}_{count}"
         self.taken.add(name)
         piece.said = name
-        length = "" if piece.length is None else f"[{piece.length}]"
+        behind = f" : {piece.width}" if piece.width is not None else "" if piece.length is None else f"[{piece.length}]"
         if isinstance(piece.word, str):
-            return f"{piece.word} {name}{length};{note_text(piece.note)}"
+            return f"{piece.word} {name}{behind};{note_text(piece.note)}"
         kind = piece.word
         known = kind.record is not None and kind.record.name in self.names
         word = self.names[kind.record.name] if kind.sort == "object" else kind.word if kind.sort == "scalar" else self.pointer(kind)
         note = piece.note or ("" if known or kind.record is None else shown(kind.record) + " *")
-        return f"{word} {name}{length};{note_text(note)}"
+        return f"{word} {name}{behind};{note_text(note)}"
 
     def pointer(self, kind):
         return (self.names[kind.record.name] if kind.record and kind.record.name in self.names else POINTED) + "*"

@@ -49,7 +49,18 @@ def with_gcc(layout, seen, empty):
 
 
 def _members(layout, seen, compiler):
-    return [f"member {one.name} at {one.place}, {compiler} {seen.members.get(one.name, 'nowhere')}" for one in layout.members if seen.members.get(one.name) != one.place]
+    apart = [(one, seen.members.get(one.name, "nowhere")) for one in layout.members if seen.members.get(one.name) != _own_spot(one)]
+    return [f"member {one.name} at {_shown(_own_spot(one))}, {compiler} {_shown(spot)}" for one, spot in apart]
+
+
+def _own_spot(member):
+    """Where a member lies: its first byte, or the first and the last bit of a bit-field from the start of the class."""
+    first = 8 * member.place + member.first
+    return member.place if member.width is None else (first, first + member.width - 1)
+
+
+def _shown(spot):
+    return f"the bits {spot[0]} to {spot[1]}" if isinstance(spot, tuple) else spot
 
 
 class Known:

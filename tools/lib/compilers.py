@@ -3,7 +3,7 @@ import os
 import re
 from dataclasses import dataclass, field
 
-from . import clang, cpp_text
+from . import clang, cpp_text, gcc_bits
 from .problem import Problem
 
 FLAGS = ["-std=gnu++98", "-w", "-fno-access-control"]
@@ -11,7 +11,10 @@ FLAGS = ["-std=gnu++98", "-w", "-fno-access-control"]
 
 @dataclass
 class Seen:
-    """What a compiler says of a class. Bases are the places by path, as `*V/B`; g++ names them in preorder, by class alone."""
+    """What a compiler says of a class. Bases are the places by path, as `*V/B`; g++ names them in preorder, by class alone.
+
+    Members are places in bytes; that of a bit-field is its first and its last bit.
+    """
 
     size: int
     align: int
@@ -48,14 +51,14 @@ def _of_rows(layout):
     """Places of bases by their paths, and of the class's own members."""
     seen = Seen(layout.size, layout.align, layout.nvsize, layout.nvalign, layout.dsize, {})
     path, inside = {}, None
-    for place, depth, sort, words in layout.rows:
+    for number, (place, depth, sort, words) in enumerate(layout.rows):
         if inside is not None and depth > inside:
             continue
         inside = None
         if sort == "field":
             inside = depth
             if depth == 1:
-                seen.members[words.split()[-1]] = place
+                seen.members[words.split()[-1]] = layout.bits.get(number, place)
         elif sort != "virtual pointer":
             own = words[:words.index(" (")].split("::")[-1].split()[-1]
             path[depth] = "*" + own if "virtual" in sort else path.get(depth - 1, "") + "/" + own if depth > 1 else own
@@ -66,8 +69,9 @@ def _of_rows(layout):
 
 
 def by_gcc(sources):
-    """G++'s word on each class: its dump of classes, and the places of members as constants of an assembly text."""
-    text = unit(sources) + "".join(_offsets(name, found) for name, found in sources.items())
+    """G++'s word on each class: its dump of classes, the places of members as constants of an assembly text, and the bits that a program sets."""
+    units = unit(sources)
+    text = units + "".join(_offsets(name, found) for name, found in sources.items())
 
     def work(folder):
         dump, assembly = os.path.join(folder, "classes"), os.path.join(folder, "text.s")
@@ -80,20 +84,26 @@ def by_gcc(sources):
 
     classes, constants = clang.in_folder(work)
     found = _of_dump(classes)
-    places = _of_constants(constants)
+    places, bits = _of_constants(constants), gcc_bits.places(units, FLAGS, sources)
     for name, classes in sources.items():
         for one, record in classes.items():
             if (name, one) not in found:
                 raise Problem(f"g++ does not lay out the class {one}; run g++ on the source, and see what it says")
-            found[name, one].members = dict(zip([field.name for field in record.fields], places.get((name, one), [])))
+            found[name, one].members = dict(zip([field.name for field in _whole(record)], places.get((name, one), [])))
+            found[name, one].members.update({field.name: bits[name, one, field.name] for field in record.fields if field.width is not None})
     return found
+
+
+def _whole(record):
+    """The members of a class that are no bit-fields."""
+    return [field for field in record.fields if field.width is None]
 
 
 def _offsets(name, found):
     lines = []
     for one, record in found.items():
-        if record.fields:
-            offsets = ", ".join(f"__builtin_offsetof({name}::{one}, {field.name})" for field in record.fields)
+        if _whole(record):
+            offsets = ", ".join(f"__builtin_offsetof({name}::{one}, {field.name})" for field in _whole(record))
             lines.append(f'extern "C" {{ extern const unsigned long places__{name}__{one}[] = {{ {offsets} }}; }}\n')
     return "".join(lines)
 

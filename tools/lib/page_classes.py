@@ -73,7 +73,7 @@ def index(chapter):
         bases = ", ".join(("virtual " if base.virtual else "") + chapter.links.to_class(base.name) for base in one.bases)
         saved = layout.size - chapter.orders[name].size
         rows.append(f'<tr data-words="{escape(words.lower())}"><th scope="row">{chapter.links.to_class(name)}</th><td class="number">{layout.size}</td>'
-                    f'<td class="number">{layout.align}</td><td class="number">{lost}</td><td class="number">{saved or ""}</td><td>{bases}</td></tr>')
+                    f'<td class="number">{layout.align}</td><td class="number">{amounts.plain(lost)}</td><td class="number">{saved or ""}</td><td>{bases}</td></tr>')
     return ('<table class="index"><thead><tr><th scope="col">Class</th><th scope="col">Size</th><th scope="col">Alignment</th><th scope="col">Padding</th>'
             '<th scope="col">Another order saves</th><th scope="col">Bases</th></tr></thead><tbody>\n' + "\n".join(rows) + "\n</tbody></table>")
 
@@ -123,11 +123,11 @@ def padding(chapter, layout):
     lost = sum(hole.total for hole in holes)
     if not lost:
         return '<p class="padding">No byte is padding.</p>'
-    rows = "".join(f'<tr><td class="number">{hole.place}</td><td class="number">{hole.size}{f", {hole.count} times" if hole.count > 1 else ""}</td><td>{escape(hole.before)}</td>'
-                   f'<td>{escape(hole.behind)}</td></tr>' for hole in holes)
+    rows = "".join(f'<tr><td class="number">{amounts.place_text(hole.place)}</td><td class="number">{amounts.plain(hole.size)}{f", {hole.count} times" if hole.count > 1 else ""}</td>'
+                   f'<td>{escape(hole.before)}</td><td>{escape(hole.behind)}</td></tr>' for hole in holes)
     told = chapter.orders[layout.name].told(layout.size)
     order = escape(f"{told[0].upper()}{told[1:]}.") if chapter.classes[layout.name].fields else "It has no member whose place could change."
-    return (f'<h4>Padding: {lost} of {layout.size} bytes</h4><p class="padding">{order}</p><div class="wide"><table><thead><tr><th scope="col">Place</th><th scope="col">Bytes</th>'
+    return (f'<h4>Padding: {amounts.plain(lost)} of {layout.size} bytes</h4><p class="padding">{order}</p><div class="wide"><table><thead><tr><th scope="col">Place</th><th scope="col">Bytes</th>'
             f'<th scope="col">Behind</th><th scope="col">Before</th></tr></thead><tbody>{rows}</tbody></table></div>')
 
 

@@ -132,10 +132,13 @@ class Objects:
         part.parts.sort(key=lambda one: (one.place, one.is_mark))
 
     def padding(self, part, start, end, data_end):
-        if start >= end:
-            return []
-        sort, name = ("tail padding", "tail") if part.sort == "whole" and start >= data_end else ("padding", "pad")
-        return [Part(sort, start, end - start, name, f"{sort} of {part.name}")]
+        """What lies between two boxes; where it begins amid the last byte of the data, the bits up to that byte's end are a part of their own."""
+        found, borders = [], [start, data_end, end] if part.sort == "whole" and start < data_end < end else [start, end]
+        for first, last in zip(borders, borders[1:]):
+            if first < last:
+                sort, name = ("tail padding", "tail") if part.sort == "whole" and first >= data_end else ("padding", "pad")
+                found.append(Part(sort, first, last - first, name, f"{sort} of {part.name}"))
+        return found
 
 
 class _Subobjects:

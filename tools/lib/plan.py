@@ -1,7 +1,7 @@
 """Which members a class has when it is said: each at its place in C++, or the reason why that cannot be."""
 from dataclasses import replace
 
-from . import stand_ins
+from . import bit_places, stand_ins
 from .stand_ins import MOST_ALIGN, MOST_ELEMENTS, Piece
 
 UNION = "unnamed unions"
@@ -23,6 +23,7 @@ class Plan:
         self.record, self.types, self.is_empty, self.left_out = record, types, is_empty, left_out
         self.by_member, self.changes, self.unlike = {}, {}, ""
         self.pos, self.align = self.start()
+        self.bit = 0  # the bit behind the last bit-field that was said
         self.members()
         self.tail()
 
@@ -50,8 +51,9 @@ class Plan:
 
     def members(self):
         members, index = self.record.members, 0
-        wide = self.needs_wide()
-        self.aligned = next((one for one in members if wide and one.attribute and not one.is_bit_field and self.can_be_aligned(one)), None)
+        wide = self.needs_wide([one for one in members if not one.is_bit_field])
+        wide_by_attribute = self.needs_wide([one for one in members if not one.is_bit_field or one.name])
+        self.aligned = next((one for one in members if wide_by_attribute and one.attribute and not one.is_bit_field and self.can_be_aligned(one)), None)
         while index < len(members):
             member = members[index]
             index += 1
@@ -69,18 +71,72 @@ class Plan:
         kind, align = self.types.kind(member.type), effective_align(self.record)
         return kind.sort != "object" and member.place % align == 0 and self.types.size(kind) * kind.count % align == 0
 
-    def needs_wide(self):
-        """Whether the alignment of the class is that of no member but bit-fields, or comes from an attribute."""
-        others = [self.types.align(self.types.kind(one.type)) for one in self.record.members if not one.is_bit_field]
-        return max([self.align, *others]) < effective_align(self.record)
+    def needs_wide(self, members):
+        """Whether the alignment of the class is that of none of these members and no base."""
+        return max([self.align, *(self.types.align(self.types.kind(one.type)) for one in members)]) < effective_align(self.record)
 
     def bit_fields(self, run, limit, is_wide):
+        """The pieces of a run of bit-fields: bit-fields where the rules can put them as the compiler does, else scalars over their bytes."""
+        said = self.said_bits(run)
+        if said is not None:
+            self.by_member.update(said)
+            return
         sized = [(one, self.types.size(self.types.kind(one.type))) for one in run]
         found = stand_ins.bits(sized, self.pos, limit, is_wide)
         for piece in found:
             self.put(piece, stand_ins.width(piece.word))
         self.by_member[id(run[0])] = found
-        self.count("bit-fields", len(run))
+        self.count("bit-fields at places that the rules do not give", len(run))
+
+    def said_bits(self, run):
+        """The pieces of a run by its members, each a bit-field at its bits; None where that cannot be. What has no name becomes padding before the next one."""
+        free, end, said, passed = self.bit if -(-self.bit // 8) == self.pos else 8 * self.pos, 0, {}, []
+        for one in run:
+            first, last = one.bits
+            said[id(one)], end = [], max(end, last + 1)
+            if not one.name:
+                passed.append(f"{one.written} : {last - first + 1}")
+                continue
+            kind = self.types.kind(one.type)
+            size = self.types.size(kind)
+            width = min(last - first + 1, 1 if kind.word == "bool" else 8 * size)
+            if kind.sort != "scalar" or kind.length is not None or size > effective_align(self.record) or first < free:
+                return None
+            if bit_places.place(free, width, size) != first:
+                said[id(one)] += self.filler(free, first, one.access, passed)
+                free, passed = first, []
+            if bit_places.place(free, width, size) != first:
+                return None
+            said[id(one)].append(self.bit_field(one, kind, width, last - first + 1))
+            free = first + width
+        said[id(run[-1])] += self.filler(free, end, run[-1].access, passed)
+        self.keep_bits(said, max(free, end))
+        return said
+
+    def filler(self, free, first, access, passed):
+        """The padding for bits that no named bit-field takes; `passed` has what is in C++ there."""
+        note = "; ".join(passed) or "bits that no member takes"
+        found = [Piece(word, "padding", None, at // 8, access, note, width, at % 8) for word, at, width in bit_places.filler(free, first, effective_align(self.record))]
+        for piece in found[1:]:
+            piece.note = "more of padding"
+        return found
+
+    def bit_field(self, member, kind, width, written):
+        note = f"{member.written} : {written}" if kind.note or width < written else ""
+        return Piece(kind, member.name, None, member.bits[0] // 8, member.access, note, width, member.bits[0] % 8)
+
+    def keep_bits(self, said, free):
+        """Goes on behind a run that is said, whose last bit comes before `free`, and counts what was changed."""
+        for piece in [piece for those in said.values() for piece in those]:
+            kind = piece.word
+            self.align = max(self.align, stand_ins.width(kind) if isinstance(kind, str) else self.types.size(kind))
+            if isinstance(kind, str) and piece.note != "more of padding":
+                self.count("bits without a member, which are padding here", 1)
+            elif not isinstance(kind, str) and kind.change:
+                self.count(kind.change, 1)
+            elif piece.note and not isinstance(kind, str):
+                self.count("bit-fields wider than their types", 1)
+        self.bit, self.pos = free, -(-free // 8)
 
     def member(self, member, limit):
         """The pieces of a member; none for an array of length 0."""

@@ -6,6 +6,7 @@ import random
 import re
 
 from . import program
+from .random_source import bit_width
 
 SCALARS = ["bool", "char", "signed char", "unsigned char", "short", "unsigned short", "int", "unsigned", "long", "unsigned long"]
 FUNCTIONS = 4
@@ -13,10 +14,13 @@ TRIES = 200
 
 
 class Maker:
-    """Makes the programs of one seed. Function `f2` calls `f0` and `f1` alone, so that each call comes back."""
+    """Makes the programs of one seed. Function `f2` calls `f0` and `f1` alone, so that each call comes back.
 
-    def __init__(self, seed):
-        self.random = random.Random(seed)
+    So many of a hundred members are bit-fields; where there are some, objects are copied too. With `dumps` each object of `main` is dumped.
+    """
+
+    def __init__(self, seed, bit_fields=0, dumps=False):
+        self.random, self.bit_fields, self.dumps = random.Random(seed), bit_fields, dumps
 
     def program(self, count):
         """A source of so many classes that runs to its end, or an empty text where no such source was found."""
@@ -33,10 +37,10 @@ class Maker:
         share = self.random.choice([0, 40, 40, 100])
         chosen = self.random.sample(before, min(len(before), self.random.choice([0, 1, 1, 2, 2, 3])))
         bases = [("virtual " if self.chance(share) else "") + ("private " if self.chance(self.hidden) else "") + one for one in chosen]
-        fields = [f"{self.random.choice(SCALARS)} {name.lower()}m{number}" for number in range(self.random.randrange(3))]
+        fields = [self.field(f"{name.lower()}m{number}") for number in range(self.random.randrange(6 if self.bit_fields else 3))]
         lines = [f"struct {name}{' : ' + ', '.join(bases) if bases else ''} {{", *[field + ";" for field in fields]]
         if self.random.choice(before + [None, None]) is None or fields:
-            starts = [f"{field.split()[-1]}({self.random.randrange(0, 2)})" for field in fields]
+            starts = [f"{name_of(field)}({self.number() if self.bit_fields else self.random.randrange(0, 2)})" for field in fields if not (self.bit_fields and self.chance(20))]
             lines += [f"{name}(){' : ' + ', '.join(starts) if starts else ''} {{", *self.body(name, before, FUNCTIONS, fields), "}"]
         for number in self.random.sample(range(FUNCTIONS), self.random.choice([0, 1, 2, 2])):
             lines += [f"virtual long f{number}() {{", *self.body(name, before, number, fields), f"return {self.number()};", "}"]
@@ -46,7 +50,15 @@ class Maker:
             lines += [f"{'virtual ' if self.chance(80) else ''}~{name}() {{", *self.body(name, before, FUNCTIONS, fields), "}"]
         return [*lines, "};"]
 
+    def field(self, name):
+        """The declaration of a member."""
+        kind = self.random.choice(SCALARS)
+        is_bit_field = self.bit_fields and self.chance(self.bit_fields)
+        return f"{kind} {name}" + (f" : {bit_width(self.random, 'unsigned int' if kind == 'unsigned' else kind)}" if is_bit_field else "")
+
     def number(self):
+        if self.bit_fields and self.chance(30):
+            return self.random.randrange(-(1 << 40), 1 << 40)
         return self.random.choice([self.random.randrange(100), self.random.randrange(100), -1, 300, 70000])
 
     def body(self, name, before, calls, fields):
@@ -60,12 +72,14 @@ class Maker:
     def statement(self, pointer, name, classes, calls, fields=()):
         """The lines of a statement over a pointer to a class of this name."""
         x, other = self.local(), self.random.choice([*classes, name])
-        field = self.random.choice(fields).split()[-1] if fields else f"{other.lower()}m0"
+        field = name_of(self.random.choice(fields)) if fields else f"{other.lower()}m{self.random.randrange(6) if self.bit_fields else 0}"
         function = self.random.randrange(calls) if calls else None
         called = [[f"long {x} = {pointer}->f{function}();", f"print({x});"]] if calls else []
         through = [[f"{other}* {x} = {pointer};", *self.calls(x, function)]] if calls else []
         qualified = [[f"long {x} = {pointer}->{other}::f{function}();", f"print({x});"]] if calls else []
+        stored = [[f"{pointer}->{field} = {self.number()};", f"long {x} = {pointer}->{field};", f"print({x});"]] * 6 if self.bit_fields else []
         return self.random.choice([
+            *stored,
             [f"print({self.number()});"],
             [f"print(typeid(*{pointer}));"],
             [f"{pointer}->{field} = {self.number()};"],
@@ -89,11 +103,25 @@ class Maker:
             lines += [f"{name}* {made} = new {name};", f"{upper}* {base} = {cast}{made};", f"bool {base}b = {base} != 0;", f"print({base}b);"]
             for pointer, of in [(made, name), (base, upper), (base, upper)]:
                 lines += self.statement(pointer, of, names, FUNCTIONS)
+            lines += self.copy(made, name, names) if self.bit_fields else []
             back = self.local()
             lines += [f"{name}* {back} = static_cast<{name}*>({base});", f"bool {back}b = {back} == {made};", f"print({back}b);"]
             lines += [f"{upper}* {back}g = {base}->g();", *self.statement(f"{back}g", upper, names, FUNCTIONS)]
+            lines += [f"dump({made});"] if self.dumps else []
             lines += [f"delete {self.random.choice([made, base])};"] if self.chance(70) else []
         return [*lines, "}"]
+
+    def copy(self, made, name, names):
+        """The lines that copy an object of a class to another one, or the other way round, and use both."""
+        other = self.local()
+        first, second = self.random.choice([(made, other), (other, made)])
+        used = [line for pointer in (first, second, second) for line in self.statement(pointer, name, names, FUNCTIONS)]
+        return [f"{name}* {other} = new {name};", *self.statement(other, name, names, FUNCTIONS), f"*{first} = *{second};", *used]
+
+
+def name_of(field):
+    """The name of a member that is declared so."""
+    return field.split(" :")[0].split()[-1]
 
 
 def settled(lines):
@@ -133,9 +161,9 @@ def without(lines, at):
     return [*lines[:at], *lines[end + 1:]]
 
 
-def programs(count, seed):
+def programs(count, seed, bit_fields=0, dumps=False):
     """So many programs that run to their end, by a name for each."""
-    maker, made = Maker(seed), 0
+    maker, made = Maker(seed, bit_fields, dumps), 0
     while made < count:
         text = maker.program(maker.random.randrange(2, 8))
         if text:

@@ -1,17 +1,18 @@
-"""Makes random hierarchies in our language: virtual and repeated bases, empty classes, covariant results, arrays, members."""
+"""Makes random hierarchies in our language: virtual and repeated bases, empty classes, covariant results, arrays, members, bit-fields."""
 import random
 import re
 
 from . import program
+from .layout_text import SIZES
 
 SCALARS = ["bool", "char", "signed char", "unsigned char", "short", "unsigned short", "int", "unsigned int", "long", "unsigned long"]
 
 
 class Maker:
-    """Makes sources of one seed. A class that the program refuses is made anew."""
+    """Makes sources of one seed. A class that the program refuses is made anew. So many of a hundred members are bit-fields."""
 
-    def __init__(self, seed):
-        self.random = random.Random(seed)
+    def __init__(self, seed, bit_fields=0):
+        self.random, self.bit_fields = random.Random(seed), bit_fields
 
     def source(self, count):
         """A source of so many classes, or fewer where the program refuses what comes."""
@@ -36,7 +37,7 @@ class Maker:
         sort = self.random.choice(["empty", "plain", "dynamic", "mixed", "pointer alone", "pointer alone"])
         parts = []
         if sort not in ("empty", "pointer alone"):
-            parts += [self.field(number, before) for number in range(self.random.randrange(0, 4))]
+            parts += [self.field(number, before) for number in range(self.random.randrange(0, 8 if self.bit_fields else 4))]
         if sort in ("dynamic", "mixed", "pointer alone"):
             parts += self.functions(name, before)
         if self.chance(25):
@@ -56,12 +57,18 @@ class Maker:
         return [f"{'virtual ' if self.chance(share) else ''}{access()}{name}" for name in self.random.sample(before, count)]
 
     def field(self, number, before):
+        if self.bit_fields and self.chance(self.bit_fields):
+            return self.bit_field(number)
         length = f"[{self.random.randrange(1, 4)}]" if self.chance(20) else ""
         if before and self.chance(35):
             kind = self.random.choice(before) + ("*" if self.chance(25) else "")
         else:
             kind = self.random.choice(SCALARS)
         return f"{kind} m{number}{length};"
+
+    def bit_field(self, number):
+        kind = self.random.choice(SCALARS)
+        return f"{kind} m{number} : {bit_width(self.random, kind)};"
 
     def functions(self, name, before):
         parts = []
@@ -74,9 +81,15 @@ class Maker:
         return parts
 
 
-def sources(count, seed):
+def bit_width(chosen, kind):
+    """A width that a type can have: often few bits, often all or nearly all."""
+    most = 1 if kind == "bool" else 8 * SIZES[kind]
+    return min(most, chosen.choice([chosen.randrange(1, most + 1), chosen.randrange(1, most + 1), chosen.randrange(1, 9), most, max(1, most - 1)]))
+
+
+def sources(count, seed, bit_fields=0):
     """Sources with at least so many classes in all, by a name for each."""
-    maker, made, number = Maker(seed), 0, 0
+    maker, made, number = Maker(seed, bit_fields), 0, 0
     while made < count:
         number += 1
         text = maker.source(maker.random.randrange(3, 10))

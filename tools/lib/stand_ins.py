@@ -8,7 +8,10 @@ MOST_ELEMENTS = 4096
 
 @dataclass
 class Piece:
-    """A member as it is said: the word of its type, its name and length, its place, and the type of C++ that it stands for."""
+    """A member as it is said: the word of its type, its name and length, its place, and the type of C++ that it stands for.
+
+    A bit-field has a width, and the first bit in the byte at its place.
+    """
 
     word: str
     name: str
@@ -16,7 +19,14 @@ class Piece:
     place: object
     access: str
     note: str = ""
+    width: object = None
+    first: int = 0
     said: str = ""  # the name that it has in the text
+
+    @property
+    def bits(self):
+        """The first and the last bit of a bit-field, from the start of the class."""
+        return 8 * self.place + self.first, 8 * self.place + self.first + self.width - 1
 
 
 def fill(start, end, align):
@@ -42,7 +52,7 @@ def pieces(start, end, align, name, access, note):
 
 
 def bits(run, pos, limit, is_wide):
-    """The members for a run of bit-fields: over the bytes of the bits, or, to have their alignment too, over the units of the wide ones.
+    """Scalars for a run of bit-fields that the rules put elsewhere: over the bytes of the bits, or, to have their alignment too, over the units of the wide ones.
 
     `run` has the bit-fields, `pos` is the first byte that is free, and `limit` the first byte behind that is not.
     """

@@ -1,10 +1,18 @@
-"""The leaves of a class by its layout alone, for tests: each number, pointer and virtual pointer, elements of classes counted through."""
+"""The leaves of a class by its layout alone, for tests: each number, pointer and virtual pointer, elements of classes counted through.
+
+Places and sizes are in bytes; those of bit-fields have eighths.
+"""
 from collections import namedtuple
 
 import support  # noqa: F401, which gives the path of lib
 from lib import layout_text, source
 
 Leaf = namedtuple("Leaf", "place size told end")
+
+
+def bits(one):
+    """The bits that a leaf, a part or a hole takes, counted from the start of the object."""
+    return range(int(8 * one.place), int(8 * (one.place + one.size)))
 
 
 def leaf(place, size, told):
@@ -19,9 +27,9 @@ def of_class(classes, layouts, name, start=0):
         if owner in dynamic:
             pointers.setdefault(place, set()).add(owner)
         for member in layouts[owner].members:
-            size, at = layout_text.member_size(layouts, member), start + place + member.place
+            size, at = layout_text.member_size(layouts, member), start + place + member.start
             if not member.is_object:
-                found.append(leaf(at, size, f"{member.shown_type} {member.name}"))
+                found.append(leaf(at, size, member.told))
             for number in range(member.length or 1) if member.is_object else []:
                 found += of_class(classes, layouts, member.type, at + number * layouts[member.type].size)
     # subobjects at one place share a virtual pointer; it is named after the one without a primary base there

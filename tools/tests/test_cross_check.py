@@ -6,7 +6,7 @@ import tempfile
 import unittest
 
 import support
-from lib import compiled_tables, compiled_types, layout_text, program, source
+from lib import compare, compiled_tables, compiled_types, compilers, layout_text, program, random_source, source
 
 EXAMPLES = os.path.join(program.TOP, "examples")
 DIAMOND = os.path.join(EXAMPLES, "diamond.cpp")
@@ -57,6 +57,35 @@ base B 2050
 """
 
 
+# Bit-fields in one unit, behind a char, behind a base's tail, and behind the same in an array; the layouts are those of the rules.
+BITS = """struct P { int a : 3; int b : 5; char c; }; struct Q { Q() {} char c; int x : 25; short y : 9; };
+struct S { S() {} int x : 25; }; struct R : S { int z : 2; private: bool t : 1; }; struct H { Q q[2]; unsigned k : 3; };
+"""
+BITS_LAYOUT = """class P size 4 align 4 dsize 4 nvsize 4 nvalign 4
+primary none
+0 bits 0 3 int a
+0 bits 3 5 int b
+1 field char c
+class Q size 12 align 4 dsize 10 nvsize 10 nvalign 4
+primary none
+0 field char c
+4 bits 0 25 int x
+8 bits 0 9 short y
+class S size 4 align 4 dsize 4 nvsize 4 nvalign 4
+primary none
+0 bits 0 25 int x
+class R size 8 align 4 dsize 5 nvsize 5 nvalign 4
+primary none
+0 base S
+4 bits 0 2 int z
+4 bits 2 1 bool t
+class H size 28 align 4 dsize 25 nvsize 25 nvalign 4
+primary none
+0 field Q[2] q
+24 bits 0 3 unsigned int k
+"""
+
+
 def changed(folder, pattern, replacement):
     """A program that answers as Tagymelur does, but for one text; its path."""
     path = os.path.join(folder, "planted")
@@ -80,6 +109,40 @@ class Reading(unittest.TestCase):
         self.assertEqual([(base.name, base.virtual, base.access) for base in one.bases], [("B", True, "private"), ("C", False, "public")])
         self.assertEqual([(part.type, part.name, part.length, part.access) for part in one.fields], [("unsigned int", "x", 3, "public"), ("A*", "a", None, "private")])
         self.assertEqual([(part.kind, part.name, part.virtual, part.pure) for part in one.functions], [("function", "f", True, True), ("constructor", "A", False, False), ("destructor", "~A", False, False)])
+
+
+@support.needs("clang++", "g++")
+class BitFields(unittest.TestCase):
+    def setUp(self):
+        self.classes = {"s": source.classes(BITS)}
+        self.seen = compilers.by_clang(self.classes), compilers.by_gcc(self.classes)
+
+    def found(self, text):
+        """The words of each difference, by class and compiler."""
+        return {(one.class_name, one.compiler): one.words for one in compare.differences("s", self.classes["s"], text, *self.seen)}
+
+    def test_both_compilers_agree(self):
+        self.assertEqual(self.found(BITS_LAYOUT), {})
+
+    def test_planted_bits_are_found(self):
+        for old, new, name, words in (
+            ("0 bits 3 5 int b", "0 bits 4 5 int b", "P", "member b at the bits 4 to 8, {} the bits 3 to 7"),
+            ("4 bits 0 25 int x", "1 bits 0 25 int x", "Q", "member x at the bits 8 to 32, {} the bits 32 to 56"),
+            ("4 bits 0 2 int z", "3 bits 1 2 int z", "R", "member z at the bits 25 to 26, {} the bits 32 to 33"),
+            ("4 bits 2 1 bool t", "4 field bool t", "R", "member t at 4, {} the bits 34 to 34"),
+            ("24 bits 0 3 unsigned", "24 bits 0 4 unsigned", "H", "member k at the bits 192 to 195, {} the bits 192 to 194"),
+        ):
+            found = self.found(BITS_LAYOUT.replace(old, new))
+            self.assertEqual(found, {(name, compiler): [words.format(compiler)] for compiler in ("clang++", "g++")}, old)
+
+    def test_random_widths_are_those_of_the_types(self):
+        chosen, seen = random_source.random.Random(2), set()
+        for _ in range(3000):
+            kind = chosen.choice(random_source.SCALARS)
+            width = random_source.bit_width(chosen, kind)
+            self.assertTrue(1 <= width <= (1 if kind == "bool" else 8 * layout_text.SIZES[kind]), (kind, width))
+            seen.add((kind, width))
+        self.assertTrue({("bool", 1), ("char", 1), ("char", 8), ("short", 16), ("int", 31), ("unsigned long", 64)} <= seen)
 
 
 @support.needs("clang++", "g++")
@@ -114,8 +177,15 @@ class CrossCheck(unittest.TestCase):
         again = support.run("cross-check", "--random", "60", "--seed", "5")
         self.assertEqual(done.stdout, again.stdout)
 
+    def test_random_hierarchies_with_bit_fields(self):
+        done = support.run("cross-check", "--random", "60", "--seed", "5", "--bit-fields")
+        self.assertEqual(done.returncode, 0, done.stdout)
+        self.assertGreaterEqual(int(re.search(r"(\d+) classes of", done.stdout)[1]), 60)
+        texts = [text for _, text in random_source.sources(60, 5, 50)]
+        self.assertGreater(sum(text.count(" : ") for text in texts), 60)
+
     def test_bad_input(self):
-        for words, text, said in ((["-"], "struct A { int x;", "refused E2 Syntax at 17"), (["/nowhere"], "", "cannot be read"), ([], "", "give a source")):
+        for words, text, said in ((["-"], "struct A { int x;", "refused E2 Syntax at 17"), (["/nowhere"], "", "cannot be read"), ([], "", "give a source"), (["-", "--bit-fields"], "", "give --random N")):
             done = support.run("cross-check", *words, text=text)
             self.assertEqual(done.returncode, 2)
             self.assertIn(said, done.stderr)

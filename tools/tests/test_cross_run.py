@@ -93,6 +93,7 @@ class CrossRun(unittest.TestCase):
         done = self.compare()
         self.assertEqual((done.returncode, done.stdout), (2, ""))
         self.assertIn("name a source", done.stderr)
+        self.assertIn("give --random N", self.compare("--bit-fields", self.write("a.cpp", PROGRAM)).stderr)
         done = self.compare(os.path.join(self.top, "missing.cpp"))
         self.assertEqual((done.returncode, done.stdout.count("\n")), (2, 0))
         self.assertNotIn("Traceback", done.stderr)
@@ -105,6 +106,26 @@ class RandomPrograms(unittest.TestCase):
         self.assertEqual(random_programs.without(lines, 1), lines[:1] + lines[5:])
         self.assertEqual(random_programs.without(["struct K1 : K0 {", "};"], 0), ["struct K1 {", "};"])
         self.assertEqual(random_programs.without(lines, 6), [])
+
+    def test_programs_with_bit_fields(self):
+        maker = random_programs.Maker(4, bit_fields=70, dumps=True)
+        maker.hidden = 4
+        lines = [line for number in range(30) for line in maker.one(f"K{number}", ["K0"] if number else [])] + maker.main(["K0", "K1"])
+        widths = [line for line in lines if re.fullmatch(r"(\w+ )+k\d+m\d : \d+;", line)]
+        self.assertGreater(len(widths), 20)
+        self.assertEqual({random_programs.name_of(line[:-1]) for line in widths}, {re.search(r"k\d+m\d", line)[0] for line in widths})
+        for shape in (r"this->k\d+m\d = -?\d+;", r"long v\d+ = this->k\d+m\d;", r"K\d+\(\) : k\d+m\d\(-?\d+\).* \{", r"\*v\d+ = \*v\d+;", r"dump\(v\d+\);"):
+            self.assertTrue([line for line in lines if re.fullmatch(shape, line)], shape)
+
+    @support.needs_program
+    @support.needs("g++", "clang++")
+    def test_random_programs_with_bit_fields_agree(self):
+        done = support.run("cross-run", "--random", "15", "--seed", "3", "--bit-fields")
+        same, differing, refused, passed = map(int, re.findall(r"\d+", done.stdout.splitlines()[-1])[:4])
+        self.assertEqual((same + differing + refused, passed, done.stderr), (15, 0, ""), done.stdout)
+        self.assertEqual(self.new_differences(done.stdout), [])
+        self.assertGreaterEqual(same, 9)
+        self.assertGreater(sum(len(re.findall(r" : \d+;", text)) for _, text in random_programs.programs(5, 3, 70)), 10)
 
     @support.needs_program
     @support.needs("g++", "clang++")

@@ -60,7 +60,11 @@ class Json(unittest.TestCase):
         found = self.said("layout", "D", text=example("diamond.cpp"))["classes"][0]
         self.assertEqual((found["size"], found["nvsize"], found["primary"]), (56, 40, "B1"))
         self.assertEqual([(base["place"], base["names"], base["shared"]) for base in found["bases"]], [(0, ["B1"], False), (40, ["V"], True), (16, ["B2"], False)])
-        self.assertEqual(found["members"], [{"place": 32, "type": "long", "length": None, "name": "d"}])
+        self.assertEqual(found["members"], [{"place": 32, "type": "long", "length": None, "name": "d", "first": 0, "width": None}])
+
+    def test_a_layout_with_bit_fields(self):
+        found = self.said("layout", text="struct P { int a : 3; int b : 5; char c[2]; };")["classes"][0]
+        self.assertEqual([(one["place"], one["first"], one["width"], one["length"], one["name"]) for one in found["members"]], [(0, 0, 3, None, "a"), (0, 3, 5, None, "b"), (1, 0, None, 2, "c")])
 
     def test_tables(self):
         found = {one["name"]: one for one in self.said("tables", text=example("construction.cpp"))["classes"]}

@@ -17,6 +17,9 @@ MANY = "".join(f"struct B{n} {{ {['int x;', 'virtual void f() {} char c;', '', '
 EMPTY = """struct E {}; struct E2 : E {}; struct A : E2 { int x; };
 struct B1 : E {}; struct B2 : E {}; struct M : B1, B2 {}; struct X : M { virtual void f() {} }; struct D : virtual X { long d; };
 """
+BITS = """struct P { int a : 3; int b : 5; char c; }; struct Q { Q() {} char c; int x : 25; short y : 9; };
+struct S { S() {} int x : 25; }; struct R : S { int z : 2; }; struct H { Q q[3]; unsigned k : 3; bool l : 1; R r; };
+"""
 ARRAYS = "struct P { char c; int i; }; struct Q { P p[3]; char text[200]; short last; P* q[20]; E e[2]; };"
 
 DIAMOND_TEXT = """D: size 56, align 8, dsize 56, nvsize 40, primary B1
@@ -53,7 +56,7 @@ def groups(document):
 
 
 def boxes_of_rows(document):
-    """Each box as its class, its tooltip, the bytes that it covers in its row, and where it is drawn."""
+    """Each box as its class, its tooltip, the bits that it covers in its row, and where it is drawn."""
     for row in document.iter(SVG + "g"):
         if row.get("class") == "row":
             start, unit = int(row.get("data-start")), float(row.get("data-unit"))
@@ -61,8 +64,8 @@ def boxes_of_rows(document):
                 box = one.find(SVG + "rect")
                 if box is not None and one.get("class") != "row":
                     x, wide = float(box.get("x")) - picture.MARGIN, float(box.get("width"))
-                    place = round(start + x / unit)
-                    yield one.get("class"), one.find(SVG + "title").text, range(place, place + round(wide / unit)), (float(box.get("y")), x, x + wide)
+                    first = round(8 * (start + x / unit))
+                    yield one.get("class"), one.find(SVG + "title").text, range(first, first + round(8 * wide / unit)), (float(box.get("y")), x, x + wide)
 
 
 def example(name):
@@ -93,18 +96,18 @@ class Draw(unittest.TestCase):
             if part.sort in ("member", "virtual pointer"):
                 boxes.add((part.place, part.size, part.told))
             elif part.sort == "repeat":
-                alike.append(range(part.place, part.end))
+                alike.append(leaves.bits(part))
             elif part.is_padding:
-                padding.append(range(part.place, part.end))
+                padding += leaves.bits(part)
         taken = set()
         for leaf in found:
-            taken.update(range(leaf.place, leaf.end))
-            self.assertTrue((leaf.place, leaf.size, leaf.told) in boxes or any(leaf.place in one and leaf.end - 1 in one for one in alike), f"{leaf} of {name} has no box")
-        hidden = [byte for one in alike for byte in one]
-        bytes_of_padding = [byte for one in padding for byte in one]
-        self.assertEqual(len(bytes_of_padding), len(set(bytes_of_padding)), name)
-        self.assertFalse(taken & set(bytes_of_padding), f"padding of {name} lies over a leaf")
-        self.assertEqual(taken | set(bytes_of_padding) | set(hidden), set(range(objects.layouts[name].size)), name)
+            bits = leaves.bits(leaf)
+            taken.update(bits)
+            self.assertTrue((leaf.place, leaf.size, leaf.told) in boxes or any(bits[0] in one and bits[-1] in one for one in alike), f"{leaf} of {name} has no box")
+        hidden = [bit for one in alike for bit in one]
+        self.assertEqual(len(padding), len(set(padding)), name)
+        self.assertFalse(taken & set(padding), f"padding of {name} lies over a leaf")
+        self.assertEqual(taken | set(padding) | set(hidden), set(range(8 * objects.layouts[name].size)), name)
         self.assertLessEqual({(place, size, told) for place, size, told in boxes}, {(leaf.place, leaf.size, leaf.told) for leaf in found}, name)
 
     def test_leaves_and_padding_of_two_thousand_random_classes(self):
@@ -115,6 +118,25 @@ class Draw(unittest.TestCase):
                 self.judge(objects, name)
                 count += 1
         self.assertGreaterEqual(count, 2000)
+
+    def test_leaves_and_padding_of_random_classes_with_bit_fields(self):
+        for text in [BITS, *(text for _, text in random_source.sources(600, 13, 50))]:
+            objects = objects_of(text)
+            for name in objects.layouts:
+                self.judge(objects, name)
+
+    def test_bit_fields_are_shown_by_bit(self):
+        objects = objects_of(BITS)
+        self.assertEqual([part.tip for part in objects.whole("P").parts], ["int a : 3: 3 bits at 0", "int b : 5: 5 bits at 0.3", "char c: 1 byte at 1", "padding of P: 2 bytes at 2"])
+        self.assertEqual([part.tip for part in objects.whole("R").all()], [
+            "object of R: 8 bytes at 0", "base S: 4 bytes at 0", "int x : 25: 3 bytes and 1 bit at 0", "padding of S: 7 bits at 3.1", "int z : 2: 2 bits at 4",
+            "padding of R: 6 bits at 4.2", "tail padding of R: 3 bytes at 5"])
+        self.assertEqual(self.drawn(BITS, "R", "--text"), "R: size 8, align 4, dsize 5, nvsize 5, primary none\n0     3.1 4     4.2 5   8\n| x   |...| z   |...|...|\n'- S ----'\n")
+        # a small mark for each bit of the bytes that bit-fields share, or end in: 7 between the borders of each byte
+        marks = [one.get("d").count("M") for one in tree.fromstring(self.drawn(BITS, "P")).iter(SVG + "path") if one.get("class") == "bits"]
+        self.assertEqual(marks, [7])
+        marks = [one.get("d").count("M") for one in tree.fromstring(self.drawn(BITS, "Q")).iter(SVG + "path") if one.get("class") == "bits"]
+        self.assertEqual(marks, [7] * 6)
 
     @support.needs("clang++")
     def test_leaves_and_padding_of_the_streams(self):
@@ -142,7 +164,7 @@ class Draw(unittest.TestCase):
         self.assertEqual([part.tip for part in array.all()], ["P[3] p: 24 bytes at 0", "P p[0]: 8 bytes at 0", "char c: 1 byte at 0", "padding of P: 3 bytes at 1", "int i: 4 bytes at 4", "P p[1] to p[2], each as p[0]: 16 bytes at 8"])
 
     def test_the_boxes_of_a_picture_are_the_parts(self):
-        for text in (HELD, MANY, EMPTY + ARRAYS, example("diamond.cpp"), example("layout.cpp")):
+        for text in (HELD, MANY, EMPTY + ARRAYS, BITS, example("diamond.cpp"), example("layout.cpp")):
             objects = objects_of(text)
             for name in objects.layouts:
                 document, covered = tree.fromstring(self.drawn(text, name)), {}
@@ -151,11 +173,11 @@ class Draw(unittest.TestCase):
                 for part in objects.whole(name).all():
                     if not part.is_mark:
                         shown = covered[part.sort.replace(" ", "-"), part.tip]
-                        self.assertLessEqual(shown, {byte for one in objects.whole(name).all() if one.tip == part.tip for byte in range(one.place, one.end)})
-                        self.assertIn(part.place, shown)
+                        self.assertLessEqual(shown, {bit for one in objects.whole(name).all() if one.tip == part.tip for bit in leaves.bits(one)})
+                        self.assertIn(int(8 * part.place), shown)
 
     def test_boxes_do_not_overlap_and_stay_inside(self):
-        for text in (HELD, MANY, EMPTY + ARRAYS, example("diamond.cpp"), example("layout.cpp")):
+        for text in (HELD, MANY, EMPTY + ARRAYS, BITS, example("diamond.cpp"), example("layout.cpp")):
             document = tree.fromstring(self.drawn(text))
             width, height = float(document.get("width")), float(document.get("height"))
             drawn = [one for _, _, _, one in boxes_of_rows(document)]

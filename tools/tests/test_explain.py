@@ -53,6 +53,14 @@ class Explain(unittest.TestCase):
         self.assertIn("Section: ISO C++03 9.1", done.stderr)
 
     @support.needs_program
+    def test_widths_that_no_type_has(self):
+        for field, place in (("int a : 0", 19), ("int a : 33", 19), ("char a : 9", 20), ("short a : 17", 21), ("long a : 65", 20), ("bool a : 2", 20), ("unsigned a : 4294967297", 24)):
+            done = support.run("explain", "check", text=f"struct A {{ {field}; }};\n")
+            self.assertEqual((done.returncode, done.stdout), (1, f"refused E23 BadWidth at {place}\n"), field)
+            self.assertIn(f"line 1, column {place + 1}:\n    1 | struct A {{ {field}; }};\n      | {' ' * place}^\nE23 BadWidth: The width of this bit-field is 0, or more than the bits of its type", done.stderr)
+            self.assertIn("Section: ISO C++03 9.6\n", done.stderr)
+
+    @support.needs_program
     def test_a_line_of_a_run(self):
         done = support.run("explain", "--", "run", text="struct P { int x; };\nint main() {\n  P* p = new P;\n  int y = p->x;\n}\n")
         self.assertEqual(done.returncode, 3)

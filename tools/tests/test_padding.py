@@ -34,19 +34,30 @@ class Padding(unittest.TestCase):
             "25: 3 bytes between p[0].b and p[1].c; 2 times, 6 bytes", "49: 3 bytes between p[2].b and text", "81: 7 bytes between y and the end"])
 
     def test_holes_and_leaves_make_up_random_objects(self):
-        for _, text in random_source.sources(150, 5):
+        for _, text in [*random_source.sources(150, 5), *random_source.sources(150, 6, 50)]:
             objects = parts.Objects.of_text(text)
             for name, layout in objects.layouts.items():
                 found = leaves.of_class(objects.classes, objects.layouts, name)
-                taken = {byte for leaf in found for byte in range(leaf.place, leaf.end)}
-                self.assertEqual(holes.taken(objects, name), len(taken))
-                self.assertEqual(sum(hole.total for hole in holes.holes(objects, name)), layout.size - len(taken), name)
+                taken = {bit for leaf in found for bit in leaves.bits(leaf)}
+                self.assertEqual(8 * holes.taken(objects, name), len(taken))
+                self.assertEqual(8 * sum(hole.total for hole in holes.holes(objects, name)), 8 * layout.size - len(taken), name)
                 for hole in holes.holes(objects, name):
-                    self.assertFalse(taken & set(range(hole.place, hole.place + hole.size)))
+                    self.assertFalse(taken & set(leaves.bits(hole)))
+
+    def test_the_holes_beside_bit_fields(self):
+        text = "struct S { S() {} int x : 25; }; struct R : S { int z : 2; bool y : 1; char c; }; struct T { long a : 3; int b : 31; R r[2]; };"
+        _, lines, _ = asked(text, "R")
+        self.assertEqual(lines[0], "R: size 8, align 4, dsize 6, nvsize 6; 4 bytes and 4 bits of members and virtual pointers, 3 bytes and 4 bits of padding")
+        self.assertEqual([line.strip() for line in lines if " between " in line], ["3.1: 7 bits between x and z", "4.3: 5 bits between y and c", "6: 2 bytes between c and the end"])
+        _, lines, _ = asked(text, "T")
+        self.assertIn("  0.3: 3 bytes and 5 bits between a and b", lines)
+        self.assertIn("  11.1: 7 bits between r[0].x and r[0].z; 2 times, 1 byte and 6 bits", lines)
+        _, lines, _ = asked("struct F { bool a : 1; char c; bool b : 1; char d; bool e : 1; char f; };")
+        self.assertIn("  in the order a, b, e, c, d, f its size is 4, 2 bytes less: no order is smaller, since its bases, members and virtual pointer take 4 bytes, and a size is a multiple of 1", lines)
 
     def test_the_best_order_is_the_best_of_all(self):
         judged = smaller = 0
-        for _, text in random_source.sources(80, 9):
+        for _, text in [*random_source.sources(80, 9), *random_source.sources(60, 10, 60)]:
             objects = parts.Objects.of_text(text)
             for name, one in objects.classes.items():
                 if 2 <= len(one.fields) <= 4:

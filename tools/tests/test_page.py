@@ -81,6 +81,15 @@ class Text(unittest.TestCase):
         self.assertIn("// &lt;/script&gt;&lt;b&gt;&amp; ü", page)
         self.assertEqual(page.count("</script>"), 2)
 
+    def test_padding_beside_bit_fields_is_counted_in_bits(self):
+        page = made(text="struct S { S() {} int x : 25; }; struct R : S { int z : 2; bool y : 1; char c; };\nint main() { R* r = new R; r->z = 3; int z = r->z; print(z); }\n")
+        self.assertIn("<h4>Padding: 3 bytes and 4 bits of 8 bytes</h4>", page)
+        for row in ("<td class=\"number\">3.1</td><td class=\"number\">7 bits</td><td>x</td><td>z</td>", "<td class=\"number\">4.3</td><td class=\"number\">5 bits</td><td>y</td><td>c</td>",
+                    "<td class=\"number\">6</td><td class=\"number\">2</td><td>c</td><td>the end</td>", "<td class=\"number\">3 bytes and 4 bits</td>"):
+            self.assertIn(row, page)
+        self.assertIn("Members: int z : 2 at 4; bool y : 1 at 4.2; char c at 5.", page)
+        self.assertIn("<title>int z : 2: 2 bits at 4</title>", page)
+
     def test_bad_input(self):
         for words, text, status, said in [((), "", 1, "has no class"), ((), "struct A {", 1, "is not taken"), (("/nowhere/file",), "", 2, "cannot be read"), ((EXAMPLES,), "", 2, "cannot be read")]:
             done = support.run("page", *words, text=text)

@@ -191,6 +191,20 @@ class Sources(unittest.TestCase):
                     count += 1
         self.assertGreaterEqual(count, 8)
 
+    def test_lines_of_bit_fields(self):
+        """The lines of `layout` that stand beside a row of bits, and where the row has its borders."""
+        count = 0
+        for source, part, _ in self.shown("LAYOUT.md"):
+            found = re.findall(r"(?m)\b(\d+ (?:bits \d+ \d+|field) [a-z ]+ \w+)$", part) if re.search(r" : \d", source) else []
+            told = program.text_of(["layout"], source).splitlines() if found else []
+            self.assertLessEqual(set(found), set(told), part)
+            borders = re.findall(r" (\d+)\.([1-7])(?= |$)", part)
+            lines = re.findall(r"(?m)^(\d+) bits (\d+) (\d+)", program.text_of(["layout"], source)) if borders else []
+            edges = {8 * int(byte) + int(first) + more for byte, first, width in lines for more in (0, int(width))}
+            self.assertLessEqual({8 * int(byte) + int(bit) for byte, bit in borders}, edges, part)
+            count += len(found) + len(borders)
+        self.assertGreaterEqual(count, 8)
+
     def test_words_of_tables(self):
         """Each word of a table in a block of TABLES is one of the tables of the classes before it."""
         count, word = 0, r"(-\d+  (?:vbase -?\d+ \w+|vcall -?\d+ [\w:]+|top -?\d+|typeinfo \w+)|\b0  func [\w:]+(?:  this -?\d+ vcall -?\d+)?)"
@@ -243,6 +257,13 @@ class Pages(unittest.TestCase):
         source = "\n".join(without_remarks(block(text, "struct X { char a; virtual void f() {} };")))
         self.assertEqual(program.text_of(["run"], source).splitlines(), without_remarks(block(text, "dump #1 Z 48")))
         self.assertEqual(program.answer(["paths"], source), program.answer(["run"], source))
+
+    def test_a_dump_of_bit_fields(self):
+        text = page("docs", "RUNS.md")
+        shown = re.search(r"Of `(struct P \{.*?\};)`, where `a` was set to 5", text)[1]
+        source = f"{shown} int main() {{ P* p = new P; p->a = 5; dump(p); }}"
+        for machine in ("run", "paths"):
+            self.assertEqual(program.text_of([machine], source), block(text, "dump #1 P 4"))
 
     def test_the_generated_source(self):
         text = page("docs", "GENERATOR.md")

@@ -112,6 +112,17 @@ class SameRuns(unittest.TestCase):
         self.assertEqual(done.returncode, 2)
         self.assertIn("cannot be run", done.stderr)
 
+    def test_the_sources_that_are_kept(self):
+        folder = os.path.join(self.top, "kept")
+        done = self.compare("--keep", folder, self.write("a.cpp", "same\n"), self.write("b.cpp", "other\n"))
+        self.assertEqual((done.returncode, os.listdir(folder)), (1, ["2.cpp"]))
+
+    @support.needs_program
+    def test_random_programs_with_bit_fields(self):
+        done = support.run("same-runs", "--random", "10", "--seed", "2")
+        self.assertEqual((done.returncode, done.stderr), (0, ""), done.stdout)
+        self.assertTrue(done.stdout.endswith("\n10 sources, 0 differ\n"), done.stdout)
+
     @support.needs_program
     def test_the_program_on_the_small_example(self):
         done = support.run("same-runs", os.path.join(program.TOP, "examples", "first.cpp"))

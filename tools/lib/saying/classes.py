@@ -58,10 +58,10 @@ class Classes:
         return self.said[record.name]
 
     def field_word(self, record, field):
-        """Type and array length of a member in our language."""
-        if field.get("isBitfield"):
-            raise CannotSay(field, f"the member {field.get('name', '')}", "it is a bit-field")
+        """Type of a member in our language, and what stands behind its name: the length of an array, or the width of a bit-field."""
         shape = self.inside(tree.type_of(field), record)
+        if field.get("isBitfield"):
+            return shape.word, f" : {width(field, shape)}"
         length = ""
         if shape.sort == "array" and not is_reference(field):
             length = f"[{shape.length}]"
@@ -117,6 +117,19 @@ class Classes:
                 given.append(f"a{number}_{position}")
             lines += [(f"    this->{self.program.constructor_name(record, number)}({', '.join(given)});", place), ("  }", place)]
         return [*lines, ("}", place)]
+
+
+def width(field, shape):
+    """The width of a bit-field, which our language has where its type holds it."""
+    if "name" not in field:
+        raise CannotSay(field, "an unnamed bit-field", "each member has a name in the language")
+    member, most = f"the bit-field {field['name']}", 0 if shape.sort != "number" else shape.bits
+    if not most:
+        raise CannotSay(field, member, f"its type is {shape.word or tree.type_of(field)}")
+    value = int(tree.parts(field)[0]["value"])
+    if value > most:
+        raise CannotSay(field, member, f"its width is {value}, and {shape.word} has {most} bit{'' if most == 1 else 's'}")
+    return value
 
 
 def indented(lines):

@@ -51,7 +51,7 @@ class Objects:
     def materialized(self, node):
         """A temporary that a reference names: an object, or a box with a number. A reference that is a variable keeps it longer."""
         inside = tree.bare(tree.parts(node)[0])
-        if "extendingDecl" in node and any(one.get("kind") == "MemberExpr" for one in tree.within(inside)) and self.shape(node).sort != "object":
+        if "extendingDecl" in node and any(one.get("kind") == "MemberExpr" for one in tree.within(inside)) and self.shape(node).sort != "object" and not is_read(inside):
             raise CannotSay(node, "a reference to a member of a temporary", "the whole temporary would have to live as long")
         if self.shape(node).sort == "object":
             while inside["kind"] in CASTS and inside["castKind"] == "NoOp":
@@ -244,6 +244,13 @@ class Objects:
         if self.shape(inside).sort != "pointer":
             raise CannotSay(node, f"delete of a {tree.type_of(inside)}", "the language ends objects of classes alone")
         self.put(f"delete {self.pointer(inside)};")
+
+
+def is_read(node):
+    """Whether an expression reads a place, so that its value is a copy: a reference to a bit-field names such a copy."""
+    while node["kind"] in CASTS and node["castKind"] != "LValueToRValue":
+        node = tree.bare(tree.parts(node)[-1])
+    return node["kind"] in CASTS
 
 
 def element_type(field):
