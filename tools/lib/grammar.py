@@ -105,6 +105,12 @@ def _stands(part, token, own):
 
 
 @functools.cache
+def vocabulary():
+    """All words and signs that stand in the grammar, in their order."""
+    return sorted(part.strip('"') for part in _words())
+
+
+@functools.cache
 def _words():
     return {part for forms in rules().values() for part in itertools.chain(*forms) if part.startswith('"')}
 

@@ -82,9 +82,14 @@ def make_folder(path):
 
 def write_text(path, text):
     """Writes a file."""
+    write_bytes(path, text.encode("utf-8"))
+
+
+def write_bytes(path, content):
+    """Writes a file as it is."""
     try:
-        with open(path, "w", encoding="utf-8") as file:
-            file.write(text)
+        with open(path, "wb") as file:
+            file.write(content)
     except OSError as error:
         raise Problem(f"{path} cannot be written: {error.strerror}; give another path", 2) from None
 

@@ -24,10 +24,14 @@ class Maker:
 
     def program(self, count):
         """A source of so many classes that runs to its end, or an empty text where no such source was found."""
+        return settled(self.lines(count))
+
+    def lines(self, count):
+        """The lines of a source of so many classes as they come: some may be refused or undefined."""
         names = [f"K{number}" for number in range(count)]
         self.hidden = self.random.choice([4, 4, 4, 40])  # how many bases of a hundred are private
         lines = [line for number, name in enumerate(names) for line in self.one(name, names[:number])]
-        return settled(lines + self.main(names))
+        return lines + self.main(names)
 
     def chance(self, percent):
         return self.random.randrange(100) < percent

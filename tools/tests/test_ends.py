@@ -18,7 +18,7 @@ TAKING = {
     "as-json": ["layout", "--source", "{}"], "cross-check": ["{}"], "cross-run": ["{}"], "draw": ["A", "{}"], "explain": ["check"], "from-cpp": ["{}"], "gcc-tests": ["{}"],
     "no-memory": ["--about", "2", "check"], "padding": ["A", "{}"], "page": ["{}"], "run-cpp": ["{}"], "same-runs": ["{}"], "worked-cases": ["{}"],
 }
-WITHOUT = {"large-source": [], "timings": ["--list"], "definition-lines": [], "package": ["made"], "c-library": ["made"]}  # these take none, and these words do well
+WITHOUT = {"large-source": [], "timings": ["--list"], "definition-lines": [], "package": ["made"], "c-library": ["made"], "fuzz": ["--inputs", "2"], "stack": ["--under", "8000"]}  # these take none, and these words do well
 NO_WORDS = {
     "as-json": 2, "c-library": 2, "cross-check": 2, "cross-run": 2, "definition-lines": 0, "draw": 1, "explain": 2, "from-cpp": 2, "gcc-tests": 2, "large-source": 0, "no-memory": 2, "package": 2, "padding": 1,
     "page": 1, "run-cpp": 2, "same-runs": 2, "worked-cases": 2,
@@ -26,6 +26,7 @@ NO_WORDS = {
 ODD = {
     "as-json": [["nosuch"], ["run", "A"], ["layout", "--steps", "3"], ["run", "--steps", "0"], ["run", "--steps", "9" * 30]], "c-library": [["--built"], ["made", "--built", "/nowhere/library"], ["made", "more"]],
     "package": [["made", "--version", "new"], ["made", "--library", "/nowhere"], ["/dev/null/x"]], "page": [["--nothing"]],
+    "stack": [["--under", "0"], ["--under", "8", "--all"], ["more"]], "fuzz": [["--minutes", "0"], ["--minutes", "nan"], ["--inputs", "0"], ["--minutes", "1", "--inputs", "1"], ["--seed", "x"], ["--keep", "/dev/null/x", "--inputs", "1"], ["more"]],
     "cross-check": [["--random", "-5"], ["--random", "0"], ["--random", "x"], ["--only", "cc"]], "cross-run": [["--random", "-5"], ["--seed", "x"], ["--keep"]],
     "definition-lines": [["more"]], "draw": [["A", "B", "C"], ["--folder"], ["--nothing"]], "explain": [["--code", "E99"], ["--code", ""]],
     "from-cpp": [["--class"], ["--program", "--print", "{}"], ["--print", "{}", "{}"], ["--program", "--all", "{}"]], "gcc-tests": [["--jobs", "0", "{}"], ["--jobs", "x", "{}"], ["--table"]],
@@ -36,7 +37,7 @@ ODD = {
 # whose allocations cannot be counted, is told by no-memory with status 2
 EMPTY = {"as-json": 0, "cross-check": 2, "cross-run": 2, "explain": 0, "gcc-tests": 2, "no-memory": (0, 2), "same-runs": 0}
 WRONG = {"cross-check": 2, "cross-run": 2, "gcc-tests": 2, "no-memory": (0, 2), "same-runs": 0}
-COMPILERS = {"c-library": ["made"], "cross-check": ["{}"], "cross-run": ["{}"], "from-cpp": ["{}"], "gcc-tests": ["{}"], "no-memory": ["check"], "run-cpp": ["{}"], "timings": ["--only", "compilers"]}
+COMPILERS = {"c-library": ["made"], "cross-check": ["{}"], "cross-run": ["{}"], "from-cpp": ["{}"], "fuzz": ["--beside", "--inputs", "1"], "gcc-tests": ["{}"], "no-memory": ["check"], "run-cpp": ["{}"], "timings": ["--only", "compilers"]}
 OF_CPP = {"from-cpp", "gcc-tests", "run-cpp"}
 NAMES = sorted(name for name in os.listdir(support.TOOLS) if os.path.isfile(os.path.join(support.TOOLS, name)))
 
@@ -114,7 +115,7 @@ class Ends(unittest.TestCase):
             self.assertIn("apt-get install" if name != "no-memory" else "gcc is missing", self.end(name, words, 2, source, PATH=self.folder))
 
     def test_no_program(self):
-        for name, words in {**TAKING, "timings": ["--only", "run"], "package": ["made"]}.items():
+        for name, words in {**TAKING, "timings": ["--only", "run"], "package": ["made"], "fuzz": ["--inputs", "1"], "stack": []}.items():
             if name not in ("worked-cases", "from-cpp"):
                 self.assertIn("/nowhere/tagymelur", self.end(name, words, 2, self.proper(name), TAGYMELUR="/nowhere/tagymelur"))
 

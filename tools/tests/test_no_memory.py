@@ -7,7 +7,7 @@ import tempfile
 import unittest
 
 import support
-from lib import run_shapes, shapes
+from lib import run_shapes, shapes, worked
 
 # Four allocations, one of each kind; no stream of the C library is used, since it would make more of them.
 CAREFUL = r"""
@@ -125,6 +125,20 @@ class NoMemory(unittest.TestCase):
         ]:
             self.assertEqual(self.failing(what), [f"allocation {number}: {told}" for number in range(1, 5)] + [last])
 
+    def test_over_shapes(self):
+        """Each command on a shape, of a program that does well and of one that does not."""
+        program = self.compiled(MANY.replace("FAILED", "8"))
+        done = self.tried(program, "--shapes", "--only", "chain", "--part", "10", "--about", "4")
+        self.assertEqual((done.returncode, done.stderr), (0, ""), done.stdout)
+        lines = done.stdout.splitlines()
+        self.assertEqual(len(lines), 7 + 4)
+        self.assertRegex(lines[0], r"^chain: check: \d+ of 50 allocations refused: \d+ times want of memory, 0 times the right text, 0 times neither$")
+        self.assertIn("chain: run --trace: ", done.stdout)
+        done = self.tried(self.compiled(MANY.replace("FAILED", "1")), "--shapes", "--only", "loop", "--about", "4")
+        self.assertEqual(done.returncode, 1)
+        self.assertIn("loop: paths --steps 4000000: ", done.stdout)
+        self.assertEqual(self.tried(program, "--shapes", "run").returncode, 2)
+
     def test_a_program_that_hangs(self):
         self.assertEqual(self.failing("for (;;) pause()", "--seconds", "1", "--first", "4")[0], "allocation 4: no answer after 1 seconds")
 
@@ -153,6 +167,22 @@ class NoMemory(unittest.TestCase):
         with open(os.path.join(support.TOOLS, "..", "examples", "diamond.cpp"), encoding="utf-8") as file:
             done = support.run("no-memory", "layout", "D", text=file.read())
         self.assertEqual((done.returncode, done.stderr), (0, ""), done.stdout)
+
+    @support.needs_program
+    def test_each_allocation_of_runs_with_virtual_bases(self):
+        """All allocations of two runs that worked_cases counts the stores of: a stream that is ended, and a call by a construction table."""
+        counted = [case for case in worked.cases() if case.words[:1] == ("counted",) and ("IosBase" in case.source or "virtual V { long c; }" in case.source)]
+        self.assertGreaterEqual(len(counted), 2)
+        for case in counted:
+            done = support.run("no-memory", "--jobs", "2", "--", *case.words[2:], text=case.source)
+            self.assertEqual((done.returncode, done.stderr), (0, ""), done.stdout)
+            self.assertRegex(done.stdout, r"^(\d+) of \1 allocations refused: [1-9]\d* times want of memory, \d+ times the right text, 0 times neither\n$")
+
+    @support.needs_program
+    def test_each_command_on_each_shape(self):
+        done = support.run("no-memory", "--shapes", "--part", "10", "--about", "4", "--jobs", "2")
+        self.assertEqual((done.returncode, done.stderr), (0, ""), done.stdout)
+        self.assertRegex(done.stdout, r"[1-9]\d{2,} of the chosen allocations refused: [1-9]\d* times want of memory, \d+ times the right text, 0 times neither\n$")
 
     @support.needs_program
     def test_large_sources(self):

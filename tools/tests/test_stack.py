@@ -1,0 +1,56 @@
+"""tools/stack: what is found by halving, and that each command does with 256 kB on the deepest shapes."""
+import os
+import shutil
+import subprocess
+import tempfile
+import unittest
+import unittest.mock
+
+import support
+from lib import deep, stack
+
+# A program that needs some 512 kB of stack
+NEEDY = r"""
+#include <string.h>
+#include <unistd.h>
+
+int main(void) {
+    volatile char room[512 * 1024];
+    memset((void *)room, 1, sizeof room);
+    return write(1, "right\n", 5 + room[0]) == 6 ? 0 : 7;
+}
+"""
+
+
+@support.needs("gcc", "sh")
+class Halving(unittest.TestCase):
+    def setUp(self):
+        folder = tempfile.mkdtemp()
+        self.addCleanup(shutil.rmtree, folder)
+        self.built = os.path.join(folder, "needy")
+        subprocess.run(["gcc", "-std=c11", "-o", self.built, "-x", "c", "-"], input=NEEDY, encoding="utf-8", check=True)
+
+    def test_what_is_needed(self):
+        with unittest.mock.patch.dict(os.environ, TAGYMELUR=self.built):
+            needed = stack.least(["run"], "")
+            self.assertGreater(needed, 512)
+            self.assertLess(needed, 768)
+            self.assertEqual(stack.answer(["run"], "", needed + 4 * stack.PAGE), (b"right\n", 0))
+            self.assertLess(stack.answer(["run"], "", needed - 4 * stack.PAGE).status, 0)
+
+    def test_what_does_not_do(self):
+        done = support.run("stack", "--under", "256", environment=dict(os.environ, TAGYMELUR=self.built))
+        self.assertEqual((done.returncode, done.stderr), (1, ""))
+        self.assertIn("check, 64 blocks: status -11 with 256 kB\n", done.stdout)
+        self.assertTrue(done.stdout.endswith(f"{len(deep.rows())} runs with 256 kB of stack, {len(deep.rows())} of them do not do\n"))
+
+
+@support.needs_program
+class Built(unittest.TestCase):
+    def test_each_command_does_with_256_kilobytes(self):
+        done = support.run("stack", "--under", "256")
+        self.assertEqual((done.returncode, done.stderr), (0, ""), done.stdout)
+
+
+if __name__ == "__main__":
+    unittest.main()
