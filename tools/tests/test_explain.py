@@ -28,7 +28,7 @@ class Explain(unittest.TestCase):
 
     def judge(self, code, entry, example, words, text):
         answer, status = program.answer(words, text)
-        wanted = [f"refused {code} {entry.name} at ", f"undefined {code} {entry.name} line ", f"limit {code}\n"]["EUL".index(code[0])]
+        wanted = {"E": f"refused {code} {entry.name} at ", "U": f"undefined {code} {entry.name} line ", "L": f"limit {code}\n"}.get(code[0], f"refused {code} {entry.name}")
         last = answer.splitlines(keepends=True)[-1] if answer else ""
         if example.meets:
             self.assertTrue(last.startswith(wanted), f"{code}: {last!r}")
@@ -40,6 +40,8 @@ class Explain(unittest.TestCase):
         wanted = {f"E{number}": name for name, number in re.findall(r"Rule::(\w+) => (\d+),", stops)}
         limits = set(re.findall(r"^    (L\d+),$", stops, re.M))
         wanted |= {f"U{number}": name for name, number in re.findall(r"^undefined_no (\w+) = (\d+)", steps, re.M)}
+        statuses = read("cxxabi_cmd", "specs", "Statuses.antt")
+        wanted |= dict(re.findall(r'^name_of_input ([MA]\d) = codes "(\w+)"', statuses, re.M))
         found = error_pages.entries()
         self.assertEqual({code: entry.name for code, entry in found.items() if code[0] != "L"}, wanted)
         self.assertEqual({code for code in found if code[0] == "L"}, limits)

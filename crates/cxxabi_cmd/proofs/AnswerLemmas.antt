@@ -8,8 +8,9 @@ use Rattle.cxx_syntax.specs.declared.source_text.SourceText.{SourceText}
 use Rattle.cxx_program.specs.declared.program.TypedProgram.{TypedProgram}
 use Rattle.abi_sound.specs.declared.class_layout.ClassLayout.{ClassLayout}
 use Rattle.abi_layout.specs.Layouts.{IsLaid}
+use Rattle.cxxabi_words.specs.declared.command.QualifiedMember.{QualifiedMember}
 use Rattle.cxxabi_words.specs.declared.command.Command.{Command}
-use Rattle.cxxabi_words.specs.declared.command.Command.TheVariants.{LayoutOf, TablesOf}
+use Rattle.cxxabi_words.specs.declared.command.Command.TheVariants.{LayoutOf, TablesOf, Array, MemberPointer}
 use Rattle.cxxabi_cmd.specs.declared.reply.Reply.{Reply}
 use Rattle.cxxabi_cmd.specs.declared.status.Status.{Status}
 use Rattle.cxxabi_cmd.specs.Commands.{IsOnBytes, RunsMain, by_run, by_paths, by_gen}
@@ -53,6 +54,16 @@ pub runs_no_tables : (c : Command) (name : List ℕ) (steps : ℕ) (trace : Bool
 runs_no_tables _ name _ _ (by_run steps trace) same = cc
 runs_no_tables _ name _ _ (by_paths steps) same = cc
 runs_no_tables _ name _ _ (by_gen n) same = cc
+
+pub runs_no_array : (c : Command) (name : List ℕ) (n steps : ℕ) (trace : Bool) → RunsMain c steps trace → c ≡ Array name n → ⊥
+runs_no_array _ name n _ _ (by_run steps trace) same = cc
+runs_no_array _ name n _ _ (by_paths steps) same = cc
+runs_no_array _ name n _ _ (by_gen k) same = cc
+
+pub runs_no_member : (c : Command) (named : QualifiedMember) (steps : ℕ) (trace : Bool) → RunsMain c steps trace → c ≡ MemberPointer named → ⊥
+runs_no_member _ named _ _ (by_run steps trace) same = cc
+runs_no_member _ named _ _ (by_paths steps) same = cc
+runs_no_member _ named _ _ (by_gen n) same = cc
 
 -- an answer for each number of classes
 pub yields_each : (r : Result Reply Want) (size : ℕ) (source : SourceText) (h : Classes) (typed : TypedProgram) (c : ℕ → Command) → ((n : ℕ) → IfOk r (λ reply. Yields size source h typed (c n) (answer_of reply))) → IfOk r (λ reply. (n : ℕ) → Yields size source h typed (c n) (answer_of reply))

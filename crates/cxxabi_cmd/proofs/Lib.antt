@@ -3,6 +3,7 @@ pub mod SourceLemmas
 pub mod OutputLemmas
 pub mod ReplyLemmas
 pub mod AnswerLemmas
+pub mod ClassReplies
 pub mod RunAnswers
 pub mod MeaningFaults
 pub mod ClassFaults
@@ -20,6 +21,5 @@ pub mod OneVerdict
 pub mod SameMains
 pub mod OneOutput
 pub mod SameTexts
-pub mod FewSteps
 pub mod SomeFault
 pub mod SomeOutput

@@ -1,6 +1,6 @@
 -- Words and bytes have one output.
 use Rattle.std.proofs.Common.{◌≡◌, ℕ, ◌<◌, ◌≤◌, zero, suc, Bool, false, List, [], ◌∷◌, refl, sym, ◌∙◌, ap, subst, arith, length, None}
-use Rattle.std.specs.Prelude.{slice_get, Some, Contains, ◌==◌, if◌then◌else◌}
+use Rattle.std.specs.Prelude.{slice_get, Some, Contains}
 use Rattle.cxx_hierarchy.specs.declared.records.ClassId.{ClassId}
 use Rattle.cxx_hierarchy.specs.declared.stop.Stop.{Stop}
 use Rattle.cxx_hierarchy.specs.declared.stop.Rule.TheVariants.{UnknownName}
@@ -11,23 +11,31 @@ use Rattle.cxx_syntax.specs.declared.source_text.SourceText.{SourceText}
 use Rattle.cxx_syntax.specs.SameSources.{SameSource}
 use Rattle.cxx_program.specs.declared.program.TypedProgram.{TypedProgram}
 use Rattle.abi_sound.specs.declared.class_layout.ClassLayout.{ClassLayout}
+use Rattle.abi_sound.specs.Places.{Places, places_of}
 use Rattle.abi_layout.specs.Layouts.{IsLaid}
+use Rattle.abi_cookie.specs.declared.answers.ArrayAnswer.{ArrayAnswer}
+use Rattle.abi_cookie.specs.Answers.{IsArrayAnswer}
+use Rattle.abi_memptr.specs.Answers.{answer_of}
+use Rattle.cxxabi_words.specs.declared.command.QualifiedMember.{QualifiedMember}
 use Rattle.foundation.proofs.Places.{contains_at}
 use Rattle.cxxabi_words.specs.declared.command.Command.{Command}
-use Rattle.cxxabi_words.specs.declared.command.Command.TheVariants.{Check, Run, Layout, LayoutOf, Tables, TablesOf, Paths, Gen}
+use Rattle.cxxabi_words.specs.declared.command.Command.TheVariants.{Check, Run, Layout, LayoutOf, Tables, TablesOf, Paths, Gen, Array, MemberPointer}
 use Rattle.cxxabi_words.specs.Commands.{Says, IsCommand, most_steps}
 use Rattle.cxxabi_words.proofs.CommandLaws.{one_command}
 use Rattle.cxxabi_cmd.specs.declared.listing.Listing.{Listing}
+use Rattle.cxxabi_cmd.specs.declared.listing.Listing.TheVariants.{OfLayout, OfTables}
+use Rattle.cxxabi_cmd.specs.Answers.{IsArrayReply, no_element_class, elements_of, array_answer, IsMemberReply, no_class, no_whole, member_of, member_answer}
+use Rattle.cxxabi_cmd.specs.invariants.Listings.{ListsName, is_unknown, is_class}
 use Rattle.cxxabi_cmd.specs.Commands.{RunsMain, by_run, by_paths, by_gen, source_of}
 use Rattle.cxxabi_cmd.specs.Verdict.{Judgement, Verdict, Stops, Accepts, HasNoFault}
 use Rattle.cxxabi_cmd.specs.declared.status.Status.TheVariants.{Refused}
-use Rattle.cxxabi_cmd.specs.Output.{Output, usage, too_long, stopped, yielded, Yields, counted, no_main, ran, IsRunAnswer, unknown_class, listed, Lists, whole, too_much, AsksFor, all_layouts, one_layout, all_tables, one_tables, AsksForName, named_layout, named_tables, AreTexts, Answer, line_alone, text_answer, count_answer, status_of_stop}
+use Rattle.cxxabi_cmd.specs.Output.{Output, usage, too_long, stopped, yielded, Yields, counted, no_main, ran, IsRunAnswer, unknown_class, listed, Lists, whole, too_much, AsksFor, all_layouts, one_layout, all_tables, one_tables, AsksForName, named_layout, named_tables, AreTexts, Answer, arrayed, pointed, first_classes, line_alone, text_answer, count_answer, status_of_stop}
 use Rattle.cxxabi_cmd.proofs.OneVerdict.{SameJudgement, one_verdict}
 use Rattle.cxxabi_cmd.proofs.SameMains.{main_missing_left, main_missing_right}
 use Rattle.cxxabi_cmd.proofs.Accepting.{accepted_keeps, accepted_fine}
 use Rattle.cxxabi_cmd.proofs.LaidRows.{laid_is_one, sound_rows}
 use Rattle.cxxabi_cmd.proofs.RunAnswers.{one_answer}
-use Rattle.cxxabi_cmd.proofs.Listed.{OneTables, AreKnown, one_texts, asked_known}
+use Rattle.cxxabi_cmd.proofs.Listed.{OneTables, AreKnown, first_known, named_below, one_texts}
 
 -- the class of a name
 record IsNamed (h : Classes) (n : ℕ) (name : List ℕ) : Type 0 where
@@ -40,82 +48,10 @@ named_class [] n name at = absurd (cc)
 named_class (class ∷ h) zero name at = record { class = class; there = refl; named = cc }
 named_class (class ∷ h) (suc n) name at = let rest = named_class h n name at in record { class = rest.class; there = rest.there; named = rest.named }
 
--- a command that runs `main` asks for no listing, and has one number of steps
-no_listing : (h : Classes) (c d : Command) (steps : ℕ) (trace : Bool) (listing : Listing) (classes : List ClassId) → RunsMain c steps trace → AsksFor h d listing classes → c ≡ d → ⊥
-no_listing h _ _ _ _ _ _ (by_run steps trace) all_layouts same = cc
-no_listing h _ _ _ _ _ _ (by_run steps trace) (one_layout name c at) same = cc
-no_listing h _ _ _ _ _ _ (by_run steps trace) all_tables same = cc
-no_listing h _ _ _ _ _ _ (by_run steps trace) (one_tables name c at) same = cc
-no_listing h _ _ _ _ _ _ (by_paths steps) all_layouts same = cc
-no_listing h _ _ _ _ _ _ (by_paths steps) (one_layout name c at) same = cc
-no_listing h _ _ _ _ _ _ (by_paths steps) all_tables same = cc
-no_listing h _ _ _ _ _ _ (by_paths steps) (one_tables name c at) same = cc
-no_listing h _ _ _ _ _ _ (by_gen n) all_layouts same = cc
-no_listing h _ _ _ _ _ _ (by_gen n) (one_layout name c at) same = cc
-no_listing h _ _ _ _ _ _ (by_gen n) all_tables same = cc
-no_listing h _ _ _ _ _ _ (by_gen n) (one_tables name c at) same = cc
-
-no_name : (c d : Command) (steps : ℕ) (trace : Bool) (name : List ℕ) → RunsMain c steps trace → AsksForName d name → c ≡ d → ⊥
-no_name _ _ _ _ _ (by_run steps trace) (named_layout name) same = cc
-no_name _ _ _ _ _ (by_run steps trace) (named_tables name) same = cc
-no_name _ _ _ _ _ (by_paths steps) (named_layout name) same = cc
-no_name _ _ _ _ _ (by_paths steps) (named_tables name) same = cc
-no_name _ _ _ _ _ (by_gen n) (named_layout name) same = cc
-no_name _ _ _ _ _ (by_gen n) (named_tables name) same = cc
-
-no_check : (c : Command) (steps : ℕ) (trace : Bool) → RunsMain c steps trace → c ≡ Check → ⊥
-no_check _ _ _ (by_run steps trace) same = cc
-no_check _ _ _ (by_paths steps) same = cc
-no_check _ _ _ (by_gen n) same = cc
-
--- the steps and the trace of a command
-abbrev asked_run : Command → ℕ × Bool
-asked_run (Run steps trace) = (steps, trace)
-asked_run (Paths steps) = (steps, false)
-asked_run other = (most_steps, false)
-
-runs_asked : (c : Command) (steps : ℕ) (trace : Bool) → RunsMain c steps trace → asked_run c ≡ (steps, trace)
-runs_asked _ _ _ (by_run steps trace) = refl
-runs_asked _ _ _ (by_paths steps) = refl
-runs_asked _ _ _ (by_gen n) = refl
-
-runs_same_way : (c : Command) (m n : ℕ) (s t : Bool) → RunsMain c m s → RunsMain c n t → (m ≡ n) × (s ≡ t)
-runs_same_way c m n s t one other = let e : (m, s) ≡ (n, t) = sym (runs_asked c m s one) ∙ runs_asked c n t other in (ap (λ (p : ℕ × Bool). p.0) e, ap (λ (p : ℕ × Bool). p.1) e)
-
--- neither does `check`
-unlisted : (h : Classes) (c : Command) (listing : Listing) (classes : List ClassId) → AsksFor h c listing classes → Check ≡ c → ⊥
-unlisted h _ _ _ all_layouts same = cc
-unlisted h _ _ _ (one_layout name c at) same = cc
-unlisted h _ _ _ all_tables same = cc
-unlisted h _ _ _ (one_tables name c at) same = cc
-
-unnamed : (c : Command) (name : List ℕ) → AsksForName c name → Check ≡ c → ⊥
-unnamed _ _ (named_layout name) same = cc
-unnamed _ _ (named_tables name) same = cc
-
--- what `check` answers
-checks : (size : ℕ) (t : SourceText) (h : Classes) (typed : TypedProgram) (d : Command) (b : Answer) → Yields size t h typed d b → Check ≡ d → count_answer h ≡ b
-checks size t h typed _ _ counted same = refl
-checks size t h typed _ _ (no_main command steps trace runs none) same = absurd (no_check command steps trace runs (sym same))
-checks size t h typed _ _ (ran command steps trace tree rows answer runs main laid is) same = absurd (no_check command steps trace runs (sym same))
-checks size t h typed _ _ (unknown_class command name asks none) same = absurd (unnamed command name asks same)
-checks size t h typed _ _ (listed command listing classes answer asks lists) same = absurd (unlisted h command listing classes asks same)
-
 -- what a command answers that runs `main`
 data Runs (size : ℕ) (t : SourceText) (h : Classes) (typed : TypedProgram) (c : Command) (steps : ℕ) (trace : Bool) : Answer → Type 0 where
   is_missing : t.main ≡ None → Runs size t h typed c steps trace (line_alone (Refused UnknownName size))
   is_ended : (tree : BodyTree) (rows : List ClassLayout) (answer : Answer) → t.main ≡ Some tree → IsLaid h rows → IsRunAnswer c h rows typed trace steps answer → Runs size t h typed c steps trace answer
-
-runs : (size : ℕ) (t : SourceText) (h : Classes) (typed : TypedProgram) (c d : Command) (n : ℕ) (trace : Bool) (b : Answer) → RunsMain c n trace → Yields size t h typed d b → c ≡ d → Runs size t h typed c n trace b
-runs size t h typed c _ n trace _ given counted same = absurd (no_check c n trace given same)
-runs size t h typed c _ n trace _ given (no_main command steps traced does none) same = is_missing none
-runs size t h typed c _ n trace _ given (ran command steps traced tree rows answer does main laid is) same =
-    let way = runs_same_way c n steps trace traced given (subst (λ (d : Command). RunsMain d steps traced) (sym same) does) in
-    is_ended tree rows answer main laid
-    (subst (λ (d : Command). IsRunAnswer d h rows typed trace n answer) (sym same)
-    (subst (λ (b : Bool). IsRunAnswer command h rows typed b n answer) (sym way.1) (subst (λ (m : ℕ). IsRunAnswer command h rows typed traced m answer) (sym way.0) is)))
-runs size t h typed c _ n trace _ given (unknown_class command name names none) same = absurd (no_name c command n trace name given names same)
-runs size t h typed c _ n trace _ given (listed command listing classes answer asks lists) same = absurd (no_listing h c command n trace listing classes given asks same)
 
 runs_same : (size : ℕ) (s t : SourceText) (h : Classes) (typed : TypedProgram) (c : Command) (n : ℕ) (trace : Bool) (a b : Answer) → IsHierarchy h → SameSource s t → Runs size s h typed c n trace a → Runs size t h typed c n trace b → a ≡ b
 runs_same size s t h typed c n trace _ _ keeps same (is_missing none) (is_missing none') = refl
@@ -133,41 +69,6 @@ named_once h keeps c d name at other =
     let one = named_class h c.0 name at in
     let two = named_class h d.0 name other in
     number_same c d (keeps.names c d one.class two.class one.there two.there (one.named ∙ sym two.named))
-
-asks_same : (h : Classes) (c d : Command) (l m : Listing) (xs ys : List ClassId) → IsHierarchy h → AsksFor h c l xs → AsksFor h d m ys → c ≡ d → (l ≡ m) × (xs ≡ ys)
-asks_same h _ _ _ _ _ _ keeps all_layouts all_layouts same = (refl, refl)
-asks_same h _ _ _ _ _ _ keeps all_layouts (one_layout name c at) same = absurd (cc)
-asks_same h _ _ _ _ _ _ keeps all_layouts all_tables same = absurd (cc)
-asks_same h _ _ _ _ _ _ keeps all_layouts (one_tables name c at) same = absurd (cc)
-asks_same h _ _ _ _ _ _ keeps (one_layout name c at) all_layouts same = absurd (cc)
-asks_same h _ _ _ _ _ _ keeps (one_layout name c at) (one_layout name' d at') same =
-    let names : name ≡ name' = cc in
-    (refl, ap (λ (x : ClassId). x ∷ []) (named_once h keeps c d name at (subst (λ (n : List ℕ). slice_get (class_names h) d.0 ≡ Some n) (sym names) at')))
-asks_same h _ _ _ _ _ _ keeps (one_layout name c at) all_tables same = absurd (cc)
-asks_same h _ _ _ _ _ _ keeps (one_layout name c at) (one_tables name' d at') same = absurd (cc)
-asks_same h _ _ _ _ _ _ keeps all_tables all_layouts same = absurd (cc)
-asks_same h _ _ _ _ _ _ keeps all_tables (one_layout name c at) same = absurd (cc)
-asks_same h _ _ _ _ _ _ keeps all_tables all_tables same = (refl, refl)
-asks_same h _ _ _ _ _ _ keeps all_tables (one_tables name c at) same = absurd (cc)
-asks_same h _ _ _ _ _ _ keeps (one_tables name c at) all_layouts same = absurd (cc)
-asks_same h _ _ _ _ _ _ keeps (one_tables name c at) (one_layout name' d at') same = absurd (cc)
-asks_same h _ _ _ _ _ _ keeps (one_tables name c at) all_tables same = absurd (cc)
-asks_same h _ _ _ _ _ _ keeps (one_tables name c at) (one_tables name' d at') same =
-    let names : name ≡ name' = cc in
-    (refl, ap (λ (x : ClassId). x ∷ []) (named_once h keeps c d name at (subst (λ (n : List ℕ). slice_get (class_names h) d.0 ≡ Some n) (sym names) at')))
-
-is_named : (h : Classes) (name name' : List ℕ) (c : ClassId) → slice_get (class_names h) c.0 ≡ Some name' → name ≡ name' → (Contains (class_names h) name → ⊥) → ⊥
-is_named h name name' c at names none = none (subst (λ (n : List ℕ). Contains (class_names h) n) (sym names) (contains_at (class_names h) c.0 name' at))
-
-not_unknown : (h : Classes) (c d : Command) (name : List ℕ) (listing : Listing) (classes : List ClassId) → AsksForName c name → AsksFor h d listing classes → c ≡ d → (Contains (class_names h) name → ⊥) → ⊥
-not_unknown h _ _ _ _ _ (named_layout name) all_layouts same none = absurd (cc)
-not_unknown h _ _ _ _ _ (named_layout name) (one_layout name' c at) same none = is_named h name name' c at (cc) none
-not_unknown h _ _ _ _ _ (named_layout name) all_tables same none = absurd (cc)
-not_unknown h _ _ _ _ _ (named_layout name) (one_tables name' c at) same none = absurd (cc)
-not_unknown h _ _ _ _ _ (named_tables name) all_layouts same none = absurd (cc)
-not_unknown h _ _ _ _ _ (named_tables name) (one_layout name' c at) same none = absurd (cc)
-not_unknown h _ _ _ _ _ (named_tables name) all_tables same none = absurd (cc)
-not_unknown h _ _ _ _ _ (named_tables name) (one_tables name' c at) same none = is_named h name name' c at (cc) none
 
 -- over one layout classes have one text
 texts_same : OneTables → (h : Classes) (listing : Listing) (classes : List ClassId) (rows others : List ClassLayout) (a b : List ℕ) → IsHierarchy h → HasNoFault h → AreKnown h classes → IsLaid h rows → IsLaid h others → AreTexts h rows listing classes a → AreTexts h others listing classes b → a ≡ b
@@ -187,32 +88,108 @@ lists_same law h listing classes _ _ keeps fine known (too_much rows text laid a
     absurd (no_both text' text (texts_same law h listing classes rows' rows text' text keeps fine known laid' laid are' are) short long)
 lists_same law h listing classes _ _ keeps fine known (too_much rows text laid are long) (too_much rows' text' laid' are' long') = refl
 
--- what is answered where classes are listed
-lists : OneTables → (size : ℕ) (s t : SourceText) (h : Classes) (typed : TypedProgram) (c d : Command) (l : Listing) (xs : List ClassId) (a b : Answer) → IsHierarchy h → HasNoFault h → AsksFor h c l xs → Lists h l xs a → Yields size t h typed d b → c ≡ d → a ≡ b
-lists law size s t h typed c _ l xs a _ keeps fine asks is counted same = absurd (unlisted h c l xs asks (sym same))
-lists law size s t h typed c _ l xs a _ keeps fine asks is (no_main command steps trace runs none) same = absurd (no_listing h command c steps trace l xs runs asks (sym same))
-lists law size s t h typed c _ l xs a _ keeps fine asks is (ran command steps trace tree rows answer runs main laid is') same = absurd (no_listing h command c steps trace l xs runs asks (sym same))
-lists law size s t h typed c _ l xs a _ keeps fine asks is (unknown_class command name names none) same = absurd (not_unknown h command c name l xs names asks (sym same) none)
-lists law size s t h typed c _ l xs a _ keeps fine asks is (listed command listing classes answer asks' is') same =
-    let e = asks_same h c command l listing xs classes keeps asks asks' same in
-    lists_same law h l xs a answer keeps fine (asked_known h c l xs asks) is
-    (subst (λ (m : Listing). Lists h m xs answer) (sym e.0) (subst (λ (ys : List ClassId). Lists h listing ys answer) (sym e.1) is'))
+-- a class that has a name, and none that has it
+no_such : (h : Classes) (c : ClassId) (name : List ℕ) → slice_get (class_names h) c.0 ≡ Some name → (Contains (class_names h) name → ⊥) → ⊥
+no_such h c name at none = none (contains_at (class_names h) c.0 name at)
 
-unknown : (size : ℕ) (t : SourceText) (h : Classes) (typed : TypedProgram) (c d : Command) (name : List ℕ) (b : Answer) → AsksForName c name → (Contains (class_names h) name → ⊥) → Yields size t h typed d b → c ≡ d → line_alone (Refused UnknownName size) ≡ b
-unknown size t h typed c _ name _ names none counted same = absurd (unnamed c name names (sym same))
-unknown size t h typed c _ name _ names none (no_main command steps trace runs empty) same = absurd (no_name command c steps trace name runs names (sym same))
-unknown size t h typed c _ name _ names none (ran command steps trace tree rows answer runs main laid is) same = absurd (no_name command c steps trace name runs names (sym same))
-unknown size t h typed c _ name _ names none (unknown_class command name' names' none') same = refl
-unknown size t h typed c _ name _ names none (listed command listing classes answer asks is) same = absurd (not_unknown h c command name listing classes names asks same none)
+name_same : OneTables → (size : ℕ) (h : Classes) (listing : Listing) (name : List ℕ) (a b : Answer) → IsHierarchy h → HasNoFault h → ListsName size h listing name a → ListsName size h listing name b → a ≡ b
+name_same law size h listing name _ _ keeps fine (is_unknown none) (is_unknown none') = refl
+name_same law size h listing name _ _ keeps fine (is_unknown none) (is_class c b at lists) = absurd (no_such h c name at none)
+name_same law size h listing name _ _ keeps fine (is_class c a at lists) (is_unknown none) = absurd (no_such h c name at none)
+name_same law size h listing name _ _ keeps fine (is_class c a at lists) (is_class d b at' lists') =
+    lists_same law h listing (c ∷ []) a b keeps fine (named_below h c.0 name at, tt) lists
+    (subst (λ (x : ClassId). Lists h listing (x ∷ []) b) (sym (named_once h keeps c d name at at')) lists')
+
+-- an array of the class of a name has one reply
+abbrev pub OneArrays : Type 0
+OneArrays = (h : Classes) (l : Places) (c : ClassId) (n : ℕ) (one other : ArrayAnswer) → IsArrayAnswer h l c n one → IsArrayAnswer h l c n other → one ≡ other
+
+array_same : OneArrays → (size : ℕ) (h : Classes) (name : List ℕ) (n : ℕ) (a b : Answer) → IsHierarchy h → IsArrayReply size h name n a → IsArrayReply size h name n b → a ≡ b
+array_same law size h name n _ _ keeps (no_element_class none) (no_element_class none') = refl
+array_same law size h name n _ _ keeps (no_element_class none) (elements_of c rows x at laid is) = absurd (no_such h c name at none)
+array_same law size h name n _ _ keeps (elements_of c rows x at laid is) (no_element_class none) = absurd (no_such h c name at none)
+array_same law size h name n _ _ keeps (elements_of c rows x at laid is) (elements_of d rows' y at' laid' is') =
+    let one = named_once h keeps c d name at at' in
+    let layout = laid_is_one h rows rows' keeps laid laid' in
+    ap array_answer
+    (law h (places_of h rows) c n x y is
+    (subst (λ (e : ClassId). IsArrayAnswer h (places_of h rows) e n y) (sym one) (subst (λ (r : List ClassLayout). IsArrayAnswer h (places_of h r) d n y) (sym layout) is')))
+
+-- and so has a pointer to a member
+member_same : (size : ℕ) (h : Classes) (named : QualifiedMember) (a b : Answer) → IsHierarchy h → IsMemberReply size h named a → IsMemberReply size h named b → a ≡ b
+member_same size h named _ _ keeps (no_class none) (no_class none') = refl
+member_same size h named _ _ keeps (no_class none) (no_whole none') = refl
+member_same size h named _ _ keeps (no_class none) (member_of k d rows at of laid) = absurd (no_such h k named.class at none)
+member_same size h named _ _ keeps (no_whole none) (no_class none') = refl
+member_same size h named _ _ keeps (no_whole none) (no_whole none') = refl
+member_same size h named _ _ keeps (no_whole none) (member_of k d rows at of laid) = absurd (no_such h d named.whole of none)
+member_same size h named _ _ keeps (member_of k d rows at of laid) (no_class none) = absurd (no_such h k named.class at none)
+member_same size h named _ _ keeps (member_of k d rows at of laid) (no_whole none) = absurd (no_such h d named.whole of none)
+member_same size h named _ _ keeps (member_of k d rows at of laid) (member_of k' d' rows' at' of' laid') =
+    ap (λ (e : ClassId). member_answer (answer_of h (places_of h rows) e named.member d)) (named_once h keeps k k' named.class at at')
+    ∙ ap (λ (e : ClassId). member_answer (answer_of h (places_of h rows) k' named.member e)) (named_once h keeps d d' named.whole of of')
+    ∙ ap (λ (r : List ClassLayout). member_answer (answer_of h (places_of h r) k' named.member d')) (laid_is_one h rows rows' keeps laid laid')
+
+-- what each command answers
+abbrev Replies : ℕ → SourceText → Classes → TypedProgram → Command → Answer → Type 0
+Replies size t h typed Check a = count_answer h ≡ a
+Replies size t h typed (Run steps trace) a = Runs size t h typed (Run steps trace) steps trace a
+Replies size t h typed Layout a = Lists h OfLayout (first_classes (length h)) a
+Replies size t h typed (LayoutOf name) a = ListsName size h OfLayout name a
+Replies size t h typed Tables a = Lists h OfTables (first_classes (length h)) a
+Replies size t h typed (TablesOf name) a = ListsName size h OfTables name a
+Replies size t h typed (Paths steps) a = Runs size t h typed (Paths steps) steps false a
+Replies size t h typed (Gen n) a = Runs size t h typed (Gen n) most_steps false a
+Replies size t h typed (Array name n) a = IsArrayReply size h name n a
+Replies size t h typed (MemberPointer named) a = IsMemberReply size h named a
+
+runs : (size : ℕ) (t : SourceText) (h : Classes) (typed : TypedProgram) (c : Command) (steps : ℕ) (trace : Bool) (a : Answer) → RunsMain c steps trace → Runs size t h typed c steps trace a → Replies size t h typed c a
+runs size t h typed _ _ _ a (by_run steps trace) is = is
+runs size t h typed _ _ _ a (by_paths steps) is = is
+runs size t h typed _ _ _ a (by_gen n) is = is
+
+lists : (size : ℕ) (t : SourceText) (h : Classes) (typed : TypedProgram) (c : Command) (l : Listing) (xs : List ClassId) (a : Answer) → AsksFor h c l xs → Lists h l xs a → Replies size t h typed c a
+lists size t h typed _ _ _ a all_layouts is = is
+lists size t h typed _ _ _ a (one_layout name c at) is = is_class c a at is
+lists size t h typed _ _ _ a all_tables is = is
+lists size t h typed _ _ _ a (one_tables name c at) is = is_class c a at is
+
+names : (size : ℕ) (t : SourceText) (h : Classes) (typed : TypedProgram) (c : Command) (name : List ℕ) → AsksForName c name → (Contains (class_names h) name → ⊥) → Replies size t h typed c (line_alone (Refused UnknownName size))
+names size t h typed _ _ (named_layout name) none = is_unknown none
+names size t h typed _ _ (named_tables name) none = is_unknown none
+
+replies : (size : ℕ) (t : SourceText) (h : Classes) (typed : TypedProgram) (c : Command) (a : Answer) → Yields size t h typed c a → Replies size t h typed c a
+replies size t h typed _ _ counted = refl
+replies size t h typed _ _ (no_main command steps trace does none) = runs size t h typed command steps trace _ does (is_missing none)
+replies size t h typed _ _ (ran command steps trace tree rows answer does main laid is) = runs size t h typed command steps trace answer does (is_ended tree rows answer main laid is)
+replies size t h typed _ _ (unknown_class command name asks none) = names size t h typed command name asks none
+replies size t h typed _ _ (listed command listing classes answer asks is) = lists size t h typed command listing classes answer asks is
+replies size t h typed _ _ (arrayed name n answer is) = is
+replies size t h typed _ _ (pointed named answer is) = is
+
+-- the laws of the layers below: the tables of a class, and an array of one
+pub record OneLaws : Type 0 where
+  pub tables : OneTables
+  pub arrays : OneArrays
+
+-- each command has one
+reply_same : OneLaws → (size : ℕ) (s t : SourceText) (h : Classes) (typed : TypedProgram) (c : Command) (a b : Answer) → IsHierarchy h → HasNoFault h → SameSource s t → Replies size s h typed c a → Replies size t h typed c b → a ≡ b
+reply_same law size s t h typed Check a b keeps fine same one other = sym one ∙ other
+reply_same law size s t h typed (Run steps trace) a b keeps fine same one other = runs_same size s t h typed (Run steps trace) steps trace a b keeps same one other
+reply_same law size s t h typed Layout a b keeps fine same one other = lists_same law.tables h OfLayout (first_classes (length h)) a b keeps fine (first_known h (length h) (omega arith)) one other
+reply_same law size s t h typed (LayoutOf name) a b keeps fine same one other = name_same law.tables size h OfLayout name a b keeps fine one other
+reply_same law size s t h typed Tables a b keeps fine same one other = lists_same law.tables h OfTables (first_classes (length h)) a b keeps fine (first_known h (length h) (omega arith)) one other
+reply_same law size s t h typed (TablesOf name) a b keeps fine same one other = name_same law.tables size h OfTables name a b keeps fine one other
+reply_same law size s t h typed (Paths steps) a b keeps fine same one other = runs_same size s t h typed (Paths steps) steps false a b keeps same one other
+reply_same law size s t h typed (Gen n) a b keeps fine same one other = runs_same size s t h typed (Gen n) most_steps false a b keeps same one other
+reply_same law size s t h typed (Array name n) a b keeps fine same one other = array_same law.arrays size h name n a b keeps one other
+reply_same law size s t h typed (MemberPointer named) a b keeps fine same one other = member_same size h named a b keeps one other
 
 -- a command answers one thing to sources that say the same
-pub one_yield : OneTables → (size : ℕ) (s t : SourceText) (h : Classes) (typed : TypedProgram) (c d : Command) (a b : Answer) → IsHierarchy h → HasNoFault h → SameSource s t → Yields size s h typed c a → Yields size t h typed d b → c ≡ d → a ≡ b
-one_yield law size s t h typed _ d _ b keeps fine same counted y e = checks size t h typed d b y e
-one_yield law size s t h typed _ d _ b keeps fine same (no_main command steps trace asked none) y e = runs_same size s t h typed command steps trace _ b keeps same (is_missing none) (runs size t h typed command d steps trace b asked y e)
-one_yield law size s t h typed _ d _ b keeps fine same (ran command steps trace tree rows answer asked main laid is) y e =
-    runs_same size s t h typed command steps trace answer b keeps same (is_ended tree rows answer main laid is) (runs size t h typed command d steps trace b asked y e)
-one_yield law size s t h typed _ d _ b keeps fine same (unknown_class command name names none) y e = unknown size t h typed command d name b names none y e
-one_yield law size s t h typed _ d _ b keeps fine same (listed command listing classes answer asks is) y e = lists law size s t h typed command d listing classes answer b keeps fine asks is y e
+one_yield : OneLaws → (size : ℕ) (s t : SourceText) (h : Classes) (typed : TypedProgram) (c d : Command) (a b : Answer) → IsHierarchy h → HasNoFault h → SameSource s t → Yields size s h typed c a → Yields size t h typed d b → c ≡ d → a ≡ b
+one_yield law size s t h typed c d a b keeps fine same one other e =
+    reply_same law size s t h typed c a b keeps fine same (replies size s h typed c a one)
+    (replies size t h typed c b (subst (λ (x : Command). Yields size t h typed x b) (sym e) other))
 
 -- a text that is too long for one command, and another that the same words ask for
 not_short : (words : List (List ℕ)) (bytes : List ℕ) (c d : Command) → Says words c → Says words d → 262144 < length (source_of c bytes) → length (source_of d bytes) ≤ 262144 → ⊥
@@ -225,7 +202,7 @@ one_judgement words bytes c d a b says says' verdict verdict' =
     one_verdict (source_of c bytes) a b verdict (subst (λ (x : Command). Verdict (source_of x bytes) b) (one_command words d c says' says) verdict')
 
 -- what the words yield
-yields_same : OneTables → (words : List (List ℕ)) (bytes : List ℕ) (c d : Command) (s t : SourceText) (h k : Classes) (p q : TypedProgram) (a b : Answer) → Says words c → Says words d → Verdict (source_of c bytes) (Accepts s h p) → Verdict (source_of d bytes) (Accepts t k q) →
+yields_same : OneLaws → (words : List (List ℕ)) (bytes : List ℕ) (c d : Command) (s t : SourceText) (h k : Classes) (p q : TypedProgram) (a b : Answer) → Says words c → Says words d → Verdict (source_of c bytes) (Accepts s h p) → Verdict (source_of d bytes) (Accepts t k q) →
     Yields (length (source_of c bytes)) s h p c a → Yields (length (source_of d bytes)) t k q d b → a ≡ b
 yields_same law words bytes c d s t h k p q a b says says' verdict verdict' yields yields' =
     let same = one_judgement words bytes c d (Accepts s h p) (Accepts t k q) says says' verdict verdict' in
@@ -236,7 +213,7 @@ yields_same law words bytes c d s t h k p q a b says says' verdict verdict' yiel
     one_yield law (length (source_of c bytes)) s t h p c d a b (accepted_keeps (source_of c bytes) s h p verdict) (accepted_fine (source_of c bytes) s h p verdict) same.0 yields programs one
 
 -- words and bytes have one answer
-pub one_output : OneTables → (words : List (List ℕ)) (bytes : List ℕ) (a b : Answer) → Output words bytes a → Output words bytes b → a ≡ b
+pub one_output : OneLaws → (words : List (List ℕ)) (bytes : List ℕ) (a b : Answer) → Output words bytes a → Output words bytes b → a ≡ b
 one_output law words bytes _ _ (usage none) (usage none') = refl
 one_output law words bytes _ _ (usage none) (too_long c says long) = absurd (none (c, says))
 one_output law words bytes _ _ (usage none) (stopped c e says short verdict) = absurd (none (c, says))

@@ -1,6 +1,6 @@
 -- What the parts of the answer yield.
 use Rattle.std.proofs.Common.{◌≡◌, ℕ, ◌≤◌, ◌⊎◌, ⊎_elim, Bool, true, false, not, Option, Some, None, Result, Ok, Err, List, [], ◌∷◌, length, refl, sym, ◌∙◌, ap, subst}
-use Rattle.std.specs.Prelude.{IfOk, slice_get}
+use Rattle.std.specs.Prelude.{IfOk, slice_get, nat_le, if◌then◌else◌}
 use Rattle.std.specs.Option.{is_some}
 use Rattle.foundation.specs.declared.memory.NoMemory.{NoMemory as Want}
 use Rattle.cxx_hierarchy.specs.declared.records.ClassId.{ClassId}
@@ -10,14 +10,24 @@ use Rattle.cxx_hierarchy.specs.Classes.{Classes, class_names}
 use Rattle.cxx_syntax.specs.declared.tree.BodyTree.{BodyTree}
 use Rattle.cxx_syntax.specs.declared.source_text.SourceText.{SourceText}
 use Rattle.cxx_program.specs.declared.program.TypedProgram.{TypedProgram}
+use Rattle.foundation.proofs.Truth.{split}
+use Rattle.cxx_hierarchy.specs.declared.stop.LimitNo.TheVariants.{L9}
+use Rattle.abi_sound.specs.Places.{places_of}
+use Rattle.abi_cookie.specs.declared.answers.ArrayAnswer.{ArrayAnswer}
+use Rattle.abi_cookie.specs.declared.answers.ArrayAnswer.TheVariants.{Abstract, TooLarge, Text}
+use Rattle.abi_memptr.specs.Pointers.{Outcome, refused, given as given_text}
+use Rattle.abi_memptr.specs.Answers.{answer_of as answer_of_member}
+use Rattle.cxxabi_words.specs.declared.command.QualifiedMember.{QualifiedMember}
 use Rattle.cxxabi_words.specs.declared.command.Command.{Command}
+use Rattle.cxxabi_cmd.specs.declared.status.Status.TheVariants.{Limit}
+use Rattle.cxxabi_cmd.specs.Answers.{IsArrayReply, no_element_class, elements_of, array_answer, IsMemberReply, no_class, no_whole, member_of, member_answer, limited_answer}
 use Rattle.cxxabi_words.specs.Commands.{Says}
 use Rattle.cxxabi_words.proofs.CommandLaws.{one_command}
 use Rattle.cxxabi_cmd.specs.declared.reply.Reply.{Reply}
 use Rattle.cxxabi_cmd.specs.Commands.{IsOnBytes, RunsMain, source_of}
 use Rattle.cxxabi_cmd.specs.Verdict.{Verdict, Stops, Accepts}
 use Rattle.cxxabi_cmd.specs.Handed.{Seen, HandsOut, IsRun}
-use Rattle.cxxabi_cmd.specs.Output.{Answer, AsksFor, AsksForName, Output, stopped, yielded, Yields, counted, no_main, ran, unknown_class, listed, Lists, whole, too_much, IsAnswered, line_alone, status_of_stop}
+use Rattle.cxxabi_cmd.specs.Output.{Answer, AsksFor, AsksForName, Output, stopped, yielded, Yields, counted, no_main, ran, unknown_class, listed, arrayed, pointed, Lists, whole, too_much, text_answer, text_limit, IsAnswered, line_alone, status_of_stop}
 use Rattle.cxxabi_cmd.specs.declared.listing.Listing.{Listing}
 use Rattle.cxxabi_cmd.specs.invariants.Listings.{ListsName, is_unknown, is_class}
 use Rattle.cxxabi_cmd.specs.invariants.Replies.{answer_of, machine_of, HandsBy}
@@ -55,12 +65,35 @@ lists_answered : (h : Classes) (listing : Listing) (classes : List ClassId) (a :
 lists_answered h listing classes _ (whole rows text laid are short) = tt
 lists_answered h listing classes _ (too_much rows text laid are long) = tt
 
+limited_answered : (text : List ℕ) → IsAnswered (limited_answer text).status
+limited_answered text = split (nat_le (length text) text_limit) (λ b. IsAnswered (if b then text_answer text else line_alone (Limit L9)).status) (λ short. tt) (λ long. tt)
+
+array_answered : (answer : ArrayAnswer) → IsAnswered (array_answer answer).status
+array_answered Abstract = tt
+array_answered TooLarge = tt
+array_answered (Text text) = limited_answered text
+
+array_replied : (size : ℕ) (h : Classes) (name : List ℕ) (n : ℕ) (a : Answer) → IsArrayReply size h name n a → IsAnswered a.status
+array_replied size h name n _ (no_element_class none) = tt
+array_replied size h name n _ (elements_of c rows answer at laid is) = array_answered answer
+
+member_answered : (outcome : Outcome (List ℕ)) → IsAnswered (member_answer outcome).status
+member_answered (refused rule) = tt
+member_answered (given_text text) = limited_answered text
+
+member_replied : (size : ℕ) (h : Classes) (named : QualifiedMember) (a : Answer) → IsMemberReply size h named a → IsAnswered a.status
+member_replied size h named _ (no_class none) = tt
+member_replied size h named _ (no_whole none) = tt
+member_replied size h named _ (member_of k d rows at of laid) = member_answered (answer_of_member h (places_of h rows) k named.member d)
+
 yields_answered : (size : ℕ) (source : SourceText) (h : Classes) (typed : TypedProgram) (command : Command) (a : Answer) → Yields size source h typed command a → IsAnswered a.status
 yields_answered size source h typed _ _ counted = tt
 yields_answered size source h typed _ _ (no_main command steps trace runs empty) = tt
 yields_answered size source h typed _ _ (ran command steps trace tree rows answer runs main laid is) = run_answered command h rows typed trace steps answer is
 yields_answered size source h typed _ _ (unknown_class command name names empty) = tt
 yields_answered size source h typed _ _ (listed command listing classes answer asks lists) = lists_answered h listing classes answer lists
+yields_answered size source h typed _ _ (arrayed name n answer is) = array_replied size h name n answer is
+yields_answered size source h typed _ _ (pointed named answer is) = member_replied size h named answer is
 
 pub reply_answered : (r : Result Reply Want) (size : ℕ) (source : SourceText) (h : Classes) (typed : TypedProgram) (command : Command) → IfOk r (λ reply. Yields size source h typed command (answer_of reply)) → IfOk r (λ reply. IsAnswered reply.status)
 reply_answered (Ok reply) size source h typed command is = yields_answered size source h typed command (answer_of reply) is

@@ -26,7 +26,7 @@ use Rattle.abi_slots.specs.declared.code_numbers.CodeRow.{CodeRow}
 use Rattle.code_ops.specs.Setups.{setup}
 use Rattle.abi_refine.specs.Executions.{IsExecution}
 use Rattle.cxxabi_words.specs.declared.command.Command.{Command}
-use Rattle.cxxabi_words.specs.declared.command.Command.TheVariants.{Check, Run, Layout, LayoutOf, Tables, TablesOf, Paths, Gen}
+use Rattle.cxxabi_words.specs.declared.command.Command.TheVariants.{Check, Run, Layout, LayoutOf, Tables, TablesOf, Paths, Gen, Array, MemberPointer}
 use Rattle.cxxabi_words.specs.Commands.{most_steps}
 use Rattle.cxxabi_cmd.specs.declared.reply.Reply.{Reply}
 use Rattle.cxxabi_cmd.specs.declared.status.Status.{Status}
@@ -71,6 +71,8 @@ sums_decided (LayoutOf name) e = inr (λ sums. sums)
 sums_decided Tables e = inr (λ sums. sums)
 sums_decided (TablesOf name) e = inr (λ sums. sums)
 sums_decided (Paths steps) e = inr (λ sums. sums)
+sums_decided (Array name n) e = inr (λ sums. sums)
+sums_decided (MemberPointer named) e = inr (λ sums. sums)
 sums_decided (Gen n) ends.Done = inl tt
 sums_decided (Gen n) (ends.Undefined rule line) = inr (λ sums. sums)
 sums_decided (Gen n) ends.OutOfSteps = inr (λ sums. sums)

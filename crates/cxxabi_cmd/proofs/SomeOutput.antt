@@ -1,5 +1,5 @@
 -- Words and the bytes of a source have an answer.
-use Rattle.std.proofs.Common.{◌≡◌, ℕ, zero, suc, ◌≤◌, ◌⊎◌, ⊎_elim, false, Some, Result, Ok, Err, List, [], ◌∷◌, length, refl}
+use Rattle.std.proofs.Common.{◌≡◌, ℕ, zero, suc, ◌<◌, ◌≤◌, ◌⊎◌, ⊎_elim, false, Some, Result, Ok, Err, List, [], ◌∷◌, length, refl}
 use Rattle.std.specs.Prelude.{slice_get}
 use Rattle.std.specs.Option.{is_some}
 use Rattle.std.proofs.lemmas.Bool.{cases_lt}
@@ -20,23 +20,29 @@ use Rattle.cxx_program.specs.declared.program.TypedProgram.{TypedProgram}
 use Rattle.cxx_program.specs.Typed.{IsTypedProgram}
 use Rattle.cxx_resolve.specs.Programs.{program_of}
 use Rattle.path_model.specs.States.{is_body}
+use Rattle.abi_sound.specs.Places.{Places, places_of}
 use Rattle.abi_layout.proofs.rules.SomeLayout.{some_layout}
+use Rattle.abi_cookie.specs.declared.answers.ArrayAnswer.{ArrayAnswer}
+use Rattle.abi_cookie.specs.Answers.{IsArrayAnswer}
+use Rattle.abi_memptr.specs.Answers.{answer_of}
+use Rattle.cxxabi_words.specs.declared.command.QualifiedMember.{QualifiedMember}
 use Rattle.foundation.proofs.Places.{place_of}
 use Rattle.cxx_overrider.proofs.FaultSearch.{class_answer}
 use Rattle.abi_layout.proofs.rules.SomeAnswers.{large_decided, shared_decided}
 use Rattle.cxxabi_words.specs.declared.command.Command.{Command}
-use Rattle.cxxabi_words.specs.declared.command.Command.TheVariants.{Check, Run, Layout, LayoutOf, Tables, TablesOf, Paths, Gen}
+use Rattle.cxxabi_words.specs.declared.command.Command.TheVariants.{Check, Run, Layout, LayoutOf, Tables, TablesOf, Paths, Gen, Array, MemberPointer}
 use Rattle.cxxabi_words.specs.Commands.{Says, IsCommand, most_steps}
 use Rattle.cxxabi_words.proofs.CommandLaws.{some_command}
 use Rattle.cxxabi_cmd.specs.declared.listing.Listing.{Listing}
 use Rattle.cxxabi_cmd.specs.declared.listing.Listing.TheVariants.{OfLayout, OfTables}
 use Rattle.cxxabi_cmd.specs.declared.status.Status.TheVariants.{Refused, Usage, Limit}
+use Rattle.cxxabi_cmd.specs.Answers.{IsArrayReply, no_element_class, elements_of, array_answer, IsMemberReply, no_class, no_whole, member_of, member_answer}
 use Rattle.cxxabi_cmd.specs.Commands.{by_run, by_paths, by_gen, source_of}
 use Rattle.cxxabi_cmd.specs.Verdict.{AreLexemes, IsSource, HasNoFault, Judgement, Verdict, Stops, Accepts, by_text, by_records, by_classes, by_bodies, by_words, accepted}
-use Rattle.cxxabi_cmd.specs.Output.{source_limit, text_limit, Answer, AsksFor, all_layouts, one_layout, all_tables, one_tables, AsksForName, named_layout, named_tables, Lists, whole, too_much, Yields, counted, unknown_class, listed, Output, usage, too_long, stopped, yielded, line_alone, count_answer, text_answer, status_of_stop, numbered, first_classes}
+use Rattle.cxxabi_cmd.specs.Output.{source_limit, text_limit, Answer, AsksFor, all_layouts, one_layout, all_tables, one_tables, AsksForName, named_layout, named_tables, Lists, whole, too_much, Yields, counted, unknown_class, listed, arrayed, pointed, Output, usage, too_long, stopped, yielded, line_alone, count_answer, text_answer, status_of_stop, numbered, first_classes}
 use Rattle.cxxabi_cmd.proofs.Accepting.{ProgramsAreTyped, source_keeps, accepted_keeps, accepted_fine, accepted_typed, accepted_main}
 use Rattle.cxxabi_cmd.proofs.LaidRows.{no_meaning, sound_rows, words_decided}
-use Rattle.cxxabi_cmd.proofs.Listed.{SomeTables, AreKnown, some_texts, asked_known}
+use Rattle.cxxabi_cmd.proofs.Listed.{SomeTables, AreKnown, named_below, some_texts, asked_known}
 use Rattle.cxxabi_cmd.proofs.RunAnswers.{NeverWrong, yields_runs}
 use Rattle.cxxabi_cmd.proofs.SameTexts.{same_text}
 use Rattle.cxxabi_cmd.proofs.SomeFault.{IsDecided, some_fault}
@@ -117,18 +123,46 @@ yields_named law size source h typed command listing name keeps fine names asks 
 yields_named law size source h typed command listing name keeps fine names asks (nowhere none) =
     (line_alone (Refused UnknownName size), unknown_class command name names (λ has. let place = place_of (class_names h) name has in none place.0 place.1))
 
+-- there is an array of each class, or a rule that refuses it
+abbrev pub SomeArrays : Type 0
+SomeArrays = (h : Classes) (l : Places) (c : ClassId) (n : ℕ) → IsHierarchy h → c.0 < length h → (answer : ArrayAnswer) × IsArrayAnswer h l c n answer
+
+-- the laws of the layers below: a class has tables, and there is an answer for an array of it
+pub record SomeLaws : Type 0 where
+  pub tables : SomeTables
+  pub arrays : SomeArrays
+
+some_array : SomeArrays → (size : ℕ) (h : Classes) (name : List ℕ) (n : ℕ) → IsHierarchy h → IsThere (class_names h) name → (answer : Answer) × IsArrayReply size h name n answer
+some_array law size h name n keeps (there_at i at) =
+    let laid = some_layout h keeps in
+    let is = law h (places_of h laid.0) (numbered i) n keeps (named_below h i name at) in
+    (array_answer is.0, elements_of (numbered i) laid.0 is.0 at laid.1 is.1)
+some_array law size h name n keeps (nowhere none) = (line_alone (Refused UnknownName size), no_element_class (λ has. let place = place_of (class_names h) name has in none place.0 place.1))
+
+some_member : (size : ℕ) (h : Classes) (named : QualifiedMember) → IsHierarchy h → IsThere (class_names h) named.class → IsThere (class_names h) named.whole → (answer : Answer) × IsMemberReply size h named answer
+some_member size h named keeps (there_at i at) (there_at j of) =
+    let laid = some_layout h keeps in
+    (member_answer (answer_of h (places_of h laid.0) (numbered i) named.member (numbered j)), member_of (numbered i) (numbered j) laid.0 at of laid.1)
+some_member size h named keeps (there_at i at) (nowhere none) =
+    (line_alone (Refused UnknownName size), no_whole (λ has. let place = place_of (class_names h) named.whole has in none place.0 place.1))
+some_member size h named keeps (nowhere none) there =
+    (line_alone (Refused UnknownName size), no_class (λ has. let place = place_of (class_names h) named.class has in none place.0 place.1))
+
 -- a command has an answer to an accepted source
-pub some_yield : SomeTables → NeverWrong → (size : ℕ) (source : SourceText) (h : Classes) (typed : TypedProgram) (command : Command) → IsHierarchy h → HasNoFault h → IsTypedProgram h typed → is_body typed.main ≡ is_some source.main → (answer : Answer) × Yields size source h typed command answer
+pub some_yield : SomeLaws → NeverWrong → (size : ℕ) (source : SourceText) (h : Classes) (typed : TypedProgram) (command : Command) → IsHierarchy h → HasNoFault h → IsTypedProgram h typed → is_body typed.main ≡ is_some source.main → (answer : Answer) × Yields size source h typed command answer
 some_yield law right size source h typed Check keeps fine is main = (count_answer h, counted)
 some_yield law right size source h typed (Run steps trace) keeps fine is main = let laid = some_layout h keeps in yields_runs right size source h laid.0 typed (Run steps trace) steps trace source.main (by_run steps trace) keeps (no_meaning h fine) laid.1 is main refl
-some_yield law right size source h typed Layout keeps fine is main = yields_list law size source h typed Layout OfLayout (first_classes (length h)) keeps fine all_layouts
-some_yield law right size source h typed (LayoutOf name) keeps fine is main = yields_named law size source h typed (LayoutOf name) OfLayout name keeps fine (named_layout name) (one_layout name) (some_place (class_names h) name)
-some_yield law right size source h typed Tables keeps fine is main = yields_list law size source h typed Tables OfTables (first_classes (length h)) keeps fine all_tables
-some_yield law right size source h typed (TablesOf name) keeps fine is main = yields_named law size source h typed (TablesOf name) OfTables name keeps fine (named_tables name) (one_tables name) (some_place (class_names h) name)
+some_yield law right size source h typed Layout keeps fine is main = yields_list law.tables size source h typed Layout OfLayout (first_classes (length h)) keeps fine all_layouts
+some_yield law right size source h typed (LayoutOf name) keeps fine is main = yields_named law.tables size source h typed (LayoutOf name) OfLayout name keeps fine (named_layout name) (one_layout name) (some_place (class_names h) name)
+some_yield law right size source h typed Tables keeps fine is main = yields_list law.tables size source h typed Tables OfTables (first_classes (length h)) keeps fine all_tables
+some_yield law right size source h typed (TablesOf name) keeps fine is main = yields_named law.tables size source h typed (TablesOf name) OfTables name keeps fine (named_tables name) (one_tables name) (some_place (class_names h) name)
 some_yield law right size source h typed (Paths steps) keeps fine is main = let laid = some_layout h keeps in yields_runs right size source h laid.0 typed (Paths steps) steps false source.main (by_paths steps) keeps (no_meaning h fine) laid.1 is main refl
 some_yield law right size source h typed (Gen n) keeps fine is main = let laid = some_layout h keeps in yields_runs right size source h laid.0 typed (Gen n) most_steps false source.main (by_gen n) keeps (no_meaning h fine) laid.1 is main refl
+some_yield law right size source h typed (Array name n) keeps fine is main = let a = some_array law.arrays size h name n keeps (some_place (class_names h) name) in (a.0, arrayed name n a.0 a.1)
+some_yield law right size source h typed (MemberPointer named) keeps fine is main =
+    let a = some_member size h named keeps (some_place (class_names h) named.class) (some_place (class_names h) named.whole) in (a.0, pointed named a.0 a.1)
 
-output_by : SomeTables → ProgramsAreTyped → NeverWrong → (words : List (List ℕ)) (bytes : List ℕ) (command : Command) → Says words command → length (source_of command bytes) ≤ source_limit → (judgement : Judgement) → Verdict (source_of command bytes) judgement → (answer : Answer) × Output words bytes answer
+output_by : SomeLaws → ProgramsAreTyped → NeverWrong → (words : List (List ℕ)) (bytes : List ℕ) (command : Command) → Says words command → length (source_of command bytes) ≤ source_limit → (judgement : Judgement) → Verdict (source_of command bytes) judgement → (answer : Answer) × Output words bytes answer
 output_by law typing right words bytes command says short (Stops stop) verdict = (line_alone (status_of_stop stop), stopped command stop says short verdict)
 output_by law typing right words bytes command says short (Accepts source h typed) verdict =
     let text = source_of command bytes in
@@ -137,7 +171,7 @@ output_by law typing right words bytes command says short (Accepts source h type
     (yields.0, yielded command source h typed yields.0 says short verdict yields.1)
 
 -- words and bytes have an answer
-pub some_output : SomeTables → ProgramsAreTyped → NeverWrong → (words : List (List ℕ)) (bytes : List ℕ) → (answer : Answer) × Output words bytes answer
+pub some_output : SomeLaws → ProgramsAreTyped → NeverWrong → (words : List (List ℕ)) (bytes : List ℕ) → (answer : Answer) × Output words bytes answer
 some_output law typing right words bytes =
     ⊎_elim
     (λ command. let text = source_of command.0 bytes in

@@ -3,7 +3,7 @@ use Rattle.std.proofs.Common.{◌≡◌, ℕ, zero, suc, ◌<◌, ◌≤◌, Opt
 use Rattle.std.specs.Prelude.{IfOk, IfSome, OnOk}
 use Rattle.std.proofs.lemmas.List.{length-take}
 use Rattle.cxxabi_words.specs.declared.command.Command.{Command}
-use Rattle.cxxabi_words.specs.declared.command.Command.TheVariants.{Check, Run, Layout, LayoutOf, Tables, TablesOf, Paths, Gen}
+use Rattle.cxxabi_words.specs.declared.command.Command.TheVariants.{Check, Run, Layout, LayoutOf, Tables, TablesOf, Paths, Gen, Array, MemberPointer}
 use Rattle.cxxabi_cmd.specs.declared.reading.ReadStop.{ReadStop}
 use Rattle.cxxabi_cmd.specs.Commands.{ReadsSource, source_of}
 use Rattle.cxxabi_cmd.specs.invariants.Replies.{IsRead}
@@ -38,6 +38,8 @@ reads_given (LayoutOf name) other = (tt, λ given. refl)
 reads_given Tables other = (tt, λ given. refl)
 reads_given (TablesOf name) other = (tt, λ given. refl)
 reads_given (Paths steps) other = (tt, λ given. refl)
+reads_given (Array name n) other = (tt, λ given. refl)
+reads_given (MemberPointer named) other = (tt, λ given. refl)
 reads_given (Gen n) other = absurd (other n refl)
 
 -- what was read where the source tells its bytes

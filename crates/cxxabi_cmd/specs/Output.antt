@@ -24,14 +24,17 @@ use Rattle.abi_tables.specs.Tables.{AreClassTables}
 use Rattle.abi_layout.specs.Layouts.{IsLaid}
 use Rattle.abi_print.specs.LayoutTexts.{layout_text}
 use Rattle.abi_print.specs.TableTexts.{tables_text}
+use Rattle.cxxabi_words.specs.declared.command.QualifiedMember.{QualifiedMember}
 use Rattle.cxxabi_words.specs.declared.command.Command.{Command}
-use Rattle.cxxabi_words.specs.declared.command.Command.TheVariants.{Check, Layout, LayoutOf, Tables, TablesOf}
-use Rattle.cxxabi_words.specs.Commands.{Says, IsCommand, budget}
+use Rattle.cxxabi_words.specs.declared.command.Command.TheVariants.{Check, Layout, LayoutOf, Tables, TablesOf, Array, MemberPointer}
+use Rattle.cxxabi_words.specs.Commands.{Says, IsCommand}
 use Rattle.cxxabi_cmd.specs.declared.listing.Listing.{Listing}
 use Rattle.cxxabi_cmd.specs.declared.listing.Listing.TheVariants.{OfLayout, OfTables}
 use Rattle.cxxabi_cmd.specs.declared.status.Status.{Status}
-use Rattle.cxxabi_cmd.specs.declared.status.Status.TheVariants.{Done, Refused, Usage, Undefined, OutOfSteps, Limit, ReadFault, WriteFault, NoMemory}
+use Rattle.cxxabi_cmd.specs.declared.status.Status.TheVariants.{Done, Refused, BadInput, Usage, Undefined, OutOfSteps, Limit, ReadFault, WriteFault, NoMemory}
 use Rattle.cxxabi_cmd.specs.Commands.{RunsMain, SumsUp, source_of}
+pub use Rattle.cxxabi_cmd.specs.Answers.{Answer, line_alone, text_answer, text_limit}
+use Rattle.cxxabi_cmd.specs.Answers.{IsArrayReply, IsMemberReply}
 use Rattle.cxxabi_cmd.specs.Statuses.{last_line}
 use Rattle.cxxabi_cmd.specs.Streams.{IsPartOf}
 use Rattle.cxxabi_cmd.specs.Verdict.{Verdict, Stops, Accepts}
@@ -51,26 +54,9 @@ status_of (ends.Limit limit) = Limit limit
 abbrev pub source_limit : ℕ
 source_limit = max_text_bytes
 
--- the bytes that the text of a command may have (limit L9)
-abbrev pub text_limit : ℕ
-text_limit = 16777216
-
--- the text and the status of an answer
-pub record Answer : Type 0 where
-  pub text : List ℕ
-  pub status : Status
-
--- an answer that is its last line alone
-abbrev pub line_alone : Status → Answer
-line_alone status = record { text = last_line status budget; status = status }
-
 -- a text of a run, and then the last line of its end
 abbrev pub ended_answer : List ℕ → End → ℕ → Answer
 ended_answer text e steps = record { text = text ++ last_line (status_of e) steps; status = status_of e }
-
--- an answer that is a text alone
-abbrev pub text_answer : List ℕ → Answer
-text_answer text = record { text = text; status = Done }
 
 -- the summary of a run: the classes of its source, its steps, the lines that it printed and the last of them
 abbrev pub summary_answer : Classes → ℕ → List ℕ → Answer
@@ -142,6 +128,8 @@ pub data Yields (size : ℕ) (source : SourceText) (h : Classes) (typed : TypedP
       IsRunAnswer command h rows typed trace steps answer → Yields size source h typed command answer
   unknown_class : (command : Command) (name : List ℕ) → AsksForName command name → (Contains (class_names h) name → ⊥) → Yields size source h typed command (line_alone (Refused UnknownName size))
   listed : (command : Command) (listing : Listing) (classes : List ClassId) (answer : Answer) → AsksFor h command listing classes → Lists h listing classes answer → Yields size source h typed command answer
+  arrayed : (name : List ℕ) (n : ℕ) (answer : Answer) → IsArrayReply size h name n answer → Yields size source h typed (Array name n) answer
+  pointed : (named : QualifiedMember) (answer : Answer) → IsMemberReply size h named answer → Yields size source h typed (MemberPointer named) answer
 
 -- what is answered to words and the bytes of a source, which a command treats or has no use for
 pub data Output (words : List (List ℕ)) (bytes : List ℕ) : Answer → Type 0 where
@@ -155,6 +143,7 @@ pub data Output (words : List (List ℕ)) (bytes : List ℕ) : Answer → Type 0
 abbrev pub IsAnswered : Status → Type 0
 IsAnswered Done = Unit {0}
 IsAnswered (Refused rule at) = Unit {0}
+IsAnswered (BadInput rule line) = Unit {0}
 IsAnswered Usage = Unit {0}
 IsAnswered (Undefined number line) = Unit {0}
 IsAnswered OutOfSteps = Unit {0}
@@ -167,6 +156,7 @@ IsAnswered NoMemory = ⊥
 abbrev pub IsSilent : Status → Type 0
 IsSilent Done = ⊥
 IsSilent (Refused rule at) = ⊥
+IsSilent (BadInput rule line) = ⊥
 IsSilent Usage = ⊥
 IsSilent (Undefined number line) = ⊥
 IsSilent OutOfSteps = ⊥

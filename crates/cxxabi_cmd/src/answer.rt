@@ -3,8 +3,10 @@
 ghost use Rattle.std.specs.Prelude.{◌≡◌, IfOk};
 ghost use Rattle.cxxabi_cmd.specs.Output.{Yields};
 ghost use Rattle.cxxabi_cmd.specs.invariants.Listings.{IsReady};
-ghost use Rattle.cxxabi_cmd.specs.invariants.Replies.{answer_of, machine_of, HandsBy, HasFewSteps};
+ghost use Rattle.cxxabi_cmd.specs.invariants.Replies.{answer_of, machine_of, HandsBy};
+ghost use Rattle.cxxabi_words.specs.invariants.Few.{HasFew};
 
+use crate::class_answer::{array_of, member_of};
 use crate::list_answer::{list_all, list_one};
 use crate::listing::Listing;
 use crate::reply::{Reply, class_count};
@@ -22,7 +24,7 @@ pub(crate) fn answer(
     accepted: &Accepted,
 ) -> Result<Reply, NoMemory>
     requires ready { IsReady accepted.now }
-    requires few { HasFewSteps command.now }
+    requires few { HasFew command.now }
     ensures yields { IfOk result (λ reply. Yields size accepted.now.source accepted.now.hierarchy accepted.now.program command.now (answer_of reply)) }
     ensures machine { IfOk result (λ reply. HandsBy command.now accepted.now.source accepted.now.hierarchy accepted.now.program (machine_of reply)) }
 {
@@ -39,5 +41,7 @@ pub(crate) fn answer(
         }
         Command::Paths(steps) => run_on_paths(alloc, size, *steps, accepted),
         Command::Gen(_) => run_generated(alloc, size, accepted),
+        Command::Array(name, count) => array_of(alloc, size, name.as_slice(), *count, accepted),
+        Command::MemberPointer(named) => member_of(alloc, size, named, accepted),
     }
 }

@@ -10,6 +10,7 @@
 #![tactic(auto)]
 
 mod answer;
+mod class_answer;
 mod list_answer;
 pub mod listing;
 pub mod reading;
@@ -29,5 +30,5 @@ pub use crate::sink::{Sink, SinkFailed};
 pub use crate::sinks::{BytesSink, StdoutSink, SteadySink};
 pub use crate::source::{Source, SourceFailed};
 pub use crate::sources::{BytesSource, StdinSource, SteadySource};
-pub use crate::status::Status;
+pub use crate::status::{InputRule, Status};
 pub use crate::verdict::{Accepted, judge};

@@ -7,16 +7,13 @@ ghost use Rattle.cxxabi_cmd.specs.invariants.Listings.{IsReady, IsListed, IsTooM
 ghost use Rattle.cxxabi_cmd.specs.invariants.Replies.{answer_of, machine_of};
 
 use crate::listing::{Listing, append_class};
-use crate::reply::{Reply, line_alone};
+use crate::reply::{Reply, TEXT_LIMIT, line_alone};
 use crate::status::Status;
 use crate::verdict::Accepted;
 use abi_tables::some_tables;
 use cxx_hierarchy::{ClassId, Hierarchy, LimitNo, Rule};
 use foundation::NoMemory;
 use std::alloc::Global;
-
-/// The largest text of a command, in bytes.
-const TEXT_LIMIT: usize = 16_777_216;
 
 // What is listed of classes, one after the other, or None where it passes the limit.
 fn texts_of(

@@ -1,18 +1,22 @@
 //! What is answered, before it is written.
 
 ghost use Rattle.std.specs.Prelude.{◌≡◌, None, IfOk};
+ghost use Rattle.cxxabi_cmd.specs.Answers.{limited_answer};
 ghost use Rattle.cxxabi_cmd.specs.Output.{line_alone, count_answer};
 ghost use Rattle.cxxabi_cmd.specs.invariants.Replies.{answer_of, machine_of};
 
 use crate::status::{Status, last_line_of};
 use byte_machine::Machine;
 use byte_memory::PageMemory;
-use cxx_hierarchy::Hierarchy;
+use cxx_hierarchy::{Hierarchy, LimitNo};
 use foundation::NoMemory;
 use std::alloc::Global;
 
 /// The steps that a run may take where the words say none.
 pub(crate) const BUDGET: u32 = 1_000_000;
+
+/// The largest text of a command, in bytes.
+pub(crate) const TEXT_LIMIT: usize = 16_777_216;
 
 // What is answered, and the machine of the run where there was one.
 #[derive(Drop)]
@@ -31,6 +35,21 @@ pub(crate) fn line_alone(alloc: Global, status: Status) -> Result<Reply, NoMemor
     Ok(Reply {
         text: Vec::from_slice(alloc, line.as_bytes())?,
         status,
+        machine: None,
+    })
+}
+
+// An answer that is a text, or the limit that it passes.
+pub(crate) fn limited(alloc: Global, text: Vec<u8>) -> Result<Reply, NoMemory>
+    ensures answer { IfOk result (λ reply. answer_of reply ≡ limited_answer text.items) }
+    ensures machine { IfOk result (λ reply. machine_of reply ≡ None) }
+{
+    if text.len() > TEXT_LIMIT {
+        return line_alone(alloc, Status::Limit(LimitNo::L9));
+    }
+    Ok(Reply {
+        text,
+        status: Status::Done,
         machine: None,
     })
 }

@@ -6,7 +6,8 @@ ghost use Rattle.cxxabi_cmd.specs.Streams.{Rose, IsPartOf};
 ghost use Rattle.cxxabi_words.specs.Commands.{Says, IsCommand};
 ghost use Rattle.cxxabi_cmd.specs.Commands.{ReadsSource, Tells, source_of};
 ghost use Rattle.cxxabi_cmd.specs.Output.{source_limit, texts_of, Output, Answer, Answers, BreaksOff, IsAnswered, IsSilent, line_alone, status_of_stop};
-ghost use Rattle.cxxabi_cmd.specs.invariants.Replies.{answer_of, machine_of, HasFewSteps, IsRead};
+ghost use Rattle.cxxabi_cmd.specs.invariants.Replies.{answer_of, machine_of, IsRead};
+ghost use Rattle.cxxabi_words.specs.invariants.Few.{HasFew};
 ghost use Rattle.cxxabi_cmd.specs.Handed.{HandsOut, seen_of};
 
 use crate::answer::answer;
@@ -17,6 +18,7 @@ use crate::source::Source;
 use crate::status::Status;
 use crate::verdict::judge;
 use crate::writing::write_text;
+use abi_cookie::{one_answer, some_answer};
 use abi_tables::{one_tables, some_tables};
 use byte_machine::Machine;
 use byte_memory::PageMemory;
@@ -43,7 +45,7 @@ fn stopped(alloc: Global, stop: Stop) -> Result<Reply, NoMemory>
 // What a command answers to the bytes of a source.
 fn reply_to(alloc: Global, command: &Command, bytes: &[u8]) -> Result<Reply, NoMemory>
     requires short { length bytes.now ≤ source_limit }
-    requires few { HasFewSteps command.now }
+    requires few { HasFew command.now }
     ensures output { IfOk result (λ reply. (words : List (List ℕ)) (given : List ℕ) → Says words command.now → bytes.now ≡ source_of command.now given → Output words given (answer_of reply)) }
     ensures machine { IfOk result (λ reply. (words : List (List ℕ)) (given : List ℕ) → Says words command.now → bytes.now ≡ source_of command.now given → HandsOut words given (machine_of reply)) }
     ensures answered { IfOk result (λ reply. IsAnswered reply.status) }
@@ -56,7 +58,7 @@ fn reply_to(alloc: Global, command: &Command, bytes: &[u8]) -> Result<Reply, NoM
 
 // What a command answers to what was read of its source, up to one byte past the limit.
 fn reply_within(alloc: Global, command: &Command, bytes: &[u8]) -> Result<Reply, NoMemory>
-    requires few { HasFewSteps command.now }
+    requires few { HasFew command.now }
     ensures output { IfOk result (λ reply. (words : List (List ℕ)) (given : List ℕ) → Says words command.now → IsRead bytes.now (source_of command.now given) → Output words given (answer_of reply)) }
     ensures machine { IfOk result (λ reply. (words : List (List ℕ)) (given : List ℕ) → Says words command.now → IsRead bytes.now (source_of command.now given) → HandsOut words given (machine_of reply)) }
     ensures answered { IfOk result (λ reply. IsAnswered reply.status) }
@@ -162,6 +164,7 @@ pub fn one_output()
     ensures { (words : List (List ℕ)) (bytes : List ℕ) (a b : Answer) → Output words bytes a → Output words bytes b → a ≡ b }
 {
     one_tables();
+    one_answer();
 }
 
 /// Words and the bytes of a source have an answer, as a law for readers of `Output`. It does nothing.
@@ -169,6 +172,7 @@ pub fn some_output()
     ensures { (words : List (List ℕ)) (bytes : List ℕ) → (answer : Answer) × Output words bytes answer }
 {
     some_tables();
+    some_answer();
     programs_are_typed();
     runs_are_typed();
 }

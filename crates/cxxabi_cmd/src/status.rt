@@ -3,12 +3,49 @@
 ghost use Rattle.std.specs.Prelude.{◌≡◌, ◌++◌, ◌∷◌, [], IfOk, codes, string_bytes};
 ghost use Rattle.std.specs.Fmt.{decimal};
 ghost use Rattle.path_rules.specs.Rules.{undefined_no};
-ghost use Rattle.cxxabi_cmd.specs.Statuses.{code_of, name_of_rule, name_of_undefined, last_line};
+ghost use Rattle.cxxabi_cmd.specs.Statuses.{code_of, input_no, last_line, line_part, name_of_input, name_of_rule, name_of_undefined};
 
 use cxx_hierarchy::{LimitNo, Rule};
 use foundation::NoMemory;
 use path_rules::Undefined;
 use std::alloc::{AllocError, Global};
+
+/// A rule on a class and a member that the words name, on a listing, or on a dump, called by its number.
+#[derive(Clone, Copy, Debug, PartialEq, Eq)]
+pub enum InputRule {
+    /// The listing has not the form of a listing, or no line `program` stands behind it.
+    F1,
+    /// A primary base is none by the layout.
+    F2,
+    /// A size is 0, or a place is not where the paths to it lead.
+    F3,
+    /// A place has not the alignment of what lies there.
+    F4,
+    /// Something does not lie inside its class.
+    F5,
+    /// Two things share bytes.
+    F6,
+    /// Two subobjects of one class lie at one place.
+    F7,
+    /// The class declares no field and no function of the name.
+    M1,
+    /// The field is a bit-field.
+    M2,
+    /// The class is no base of the other one.
+    M3,
+    /// The class is more than once a base of the other one.
+    M4,
+    /// The base lies in a virtual base.
+    M5,
+    /// The class of the elements is abstract.
+    A1,
+    /// The array would have more than 1,048,576 bytes.
+    A2,
+    /// The dump is one of a class that the source has not.
+    I1,
+    /// The text is no dump, or no line `program` stands behind it.
+    I2,
+}
 
 /// How a call of the program ended.
 #[derive(Clone, Copy, Debug, PartialEq, Eq)]
@@ -17,6 +54,8 @@ pub enum Status {
     Done,
     /// The source is refused by a rule at a byte.
     Refused(Rule, u32),
+    /// What is given besides an accepted source is refused by a rule, at a line from 1 or at none, which is 0.
+    BadInput(InputRule, u32),
     /// The words are no command.
     Usage,
     /// A step of the run is refused: the number of the rule, and the line.
@@ -43,7 +82,7 @@ impl Status {
     {
         match self {
             Status::Done => 0,
-            Status::Refused(_, _) => 1,
+            Status::Refused(_, _) | Status::BadInput(_, _) => 1,
             Status::Usage => 2,
             Status::Undefined(_, _) => 3,
             Status::OutOfSteps => 4,
@@ -84,6 +123,54 @@ fn rule_name(rule: Rule) -> &'static str
         Rule::UnknownName => "UnknownName",
         Rule::BadWidth => "BadWidth",
         Rule::SharedPlace => "SharedPlace",
+    }
+}
+
+// The number of a rule on what is given besides a source: a letter and a digit.
+fn input_number(rule: InputRule) -> &'static str
+    ensures { result.now ≡ input_no rule }
+{
+    match rule {
+        InputRule::F1 => "F1",
+        InputRule::F2 => "F2",
+        InputRule::F3 => "F3",
+        InputRule::F4 => "F4",
+        InputRule::F5 => "F5",
+        InputRule::F6 => "F6",
+        InputRule::F7 => "F7",
+        InputRule::M1 => "M1",
+        InputRule::M2 => "M2",
+        InputRule::M3 => "M3",
+        InputRule::M4 => "M4",
+        InputRule::M5 => "M5",
+        InputRule::A1 => "A1",
+        InputRule::A2 => "A2",
+        InputRule::I1 => "I1",
+        InputRule::I2 => "I2",
+    }
+}
+
+// The printed name of such a rule.
+fn input_name(rule: InputRule) -> &'static str
+    ensures { result.now ≡ name_of_input rule }
+{
+    match rule {
+        InputRule::F1 => "Form",
+        InputRule::F2 => "Primary",
+        InputRule::F3 => "Place",
+        InputRule::F4 => "Align",
+        InputRule::F5 => "Inside",
+        InputRule::F6 => "Overlap",
+        InputRule::F7 => "Twice",
+        InputRule::M1 => "NoSuchMember",
+        InputRule::M2 => "BitField",
+        InputRule::M3 => "NotBase",
+        InputRule::M4 => "AmbiguousBase",
+        InputRule::M5 => "VirtualBase",
+        InputRule::A1 => "Abstract",
+        InputRule::A2 => "TooLarge",
+        InputRule::I1 => "UnknownClass",
+        InputRule::I2 => "Form",
     }
 }
 
@@ -148,6 +235,29 @@ fn placed_line(
     Ok(line)
 }
 
+// The line that a refusal names, and nothing where it names none.
+fn line_part(alloc: Global, line: u32) -> Result<String, AllocError>
+    ensures { IfOk result (λ text. string_bytes text ≡ line_part line) }
+{
+    if line == 0 {
+        return Ok(String::new(alloc));
+    }
+    format!(in alloc; " line {line}")
+}
+
+// The line of a refusal of what is given besides a source.
+fn input_line(alloc: Global, rule: InputRule, line: u32) -> Result<String, AllocError>
+    ensures { IfOk result (λ text. string_bytes text ≡ codes "refused " ++ input_no rule ++ codes " " ++ name_of_input rule ++ line_part line ++ 10 ∷ []) }
+{
+    let mut text = String::from_str(alloc, "refused ")?;
+    text.push_str(input_number(rule))?;
+    text.push_str(" ")?;
+    text.push_str(input_name(rule))?;
+    text.push_str(&line_part(alloc, line)?)?;
+    text.push('\n')?;
+    Ok(text)
+}
+
 // The line that ends an answer of this status, or nothing; `steps` is the budget of the run.
 pub(crate) fn last_line_of(alloc: Global, status: Status, steps: u32) -> Result<String, AllocError>
     ensures { IfOk result (λ line. string_bytes line ≡ last_line status steps) }
@@ -156,6 +266,7 @@ pub(crate) fn last_line_of(alloc: Global, status: Status, steps: u32) -> Result<
         Status::Refused(rule, at) => {
             placed_line(alloc, "refused E", rule.no(), rule_name(rule), " at ", at)
         }
+        Status::BadInput(rule, line) => input_line(alloc, rule, line),
         Status::Usage => String::from_str(alloc, "usage\n"),
         Status::Undefined(number, line) => {
             placed_line(

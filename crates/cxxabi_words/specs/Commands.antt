@@ -1,13 +1,15 @@
 -- The commands, and the words that ask for them.
-use Rattle.std.specs.Prelude.{◌≡◌, ◌≤◌, ℕ, Bool, true, false, List, [], length, codes, Option, Some, None}
+use Rattle.std.specs.Prelude.{◌≡◌, ◌≤◌, ◌++◌, ℕ, Bool, true, false, List, [], length, codes, Option, Some, None}
 use Rattle.std.specs.Option.{option_map_or}
 use Rattle.std.specs.Str.{bytes_eq}
 use Rattle.std.specs.Str.Parse.{IsNumeral, digits_value}
 use Rattle.clap.specs.Words.{App, Row, Rule, Text, fault_of, first_of, matches_of, new_app, new_rule, one_of, with_rule}
 use Rattle.clap.specs.Simple.{on_top}
 use Rattle.clap.specs.declared.builder.ArgAction.TheVariants.{SetTrue}
+use Rattle.cxx_text.specs.declared.token.Kind.TheVariants.{Word}
+use Rattle.cxx_text.specs.OneToken.{IsToken}
 use Rattle.cxxabi_words.specs.declared.command.Command.{Command}
-use Rattle.cxxabi_words.specs.declared.command.Command.TheVariants.{Check, Layout, LayoutOf, Tables, TablesOf, Run, Paths, Gen}
+use Rattle.cxxabi_words.specs.declared.command.Command.TheVariants.{Check, Layout, LayoutOf, Tables, TablesOf, Run, Paths, Gen, Array, MemberPointer}
 
 -- the steps that a run may take where the words say none
 abbrev pub budget : ℕ
@@ -20,6 +22,10 @@ most_steps = 4000000
 -- the most classes that the words may ask for
 abbrev pub most_classes : ℕ
 most_classes = 1000
+
+-- the most elements of an array that the words may ask for
+abbrev pub most_elements : ℕ
+most_elements = 4096
 
 -- ---- the simple command
 
@@ -83,6 +89,10 @@ abbrev pub IsBudget : Option Text → ℕ → Type 0
 IsBudget None n = n ≡ budget
 IsBudget (Some digits) n = IsCount 7 most_steps digits n
 
+-- a word of the source's grammar: a letter or `_`, and then letters, digits and `_`, 255 bytes at most
+abbrev pub IsName : Text → Type 0
+IsName text = IsToken text Word 0
+
 -- a command's word alone
 abbrev pub word_alone : Text → Given
 word_alone word = record { command = Some word; arg = None; steps = None; trace = false }
@@ -103,6 +113,11 @@ pub data IsForm : Given → Command → Type 0 where
   paths : (steps : Option Text) (n : ℕ) → IsBudget steps n →
       IsForm (record { command = Some (codes "paths"); arg = None; steps = steps; trace = false }) (Paths n)
   gen : (digits : Text) (n : ℕ) → IsCount 4 most_classes digits n → IsForm (word_with (codes "gen") digits) (Gen n)
+  array : (class digits : Text) (n : ℕ) → IsName class → IsCount 4 most_elements digits n → IsForm (word_with (codes "array") (class ++ (codes "@" ++ digits))) (Array class n)
+  member : (class member : Text) → IsName class → IsName member →
+      IsForm (word_with (codes "memptr") (class ++ (codes "::" ++ member))) (MemberPointer (record { class = class; member = member; whole = class }))
+  member_for : (class member whole : Text) → IsName class → IsName member → IsName whole →
+      IsForm (word_with (codes "memptr") (class ++ (codes "::" ++ (member ++ (codes "@" ++ whole))))) (MemberPointer (record { class = class; member = member; whole = whole }))
 
 -- the words ask for the command: `clap` takes them, and gives its form
 pub record Says (words : List Text) (command : Command) : Type 0 where

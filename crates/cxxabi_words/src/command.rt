@@ -2,8 +2,9 @@
 
 ghost use Rattle.std.specs.Prelude.{◌≡◌, IfOk, MatchOption, map, option_map, string_bytes};
 ghost use Rattle.cxxabi_words.specs.Commands.{IsCommand, Says};
-ghost use Rattle.cxxabi_words.specs.invariants.Asked.{check_form, form_of, gen_form, layout_form, paths_form, plain_form, run_form, tables_form};
+ghost use Rattle.cxxabi_words.specs.invariants.Asked.{array_form, array_of, check_form, form_of, gen_form, layout_form, member_form, member_in, member_of, paths_form, plain_form, run_form, tables_form};
 
+use crate::names::{cut_at, cut_scope, is_name};
 use crate::numbers::{budget_of, count_of};
 use crate::words::{has_trace, matches_of};
 use cxx_hierarchy::Name;
@@ -15,6 +16,23 @@ const CLASS_DIGITS: usize = 4;
 
 /// The most classes that the words may ask for.
 const MOST_CLASSES: u32 = 1_000;
+
+/// The most digits of the number of an array.
+const ELEMENT_DIGITS: usize = 4;
+
+/// The most elements that the words may ask for.
+const MOST_ELEMENTS: u32 = 4_096;
+
+/// A member by its name, in the class that declares it, and the class that a pointer to it is for.
+#[derive(Drop)]
+pub struct QualifiedMember {
+    /// The name of the class that declares the member.
+    pub class: Name,
+    /// The member's name.
+    pub member: Name,
+    /// The name of the class whose objects the pointer is for.
+    pub whole: Name,
+}
 
 /// A command.
 #[derive(Drop)]
@@ -35,6 +53,10 @@ pub enum Command {
     Paths(u32),
     /// A generated source of so many classes.
     Gen(u32),
+    /// An array by `new[]` of so many elements of the class of a name.
+    Array(Name, u32),
+    /// A pointer to a member.
+    MemberPointer(QualifiedMember),
 }
 
 // The name that a word is.
@@ -83,6 +105,80 @@ fn gen_form(arg: Option<&str>) -> Option<Command>
     Some(Command::Gen(classes))
 }
 
+// The command `array` of a class and a number of elements.
+fn array_of(alloc: Global, class: &str, digits: &str) -> Result<Option<Command>, NoMemory>
+    ensures { IfOk result (λ found. found ≡ array_of class.now digits.now) }
+{
+    if !is_name(class) {
+        return Ok(None);
+    }
+    let Some(elements) = count_of(digits, ELEMENT_DIGITS, MOST_ELEMENTS) else {
+        return Ok(None);
+    };
+    Ok(Some(Command::Array(name_of(alloc, class)?, elements)))
+}
+
+// The command `array`, which takes a class and a number of elements.
+fn array_form(alloc: Global, arg: Option<&str>) -> Result<Option<Command>, NoMemory>
+    ensures { IfOk result (λ found. found ≡ array_form (option_map (λ s. s.now) arg.entry)) }
+{
+    let Some(arg) = arg else {
+        return Ok(None);
+    };
+    let Some((class, digits)) = cut_at(arg) else {
+        return Ok(None);
+    };
+    array_of(alloc, class, digits)
+}
+
+// The command `memptr` of a class, a member and the class that the pointer is for.
+fn member_of(
+    alloc: Global,
+    class: &str,
+    member: &str,
+    whole: &str,
+) -> Result<Option<Command>, NoMemory>
+    ensures { IfOk result (λ found. found ≡ member_of class.now member.now whole.now) }
+{
+    if !is_name(class) || !is_name(member) || !is_name(whole) {
+        return Ok(None);
+    }
+    let class = name_of(alloc, class)?;
+    let member = name_of(alloc, member)?;
+    let whole = name_of(alloc, whole)?;
+    Ok(Some(Command::MemberPointer(QualifiedMember {
+        class,
+        member,
+        whole,
+    })))
+}
+
+// The command `memptr` of a qualified name, for a class of its own or for the class of the name.
+fn member_in(alloc: Global, name: &str, whole: Option<&str>) -> Result<Option<Command>, NoMemory>
+    ensures { IfOk result (λ found. found ≡ member_in name.now (option_map (λ s. s.now) whole.entry)) }
+{
+    let Some((class, member)) = cut_scope(name) else {
+        return Ok(None);
+    };
+    match whole {
+        Some(whole) => member_of(alloc, class, member, whole),
+        None => member_of(alloc, class, member, class),
+    }
+}
+
+// The command `memptr`, which takes a qualified name and may take a class.
+fn member_form(alloc: Global, arg: Option<&str>) -> Result<Option<Command>, NoMemory>
+    ensures { IfOk result (λ found. found ≡ member_form (option_map (λ s. s.now) arg.entry)) }
+{
+    let Some(arg) = arg else {
+        return Ok(None);
+    };
+    match cut_at(arg) {
+        Some((name, whole)) => member_in(alloc, name, Some(whole)),
+        None => member_in(alloc, arg, None),
+    }
+}
+
 // The command of a word and an argument, without an option.
 fn plain_form(alloc: Global, word: &str, arg: Option<&str>) -> Result<Option<Command>, NoMemory>
     ensures { IfOk result (λ found. found ≡ plain_form word.now (option_map (λ s. s.now) arg.entry)) }
@@ -92,6 +188,8 @@ fn plain_form(alloc: Global, word: &str, arg: Option<&str>) -> Result<Option<Com
         "layout" => Ok(Some(layout_form(alloc, arg)?)),
         "tables" => Ok(Some(tables_form(alloc, arg)?)),
         "gen" => Ok(gen_form(arg)),
+        "array" => array_form(alloc, arg),
+        "memptr" => member_form(alloc, arg),
         _ => Ok(None),
     }
 }

@@ -2,7 +2,7 @@
 use Rattle.std.proofs.Common.{◌≡◌, ℕ, ◌<◌, Option, Some, None, List, [], ◌++◌, take, drop, length, refl, sym, ◌∙◌, ap, subst, arith}
 use Rattle.std.proofs.lemmas.List.{append_assoc, take-append-drop}
 use Rattle.cxxabi_cmd.specs.declared.status.Status.{Status}
-use Rattle.cxxabi_cmd.specs.declared.status.Status.TheVariants.{Done, Refused, Usage, Undefined, OutOfSteps, Limit, ReadFault, WriteFault, NoMemory}
+use Rattle.cxxabi_cmd.specs.declared.status.Status.TheVariants.{Done, Refused, BadInput, Usage, Undefined, OutOfSteps, Limit, ReadFault, WriteFault, NoMemory}
 use Rattle.cxxabi_cmd.specs.Statuses.{code_of}
 use Rattle.cxxabi_cmd.specs.Output.{Answers, BreaksOff, IsAnswered, IsSilent}
 use Rattle.tagymelur_c.specs.Answered.{IsWhole, IsFront}
@@ -11,6 +11,7 @@ use Rattle.tagymelur_c.specs.Answered.{IsWhole, IsFront}
 answered_of : (status : Status) → code_of status < 6 → IsAnswered status
 answered_of Done low = tt
 answered_of (Refused rule at) low = tt
+answered_of (BadInput rule line) low = tt
 answered_of (Undefined number line) low = tt
 answered_of OutOfSteps low = tt
 answered_of (Limit limit) low = tt
@@ -68,6 +69,7 @@ pub front_of : (words : List (List ℕ)) (bytes taken : List ℕ) (before after 
     (IsAnswered status → Answers words bytes before after status) → (status ≡ WriteFault → BreaksOff words bytes before after) → (IsSilent status → after ≡ before) → IsFront words bytes (take n taken)
 front_of words bytes taken before after Done n b a short answers breaks silent = front_of_text words bytes taken Done n (answers_from words bytes taken before after Done b a (answers tt))
 front_of words bytes taken before after (Refused rule at) n b a short answers breaks silent = front_of_text words bytes taken (Refused rule at) n (answers_from words bytes taken before after (Refused rule at) b a (answers tt))
+front_of words bytes taken before after (BadInput rule line) n b a short answers breaks silent = front_of_text words bytes taken (BadInput rule line) n (answers_from words bytes taken before after (BadInput rule line) b a (answers tt))
 front_of words bytes taken before after (Undefined number line) n b a short answers breaks silent = front_of_text words bytes taken (Undefined number line) n (answers_from words bytes taken before after (Undefined number line) b a (answers tt))
 front_of words bytes taken before after OutOfSteps n b a short answers breaks silent = front_of_text words bytes taken OutOfSteps n (answers_from words bytes taken before after OutOfSteps b a (answers tt))
 front_of words bytes taken before after (Limit limit) n b a short answers breaks silent = front_of_text words bytes taken (Limit limit) n (answers_from words bytes taken before after (Limit limit) b a (answers tt))
@@ -91,6 +93,7 @@ front_of_fault words bytes taken text before after WriteFault b a e breaks is =
     }
 front_of_fault words bytes taken text before after Done b a e breaks is = absurd (omega (arith, is))
 front_of_fault words bytes taken text before after (Refused rule at) b a e breaks is = absurd (omega (arith, is))
+front_of_fault words bytes taken text before after (BadInput rule line) b a e breaks is = absurd (omega (arith, is))
 front_of_fault words bytes taken text before after (Undefined number line) b a e breaks is = absurd (omega (arith, is))
 front_of_fault words bytes taken text before after OutOfSteps b a e breaks is = absurd (omega (arith, is))
 front_of_fault words bytes taken text before after (Limit limit) b a e breaks is = absurd (omega (arith, is))

@@ -9,8 +9,6 @@ use Rattle.abi_sound.specs.declared.class_layout.ClassLayout.{ClassLayout}
 use Rattle.abi_layout.specs.Layouts.{IsLaid}
 use Rattle.cxxabi_cmd.specs.declared.reply.Reply.{Reply}
 use Rattle.cxxabi_words.specs.declared.command.Command.{Command}
-use Rattle.cxxabi_words.specs.declared.command.Command.TheVariants.{Run, Paths}
-use Rattle.cxxabi_words.specs.Commands.{most_steps}
 use Rattle.cxxabi_cmd.specs.Commands.{IsOnBytes, RunsMain}
 use Rattle.cxxabi_cmd.specs.Output.{Answer, source_limit}
 use Rattle.cxxabi_cmd.specs.Handed.{Seen, seen_of, IsMachineOf}
@@ -19,12 +17,6 @@ use Rattle.cxxabi_cmd.specs.Handed.{Seen, seen_of, IsMachineOf}
 pub record IsRead (read all : List ℕ) : Type 0 where
   pub whole : length read ≤ source_limit → read ≡ all
   pub more : source_limit < length read → source_limit < length all
-
--- the command gives a run no more steps than the words may say
-abbrev pub HasFewSteps : Command → Type 0
-HasFewSteps (Run steps trace) = steps ≤ most_steps
-HasFewSteps (Paths steps) = steps ≤ most_steps
-HasFewSteps other = Unit {0}
 
 abbrev pub answer_of : Reply → Answer
 answer_of reply = record { text = reply.text.items; status = reply.status }

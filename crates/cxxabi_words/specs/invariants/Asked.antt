@@ -1,13 +1,14 @@
 -- The command that the words ask for, as a function of what they give.
-use Rattle.std.specs.Prelude.{ℕ, Bool, true, false, ◌&&◌, ◌||◌, length, codes, nat_le, Option, Some, None, is_some, option_map, option_and_then, if◌then◌else◌}
+use Rattle.std.specs.Prelude.{ℕ, Bool, true, false, ◌&&◌, ◌||◌, ◌==◌, List, [], ◌∷◌, length, codes, nat_le, Option, Some, None, is_some, option_map, option_and_then, unwrap_or, if◌then◌else◌}
 use Rattle.std.specs.Char.{is_ascii_digit}
 use Rattle.std.specs.List.{list_all}
 use Rattle.std.specs.Str.{bytes_eq}
 use Rattle.std.specs.Str.Parse.{digits_value}
 use Rattle.clap.specs.Words.{Text}
-use Rattle.cxxabi_words.specs.Commands.{Given, budget, most_classes, most_steps}
+use Rattle.cxx_text.specs.Bytes.{begins, is_letter, is_word_byte}
+use Rattle.cxxabi_words.specs.Commands.{Given, budget, most_classes, most_elements, most_steps}
 use Rattle.cxxabi_words.specs.declared.command.Command.{Command}
-use Rattle.cxxabi_words.specs.declared.command.Command.TheVariants.{Check, Layout, LayoutOf, Tables, TablesOf, Run, Paths, Gen}
+use Rattle.cxxabi_words.specs.declared.command.Command.TheVariants.{Check, Layout, LayoutOf, Tables, TablesOf, Run, Paths, Gen, Array, MemberPointer}
 
 -- the number that at most so many digits say
 abbrev pub is_count : ℕ → ℕ → Text → Bool
@@ -20,6 +21,24 @@ counted places most digits = if is_count places most digits then Some (digits_va
 abbrev pub budgeted : Option Text → Option ℕ
 budgeted None = Some budget
 budgeted (Some digits) = counted 7 most_steps digits
+
+-- a word is a name
+unfoldable pub is_name : Text → Bool
+is_name text = begins is_letter text && (list_all is_word_byte text && nat_le (length text) 255)
+
+-- what stands before the first byte of this kind, and behind it
+unfoldable pub cut_at : ℕ → Text → Option (Text × Text)
+cut_at c [] = None
+cut_at c (b ∷ bs) = if b == c then Some ([], bs) else option_map (λ p. (b ∷ p.0, p.1)) (cut_at c bs)
+
+-- what stands behind a byte of this kind, where the text begins with it
+abbrev pub behind : ℕ → Text → Option Text
+behind c [] = None
+behind c (b ∷ bs) = if b == c then Some bs else None
+
+-- what stands before the first colon, and behind it and a second one
+abbrev pub cut_scope : Text → Option (Text × Text)
+cut_scope text = option_and_then (λ p. option_map (λ member. (p.0, member)) (behind 58 p.1)) (cut_at 58 text)
 
 abbrev pub check_form : Option Text → Option Command
 check_form None = Some Check
@@ -37,13 +56,38 @@ abbrev pub gen_form : Option Text → Option Command
 gen_form None = None
 gen_form (Some digits) = option_map Gen (counted 4 most_classes digits)
 
+abbrev pub array_of : Text → Text → Option Command
+array_of class digits = if is_name class then option_map (λ n. Array class n) (counted 4 most_elements digits) else None
+
+abbrev pub array_form : Option Text → Option Command
+array_form None = None
+array_form (Some arg) = option_and_then (λ p. array_of p.0 p.1) (cut_at 64 arg)
+
+abbrev pub member_of : Text → Text → Text → Option Command
+member_of class member whole =
+    if is_name class && (is_name member && is_name whole) then Some (MemberPointer (record { class = class; member = member; whole = whole })) else None
+
+-- a qualified name, and the class that the pointer is for, which may be left out
+abbrev pub member_in : Text → Option Text → Option Command
+member_in name whole = option_and_then (λ p. member_of p.0 p.1 (unwrap_or whole p.0)) (cut_scope name)
+
+abbrev pub member_cut : Text → Option (Text × Text) → Option Command
+member_cut arg None = member_in arg None
+member_cut arg (Some p) = member_in p.0 (Some p.1)
+
+abbrev pub member_form : Option Text → Option Command
+member_form None = None
+member_form (Some arg) = member_cut arg (cut_at 64 arg)
+
 -- a command that has no option
 abbrev pub plain_form : Text → Option Text → Option Command
 plain_form word arg =
     if bytes_eq word (codes "check") then check_form arg
     else (if bytes_eq word (codes "layout") then Some (layout_form arg)
     else (if bytes_eq word (codes "tables") then Some (tables_form arg)
-    else (if bytes_eq word (codes "gen") then gen_form arg else None)))
+    else (if bytes_eq word (codes "gen") then gen_form arg
+    else (if bytes_eq word (codes "array") then array_form arg
+    else (if bytes_eq word (codes "memptr") then member_form arg else None)))))
 
 abbrev pub run_form : Option Text → Option Text → Bool → Option Command
 run_form None steps trace = option_map (λ n. Run n trace) (budgeted steps)

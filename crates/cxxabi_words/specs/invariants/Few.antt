@@ -1,12 +1,13 @@
 -- The numbers of commands.
 use Rattle.std.specs.Prelude.{◌≤◌}
-use Rattle.cxxabi_words.specs.Commands.{most_classes, most_steps}
+use Rattle.cxxabi_words.specs.Commands.{most_classes, most_elements, most_steps}
 use Rattle.cxxabi_words.specs.declared.command.Command.{Command}
-use Rattle.cxxabi_words.specs.declared.command.Command.TheVariants.{Run, Paths, Gen}
+use Rattle.cxxabi_words.specs.declared.command.Command.TheVariants.{Run, Paths, Gen, Array}
 
 -- the numbers of a command are within their limits
 abbrev pub HasFew : Command → Type 0
 HasFew (Run n trace) = (1 ≤ n) × (n ≤ most_steps)
 HasFew (Paths n) = (1 ≤ n) × (n ≤ most_steps)
 HasFew (Gen n) = (1 ≤ n) × (n ≤ most_classes)
+HasFew (Array class n) = (1 ≤ n) × (n ≤ most_elements)
 HasFew other = Unit {0}

@@ -1,12 +1,14 @@
 use Rattle.std.proofs.Common.{ℕ, List, length, subst, sym, ◌∙◌}
 use Rattle.std.specs.Prelude.{IfOk}
 use Rattle.cxxabi_words.specs.declared.command.Command.{Command}
-use Rattle.cxxabi_words.specs.declared.command.Command.TheVariants.{Layout, LayoutOf, Tables, TablesOf, Gen}
+use Rattle.cxxabi_words.specs.declared.command.Command.TheVariants.{Layout, LayoutOf, Tables, TablesOf, Gen, Array, MemberPointer}
+use Rattle.cxxabi_words.specs.invariants.Few.{HasFew}
 use Rattle.cxxabi_cmd.specs.Commands.{IsOnBytes}
 use Rattle.cxxabi_cmd.specs.declared.listing.Listing.TheVariants.{OfLayout, OfTables}
 use Rattle.cxxabi_cmd.specs.Output.{Yields, counted, count_answer, first_classes, all_layouts, one_layout, all_tables, one_tables, named_layout, named_tables}
-use Rattle.cxxabi_cmd.specs.invariants.Replies.{answer_of, machine_of, HandsBy, HasFewSteps}
-use Rattle.cxxabi_cmd.proofs.AnswerLemmas.{at_number, yields, hands_none, runs_no_layout, runs_no_tables}
+use Rattle.cxxabi_cmd.specs.invariants.Replies.{answer_of, machine_of, HandsBy}
+use Rattle.cxxabi_cmd.proofs.AnswerLemmas.{at_number, yields, hands_none, runs_no_array, runs_no_layout, runs_no_member, runs_no_tables}
+use Rattle.cxxabi_cmd.proofs.ClassReplies.{yields_array, yields_member}
 use Rattle.cxxabi_cmd.proofs.ReplyLemmas.{yields_all, yields_one}
 use Rattle.cxxabi_cmd.proofs.answer.answer.Goals as goal
 
@@ -52,7 +54,7 @@ returns-in-TablesOf-clause-yields c =
     (yields_one c.list_one-in-TablesOf.result c.args.size source h typed (TablesOf name) OfTables name (named_tables name) (one_tables name) c.list_one-in-TablesOf.ensures.lists))
 
 pub run_on_bytes-requires-clause-few : goal.run_on_bytes-requires-clause-few
-run_on_bytes-requires-clause-few c = subst HasFewSteps c.in-Run.is c.requires.few
+run_on_bytes-requires-clause-few c = (subst HasFew c.in-Run.is c.requires.few).1
 
 pub returns-in-Run-clause-yields : goal.returns-in-Run-clause-yields
 returns-in-Run-clause-yields c =
@@ -69,7 +71,7 @@ returns-in-Run-clause-machine c =
     subst (λ (d : Command). IfOk c.run_on_bytes.result (λ reply. HandsBy d source h typed (machine_of reply))) (sym c.in-Run.is) c.run_on_bytes.ensures.machine
 
 pub run_on_paths-requires-clause-few : goal.run_on_paths-requires-clause-few
-run_on_paths-requires-clause-few c = subst HasFewSteps c.in-Paths.is c.requires.few
+run_on_paths-requires-clause-few c = (subst HasFew c.in-Paths.is c.requires.few).1
 
 pub returns-in-Paths-clause-yields : goal.returns-in-Paths-clause-yields
 returns-in-Paths-clause-yields c =
@@ -108,3 +110,38 @@ pub returns-in-TablesOf-clause-machine : goal.returns-in-TablesOf-clause-machine
 returns-in-TablesOf-clause-machine c =
     hands_none c.list_one-in-TablesOf.result c.args.command.now c.args.accepted.now.source c.args.accepted.now.hierarchy c.args.accepted.now.program c.list_one-in-TablesOf.ensures.machine
     (λ trace steps tree runs bytes main. runs_no_tables c.args.command.now _ steps trace runs c.in-TablesOf.is)
+
+pub array_of-requires-clause-some : goal.array_of-requires-clause-some
+array_of-requires-clause-some c = (subst HasFew c.in-Array.is c.requires.few).0
+
+pub array_of-requires-clause-few : goal.array_of-requires-clause-few
+array_of-requires-clause-few c = (subst HasFew c.in-Array.is c.requires.few).1
+
+pub returns-in-Array-clause-yields : goal.returns-in-Array-clause-yields
+returns-in-Array-clause-yields c =
+    let h = c.args.accepted.now.hierarchy in
+    let source = c.args.accepted.now.source in
+    let typed = c.args.accepted.now.program in
+    let name = c.as_slice-in-Array.result.now in
+    let count = c.in-Array.count in
+    subst (λ (d : Command). IfOk c.array_of.result (λ reply. Yields c.args.size source h typed d (answer_of reply))) (sym c.in-Array.is)
+    (subst (λ (n : List ℕ). IfOk c.array_of.result (λ reply. Yields c.args.size source h typed (Array n count) (answer_of reply))) c.as_slice-in-Array.ensures
+    (yields_array c.array_of.result c.args.size source h typed name count c.array_of.ensures.reply))
+
+pub returns-in-Array-clause-machine : goal.returns-in-Array-clause-machine
+returns-in-Array-clause-machine c =
+    hands_none c.array_of.result c.args.command.now c.args.accepted.now.source c.args.accepted.now.hierarchy c.args.accepted.now.program c.array_of.ensures.machine
+    (λ trace steps tree runs bytes main. runs_no_array c.args.command.now _ _ steps trace runs c.in-Array.is)
+
+pub returns-in-MemberPointer-clause-yields : goal.returns-in-MemberPointer-clause-yields
+returns-in-MemberPointer-clause-yields c =
+    let h = c.args.accepted.now.hierarchy in
+    let source = c.args.accepted.now.source in
+    let typed = c.args.accepted.now.program in
+    subst (λ (d : Command). IfOk c.member_of.result (λ reply. Yields c.args.size source h typed d (answer_of reply))) (sym c.in-MemberPointer.is)
+    (yields_member c.member_of.result c.args.size source h typed _ c.member_of.ensures.reply)
+
+pub returns-in-MemberPointer-clause-machine : goal.returns-in-MemberPointer-clause-machine
+returns-in-MemberPointer-clause-machine c =
+    hands_none c.member_of.result c.args.command.now c.args.accepted.now.source c.args.accepted.now.hierarchy c.args.accepted.now.program c.member_of.ensures.machine
+    (λ trace steps tree runs bytes main. runs_no_member c.args.command.now _ steps trace runs c.in-MemberPointer.is)

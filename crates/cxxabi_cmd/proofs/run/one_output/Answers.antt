@@ -2,4 +2,4 @@ use Rattle.cxxabi_cmd.proofs.OneOutput.{one_output}
 use Rattle.cxxabi_cmd.proofs.run.one_output.Goals as goal
 
 pub returns : goal.returns
-returns c = one_output c.one_tables.ensures
+returns c = one_output (record { tables = c.one_tables.ensures; arrays = c.one_answer.ensures })

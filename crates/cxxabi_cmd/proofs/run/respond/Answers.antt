@@ -4,7 +4,7 @@ use Rattle.cxxabi_words.specs.Commands.{Says}
 use Rattle.cxxabi_words.proofs.CommandLaws.{one_command}
 use Rattle.cxxabi_cmd.specs.Commands.{ReadsSource, source_of}
 use Rattle.cxxabi_cmd.specs.invariants.Replies.{IsRead}
-use Rattle.cxxabi_cmd.proofs.FewSteps.{few_said}
+use Rattle.cxxabi_words.proofs.CommandLaws.{few_said}
 use Rattle.cxxabi_cmd.proofs.OutputLemmas.{usage_output, usage_machine, no_command, the_command}
 use Rattle.cxxabi_cmd.proofs.run.respond.Goals as goal
 

@@ -1,4 +1,4 @@
-use Rattle.cxxabi_words.specs.declared.command.Command.TheVariants.{Run, Paths, Gen}
+use Rattle.cxxabi_words.specs.declared.command.Command.TheVariants.{Run, Paths, Gen, Array}
 use Rattle.cxxabi_words.proofs.CommandLaws as command_laws
 use Rattle.cxxabi_words.proofs.laws.few_said.Goals as goal
 
@@ -10,3 +10,6 @@ returns-clause-path_steps c = λ words n says. command_laws.few_said words (Path
 
 pub returns-clause-classes : goal.returns-clause-classes
 returns-clause-classes c = λ words n says. command_laws.few_said words (Gen n) says
+
+pub returns-clause-elements : goal.returns-clause-elements
+returns-clause-elements c = λ words class n says. command_laws.few_said words (Array class n) says

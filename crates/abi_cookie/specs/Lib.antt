@@ -1,0 +1,5 @@
+pub mod Cookies
+pub mod Arrays
+pub mod ArrayTexts
+pub mod Answers
+pub mod invariants

@@ -1,0 +1,5 @@
+pub mod Pointers
+pub mod PointerBytes
+pub mod PointerCalls
+pub mod Answers
+pub mod invariants
