@@ -3,6 +3,7 @@ pub mod Starting
 pub mod Beginning
 pub mod EndNumbers
 pub mod Going
+pub mod DumpTops
 pub mod TurnLines
 pub mod Executing
 pub mod RawLines

@@ -6,27 +6,28 @@ use Rattle.std.proofs.Math.Seq.{take-suc}
 use Rattle.foundation.proofs.Truth.{split}
 use Rattle.cxx_hierarchy.specs.Classes.{Classes}
 use Rattle.byte_memory.specs.Store.{Store}
+use Rattle.byte_code.specs.declared.code.ImageBytes.{ImageBytes}
 use Rattle.byte_machine.specs.declared.heap.Opened.{Opened}
 use Rattle.byte_machine.specs.declared.turn.RawOut.{RawOut}
 use Rattle.abi_sound.specs.Places.{Places}
 use Rattle.abi_slots.specs.declared.code_numbers.CodeRow.{CodeRow}
 use Rattle.text_bytes.specs.RawTexts.{is_traced, printed, raw_text, raw_texts, shown}
 
-module _ (h : Classes) (l : Places) (rows : List CodeRow) (memory : Store) (objects : List Opened) where
+module _ (h : Classes) (l : Places) (rows : List CodeRow) (image : ImageBytes) (memory : Store) (objects : List Opened) where
   abbrev one_text : RawOut → List ℕ
-  one_text raw = raw_text h l rows memory objects raw
+  one_text raw = raw_text h l rows image memory objects raw
 
   -- the text of all of these
   abbrev whole_text : List RawOut → List ℕ
-  whole_text told = raw_texts h l rows memory objects told
+  whole_text told = raw_texts h l rows image memory objects told
 
   -- the line of one thing behind a text, or none
 
-  pub line_hidden : (trace : Bool) (raw : RawOut) (old : List ℕ) → (not trace && is_traced raw) ≡ true → old ≡ old ++ raw_texts h l rows memory objects (shown trace (raw ∷ []))
+  pub line_hidden : (trace : Bool) (raw : RawOut) (old : List ℕ) → (not trace && is_traced raw) ≡ true → old ≡ old ++ raw_texts h l rows image memory objects (shown trace (raw ∷ []))
   line_hidden true raw old e = absurd (let f : false ≡ true = e in cc (f))
   line_hidden false raw old e = sym (ap (λ q. old ++ whole_text (if not q then raw ∷ [] else [])) e ∙ append-nil old)
 
-  pub line_shown : (trace : Bool) (raw : RawOut) (old new : List ℕ) → (not trace && is_traced raw) ≡ false → new ≡ old ++ raw_text h l rows memory objects raw → new ≡ old ++ raw_texts h l rows memory objects (shown trace (raw ∷ []))
+  pub line_shown : (trace : Bool) (raw : RawOut) (old new : List ℕ) → (not trace && is_traced raw) ≡ false → new ≡ old ++ raw_text h l rows image memory objects raw → new ≡ old ++ raw_texts h l rows image memory objects (shown trace (raw ∷ []))
   line_shown true raw old new e puts = puts ∙ ap (λ (t : List ℕ). old ++ t) (sym (append-nil (one_text raw)))
   line_shown false raw old new e puts = puts ∙ ap (λ (t : List ℕ). old ++ t) (sym (ap (λ q. whole_text (if not q then raw ∷ [] else [])) e ∙ append-nil (one_text raw)))
 
@@ -47,13 +48,13 @@ module _ (h : Classes) (l : Places) (rows : List CodeRow) (memory : Store) (obje
   lines_append false xs ys = printed_append xs ys
 
   -- before the first one
-  pub lines_none : (trace : Bool) (text : List ℕ) → text ≡ [] → text ≡ raw_texts h l rows memory objects (shown trace [])
+  pub lines_none : (trace : Bool) (text : List ℕ) → text ≡ [] → text ≡ raw_texts h l rows image memory objects (shown trace [])
   lines_none true text empty = empty
   lines_none false text empty = empty
 
   -- one thing more
-  pub lines_more : (trace : Bool) (text more : List ℕ) (told : List RawOut) (i : ℕ) (raw : RawOut) → i < length told → raw ≡ get_or told i raw → text ≡ raw_texts h l rows memory objects (shown trace (take i told)) → more ≡ text ++ raw_texts h l rows memory objects (shown trace (raw ∷ []))
-      → more ≡ raw_texts h l rows memory objects (shown trace (take (i + 1) told))
+  pub lines_more : (trace : Bool) (text more : List ℕ) (told : List RawOut) (i : ℕ) (raw : RawOut) → i < length told → raw ≡ get_or told i raw → text ≡ raw_texts h l rows image memory objects (shown trace (take i told)) → more ≡ text ++ raw_texts h l rows image memory objects (shown trace (raw ∷ []))
+      → more ≡ raw_texts h l rows image memory objects (shown trace (take (i + 1) told))
   lines_more trace text more told i raw lt is so adds =
       let next : take i told ++ (get_or told i raw ∷ []) ≡ take (i + 1) told = rw add-one (sym (take-suc told i raw lt)) in
       let longer : take i told ++ raw ∷ [] ≡ take (i + 1) told = ap (λ (y : RawOut). take i told ++ y ∷ []) is ∙ next in
@@ -62,5 +63,5 @@ module _ (h : Classes) (l : Places) (rows : List CodeRow) (memory : Store) (obje
       ∙ (sym (lines_append trace (take i told) (raw ∷ [])) ∙ ap (λ (os : List RawOut). whole_text (shown trace os)) longer))
 
   -- all
-  pub lines_all : (trace : Bool) (text : List ℕ) (told : List RawOut) (i : ℕ) → length told ≤ i → text ≡ raw_texts h l rows memory objects (shown trace (take i told)) → text ≡ raw_texts h l rows memory objects (shown trace told)
+  pub lines_all : (trace : Bool) (text : List ℕ) (told : List RawOut) (i : ℕ) → length told ≤ i → text ≡ raw_texts h l rows image memory objects (shown trace (take i told)) → text ≡ raw_texts h l rows image memory objects (shown trace told)
   lines_all trace text told i le so = so ∙ ap (λ (os : List RawOut). whole_text (shown trace os)) (take_all i told le)

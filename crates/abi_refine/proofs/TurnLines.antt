@@ -1,5 +1,5 @@
 -- The lines of a turn are those of the step.
-use Rattle.std.proofs.Common.{◌≡◌, ℕ, suc, ◌+◌, Bool, true, false, Option, Some, None, List, refl, sym, ap, subst, arith}
+use Rattle.std.proofs.Common.{◌≡◌, ℕ, suc, ◌+◌, Bool, true, false, Option, Some, None, List, ◌∷◌, ◌∙◌, refl, sym, ap, subst, arith}
 use Rattle.std.specs.Prelude.{not}
 use Rattle.foundation.proofs.Chosen.{has_filter}
 use Rattle.foundation.proofs.Members.{Has, contains_from_has, has_from_contains}
@@ -7,10 +7,12 @@ use Rattle.cxx_program.specs.declared.program.Owner.TheVariants.{Function}
 use Rattle.cxx_program.specs.declared.program.TypedBody.{TypedBody}
 use Rattle.path_model.specs.declared.outs.Out.{Out}
 use Rattle.path_model.specs.declared.outs.Out.TheVariants.{Number, Pointer, TypeName, Dump, Call, Built, Ending}
-use Rattle.path_model.specs.States.{State as PathState, body_of, is_body}
+use Rattle.path_model.specs.States.{State as PathState, InBody, body_of, is_body}
 use Rattle.path_model.specs.Runs.{Move, Moves, outs_in, state_behind}
+use Rattle.path_model.specs.Typed.{AllSettled}
 use Rattle.path_model.specs.TypedStates.{IsTypedState}
 use Rattle.byte_code.specs.declared.code.Code.{Code}
+use Rattle.byte_code.specs.declared.code.ImageBytes.{ImageBytes}
 use Rattle.byte_machine.specs.declared.turn.RawOut.{RawOut}
 use Rattle.byte_machine.specs.Running.{Fixed}
 use Rattle.byte_machine.specs.Turn.{State as Bytes}
@@ -28,11 +30,12 @@ use Rattle.text_bytes.specs.Reads.{AreShownOf, HasTypedLeaves, IsOf}
 use Rattle.text_bytes.proofs.RawReads.{shown_read, texts_there}
 use Rattle.agree_runs.proofs.Accepted.{world_accepted}
 use Rattle.agree_runs.proofs.Dumps.{dumps_are_of_the_state}
-use Rattle.agree_runs.proofs.Tops.{state_typed}
+use Rattle.agree_runs.proofs.Tops.{all_settled, state_typed}
 use Rattle.text_told.proofs.Telling.{HasBody, steps_told}
 use Rattle.abi_refine.specs.Agreed.{move_after, WentTo}
 use Rattle.abi_refine.specs.Executions.{lines_in}
 use Rattle.abi_refine.specs.Standing.{StandsIn, state_after}
+use Rattle.abi_refine.proofs.DumpTops.{dumps_are_in_bodies}
 
 -- what is shown is told
 shown_told : (trace : Bool) (outs : List Out) (out : Out) → Has (shown_outs trace outs) out → Has outs out
@@ -66,7 +69,12 @@ module _ (w : World) (world : IsWorld w) (n : ℕ) (new : PathState) (outs : Lis
   of_state (TypeName c) has = tt
   of_state (Dump number c leaves) has =
       let is = dumps_are_of_the_state (classes_in w) (places_in w).size w.setup.program (state_after w.setup n) new outs number c leaves moves (contains_from_has outs (Dump number c leaves) has) in
-      record { object = is.object; number_is = is.number_is; class = is.class; is_open = is.open_there; leaves_are = is.leaves_are }
+      let e : suc n ≡ n + 1 = omega arith in
+      let here : state_after w.setup (suc n) ≡ new = ap (λ (m : Move). state_behind m (state_after w.setup n)) moves in
+      let top = dumps_are_in_bodies (classes_in w) (places_in w).size w.setup.program (state_after w.setup n) new outs number c leaves moves has in
+      let on_top : (state_after w.setup (suc n)).frames ≡ InBody top.body ∷ top.below = ap (λ (s : PathState). s.frames) here ∙ top.is in
+      let settled = subst (λ (s : PathState). AllSettled (classes_in w) s.objects) here (all_settled (classes_in w) (places_in w).size w.setup.program (suc n) (world_accepted w world) top.body top.below on_top) in
+      record { object = is.object; number_is = is.number_is; class = is.class; is_open = is.open_there; complete = is.complete; settled = settled is.object c is.class; leaves_are = is.leaves_are }
   of_state (Call g at) has = body_there (body_of w.setup.program (Function g)) (all_told (Call g at) has).1
   of_state (Built c at) has = tt
   of_state (Ending c at) has = tt
@@ -76,7 +84,7 @@ module _ (w : World) (world : IsWorld w) (n : ℕ) (new : PathState) (outs : Lis
       let has = shown_told trace outs out (has_from_contains (shown_outs trace outs) out there) in
       record { told = (all_told out has).0; of = of_state out has }
 
-  pub world_lines : (trace : Bool) → lines_in w.setup w.numbers trace b told ≡ text_of (classes_in w) (places_in w) (shown_outs trace outs)
+  pub world_lines : (trace : Bool) → lines_in w.setup w.numbers w.image trace b told ≡ text_of (classes_in w) (places_in w) (shown_outs trace outs)
   world_lines trace = shown_read w world new.objects b.memory b.objects b.heap b.notes stands.stands.columns leaves trace told outs reads (shown_of trace)
 
   pub world_texts : (raw : RawOut) → Has told raw → HasText (classes_in w) b.objects raw
@@ -90,10 +98,14 @@ module _ (x : Setup) (code : Code) (numbers : List CodeRow) (f : Fixed) (n : ℕ
   here : move_after st.world.setup n ≡ Moves new outs
   here = subst (λ y. move_after y n ≡ Moves new outs) (sym st.is.setup) moves
 
-  pub turn_lines : (trace : Bool) → lines_in x numbers trace b told ≡ text_of x.h (places x) (shown_outs trace outs)
+  image_is : st.world.image ≡ f.image
+  image_is = ap (λ (k : Fixed). k.image) st.is.fixed_is
+
+  pub turn_lines : (trace : Bool) → lines_in x numbers f.image trace b told ≡ text_of x.h (places x) (shown_outs trace outs)
   turn_lines trace =
-      subst (λ (y : Setup). lines_in y numbers trace b told ≡ text_of y.h (places y) (shown_outs trace outs)) st.is.setup
-      (subst (λ (rows : List CodeRow). lines_in st.world.setup rows trace b told ≡ text_of st.world.setup.h (places st.world.setup) (shown_outs trace outs)) st.is.numbers_are (world_lines st.world st.is.world n new outs here b told st.stands went.reads trace))
+      subst (λ (y : Setup). lines_in y numbers f.image trace b told ≡ text_of y.h (places y) (shown_outs trace outs)) st.is.setup
+      (subst (λ (image : ImageBytes). lines_in st.world.setup numbers image trace b told ≡ text_of st.world.setup.h (places st.world.setup) (shown_outs trace outs)) image_is
+      (subst (λ (rows : List CodeRow). lines_in st.world.setup rows st.world.image trace b told ≡ text_of st.world.setup.h (places st.world.setup) (shown_outs trace outs)) st.is.numbers_are (world_lines st.world st.is.world n new outs here b told st.stands went.reads trace)))
 
   pub turn_texts : (raw : RawOut) → Has told raw → HasText x.h b.objects raw
   turn_texts raw has = subst (λ y. HasText y.h b.objects raw) st.is.setup (world_texts st.world st.is.world n new outs here b told st.stands went.reads raw has)

@@ -16,13 +16,13 @@ use Rattle.abi_world.specs.Made.{HasImage}
 use Rattle.abi_refine.specs.Endings.{turn_of}
 use Rattle.abi_refine.specs.Reaches.{Lines, Executes}
 
--- the text of what a turn told, with the lines of a trace or without, read in the state that it left; a call names its function by the numbers of all code
-abbrev pub lines_in : Setup → List CodeRow → Bool → Lines
-lines_in x numbers trace b told = raw_texts x.h (places x) numbers b.memory b.objects (shown trace told)
+-- the text of what a turn told, with the lines of a trace or without, read in the state that it left and in the image; a call names its function by the numbers of all code
+abbrev pub lines_in : Setup → List CodeRow → ImageBytes → Bool → Lines
+lines_in x numbers image trace b told = raw_texts x.h (places x) numbers image b.memory b.objects (shown trace told)
 
 -- the machine's code is that of the program, and its image has the tables of all classes; its turns, from before the first step over an empty memory, made the text and ended the run; and it has ended as the run did, unless its text passed the limit
 pub record IsExecution (x : Setup) (steps : ℕ) (trace : Bool) (numbers : List CodeRow) (code : Code) (image : ImageBytes) (b : State) (text : List ℕ) (end_is : End) : Type 0 where
   pub lowered : IsLowered x code numbers
   pub image_is : HasImage x.h (places x) numbers image
-  pub executes : Executes (fixed_of image code most_subobjects) code (lines_in x numbers trace) (begun empty code steps) b text end_is
+  pub executes : Executes (fixed_of image code most_subobjects) code (lines_in x numbers image trace) (begun empty code steps) b text end_is
   pub ended : (end_is ≡ Limit L9 → ⊥) → b.answer ≡ Some (turn_of end_is)

@@ -59,7 +59,7 @@ fn append_one<M: Memory, L: SoundLayout>(
 ) -> Result<(), NoMemory>
     requires layout { L.lays_out layout.now h.now }
     requires has_text { HasText h.now (state_of machine.now).objects raw }
-    ensures { OnOk result (text.new.items ≡ text.old.items ++ raw_texts h.now (places_of h.now (L.rows layout.now)) called.now (state_of machine.now).memory (state_of machine.now).objects (shown trace (raw ∷ []))) }
+    ensures { OnOk result (text.new.items ≡ text.old.items ++ raw_texts h.now (places_of h.now (L.rows layout.now)) called.now (image_of machine.now) (state_of machine.now).memory (state_of machine.now).objects (shown trace (raw ∷ []))) }
 {
     if is_hidden(trace, raw) {
         return Ok(());
@@ -82,7 +82,7 @@ fn lines_of<M: Memory, L: SoundLayout>(
 ) -> Result<Vec<u8>, NoMemory>
     requires layout { L.lays_out layout.now h.now }
     requires has_text { (raw : RawOut) → Contains outs.now raw → HasText h.now (state_of machine.now).objects raw }
-    ensures { IfOk result (λ lines. lines.items ≡ raw_texts h.now (places_of h.now (L.rows layout.now)) called.now (state_of machine.now).memory (state_of machine.now).objects (shown trace outs.now)) }
+    ensures { IfOk result (λ lines. lines.items ≡ raw_texts h.now (places_of h.now (L.rows layout.now)) called.now (image_of machine.now) (state_of machine.now).memory (state_of machine.now).objects (shown trace outs.now)) }
 {
     let mut text = Vec::new(alloc);
     for out in outs {
@@ -110,7 +110,7 @@ pub fn run_machine<M: Memory, L: SoundLayout>(
     requires budget { (state_of machine.old).left ≤ 4000000 }
     requires ready { has_failed machine.old ≡ false }
     ensures run { IfOk result (λ ran. let x = setup h.now (L.rows layout.now) program.now in IsRun x.h (places x) x.program trace (state_of machine.old).left ran.text.items ran.end) }
-    ensures executes { IfOk result (λ ran. Executes (fixed_in machine.old) (code_of machine.old) (lines_in (setup h.now (L.rows layout.now) program.now) numbers.now trace) (state_of machine.old) (state_of machine.new) ran.text.items ran.end) }
+    ensures executes { IfOk result (λ ran. Executes (fixed_in machine.old) (code_of machine.old) (lines_in (setup h.now (L.rows layout.now) program.now) numbers.now (image_of machine.old) trace) (state_of machine.old) (state_of machine.new) ran.text.items ran.end) }
     ensures ended { IfOk result (λ ran. (ran.end ≡ End.Limit L9 → ⊥) → (state_of machine.new).answer ≡ Some (turn_of ran.end)) }
     ensures steps { IfOk result (λ ran. (ran.end ≡ End.Limit L9 → ⊥) → let x = setup h.now (L.rows layout.now) program.now in ran.steps ≡ (run_of x.h (places x).size x.program (state_of machine.old).left).steps) }
     ensures code { code_of machine.new ≡ code_of machine.old }

@@ -10,17 +10,17 @@ use Rattle.abi_sound.specs.Places.{Places, places_of}
 use Rattle.abi_sound.specs.Locations.{bits_of_value}
 use Rattle.abi_sound.specs.Sound.{IsSoundLayout}
 use Rattle.byte_memory.specs.Store.{Store}
+use Rattle.byte_code.specs.declared.code.ImageBytes.{ImageBytes}
 use Rattle.byte_machine.specs.declared.heap.Opened.{Opened}
 use Rattle.text_told.specs.declared.items.Item.{Item}
 use Rattle.text_told.specs.Fields.{member_at, value_type}
 use Rattle.text_told.specs.Pointers.{pointers_of}
-use Rattle.text_told.specs.Dumps.{pointer_item}
 use Rattle.text_told.proofs.Contents.{LiesIn}
 use Rattle.text_told.proofs.Leading.{few_touched}
 use Rattle.text_told.proofs.Objects.{pointer_inside}
 use Rattle.text_bytes.specs.declared.rows.LeafRow.{LeafRow}
 use Rattle.text_bytes.specs.LeafRows.{leaf_rows}
-use Rattle.text_bytes.specs.RawDumps.{raw_items, row_by_type, row_item}
+use Rattle.text_bytes.specs.RawDumps.{led_item, raw_items, row_by_type, row_item}
 use Rattle.text_bytes.proofs.RowPlaces.{row_inside, row_starts}
 
 row_lies : (h : Classes) (memory : Store) (opened : List Opened) (start size : ℕ) (row : LeafRow) (width : Option ℕ) (o : Option (ValueType ClassId)) → row.place < size → (row.first < 8) × ((t : ValueType ClassId) → row.first + bits_of_value width t ≤ 64) →
@@ -28,15 +28,15 @@ row_lies : (h : Classes) (memory : Store) (opened : List Opened) (start size : �
 row_lies h memory opened start size row width None lt near = record { inside = lt; near = omega arith; few = omega arith }
 row_lies h memory opened start size row width (Some type) lt near = record { inside = lt; near = near.0; few = few_touched row.first (bits_of_value width type) (near.1 type) }
 
-pub raw_lies_in : (h : Classes) (rows : List ClassLayout) → IsHierarchy h → IsSoundLayout h rows → (c : ClassId) (memory : Store) (opened : List Opened) (start : ℕ) → c.0 < length h → (item : Item) → Has (raw_items h (places_of h rows) memory opened start c) item → LiesIn ((places_of h rows).size c) item
-raw_lies_in h rows keeps sound c memory opened start known item has = ⊎_elim from_pointer from_row (has_cases (map (pointer_item h) (pointers_of h l c)) (map (row_item h memory opened start) (leaf_rows h l c)) item has)
+pub raw_lies_in : (h : Classes) (rows : List ClassLayout) → IsHierarchy h → IsSoundLayout h rows → (c : ClassId) (image : ImageBytes) (memory : Store) (opened : List Opened) (start : ℕ) → c.0 < length h → (item : Item) → Has (raw_items h (places_of h rows) image memory opened start c) item → LiesIn ((places_of h rows).size c) item
+raw_lies_in h rows keeps sound c image memory opened start known item has = ⊎_elim from_pointer from_row (has_cases (map (led_item h image memory start) (pointers_of h l c)) (map (row_item h memory opened start) (leaf_rows h l c)) item has)
   where
     l : Places
     l = places_of h rows
 
-    from_pointer : Has (map (pointer_item h) (pointers_of h l c)) item → LiesIn (l.size c) item
+    from_pointer : Has (map (led_item h image memory start) (pointers_of h l c)) item → LiesIn (l.size c) item
     from_pointer at =
-        let f = from_map (pointer_item h) (pointers_of h l c) item at in
+        let f = from_map (led_item h image memory start) (pointers_of h l c) item at in
         subst (LiesIn (l.size c)) f.2 (record { inside = pointer_inside h rows sound (c.0 + 1) c f.0 known f.1; near = omega arith; few = omega arith })
 
     from_row : Has (map (row_item h memory opened start) (leaf_rows h l c)) item → LiesIn (l.size c) item

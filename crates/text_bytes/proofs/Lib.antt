@@ -10,6 +10,8 @@ pub mod Contents
 pub mod Found
 pub mod Addresses
 pub mod LeafReads
+pub mod PointerOwners
+pub mod PointerReads
 pub mod DumpReads
 pub mod CallReads
 pub mod RawReads

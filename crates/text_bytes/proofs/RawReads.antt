@@ -73,7 +73,7 @@ module _ (w : World) (world : IsWorld w) (s : Objects) (memory : Store) (opened 
       ∙ ap (λ text. before ++ name_of (classes_in w) d ++ codes " " ++ text) (location_read w s memory.regions opened heap columns.objects world location a lies names)
 
   line_read : HasTypedLeaves w s → (raw : RawOut) (out : Out) → ReadsAs w world.lowered.at (heap_of s.classes memory.regions) raw out → IsToldOf w s out →
-      raw_line (classes_in w) (places_in w) w.numbers memory opened raw ≡ line_text (classes_in w) (places_in w) out
+      raw_line (classes_in w) (places_in w) w.numbers w.image memory opened raw ≡ line_text (classes_in w) (places_in w) out
   line_read typed (Number z) (NumberOut y) reads of = ap signed_decimal reads
   line_read typed (Address a) (PointerOut None) reads of = ap (address_text opened) reads
   line_read typed (Address a) (PointerOut (Some location)) reads of = location_read w s memory.regions opened heap columns.objects world location a reads of.told
@@ -82,7 +82,7 @@ module _ (w : World) (world : IsWorld w) (s : Objects) (memory : Store) (opened 
       let here : number ≡ reads.object + 1 = reads.number_is in
       let there : number ≡ of.of.object + 1 = of.of.number_is in
       let same : reads.object ≡ of.of.object = omega arith in
-      dump_read w world s memory opened heap columns.objects columns.leaves typed number c leaves a of.of (subst (λ k. LieIn (places_in w) (heap_of s.classes memory.regions) k a 1) same reads.inside)
+      dump_read w world s memory opened heap notes columns typed number c leaves a of.of (subst (λ k. LieIn (places_in w) (heap_of s.classes memory.regions) k a 1) same reads.inside)
   line_read typed (Call block this) (CallOut f location) reads of =
       let found : function_at w.numbers block ≡ Some f = ap (function_at w.numbers) reads.0 ∙ call_found w world f of.of in
       ap (λ o. codes "call " ++ function_in (classes_in w) o ++ codes " " ++ address_text opened this) found
@@ -93,35 +93,35 @@ module _ (w : World) (world : IsWorld w) (s : Objects) (memory : Store) (opened 
 
   -- one text each
   pub text_read : HasTypedLeaves w s → (raw : RawOut) (out : Out) → ReadsAs w world.lowered.at (heap_of s.classes memory.regions) raw out → IsToldOf w s out →
-      raw_text (classes_in w) (places_in w) w.numbers memory opened raw ≡ out_text (classes_in w) (places_in w) out
+      raw_text (classes_in w) (places_in w) w.numbers w.image memory opened raw ≡ out_text (classes_in w) (places_in w) out
   text_read typed raw out reads of = ap (λ line. line ++ 10 ∷ []) (line_read typed raw out reads of)
 
   -- one text of all, with the lines of a trace
   texts_read : HasTypedLeaves w s → (told : List RawOut) (outs : List Out) → ReadAs w world.lowered.at (heap_of s.classes memory.regions) told outs → ((out : Out) → Has outs out → IsToldOf w s out) →
-      raw_texts (classes_in w) (places_in w) w.numbers memory opened told ≡ text_of (classes_in w) (places_in w) outs
+      raw_texts (classes_in w) (places_in w) w.numbers w.image memory opened told ≡ text_of (classes_in w) (places_in w) outs
   texts_read typed [] [] reads of = refl
   texts_read typed [] (out ∷ outs) reads of = absurd reads
   texts_read typed (raw ∷ told) [] reads of = absurd reads
   texts_read typed (raw ∷ told) (out ∷ outs) reads of =
-      ap (λ text. text ++ raw_texts (classes_in w) (places_in w) w.numbers memory opened told) (text_read typed raw out reads.0 (of out (inl refl)))
+      ap (λ text. text ++ raw_texts (classes_in w) (places_in w) w.numbers w.image memory opened told) (text_read typed raw out reads.0 (of out (inl refl)))
       ∙ ap (λ text. out_text (classes_in w) (places_in w) out ++ text) (texts_read typed told outs reads.1 (λ x has. of x (inr has)))
 
   -- and without them
   printed_read : HasTypedLeaves w s → (told : List RawOut) (outs : List Out) → ReadAs w world.lowered.at (heap_of s.classes memory.regions) told outs → ((out : Out) → Has outs out → is_traced_out out ≡ false → IsToldOf w s out) →
-      raw_texts (classes_in w) (places_in w) w.numbers memory opened (printed told) ≡ text_of (classes_in w) (places_in w) (printed_outs outs)
+      raw_texts (classes_in w) (places_in w) w.numbers w.image memory opened (printed told) ≡ text_of (classes_in w) (places_in w) (printed_outs outs)
   printed_read typed [] [] reads of = refl
   printed_read typed [] (out ∷ outs) reads of = absurd reads
   printed_read typed (raw ∷ told) [] reads of = absurd reads
   printed_read typed (raw ∷ told) (out ∷ outs) reads of = by_trace (printed_read typed told outs reads.1 (λ x has plain. of x (inr has) plain)) (is_traced_out out) refl
     where
       rest : List ℕ
-      rest = raw_texts (classes_in w) (places_in w) w.numbers memory opened (printed told)
+      rest = raw_texts (classes_in w) (places_in w) w.numbers w.image memory opened (printed told)
 
       same : is_traced raw ≡ is_traced_out out
       same = traced_read w world.lowered.at (heap_of s.classes memory.regions) raw out reads.0
 
       by_trace : rest ≡ text_of (classes_in w) (places_in w) (printed_outs outs) → (b : Bool) → is_traced_out out ≡ b →
-          raw_texts (classes_in w) (places_in w) w.numbers memory opened (printed (raw ∷ told)) ≡ text_of (classes_in w) (places_in w) (printed_outs (out ∷ outs))
+          raw_texts (classes_in w) (places_in w) w.numbers w.image memory opened (printed (raw ∷ told)) ≡ text_of (classes_in w) (places_in w) (printed_outs (out ∷ outs))
       by_trace more true is = let traced : is_traced raw ≡ true = same ∙ is in rw (traced, is) more
       by_trace more false is =
           let traced : is_traced raw ≡ false = same ∙ is in
@@ -129,6 +129,6 @@ module _ (w : World) (world : IsWorld w) (s : Objects) (memory : Store) (opened 
 
   -- one text of what is shown
   pub shown_read : HasTypedLeaves w s → (trace : Bool) (told : List RawOut) (outs : List Out) → ReadAs w world.lowered.at (heap_of s.classes memory.regions) told outs → AreShownOf trace w s outs →
-      raw_texts (classes_in w) (places_in w) w.numbers memory opened (shown trace told) ≡ text_of (classes_in w) (places_in w) (shown_outs trace outs)
+      raw_texts (classes_in w) (places_in w) w.numbers w.image memory opened (shown trace told) ≡ text_of (classes_in w) (places_in w) (shown_outs trace outs)
   shown_read typed true told outs reads of = texts_read typed told outs reads (λ out has. of out (contains_from_has outs out has))
   shown_read typed false told outs reads of = printed_read typed told outs reads (λ out has plain. of out (contains_from_has (printed_outs outs) out (filter_has (λ x. not (is_traced_out x)) outs out has (ap not plain))))

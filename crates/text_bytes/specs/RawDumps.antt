@@ -12,16 +12,21 @@ use Rattle.abi_sound.specs.Places.{Places, size_of_value}
 use Rattle.abi_sound.specs.Locations.{bits_of_value}
 use Rattle.byte_memory.specs.Store.{Store, load_of, load_bits_of}
 use Rattle.byte_memory.specs.declared.memory.MemoryFault.{MemoryFault}
+use Rattle.byte_code.specs.declared.code.ImageBytes.{ImageBytes}
+use Rattle.byte_code.specs.Images.{word_at}
 use Rattle.byte_code.specs.Numbers.{signed_in}
 use Rattle.byte_machine.specs.declared.heap.Opened.{Opened}
 use Rattle.byte_machine.specs.Heap.{object_at}
-use Rattle.byte_machine.specs.Running.{moved}
+use Rattle.byte_machine.specs.Effects.{bytes_before}
+use Rattle.byte_machine.specs.Running.{moved, table_word}
 use Rattle.abi_print.specs.Texts.{location_text}
 use Rattle.abi_print.specs.LayoutTexts.{bits_text, name_of, value_text}
+use Rattle.abi_print.specs.TableTexts.{name_in}
 use Rattle.text_told.specs.declared.items.Item.{Item}
+use Rattle.text_told.specs.declared.pointers.TablePointer.{TablePointer}
 use Rattle.text_told.specs.Fields.{member_at, value_type}
 use Rattle.text_told.specs.Pointers.{pointers_of}
-use Rattle.text_told.specs.Dumps.{by_place, byte_text, bytes_touched, lines_from, pointer_item, unset_text}
+use Rattle.text_told.specs.Dumps.{by_place, byte_text, bytes_touched, lines_from, unset_text}
 use Rattle.text_bytes.specs.declared.rows.LeafRow.{LeafRow}
 use Rattle.text_bytes.specs.LeafRows.{leaf_rows}
 
@@ -35,6 +40,30 @@ place_text at (Some object) = location_text object.number (at - object.start)
 -- an address: `null` for 0, else its object and the place there
 abbrev pub address_text : List Opened → ℕ → List ℕ
 address_text objects at = if nat_eq at 0 then codes "null" else place_text at (object_at objects at)
+
+-- virtual pointers
+
+-- how far an address lies behind the complete object to which the offset to top in its table leads; `?` where no table is read (Itanium C++ ABI 2.5.2)
+abbrev pub behind_top : ℕ → Option ℕ → List ℕ
+behind_top at None = codes "?"
+behind_top at (Some top) = decimal (at - moved at top)
+
+-- the number of a class, with which its type information begins (Itanium C++ ABI 2.9.5)
+abbrev pub class_in : ImageBytes → Option ℕ → Option ℕ
+class_in image None = None
+class_in image (Some info) = word_at image info
+
+abbrev pub class_text : Classes → Option ℕ → List ℕ
+class_text h None = codes "?"
+class_text h (Some c) = name_of h (record { 0 = c })
+
+-- the virtual pointer at an address, in a subobject of a class: where that lies in its complete object, and the class of this are read in the table
+abbrev pub led_text : Classes → ImageBytes → Store → ℕ → Option ClassId → List ℕ
+led_text h image memory at class = codes "vptr " ++ name_in h class ++ codes "@" ++ behind_top at (table_word image memory at (bytes_before 16)) ++ codes " of " ++ class_text h (class_in image (table_word image memory at (bytes_before 8)))
+
+-- a virtual pointer of an object that starts there
+abbrev pub led_item : Classes → ImageBytes → Store → ℕ → TablePointer → Item
+led_item h image memory start p = record { place = p.place; first = 0; size = 8; text = led_text h image memory (moved start p.place) p.class }
 
 -- leaves
 
@@ -86,22 +115,22 @@ row_by_type h memory objects start row width (Some type) = record {
 abbrev pub row_item : Classes → Store → List Opened → ℕ → LeafRow → Item
 row_item h memory objects start row = row_by_type h memory objects start row (width_of_member h row.class row.number) (value_type (member_at h (Some row.class) row.number))
 
--- what lies in an object of class c: its virtual pointers, which are those that the layout gives to a complete object, and its leaves as they stand in memory
-abbrev pub raw_items : Classes → Places → Store → List Opened → ℕ → ClassId → List Item
-raw_items h l memory objects start c = map (pointer_item h) (pointers_of h l c) ++ map (row_item h memory objects start) (leaf_rows h l c)
+-- what lies in an object of class c, as it stands in memory: its virtual pointers, and its leaves
+abbrev pub raw_items : Classes → Places → ImageBytes → Store → List Opened → ℕ → ClassId → List Item
+raw_items h l image memory objects start c = map (led_item h image memory start) (pointers_of h l c) ++ map (row_item h memory objects start) (leaf_rows h l c)
 
 abbrev pub class_of_object : Opened → ClassId
 class_of_object object = record { 0 = object.class }
 
 -- the dump of a heap object: its number, class and size, and what lies in it by place, with the gaps
-abbrev pub object_text : Classes → Places → Store → List Opened → Opened → List ℕ
-object_text h l memory objects object = codes "dump #" ++ decimal object.number ++ codes " " ++ name_of h (class_of_object object) ++ codes " " ++ decimal (l.size (class_of_object object))
-    ++ lines_from (l.size (class_of_object object)) 0 (by_place (l.size (class_of_object object)) (raw_items h l memory objects object.start (class_of_object object)))
+abbrev pub object_text : Classes → Places → ImageBytes → Store → List Opened → Opened → List ℕ
+object_text h l image memory objects object = codes "dump #" ++ decimal object.number ++ codes " " ++ name_of h (class_of_object object) ++ codes " " ++ decimal (l.size (class_of_object object))
+    ++ lines_from (l.size (class_of_object object)) 0 (by_place (l.size (class_of_object object)) (raw_items h l image memory objects object.start (class_of_object object)))
 
-abbrev pub dump_by : Classes → Places → Store → List Opened → Option Opened → List ℕ
-dump_by h l memory objects None = []
-dump_by h l memory objects (Some object) = object_text h l memory objects object
+abbrev pub dump_by : Classes → Places → ImageBytes → Store → List Opened → Option Opened → List ℕ
+dump_by h l image memory objects None = []
+dump_by h l image memory objects (Some object) = object_text h l image memory objects object
 
 -- the dump of the heap object that has an address
-abbrev pub raw_dump : Classes → Places → Store → List Opened → ℕ → List ℕ
-raw_dump h l memory objects at = dump_by h l memory objects (object_at objects at)
+abbrev pub raw_dump : Classes → Places → ImageBytes → Store → List Opened → ℕ → List ℕ
+raw_dump h l image memory objects at = dump_by h l image memory objects (object_at objects at)

@@ -9,6 +9,7 @@ use Rattle.abi_slots.specs.declared.code_numbers.BlockKind.TheVariants.{Plain}
 use Rattle.abi_slots.specs.declared.code_numbers.CodeRow.{CodeRow}
 use Rattle.abi_slots.specs.CodeRows.{kind_number}
 use Rattle.byte_memory.specs.Store.{Store}
+use Rattle.byte_code.specs.declared.code.ImageBytes.{ImageBytes}
 use Rattle.byte_machine.specs.declared.heap.Opened.{Opened}
 use Rattle.byte_machine.specs.declared.turn.RawOut.{RawOut}
 use Rattle.byte_machine.specs.declared.turn.RawOut.TheVariants.{Number, Address, Class, Dump, Call, Built, Ending}
@@ -31,18 +32,18 @@ function_in h None = []
 function_in h (Some f) = function_text h f
 
 -- what is told, without the line feed at its end; `rows` are the numbers of all code, by which a call names its function
-abbrev pub raw_line : Classes → Places → List CodeRow → Store → List Opened → RawOut → List ℕ
-raw_line h l rows memory objects (Number z) = signed_decimal z
-raw_line h l rows memory objects (Address at) = address_text objects at
-raw_line h l rows memory objects (Class c) = name_of h (record { 0 = c })
-raw_line h l rows memory objects (Dump at) = raw_dump h l memory objects at
-raw_line h l rows memory objects (Call block this) = codes "call " ++ function_in h (function_at rows block) ++ codes " " ++ address_text objects this
-raw_line h l rows memory objects (Built c at) = codes "built " ++ name_of h (record { 0 = c }) ++ codes " " ++ address_text objects at
-raw_line h l rows memory objects (Ending c at) = codes "ending " ++ name_of h (record { 0 = c }) ++ codes " " ++ address_text objects at
+abbrev pub raw_line : Classes → Places → List CodeRow → ImageBytes → Store → List Opened → RawOut → List ℕ
+raw_line h l rows image memory objects (Number z) = signed_decimal z
+raw_line h l rows image memory objects (Address at) = address_text objects at
+raw_line h l rows image memory objects (Class c) = name_of h (record { 0 = c })
+raw_line h l rows image memory objects (Dump at) = raw_dump h l image memory objects at
+raw_line h l rows image memory objects (Call block this) = codes "call " ++ function_in h (function_at rows block) ++ codes " " ++ address_text objects this
+raw_line h l rows image memory objects (Built c at) = codes "built " ++ name_of h (record { 0 = c }) ++ codes " " ++ address_text objects at
+raw_line h l rows image memory objects (Ending c at) = codes "ending " ++ name_of h (record { 0 = c }) ++ codes " " ++ address_text objects at
 
 -- the text of what is told: a line, or the lines of a dump
-abbrev pub raw_text : Classes → Places → List CodeRow → Store → List Opened → RawOut → List ℕ
-raw_text h l rows memory objects raw = raw_line h l rows memory objects raw ++ 10 ∷ []
+abbrev pub raw_text : Classes → Places → List CodeRow → ImageBytes → Store → List Opened → RawOut → List ℕ
+raw_text h l rows image memory objects raw = raw_line h l rows image memory objects raw ++ 10 ∷ []
 
 -- calls, and the ends of constructions and begins of destructions, are told in a trace alone
 abbrev pub is_traced : RawOut → Bool
@@ -64,8 +65,8 @@ shown true told = told
 shown false told = printed told
 
 -- the text of what is shown, in order
-abbrev pub raw_texts : Classes → Places → List CodeRow → Store → List Opened → List RawOut → List ℕ
-raw_texts h l rows memory objects told = flat_map (raw_text h l rows memory objects) told
+abbrev pub raw_texts : Classes → Places → List CodeRow → ImageBytes → Store → List Opened → List RawOut → List ℕ
+raw_texts h l rows image memory objects told = flat_map (raw_text h l rows image memory objects) told
 
 -- the object that is to be dumped
 

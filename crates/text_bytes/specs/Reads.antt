@@ -2,6 +2,8 @@
 use Rattle.std.specs.Prelude.{◌≡◌, ℕ, ◌+◌, Bool, false, Some, List, Contains, map, slice_get}
 use Rattle.cxx_hierarchy.specs.declared.records.ClassId.{ClassId}
 use Rattle.cxx_hierarchy.specs.declared.records.ValueType.{ValueType}
+use Rattle.path_plan.specs.Phases.{Complete}
+use Rattle.path_plan.specs.Views.{Settled}
 use Rattle.path_plan.specs.Whole.{whole_part}
 use Rattle.path_model.specs.declared.outs.DumpLeaf.{DumpLeaf}
 use Rattle.path_model.specs.declared.outs.Out.{Out}
@@ -20,12 +22,14 @@ pub record HasTypedLeaves (w : World) (s : Objects) : Type 0 where
   pub leaf : (a : Leaf) (t : ValueType ClassId) → IsLeafMade (classes_in w) s.classes a t → IsValue (classes_in w) s.classes (s.leaf a) t
   pub held : (a : Leaf) (t : ValueType ClassId) → IsLeafMade (classes_in w) s.classes a t → IsHeld (width_of_leaf (classes_in w) a) (s.leaf a) t
 
--- a dump tells the leaves of an open object, as they are
+-- a dump tells the leaves of an open and complete object, as they are
 pub record IsDumpOf (w : World) (s : Objects) (number : ℕ) (c : ClassId) (leaves : List DumpLeaf) : Type 0 where
   pub object : ℕ
   pub number_is : number ≡ object + 1
   pub class : slice_get s.classes object ≡ Some c
   pub is_open : s.is_closed object ≡ false
+  pub complete : s.phases.phase (whole_part object c) ≡ Complete
+  pub settled : Settled (classes_in w) object s.phases
   pub leaves_are : leaves ≡ map (dump_leaf s) (leaves_of (classes_in w) c (whole_part object c))
 
 -- a dump is one of the state, and a called function has a body

@@ -3,12 +3,13 @@
 ghost use Rattle.std.specs.Prelude.{◌≡◌, ◌++◌, ◌<◌, IfOk, OnOk, length};
 ghost use Rattle.abi_sound.specs.Places.{places_of};
 ghost use Rattle.byte_machine.specs.Heap.{object_at};
-ghost use Rattle.byte_machine.specs.MachineState.{state_of};
+ghost use Rattle.byte_machine.specs.MachineState.{image_of, state_of};
 ghost use Rattle.text_told.specs.Dumps.{by_place, lines_from};
 ghost use Rattle.text_bytes.specs.RawDumps.{object_text, raw_dump, raw_items};
 ghost use Rattle.text_bytes.specs.RawTexts.{IsKnown};
 
 use crate::items::push_rows;
+use crate::led::push_led;
 use crate::rows::leaf_rows;
 use abi_print::text::{append, append_class, append_number};
 use abi_sound::SoundLayout;
@@ -18,7 +19,7 @@ use cxx_hierarchy::{ClassId, Hierarchy};
 use foundation::NoMemory;
 use std::alloc::Global;
 use text_told::dump::{append_lines, sort_by_place};
-use text_told::items::{Item, push_pointers};
+use text_told::items::Item;
 use text_told::pointers::pointers_of;
 
 /// What lies in an object of a class that starts at an address: its virtual pointers, and behind them its leaves.
@@ -32,12 +33,12 @@ fn raw_items<M: Memory, L: SoundLayout>(
 ) -> Result<Vec<Item>, NoMemory>
     requires layout { L.lays_out layout.now h.now }
     requires known { c.0 < length h.now }
-    ensures { IfOk result (λ items. items.items ≡ raw_items h.now (places_of h.now (L.rows layout.now)) (state_of machine.now).memory (state_of machine.now).objects start c) }
+    ensures { IfOk result (λ items. items.items ≡ raw_items h.now (places_of h.now (L.rows layout.now)) (image_of machine.now) (state_of machine.now).memory (state_of machine.now).objects start c) }
 {
     h.keeps();
     let mut items = Vec::new(alloc);
     let pointers = pointers_of(alloc, h, layout, c)?;
-    push_pointers(alloc, h, &mut items, &pointers)?;
+    push_led(alloc, h, machine, &mut items, start, &pointers)?;
     let rows = leaf_rows(alloc, h, layout, c)?;
     push_rows(alloc, h, machine, &mut items, start, rows.as_slice())?;
     Ok(items)
@@ -55,7 +56,7 @@ fn append_contents<M: Memory, L: SoundLayout>(
 ) -> Result<(), NoMemory>
     requires layout { L.lays_out layout.now h.now }
     requires known { c.0 < length h.now }
-    ensures { OnOk result (text.new.items ≡ text.old.items ++ lines_from ((places_of h.now (L.rows layout.now)).size c) 0 (by_place ((places_of h.now (L.rows layout.now)).size c) (raw_items h.now (places_of h.now (L.rows layout.now)) (state_of machine.now).memory (state_of machine.now).objects start c))) }
+    ensures { OnOk result (text.new.items ≡ text.old.items ++ lines_from ((places_of h.now (L.rows layout.now)).size c) 0 (by_place ((places_of h.now (L.rows layout.now)).size c) (raw_items h.now (places_of h.now (L.rows layout.now)) (image_of machine.now) (state_of machine.now).memory (state_of machine.now).objects start c))) }
 {
     h.keeps();
     let size = layout.layout(c).size;
@@ -76,7 +77,7 @@ fn append_object<M: Memory, L: SoundLayout>(
 ) -> Result<(), NoMemory>
     requires layout { L.lays_out layout.now h.now }
     requires known { object.class < length h.now }
-    ensures { OnOk result (text.new.items ≡ text.old.items ++ object_text h.now (places_of h.now (L.rows layout.now)) (state_of machine.now).memory (state_of machine.now).objects object) }
+    ensures { OnOk result (text.new.items ≡ text.old.items ++ object_text h.now (places_of h.now (L.rows layout.now)) (image_of machine.now) (state_of machine.now).memory (state_of machine.now).objects object) }
 {
     let c = ClassId(object.class);
     append(text, b"dump #")?;
@@ -102,7 +103,7 @@ pub(crate) fn append_raw_dump<M: Memory, L: SoundLayout>(
 ) -> Result<(), NoMemory>
     requires layout { L.lays_out layout.now h.now }
     requires known { IsKnown h.now (object_at (state_of machine.now).objects at) }
-    ensures { OnOk result (text.new.items ≡ text.old.items ++ raw_dump h.now (places_of h.now (L.rows layout.now)) (state_of machine.now).memory (state_of machine.now).objects at) }
+    ensures { OnOk result (text.new.items ≡ text.old.items ++ raw_dump h.now (places_of h.now (L.rows layout.now)) (image_of machine.now) (state_of machine.now).memory (state_of machine.now).objects at) }
 {
     match machine.opened(at) {
         None => Ok(()),

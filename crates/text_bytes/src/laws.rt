@@ -20,9 +20,9 @@ ghost use Rattle.text_bytes.specs.Reads.{AreShownOf, HasTypedLeaves, IsToldOf};
 /// the machine tells has a text then (`there`).
 pub fn raw_texts_are_texts()
     ensures one { (w : World) (world : IsWorld w) (s : Objects) (memory : Store) (opened : List Opened) (heap : ℕ) (notes : Notes) (raw : RawOut) (out : Out) → ColumnsStand w s memory opened heap notes → HasTypedLeaves w s →
-        ReadsAs w world.lowered.at (heap_of s.classes memory.regions) raw out → IsToldOf w s out → raw_text (classes_in w) (places_in w) w.numbers memory opened raw ≡ out_text (classes_in w) (places_in w) out }
+        ReadsAs w world.lowered.at (heap_of s.classes memory.regions) raw out → IsToldOf w s out → raw_text (classes_in w) (places_in w) w.numbers w.image memory opened raw ≡ out_text (classes_in w) (places_in w) out }
     ensures shown { (w : World) (world : IsWorld w) (s : Objects) (memory : Store) (opened : List Opened) (heap : ℕ) (notes : Notes) (trace : Bool) (told : List RawOut) (outs : List Out) → ColumnsStand w s memory opened heap notes → HasTypedLeaves w s →
-        ReadAs w world.lowered.at (heap_of s.classes memory.regions) told outs → AreShownOf trace w s outs → raw_texts (classes_in w) (places_in w) w.numbers memory opened (shown_raw trace told) ≡ text_of (classes_in w) (places_in w) (shown_outs trace outs) }
+        ReadAs w world.lowered.at (heap_of s.classes memory.regions) told outs → AreShownOf trace w s outs → raw_texts (classes_in w) (places_in w) w.numbers w.image memory opened (shown_raw trace told) ≡ text_of (classes_in w) (places_in w) (shown_outs trace outs) }
     ensures there { (w : World) (world : IsWorld w) (s : Objects) (memory : Store) (opened : List Opened) (heap : ℕ) (notes : Notes) (told : List RawOut) (outs : List Out) (raw : RawOut) → ColumnsStand w s memory opened heap notes →
         ReadAs w world.lowered.at (heap_of s.classes memory.regions) told outs → Contains told raw → HasText (classes_in w) opened raw }
 {}

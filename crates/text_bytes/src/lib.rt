@@ -1,7 +1,7 @@
-//! The text of what the byte machine tells, read over its own memory and heap objects.
+//! The text of what the byte machine tells, read over its own memory, image and heap objects.
 //!
 //! This crate owns the leaves of an object by its class and a layout, with their names (`specs/LeafRows.antt`); the text of a dump
-//! whose leaves are read from memory (`specs/RawDumps.antt`); and the text of each thing that a byte machine tells
+//! whose leaves and virtual pointers are read (`specs/RawDumps.antt`); and the text of each thing that a byte machine tells
 //! (`specs/RawTexts.antt`). These definitions speak of addresses, bytes and class numbers alone.
 //!
 //! The layer above may rely on: `append_raw` puts that text at the end of a text, and leaves it as it was in want of memory; a call
@@ -14,6 +14,7 @@ pub mod called;
 pub mod dump;
 pub mod items;
 pub mod laws;
+pub mod led;
 pub mod members;
 pub mod raw_text;
 pub mod rows;

@@ -2,7 +2,7 @@
 
 ghost use Rattle.std.specs.Prelude.{◌≡◌, ◌++◌, ◌∷◌, [], IfOk, OnErr, OnOk, codes};
 ghost use Rattle.abi_sound.specs.Places.{places_of};
-ghost use Rattle.byte_machine.specs.MachineState.{state_of};
+ghost use Rattle.byte_machine.specs.MachineState.{image_of, state_of};
 ghost use Rattle.abi_print.specs.LayoutTexts.{name_of};
 ghost use Rattle.text_bytes.specs.RawDumps.{address_text};
 ghost use Rattle.text_bytes.specs.RawTexts.{HasText, function_at, function_in, is_traced, raw_line, raw_text};
@@ -84,7 +84,7 @@ fn append_told<M: Memory, L: SoundLayout>(
 ) -> Result<(), NoMemory>
     requires layout { L.lays_out layout.now h.now }
     requires has_text { HasText h.now (state_of machine.now).objects raw }
-    ensures { OnOk result (text.new.items ≡ text.old.items ++ raw_line h.now (places_of h.now (L.rows layout.now)) called.now (state_of machine.now).memory (state_of machine.now).objects raw) }
+    ensures { OnOk result (text.new.items ≡ text.old.items ++ raw_line h.now (places_of h.now (L.rows layout.now)) called.now (image_of machine.now) (state_of machine.now).memory (state_of machine.now).objects raw) }
 {
     match raw {
         RawOut::Number(number) => append_signed(alloc, text, number),
@@ -116,7 +116,7 @@ pub fn append_raw<M: Memory, L: SoundLayout>(
 ) -> Result<(), NoMemory>
     requires layout { L.lays_out layout.now h.now }
     requires has_text { HasText h.now (state_of machine.now).objects raw }
-    ensures ok { OnOk result (text.new.items ≡ text.old.items ++ raw_text h.now (places_of h.now (L.rows layout.now)) called.now (state_of machine.now).memory (state_of machine.now).objects raw) }
+    ensures ok { OnOk result (text.new.items ≡ text.old.items ++ raw_text h.now (places_of h.now (L.rows layout.now)) called.now (image_of machine.now) (state_of machine.now).memory (state_of machine.now).objects raw) }
     ensures err { OnErr result (text.new.items ≡ text.old.items) }
 {
     let mut line = Vec::new(alloc);
