@@ -122,7 +122,7 @@ class Ends(unittest.TestCase):
     def test_an_output_that_cannot_be_written(self):
         source = self.write("source.src", SOURCE)
         for name, words in {**TAKING, **WITHOUT}.items():
-            if name != "worked-cases":
+            if name not in ("worked-cases", "stack"):  # the second runs all shapes before it writes
                 self.end(name, words, 2, self.proper(name), sink="/dev/full")
         self.end("from-cpp", ["--program", "{}"], 2, self.proper("from-cpp"), sink="/dev/full")
         self.end("gcc-tests", ["--table", "/dev/null/x", "{}"], 2, self.proper("gcc-tests"))

@@ -45,12 +45,5 @@ class Halving(unittest.TestCase):
         self.assertTrue(done.stdout.endswith(f"{len(deep.rows())} runs with 256 kB of stack, {len(deep.rows())} of them do not do\n"))
 
 
-@support.needs_program
-class Built(unittest.TestCase):
-    def test_each_command_does_with_256_kilobytes(self):
-        done = support.run("stack", "--under", "256")
-        self.assertEqual((done.returncode, done.stderr), (0, ""), done.stdout)
-
-
 if __name__ == "__main__":
     unittest.main()

@@ -9,7 +9,7 @@ SOURCE, LISTING, DUMP, NOTHING = "a source", "a listing and a source", "a dump a
 
 Command = namedtuple("Command", "name words takes line")
 
-NAME = r"[A-Za-z_]\w*"
+NAME = r"[A-Za-z_]\w{0,254}"
 PATH = rf"\*?{NAME}(?:/{NAME})*"
 TYPE = rf"(?:{NAME} )*{NAME}\*?(?:\[\d+\])?"
 ELEMENT = rf"(?:{PATH}::)?{NAME}(?:\[\d+\])?"

@@ -1,0 +1,12 @@
+pub mod Cuts
+pub mod Digits
+pub mod Hex
+pub mod Ranges
+pub mod Tokens
+pub mod Readings
+pub mod LineReads
+pub mod RowSteps
+pub mod Headers
+pub mod Inspections
+pub mod Sorting
+pub mod SlotPlaces

@@ -1,0 +1,5 @@
+pub mod Digits
+pub mod Readable
+pub mod FirstLines
+pub mod RowReads
+pub mod Inspections

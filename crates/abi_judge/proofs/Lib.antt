@@ -1,0 +1,12 @@
+pub mod Ranges
+pub mod WayLemmas
+pub mod Pushed
+pub mod Pairs
+pub mod Fits
+pub mod Heads
+pub mod Shared
+pub mod Known
+pub mod Judged
+pub mod Sorted
+pub mod Told
+pub mod Named
