@@ -1,4 +1,4 @@
-"""tools/fuzz: small C programs with each fault that it looks for, and the built program for half a minute."""
+"""tools/fuzz: small C programs with each fault that it looks for, and the built program on two thousand inputs."""
 import os
 import re
 import shutil
@@ -195,10 +195,11 @@ class Differences(unittest.TestCase):
 
 @support.needs_program
 class Built(unittest.TestCase):
-    def test_half_a_minute(self):
-        done = support.run("fuzz", "--minutes", "0.5", "--seed", "2026")
+    def test_two_thousand_inputs(self):
+        """So many and no time, so that each machine tries the same ones."""
+        done = support.run("fuzz", "--inputs", "2000", "--seed", "2026")
         self.assertEqual((done.returncode, done.stderr), (0, ""), done.stdout)
-        self.assertGreater(int(re.search(r"(?m)^(\d+) inputs", done.stdout)[1]), 100)
+        self.assertEqual(int(re.search(r"(?m)^(\d+) inputs", done.stdout)[1]), 2000)
 
     def test_programs_are_made_of_the_seed(self):
         self.assertEqual(inputs.program_of.__wrapped__("1/7"), inputs.program_of.__wrapped__("1/7"))
