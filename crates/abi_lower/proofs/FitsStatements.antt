@@ -79,7 +79,7 @@ module _ (h : Classes) (keeps : IsHierarchy h) (e : Scope) (fine : IsFineScope h
   fits_cast c d SameClass known is = tt
   fits_cast c d (Up i) known (cast_up _ _ _ proper) = record { known = known; valid = proper.valid }
   fits_cast c d (Down target i) known (cast_down _ _ _ proper whole there) = record { known = there; valid = proper.valid }
-  fits_cast c d (Dynamic target) known is = tt
+  fits_cast c d (Dynamic target) known (cast_dynamic _ _ polymorphic there) = there
 
   cast_leads : (c d : ClassId) (cast : TypedCast) → c.0 < length h → Casts h c cast d → (cast_class cast c ≡ d) × (d.0 < length h)
   cast_leads c d SameClass known (cast_same _) = (refl, known)

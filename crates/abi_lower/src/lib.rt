@@ -21,3 +21,4 @@ pub mod runs;
 pub mod statement_blocks;
 
 pub use crate::programs::{Lowered, lower};
+pub use code_statements::hints::hint_of;

@@ -64,7 +64,7 @@ module _ (h : Classes) (root : ClassId) (x : Subobject) (part : Subobject → Pa
   valid s k = inside_valid h root x s shows.view k
 
   -- the class of a subobject by the number of its part's class
-  class_is : (s : Subobject) (c : ClassId) → IsInside h x s → g.class (part s) ≡ c.0 → class_of s ≡ Some c
+  pub class_is : (s : Subobject) (c : ClassId) → IsInside h x s → g.class (part s) ≡ c.0 → class_of s ≡ Some c
   class_is s c k e =
       let d = class_in h root x part g shows s k in
       let number : d.0.0 ≡ c.0 = sym (shows.class s d.0 k d.1) ∙ e in

@@ -20,3 +20,4 @@ pub mod CastReading
 pub mod Walking
 pub mod Joining
 pub mod FirstPoints
+pub mod Hinting

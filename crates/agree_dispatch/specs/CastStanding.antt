@@ -4,7 +4,10 @@ use Rattle.byte_memory.specs.Store.{Store}
 use Rattle.cxx_hierarchy.specs.declared.records.ClassId.{ClassId}
 use Rattle.cxx_hierarchy.specs.Classes.{Classes}
 use Rattle.cxx_hierarchy.specs.Hierarchies.{IsHierarchy}
+use Rattle.cxx_subobject.specs.declared.Root.TheVariants.{Whole}
 use Rattle.cxx_subobject.specs.declared.Subobject.{Subobject}
+use Rattle.cxx_subobject.specs.Subobjects.{IsSubobject, class_of, whole_of}
+use Rattle.cxx_subobject.specs.Inside.{IsPublicWalk}
 use Rattle.abi_sound.specs.declared.class_layout.ClassLayout.{ClassLayout}
 use Rattle.abi_sound.specs.Places.{Places, places_of}
 use Rattle.abi_sound.specs.Sound.{IsSoundLayout}
@@ -43,3 +46,10 @@ pub record HasFirstPoint (image : Image) (info : ClassId → ℕ) (base : ℕ) (
 abbrev pub address_of : Places → View → ℕ → Option Subobject → Option ℕ
 address_of l x start None = None
 address_of l x start (Some t) = Some (start + l.place x.complete t)
+
+-- s is a public base, of class c, of an object of class `target`, and lies in no virtual base of it
+pub record IsPlainBase (h : Classes) (target c : ClassId) (s : Subobject) : Type 0 where
+  pub valid : IsSubobject h target s
+  pub class : class_of s ≡ Some c
+  pub plain : s.root ≡ Whole
+  pub walk : IsPublicWalk h (whole_of target) s

@@ -1,6 +1,6 @@
 //! The laws. The functions do nothing: their contracts are what they say.
 
-ghost use Rattle.std.specs.Prelude.{◌≡◌, ℕ, ◌+◌, ◌*◌, ◌<◌, ◌≤◌, ◌^◌, Bool, false, Option, Some, List, length, slice_get};
+ghost use Rattle.std.specs.Prelude.{◌≡◌, ℕ, ◌+◌, ◌*◌, ◌<◌, ◌≤◌, ◌^◌, Bool, false, Option, Some, List, length, slice_get, pos};
 ghost use Rattle.byte_memory.specs.Store.{Store};
 ghost use Rattle.cxx_hierarchy.specs.declared.records.ClassId.{ClassId};
 ghost use Rattle.cxx_hierarchy.specs.Classes.{Classes};
@@ -22,15 +22,18 @@ ghost use Rattle.abi_slots.specs.Views.{View, place, seen};
 ghost use Rattle.abi_slots.specs.Groups.{IsGroup};
 ghost use Rattle.abi_slots.specs.Images.{Image, Addresses, HasTables, whole_name};
 ghost use Rattle.abi_slots.specs.Seen.{PlacedTables};
-ghost use Rattle.abi_dyncast.specs.Casts.{CastsTo, CanCast, TellsWithin, CanTellWithin};
-ghost use Rattle.agree_dispatch.specs.CastStanding.{IsStanding, HasFirstPoint, address_of};
+ghost use Rattle.abi_dyncast.specs.Graph.{graph_of};
+ghost use Rattle.abi_dyncast.specs.Casts.{CastsTo, CanCast, IsTrueHint, view_of, TellsWithin, CanTellWithin};
+ghost use Rattle.agree_dispatch.specs.CastStanding.{IsStanding, IsPlainBase, HasFirstPoint, address_of};
 
 /// A cast from a dynamic subobject of a view that stands can be had (`can`), with room for as many parts as its class has
 /// subobjects; and any answer of it is the address of the subobject to which the cast leads, or none where it leads nowhere
-/// (`answer`; ISO C++03 5.2.7 p8).
+/// (`answer`; ISO C++03 5.2.7 p8). A hint is true there that is the place, in an object of the target's class, of a public base of the
+/// source's class which lies in no virtual base (`hint`; Itanium C++ ABI 2.9.7).
 pub fn casts()
     ensures can { (h : Classes) (rows : List ClassLayout) (x : View) (placed : PlacedTables) (memory : Store) (start parts : ℕ) (s : Subobject) (c : ClassId) → IsStanding h rows x placed memory start → length (preorder h x.class) ≤ parts → IsSubobject h x.class s → class_of s ≡ Some c → IsDynamic h c → CanCast placed.image memory parts (start + place (places_of h rows) x s) }
     ensures answer { (h : Classes) (rows : List ClassLayout) (x : View) (placed : PlacedTables) (memory : Store) (start : ℕ) (s : Subobject) (c target : ClassId) (result : Option ℕ) → IsStanding h rows x placed memory start → IsSubobject h x.class s → class_of s ≡ Some c → IsDynamic h c → CastsTo placed.image memory (start + place (places_of h rows) x s) c.0 target.0 result → result ≡ address_of (places_of h rows) x start (cast_in h target x.at_sub (seen x s)) }
+    ensures hint { (h : Classes) (rows : List ClassLayout) (x : View) (placed : PlacedTables) (memory : Store) (start : ℕ) (s : Subobject) (c target : ClassId) (b : Subobject) → IsStanding h rows x placed memory start → IsSubobject h x.class s → class_of s ≡ Some c → IsDynamic h c → IsPlainBase h target c b → IsTrueHint (graph_of placed.image memory) (view_of placed.image memory (start + place (places_of h rows) x s)) c.0 target.0 (pos ((places_of h rows).place target b)) }
 {}
 
 /// Whether a subobject of the complete object lies in a view that stands can be told (`can`), and what is told is right

@@ -1,5 +1,5 @@
 -- A dynamic_cast over bytes, from a part of a view whose pointers are set, leads where the rule leads.
-use Rattle.std.proofs.Common.{◌≡◌, ℕ, ◌+◌, false, Option, Some, None, List, [], ◌∷◌, ◌++◌, append_assoc, refl, ap, subst, sym, ◌∙◌, true, arith}
+use Rattle.std.proofs.Common.{◌≡◌, ℕ, ◌+◌, false, Option, Some, None, List, [], ◌∷◌, ◌++◌, append_assoc, refl, ap, subst, sym, ◌∙◌, true, arith, pos}
 use Rattle.std.specs.Prelude.{Contains}
 use Rattle.foundation.proofs.Truth.{split}
 use Rattle.foundation.proofs.Places.{contains_at}
@@ -12,7 +12,7 @@ use Rattle.cxx_subobject.specs.declared.Subobject.{Subobject}
 use Rattle.cxx_subobject.specs.Subobjects.{IsSubobject, whole, shared, subobject, whole_of, shared_base, class_of, join, base_subobject}
 use Rattle.cxx_subobject.specs.Inside.{IsInside}
 use Rattle.cxx_subobject.specs.Locations.{ObjectPart}
-use Rattle.cxx_subobject.proofs.InsideLemmas.{join_class, join_valid, join_whole, whole_joined}
+use Rattle.cxx_subobject.proofs.InsideLemmas.{join_class, join_valid, join_whole, whole_joined, inside_valid}
 use Rattle.cxx_subobject.proofs.TreeLemmas.{base_down}
 use Rattle.cxx_search.specs.Searches.{cast_in}
 use Rattle.cxx_search.proofs.Casts.{is_cast}
@@ -28,8 +28,9 @@ use Rattle.byte_code.specs.Images.{word_at}
 use Rattle.abi_dyncast.specs.declared.parts.Part.{Part}
 use Rattle.abi_dyncast.specs.Rule.{IsCast}
 use Rattle.abi_dyncast.specs.Graph.{graph_of}
-use Rattle.abi_dyncast.specs.Casts.{parts_below, view_of, place_in, CastsTo, CanCast}
+use Rattle.abi_dyncast.specs.Casts.{parts_below, view_of, place_in, CastsTo, CanCast, IsTrueHint}
 use Rattle.abi_dyncast.proofs.Transfer.{made as part_made}
+use Rattle.code_statements.specs.Hints.{hint_of}
 use Rattle.agree_parts.specs.Heaps.{Heap}
 use Rattle.agree_parts.specs.Addresses.{address}
 use Rattle.agree_parts.specs.Placed.{IsLaid}
@@ -42,10 +43,12 @@ use Rattle.agree_dispatch.proofs.Answering.{answered}
 use Rattle.agree_dispatch.proofs.CastReading.{part_of, record_for}
 use Rattle.agree_dispatch.proofs.Walking.{finds_view, can_cast}
 use Rattle.agree_dispatch.proofs.Joining.{cast_can, cast_answers}
-use Rattle.agree_dispatch.specs.CastStanding.{address_of}
+use Rattle.agree_dispatch.proofs.Hinting.{hint_true, standing_hint}
+use Rattle.agree_dispatch.specs.CastStanding.{IsPlainBase, address_of}
 use Rattle.agree_relation.specs.Worlds.{World, IsWorld, classes_in, places_in}
 use Rattle.agree_relation.specs.Columns.{HasPointers}
 use Rattle.agree_relation.proofs.Standing.{plain_root}
+use Rattle.agree_relation.proofs.HintedBases.{hint_is_true}
 use Rattle.agree_relation.proofs.Within.{alone_now, own_shows, inside_now}
 
 -- the direct base of a subobject, as a subobject of what that is one of
@@ -207,3 +210,28 @@ module _ (w : World) (g : Heap) (memory : Store) (q : ObjectPart) (c d : ClassId
     -- and leads where the rule leads in this view
     pub cast_leads : (target : ClassId) (result : Option ℕ) → CastsTo (word_at w.image) memory (address (classes_in w) (places_in w) g (part q.object q.owner y)) e.0 target.0 result → result ≡ place_of_answer (cast_in (classes_in w) target q.at y)
     cast_leads target result casts = split (has_virtual (classes_in w) c) (λ b. result ≡ place_of_answer (cast_in (classes_in w) target q.at y)) (λ some. inside_casts some target result casts) (λ none. alone_casts none target result casts)
+
+    alone_hint : has_virtual (classes_in w) c ≡ false → (target : ClassId) (b : Subobject) → IsPlainBase (classes_in w) target e b → IsTrueHint (graph_of (word_at w.image) memory) (view_of (word_at w.image) memory (address (classes_in w) (places_in w) g (part q.object q.owner y))) e.0 target.0 (pos ((places_in w).place target b))
+    alone_hint none target b base =
+        let h = classes_in w in
+        let graph = graph_of (word_at w.image) memory in
+        let r = as_own y k in
+        let view = finds_view h w.setup.rows (record { complete = c; at_sub = whole_of c; class = c }) tables memory (address h (places_in w) g q) (alone_now w g memory q c d world laid made owner dynamic pointers none) r.part e r.inside (r.class ∙ class) dynamic_part in
+        let seen = ap (λ (p : Part). view_of (word_at w.image) memory p.at) (own_is none y r.part r.valid r.joined) ∙ (view.is ∙ sym (own_is none q.at (whole_of c) (whole [] tt) (sym (join_whole q.at c)))) in
+        subst (λ (p : Part). IsTrueHint graph p e.0 target.0 (pos ((places_in w).place target b))) (sym seen)
+        (hint_true h d q.at part_at graph (shows_there none) target e b ((places_in w).place target b) base
+        (λ t there of. to_inner h w.setup.rows g (part q.object q.owner t) target b (other_made h g q c d target t made owner (inside_valid h d q.at t in_complete there) of) base.valid base.plain))
+
+    inside_hint : has_virtual (classes_in w) c ≡ true → (target : ClassId) (b : Subobject) → IsPlainBase (classes_in w) target e b → IsTrueHint (graph_of (word_at w.image) memory) (view_of (word_at w.image) memory (address (classes_in w) (places_in w) g (part q.object q.owner y))) e.0 target.0 (pos ((places_in w).place target b))
+    inside_hint some target b base =
+        let h = classes_in w in
+        let r = as_own y k in
+        subst (λ (n : ℕ). IsTrueHint (graph_of (word_at w.image) memory) (view_of (word_at w.image) memory n) e.0 target.0 (pos ((places_in w).place target b))) (sym (at_joined r.part r.joined))
+        (standing_hint h w.setup.rows (record { complete = d; at_sub = q.at; class = c }) tables memory whole_at (inside_now w g memory q c d world laid made owner dynamic pointers some) r.part e e target b r.valid (r.class ∙ class) dynamic_part base)
+
+    plain_hint : (target : ClassId) (b : Subobject) → IsPlainBase (classes_in w) target e b → IsTrueHint (graph_of (word_at w.image) memory) (view_of (word_at w.image) memory (address (classes_in w) (places_in w) g (part q.object q.owner y))) e.0 target.0 (pos ((places_in w).place target b))
+    plain_hint target b base = split (has_virtual (classes_in w) c) (λ t. IsTrueHint (graph_of (word_at w.image) memory) (view_of (word_at w.image) memory (address (classes_in w) (places_in w) g (part q.object q.owner y))) e.0 target.0 (pos ((places_in w).place target b))) (λ some. inside_hint some target b base) (λ none. alone_hint none target b base)
+
+    -- and its hint is true
+    pub hint_there : (target : ClassId) → IsTrueHint (graph_of (word_at w.image) memory) (view_of (word_at w.image) memory (address (classes_in w) (places_in w) g (part q.object q.owner y))) e.0 target.0 (hint_of (classes_in w) (places_in w) e target)
+    hint_there target = hint_is_true (graph_of (word_at w.image) memory) (view_of (word_at w.image) memory (address (classes_in w) (places_in w) g (part q.object q.owner y))) (classes_in w) (places_in w) e target (plain_hint target)

@@ -32,4 +32,5 @@ pub mod Played
 pub mod RunsPlayed
 pub mod Begun
 pub mod ViewChecks
+pub mod HintedBases
 pub mod Casts

@@ -1,5 +1,5 @@
 -- `v = dynamic_cast<D*>(p);`
-use Rattle.std.proofs.Common.{◌≡◌, ℕ, Bool, true, false, Option, Some, None, List, [], ◌∷◌, ◌++◌, inl, inr, refl, ap, sym, ◌∙◌, subst, arith}
+use Rattle.std.proofs.Common.{◌≡◌, ℕ, Bool, true, false, Option, Some, None, List, [], ◌∷◌, ◌++◌, inl, inr, refl, ap, sym, ◌∙◌, subst, arith, ℤ}
 use Rattle.std.specs.Prelude.{slice_set, if◌then◌else◌}
 use Rattle.cxx_hierarchy.specs.declared.records.ClassId.{ClassId}
 use Rattle.cxx_hierarchy.specs.declared.records.ValueType.TheVariants.{Pointer as PointerType}
@@ -34,14 +34,15 @@ use Rattle.code_ops.specs.Arguments.{free, class_at, checked_taken}
 use Rattle.code_ops.specs.Operands.{operand_register, ops_of}
 use Rattle.code_ops.specs.Uses.{reads}
 use Rattle.code_ops.specs.declared.uses.Used.TheVariants.{Guards as GuardsWord, Views as ViewsWord}
-use Rattle.code_statements.specs.Rights.{cast_used, cast_class, no_hint}
+use Rattle.code_statements.specs.Rights.{cast_used, cast_class}
+use Rattle.code_statements.specs.Hints.{hint_of}
 use Rattle.agree_parts.specs.Addresses.{address}
 use Rattle.agree_parts.proofs.Inside.{part_positive}
 use Rattle.agree_relation.specs.Worlds.{classes_in, places_in, fixed}
 use Rattle.agree_relation.specs.Words.{register_word}
 use Rattle.agree_relation.specs.Frames.{HasVariables}
 use Rattle.agree_relation.proofs.Objects.{objects_laid}
-use Rattle.agree_relation.proofs.Casts.{cast_there, cast_leads, place_of_answer}
+use Rattle.agree_relation.proofs.Casts.{cast_there, cast_leads, hint_there, place_of_answer}
 use Rattle.agree_statements.specs.Registers.{at_registers, Wrote, body_on}
 use Rattle.agree_statements.specs.Tests.{Along, nothing, tested}
 use Rattle.agree_statements.proofs.Registers.{leads_grouped, set_here, wrote_set, variables_kept}
@@ -70,6 +71,10 @@ module _ {statement : TypedStatement} (scene : Scene statement) (locals : List V
 
   abbrev jump : List Op
   jump = Jump (to_next scene statement.next) ∷ []
+
+  -- the hint of the cast from a class
+  abbrev hint : ClassId → ℤ
+  hint k = hint_of (classes_in w) (places_in w) k target
 
   abbrev uses : List Use
   uses = cast_uses (Dynamic target) v
@@ -103,13 +108,13 @@ module _ {statement : TypedStatement} (scene : Scene statement) (locals : List V
 
   casts_value : (y : Value) (k : ClassId) (new : List (Option ℕ)) → v ≡ y → IsDynamic (classes_in w) k → IsValue (classes_in w) s.objects.classes y (PointerType k) → is_unset y ≡ false → ((r : Undefined) → is_broken (classes_in w) s.objects uses r ≡ false) → HasVariables w (here scene) (body_on f locals f.next) new → register_of new from ≡ register_word w (here scene) y
       → {ops : List Op} → ((last : List (Option ℕ)) → Wrote (free (block scene) 1) new last → register_of last (free (block scene) 1) ≡ register_word w (here scene) (cast_value (classes_in w) s.objects (Dynamic target) y) → Leads (fixed w) ops (at_registers b last) (Reaches scene))
-      → Leads (fixed w) (CastOp (free (block scene) 1) from k.0 target.0 no_hint ∷ ops) (at_registers b new) (Reaches scene)
+      → Leads (fixed w) (CastOp (free (block scene) 1) from k.0 target.0 (hint k) ∷ ops) (at_registers b new) (Reaches scene)
   casts_value Unset k new is dynamic typed set none kept has rest = absurd (let e : true ≡ false = set in cc)
   casts_value (Number z) k new is dynamic typed set none kept has rest = absurd typed
   casts_value Null k new is dynamic typed set none kept has rest =
       let to = free (block scene) 1 in
       let inside = free_in scene locals new 1 (omega arith) kept in
-      leads_cast_null (fixed w) to from k.0 target.0 no_hint has inside (rest (slice_set new to (Some 0)) (wrote_set b new to (Some 0)) (set_here b new to (Some 0) inside))
+      leads_cast_null (fixed w) to from k.0 target.0 (hint k) has inside (rest (slice_set new to (Some 0)) (wrote_set b new to (Some 0)) (set_here b new to (Some 0) inside))
   casts_value (Pointer p) k new is dynamic made set none kept has rest =
       let h = classes_in w in
       let g = here scene in
@@ -122,8 +127,9 @@ module _ {statement : TypedStatement} (scene : Scene statement) (locals : List V
       let some = part_positive h w.setup.rows g p k laid made in
       let within : IsInside h q.at p.at = record { class = a.sight.class; of_class = a.sight.there.of_class; part = a.inner; valid = a.valid; joined = sym (ap (λ (z : ObjectPart). z.at) a.is) } in
       let given = cast_given h s.objects target p a.sight.at a.sight.is_view (inside_within h scene.world.hierarchy a.sight.at p.at within) in
-      leads_cast (fixed w) to from k.0 target.0 no_hint (address h (places_in w) g p) has (λ e. omega arith)
-      (record { can = cast_there w g b.memory q a.sight.class a.sight.complete scene.world laid a.sight.there a.sight.owner a.standing.dynamic a.standing.pointers p.at k within made.of_class dynamic; truth = tt }) inside
+      let truth = hint_there w g b.memory q a.sight.class a.sight.complete scene.world laid a.sight.there a.sight.owner a.standing.dynamic a.standing.pointers p.at k within made.of_class dynamic target in
+      leads_cast (fixed w) to from k.0 target.0 (hint k) (address h (places_in w) g p) has (λ e. omega arith)
+      (record { can = cast_there w g b.memory q a.sight.class a.sight.complete scene.world laid a.sight.there a.sight.owner a.standing.dynamic a.standing.pointers p.at k within made.of_class dynamic; truth = truth }) inside
       (λ answer casts.
       let led = cast_leads w g b.memory q a.sight.class a.sight.complete scene.world laid a.sight.there a.sight.owner a.standing.dynamic a.standing.pointers p.at k within made.of_class dynamic target answer casts in
       rest (slice_set new to (Some (or_null answer))) (wrote_set b new to (Some (or_null answer)))
@@ -136,7 +142,7 @@ module _ {statement : TypedStatement} (scene : Scene statement) (locals : List V
       let wanted = Some (cast_class (Dynamic target) (class_at (block scene) x)) in
       leads_cast_front scene locals variable (Dynamic target) x c take old variables dynamic_tests
       (λ new none fine kept has.
-      subst (λ (q : ClassId). Leads (fixed w) (((CastOp to from q.0 target.0 no_hint ∷ []) ++ ops_of (checked_taken (block scene) variable wanted c (free (block scene) 2) to)) ++ jump) (at_registers b new) (Reaches scene)) (sym (class_at_is k.from k.has))
-      (leads_grouped (fixed w) (CastOp to from k.from.0 target.0 no_hint ∷ []) (ops_of (checked_taken (block scene) variable wanted c (free (block scene) 2) to)) jump
+      subst (λ (q : ClassId). Leads (fixed w) (((CastOp to from q.0 target.0 (hint q) ∷ []) ++ ops_of (checked_taken (block scene) variable wanted c (free (block scene) 2) to)) ++ jump) (at_registers b new) (Reaches scene)) (sym (class_at_is k.from k.has))
+      (leads_grouped (fixed w) (CastOp to from k.from.0 target.0 (hint k.from) ∷ []) (ops_of (checked_taken (block scene) variable wanted c (free (block scene) 2) to)) jump
       (casts_value v k.from new refl cast_dynamic_class (cast_reads scene locals variable (Dynamic target) x c take) (unbroken (fixed w) b (Reaches scene) (classes_in w) s.objects uses (Reads v) UnsetUse (none UnsetUse) (inl refl)) none kept has
       (λ last wrote is. cast_taken scene locals variable (Dynamic target) x c take last none (inl refl) fine (variables_kept w (here scene) (body_on f locals f.next) to new last (free_of scene locals 1 take.count) kept wrote) is))))

@@ -4,3 +4,4 @@ pub mod MemberSteps
 pub mod CopySteps
 pub mod CoverSteps
 pub mod Near
+pub mod Sources

@@ -1,3 +1,4 @@
+pub mod Hints
 pub mod Rights
 pub mod Statements
 pub mod invariants

@@ -1,5 +1,5 @@
 -- The ops of right sides. Registers that are free for a block are numbered from 0: the first four have operands, the next ones what is made of them.
-use Rattle.std.specs.Prelude.{ℕ, ℤ, negsuc, ◌-◌, ◌%◌, ◌^◌, Bool, true, false, ◌||◌, if◌then◌else◌, Option, Some, None, List, [], ◌∷◌, ◌++◌}
+use Rattle.std.specs.Prelude.{ℕ, ◌-◌, ◌%◌, ◌^◌, Bool, true, false, ◌||◌, if◌then◌else◌, Option, Some, None, List, [], ◌∷◌, ◌++◌}
 use Rattle.cxx_hierarchy.specs.declared.records.ClassId.{ClassId}
 use Rattle.cxx_hierarchy.specs.declared.records.ValueType.{ValueType}
 use Rattle.cxx_subobject.specs.declared.Subobject.{Subobject}
@@ -38,6 +38,7 @@ use Rattle.code_ops.specs.declared.uses.Used.TheVariants.{ReadsPointer, Guards, 
 use Rattle.code_ops.specs.Uses.{check_ops, reads, views_if, convert_used, arrow_used}
 use Rattle.code_ops.specs.PlaceOps.{place_ops, place_used, place_type}
 use Rattle.code_ops.specs.Leaves.{place_leaf, set_check, load_op}
+use Rattle.code_statements.specs.Hints.{hint_of}
 use Rattle.code_ops.specs.Arguments.{Block, free, class_at, argument_front, argument_used, argument_ops, taken_ops, checked_taken, arguments_front, arguments_used, arguments_ops, arguments_registers}
 
 -- so many bytes back, modulo 2 ^ 64
@@ -63,15 +64,11 @@ cast_used b (Up i) r p = reads b.scope r p ++ (Guards (operand_register r p) 0 (
 cast_used b (Down target i) r p = reads b.scope r p ++ (Guards (operand_register r p) 0 (class_at b p).0 ∷ Downs (operand_register r p) (back_by ((places b.x).place target i)) target.0 ∷ [])
 cast_used b (Dynamic target) r p = reads b.scope r p ++ (Guards (operand_register r p) 0 (class_at b p).0 ∷ Views (operand_register r p) 0 (class_at b p).0 ∷ [])
 
--- the hint that says nothing of where the source lies in an object of the target's class (Itanium C++ ABI 2.9.7)
-abbrev pub no_hint : ℤ
-no_hint = negsuc 0
-
 abbrev pub cast_ops : Block → TypedCast → (to from : ℕ) → ClassId → List Op
 cast_ops b SameClass to from c = Does (Move to from) ∷ []
 cast_ops b (Up i) to from c = ops_of (base_ops b.x c i to from)
 cast_ops b (Down target i) to from c = Does (Add to from (back_by ((places b.x).place target i))) ∷ []
-cast_ops b (Dynamic target) to from c = CastOp to from c.0 target.0 no_hint ∷ []
+cast_ops b (Dynamic target) to from c = CastOp to from c.0 target.0 (hint_of b.x.h (places b.x) c target) ∷ []
 
 -- the class to which a cast leads from c
 abbrev pub cast_class : TypedCast → ClassId → ClassId

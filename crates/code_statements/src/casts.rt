@@ -7,6 +7,7 @@ ghost use Rattle.code_ops.specs.invariants.Fits.{FitsOperand, FitsBase};
 ghost use Rattle.code_ops.specs.invariants.Sites.{site_places, site_block, IsLaidSite};
 ghost use Rattle.code_statements.specs.invariants.Fits.{FitsCast};
 
+use crate::hints::hint_of;
 use abi_sound::SoundLayout;
 use byte_code::{Finish, Op, OpList};
 use code_ops::operands::{class_or_first, operand_register, push_base, push_done};
@@ -17,9 +18,6 @@ use cxx_hierarchy::ClassId;
 use cxx_program::{TypedCast, TypedOperand};
 use cxx_subobject::{Subobject, class_of};
 use foundation::{NoMemory, Sequence};
-
-/// The hint that says nothing of where the source lies in an object of the target's class (Itanium C++ ABI 2.9.7).
-const NO_HINT: i64 = -1;
 
 /// So many bytes back, modulo 2^64.
 fn back_by(n: u32) -> u64
@@ -106,13 +104,16 @@ pub fn push_cast<L: SoundLayout>(
                 offset,
             }))?;
         }
-        TypedCast::Dynamic(target) => ops.push(Op::Cast {
-            to,
-            base: from,
-            class: c.0,
-            target: target.0,
-            hint: NO_HINT,
-        })?,
+        TypedCast::Dynamic(target) => {
+            let hint = hint_of(site.alloc, site.h, site.layout, c, *target)?;
+            ops.push(Op::Cast {
+                to,
+                base: from,
+                class: c.0,
+                target: target.0,
+                hint,
+            })?;
+        }
     }
     Ok(())
 }

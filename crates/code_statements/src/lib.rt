@@ -17,6 +17,7 @@ pub mod covers;
 pub mod deletes;
 pub mod distances;
 pub mod flows;
+pub mod hints;
 pub mod loads;
 pub mod right_sites;
 pub mod right_uses;

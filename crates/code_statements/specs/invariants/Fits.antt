@@ -34,7 +34,7 @@ abbrev pub FitsCast : Classes → ClassId → TypedCast → Type 0
 FitsCast h c SameClass = Unit {0}
 FitsCast h c (Up i) = FitsBase h c i
 FitsCast h c (Down target i) = FitsBase h target i
-FitsCast h c (Dynamic target) = Unit {0}
+FitsCast h c (Dynamic target) = target.0 < length h
 
 abbrev pub FitsWay : Classes → ClassId → Option Subobject → Type 0
 FitsWay h c None = Unit {0}
