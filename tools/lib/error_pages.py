@@ -37,7 +37,7 @@ def entries():
     except OSError as error:
         raise Problem(f"{PAGE} cannot be read: {error.strerror}; run this tool inside the repository", 2) from None
     found = {}
-    for head, body in re.findall(r"^## ([EULMA]\d+[^\n]*)\n(.*?)(?=^## |\Z)", text, re.S | re.M):
+    for head, body in re.findall(r"^## ([EULMAFI]\d+[^\n]*)\n(.*?)(?=^## |\Z)", text, re.S | re.M):
         entry = _entry(head.split(), body)
         found[entry.code] = entry
     return found

@@ -7,7 +7,7 @@ import sys
 from .problem import Problem
 from .program import TOP
 
-COMMANDS = ["check", "layout", "tables", "run", "paths", "array", "memptr", "gen"]
+COMMANDS = ["check", "layout", "tables", "run", "paths", "array", "memptr", "inspect", "foreign", "gen"]
 
 
 def page_text(*path):

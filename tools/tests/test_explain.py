@@ -41,7 +41,7 @@ class Explain(unittest.TestCase):
         limits = set(re.findall(r"^    (L\d+),$", stops, re.M))
         wanted |= {f"U{number}": name for name, number in re.findall(r"^undefined_no (\w+) = (\d+)", steps, re.M)}
         statuses = read("cxxabi_cmd", "specs", "Statuses.antt")
-        wanted |= dict(re.findall(r'^name_of_input ([MA]\d) = codes "(\w+)"', statuses, re.M))
+        wanted |= dict(re.findall(r'^name_of_input ([MAFI]\d) = codes "(\w+)"', statuses, re.M))
         found = error_pages.entries()
         self.assertEqual({code: entry.name for code, entry in found.items() if code[0] != "L"}, wanted)
         self.assertEqual({code for code in found if code[0] == "L"}, limits)

@@ -52,7 +52,7 @@ seen_made seen object c object_is class_is =
 more_lines : (lines k j : ℕ) → j ≤ k → k ≤ lines → suc j ≤ suc lines
 more_lines lines k j le enough = omega arith
 
-named : (xs : Classes) (i : ℕ) (x : Class) → slice_get xs i ≡ Some x → slice_get (class_names xs) i ≡ Some x.name
+pub named : (xs : Classes) (i : ℕ) (x : Class) → slice_get xs i ≡ Some x → slice_get (class_names xs) i ≡ Some x.name
 named [] i x e = cc
 named (y ∷ xs) zero x e = let same : y ≡ x = cc in ap (λ (z : Class). Some z.name) same
 named (y ∷ xs) (suc i) x e = named xs i x e
@@ -79,7 +79,7 @@ module _ (h : Classes) (l : Places) (words : AreNamesWords h) (small : (c : Clas
       subst (λ (o : Option Class). IsToken (name_in o) Word 0) (sym g.1) (words.each c g.0 g.1)
 
   -- the first line of a dump has the parts of one
-  head_of : (object : ℕ) (c : ClassId) (r text : List ℕ) → c.0 < length h → object ≤ most_number → text ≡ first_line h l object c ++ r → IsFirstLine (decimal object) (name_of h c) (decimal (l.size c)) r text
+  pub head_of : (object : ℕ) (c : ClassId) (r text : List ℕ) → c.0 < length h → object ≤ most_number → text ≡ first_line h l object c ++ r → IsFirstLine (decimal object) (name_of h c) (decimal (l.size c)) r text
   head_of object c r text known high is =
       let size = small c known in
       record {
@@ -100,6 +100,7 @@ module _ (h : Classes) (l : Places) (words : AreNamesWords h) (small : (c : Clas
   -- where no dump has the first line, the fault is in it
   pub first_fault : (text : List ℕ) → (NamesNoClass h text → ⊥) → ((s : Seen) (r : List ℕ) → IsFitting h l s → text ≡ first_line h l s.object s.class ++ r → ⊥) → IsFirstFault h l text 1
   first_fault text otherwise none = record {
+    low = omega arith;
     none = λ s d. none s (concat (row_lines h (rows_of h l s.class) s.leaves)) d.fits d.is;
     otherwise = otherwise;
     before = λ n low high. absurd (omega arith);
@@ -212,6 +213,7 @@ module _ (h : Classes) (l : Places) (words : AreNamesWords h) (small : (c : Clas
           let n = fault.lines in
           let same : line_number ≡ suc (suc n) = fault.line_is ∙ plus_two n in
           record {
+            low = omega (arith, same);
             none = no_dump_behind line_number fault;
             otherwise = otherwise;
             before = λ m low high. from_one m low (λ j. λ e. as_dump n fault.stopped.values known fault.stopped.before j (omega (arith, same, e, high)));

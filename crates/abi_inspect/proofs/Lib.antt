@@ -10,3 +10,6 @@ pub mod Headers
 pub mod Inspections
 pub mod Sorting
 pub mod SlotPlaces
+pub mod OneReading
+pub mod Searches
+pub mod SomeReading

@@ -46,7 +46,7 @@ module _ (h : Classes) (x : LeafLine) where
   last : List ℕ
   last = type_text h x.ty ++ codes " " ++ x.name ++ codes "\n"
 
-  parts : (v : SeenValue) (r : List ℕ) → leaf_line h x v ++ r ≡ before_value x ++ (value_text x.bits.width x.ty v ++ 32 ∷ ((type_text h x.ty ++ codes " " ++ x.name ++ codes "\n") ++ r))
+  pub parts : (v : SeenValue) (r : List ℕ) → leaf_line h x v ++ r ≡ before_value x ++ (value_text x.bits.width x.ty v ++ 32 ∷ ((type_text h x.ty ++ codes " " ++ x.name ++ codes "\n") ++ r))
   parts v r = regroup (before_value x) (value_text x.bits.width x.ty v) (type_text h x.ty ++ codes " " ++ x.name ++ codes "\n") r
 
   -- what is read up to the first space is the value

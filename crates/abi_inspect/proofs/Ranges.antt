@@ -17,7 +17,7 @@ use Rattle.abi_inspect.specs.invariants.Digits.{IsBelowWord}
 use Rattle.abi_inspect.specs.invariants.Readable.{bits_in}
 
 -- all bits of a type hold the numbers of the type
-range_width : (t : Scalar) (z : ℤ) → IsInRange t z → IsInWidth t (most_bits t) z
+pub range_width : (t : Scalar) (z : ℤ) → IsInRange t z → IsInWidth t (most_bits t) z
 range_width TheBool z r = record { least = r.least; greatest = r.greatest }
 range_width Char z r = record { least = r.least; greatest = r.greatest }
 range_width SChar z r = record { least = r.least; greatest = r.greatest }

@@ -58,7 +58,7 @@ other_number width t text read (Place number place) begins each fits is = absurd
 
 -- pointers
 
-grouped : (number place : ℕ) → decimal number ++ codes "+" ++ decimal place ≡ decimal number ++ 43 ∷ decimal place
+pub grouped : (number place : ℕ) → decimal number ++ codes "+" ++ decimal place ≡ decimal number ++ 43 ∷ decimal place
 grouped number place = simp append_assoc
 
 pub plus_there : (text : List ℕ) (number place : ℕ) → (Contains text 43 → ⊥) → text ≡ decimal number ++ codes "+" ++ decimal place → ⊥
@@ -69,7 +69,7 @@ pub plus_cut : (text front back : List ℕ) (number place : ℕ) → IsPlace num
 plus_cut text front back number place is cut before same =
     same_cut front back (decimal number) (decimal place) 43 (sym cut ∙ (same ∙ grouped number place)) (λ has. before (contains_from_has front 43 has)) (λ has. no_digit number 43 (small_word number is.high) (omega arith) has)
 
-head_same : (a b : ℕ) (xs ys : List ℕ) → a ∷ xs ≡ b ∷ ys → a ≡ b
+pub head_same : (a b : ℕ) (xs ys : List ℕ) → a ∷ xs ≡ b ∷ ys → a ≡ b
 head_same a b xs ys e = cc
 
 -- which pointer a text is of

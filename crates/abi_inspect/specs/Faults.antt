@@ -41,8 +41,10 @@ pub record BeginsDump (h : Classes) (l : Places) (text : List ℕ) (lines : ℕ)
   pub enough : lines ≤ length (lines_of h l seen)
   pub is : text ≡ concat (take lines (lines_of h l seen)) ++ rest
 
--- the text is no dump, and this is the first line with which it begins none, or the line after the last where lines are missing
+-- the text is no dump, and this is the first line with which it begins none, or the line after the last where lines are missing. Lines
+-- count from 1
 pub record IsFirstFault (h : Classes) (l : Places) (text : List ℕ) (line : ℕ) : Type 0 where
+  pub low : 1 ≤ line
   pub none : (seen : Seen) → IsDumpOf h l seen text → ⊥
   pub otherwise : NamesNoClass h text → ⊥
   pub before : (n : ℕ) → 1 ≤ n → n < line → BeginsDump h l text n

@@ -7,11 +7,12 @@
 //!
 //! The layer above may rely on: `inspect` gives the values exactly where they fit and the text is their dump, and else the fault with
 //! its line; `dump_text` writes the dump of values that fit, and `seen_text` says them. So `inspect` of `dump_text` gives the values
-//! back, and a dump has one reading.
+//! back. Each text has a reading, and one (`some_reading`, `one_reading`): the values of a dump, an unknown class, or a first fault.
 #![tactic(auto)]
 
 pub mod header;
 pub mod inspection;
+pub mod laws;
 pub mod lines;
 pub mod numbers;
 pub mod reading;
@@ -23,6 +24,7 @@ pub mod values;
 pub mod writing;
 
 pub use crate::inspection::inspect;
+pub use crate::laws::{one_reading, some_reading};
 pub use crate::saying::seen_text;
 pub use crate::seen::{InspectFault, Seen, SeenList, SeenValue};
 pub use crate::writing::dump_text;

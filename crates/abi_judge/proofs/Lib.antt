@@ -10,3 +10,4 @@ pub mod Judged
 pub mod Sorted
 pub mod Told
 pub mod Named
+pub mod SomeFault

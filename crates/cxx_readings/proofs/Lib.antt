@@ -17,3 +17,8 @@ pub mod Parts
 pub mod Items
 pub mod Runs
 pub mod Owners
+pub mod RightTails
+pub mod StatementTails
+pub mod PartTails
+pub mod SourceTails
+pub mod NameWords

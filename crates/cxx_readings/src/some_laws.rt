@@ -1,14 +1,18 @@
-//! Laws: the tokens of a text are those of a source, or they have a first event; and what a source says of its bodies.
+//! Laws: the tokens of a text are those of a source, or they have a first event; and what a source says of its bodies and names.
 
-ghost use Rattle.std.specs.Prelude.{◌≤◌, ◌⊎◌, List, Option, ℕ, length};
+ghost use Rattle.std.specs.Prelude.{◌≡◌, ◌≤◌, ◌⊎◌, List, Option, Some, ℕ, length, slice_get};
 ghost use Rattle.cxx_text.specs.declared.token.Token.{Token};
+ghost use Rattle.cxx_text.specs.declared.token.Kind.TheVariants.{Word};
+ghost use Rattle.cxx_text.specs.OneToken.{IsToken};
 ghost use Rattle.cxx_text.specs.Cover.{AreTokens, max_text_bytes};
 ghost use Rattle.cxx_grammar.specs.declared.sort.Lexeme.{Lexeme};
 ghost use Rattle.cxx_grammar.specs.Grammar.{source_form};
 ghost use Rattle.cxx_grammar.specs.Lexemes.{lexemes, source_start};
 ghost use Rattle.cxx_grammar.specs.Event.{Event, DerivesPrefix, at_start};
+ghost use Rattle.cxx_hierarchy.specs.declared.records.ClassRec.{ClassRec};
 ghost use Rattle.cxx_hierarchy.specs.declared.stop.Stop.{Stop};
 ghost use Rattle.cxx_syntax.specs.declared.source_text.SourceText.{SourceText};
+ghost use Rattle.cxx_syntax.specs.Parts.{Spelled};
 ghost use Rattle.cxx_syntax.specs.Sources.{SourceReads};
 ghost use Rattle.cxx_syntax.specs.Owners.{AreBodiesOf};
 
@@ -21,4 +25,10 @@ pub fn some_source_text()
 /// constructor and each destructor, in the order of declaration. Only constructors have initializers.
 pub fn bodies_of_records()
     ensures { (text : List ℕ) (s : SourceText) (ts rest : List Lexeme) → SourceReads text s ts rest → AreBodiesOf s.records s.bodies }
+{}
+
+/// The name of each class of a source is a word (ISO C++03 2.10).
+pub fn classes_have_words()
+    ensures { (text : List ℕ) (s : SourceText) (ts : List Token) (bad : Option ℕ) (rest : List Lexeme) → AreTokens text ts bad → SourceReads text s (lexemes text source_start ts bad) rest →
+        (n : ℕ) (r : ClassRec Spelled) → slice_get s.records n ≡ Some r → IsToken r.name Word 0 }
 {}

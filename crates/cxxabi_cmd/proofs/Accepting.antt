@@ -1,11 +1,18 @@
 -- What is known of an accepted source.
-use Rattle.std.proofs.Common.{◌≡◌, ℕ, Bool, Option, Some, None, Ok, List, [], take, drop, true, refl, sym, ◌∙◌, ap}
+use Rattle.std.proofs.Common.{◌≡◌, ℕ, zero, suc, Bool, Option, Some, None, Ok, List, [], ◌∷◌, map, take, drop, true, refl, sym, ◌∙◌, ap, subst}
+use Rattle.std.specs.Prelude.{slice_get}
 use Rattle.std.specs.Option.{is_some}
 use Rattle.std.proofs.lemmas.List.Elements.{recursion_from_All}
 use Rattle.foundation.proofs.Places.{each_at}
-use Rattle.cxx_hierarchy.specs.Classes.{Classes}
-use Rattle.cxx_hierarchy.specs.ClassPass.{faults_of, IsInOrder}
-use Rattle.cxx_hierarchy.specs.Resolved.{resolved}
+use Rattle.cxx_hierarchy.specs.Classes.{Class, Classes}
+use Rattle.cxx_hierarchy.specs.ClassPass.{Record, names_of, faults_of, IsInOrder}
+use Rattle.cxx_hierarchy.specs.Resolved.{ByName, class_of_name, resolved_class, resolved}
+use Rattle.cxx_text.specs.OneToken.{IsToken}
+use Rattle.cxx_text.specs.declared.token.Kind.TheVariants.{Word}
+use Rattle.cxx_grammar.specs.declared.sort.Lexeme.{Lexeme}
+use Rattle.cxx_syntax.specs.Sources.{SourceReads}
+use Rattle.cxx_readings.proofs.NameWords.{names_are_words, named_at}
+use Rattle.abi_inspect.specs.Faults.{AreNamesWords}
 use Rattle.cxx_hierarchy.specs.Hierarchies.{IsHierarchy}
 use Rattle.cxx_hierarchy.proofs.Kept.{is_hierarchy}
 use Rattle.cxx_syntax.specs.declared.tree.BodyTree.{BodyTree}
@@ -51,6 +58,37 @@ accepted_keeps text s h p verdict = (kept text (Accepts s h p) verdict).0
 -- and have no fault
 pub accepted_fine : (text : List ℕ) (s : SourceText) (h : Classes) (p : TypedProgram) → Verdict text (Accepts s h p) → HasNoFault h
 accepted_fine text s h p verdict = (kept text (Accepts s h p) verdict).1
+
+-- the names of the classes of an accepted source are words
+class_name : (text : List ℕ) (s : SourceText) → IsSource text s → (n : ℕ) (r : Record) → slice_get s.records n ≡ Some r → IsToken r.name Word 0
+class_name text s is n r at =
+    let sorted = is.sorts.sorted in
+    let reads = subst (λ (ts : List Lexeme). SourceReads text s ts is.rest) sorted is.reads in
+    named_at s.records n r (names_are_words text s is.sorts.tokens is.sorts.bad is.rest is.sorts.cover reads) at
+
+names_kept : (records : List Record) (of : ByName) → ((n : ℕ) (r : Record) → slice_get records n ≡ Some r → IsToken r.name Word 0) → (n : ℕ) (class : Class) → slice_get (map (resolved_class of) records) n ≡ Some class → IsToken class.name Word 0
+names_kept [] of each n class at = absurd (let f : None ≡ Some class = at in cc)
+names_kept (r ∷ records) of each zero class at =
+    let same : resolved_class of r ≡ class = (let f : Some (resolved_class of r) ≡ Some class = at in cc) in subst (λ (c : Class). IsToken c.name Word 0) same (each zero r refl)
+names_kept (r ∷ records) of each (suc n) class at = names_kept records of (λ m q is. each (suc m) q is) n class at
+
+source_named : (text : List ℕ) (s : SourceText) → IsSource text s → AreNamesWords (resolved s.records)
+source_named text s is = record { each = λ c class at. names_kept s.records (class_of_name (names_of s.records)) (class_name text s is) c.0 class at }
+
+abbrev Named : Judgement → Type 0
+Named (Stops stop) = Unit {0}
+Named (Accepts source h program) = AreNamesWords h
+
+named : (text : List ℕ) (judgement : Judgement) → Verdict text judgement → Named judgement
+named text _ (by_text stop is) = tt
+named text _ (by_records s stop is first) = tt
+named text _ (by_classes s stop is none first) = tt
+named text _ (by_bodies s stop is none nothing resolves) = tt
+named text _ (by_words s p is none nothing resolves many) = tt
+named text _ (accepted s p is none nothing resolves few) = source_named text s is
+
+pub accepted_names : (text : List ℕ) (s : SourceText) (h : Classes) (p : TypedProgram) → Verdict text (Accepts s h p) → AreNamesWords h
+accepted_names text s h p verdict = named text (Accepts s h p) verdict
 
 -- a program has a main exactly where its source has one
 tree_kept : (h : Classes) (globals : List Entry) (tree : BodyTree) (main : Option TypedBody) → main_tree h globals tree ≡ Ok main → is_body main ≡ true

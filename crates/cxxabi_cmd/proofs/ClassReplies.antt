@@ -16,10 +16,11 @@ use Rattle.abi_cookie.specs.Answers.{IsArrayAnswer}
 use Rattle.abi_memptr.specs.Pointers.{Outcome}
 use Rattle.abi_memptr.specs.Answers.{answer_of as answer_of_member}
 use Rattle.cxxabi_words.specs.declared.command.QualifiedMember.{QualifiedMember}
-use Rattle.cxxabi_words.specs.declared.command.Command.TheVariants.{Array, MemberPointer}
+use Rattle.cxxabi_words.specs.declared.command.Command.TheVariants.{Array, MemberPointer, Inspect}
 use Rattle.cxxabi_cmd.specs.declared.reply.Reply.{Reply}
 use Rattle.cxxabi_cmd.specs.Answers.{Answer, IsArrayReply, elements_of, array_answer, IsMemberReply, member_of, member_answer}
-use Rattle.cxxabi_cmd.specs.Output.{Yields, arrayed, pointed}
+use Rattle.cxxabi_cmd.specs.Divided.{IsDumpReply}
+use Rattle.cxxabi_cmd.specs.Output.{Yields, arrayed, pointed, inspected}
 use Rattle.cxxabi_cmd.specs.invariants.Replies.{answer_of}
 
 -- an answer that was made is one
@@ -37,13 +38,17 @@ member_replied r size h rows named k d outcome a at of laid is same made =
     replied r (IsMemberReply size h named) a made (subst (IsMemberReply size h named) (ap member_answer (sym is) ∙ same) (member_of k d rows at of laid))
 
 -- what the commands yield
-pub yields_array : (r : Result Reply Want) (size : ℕ) (source : SourceText) (h : Classes) (typed : TypedProgram) (name : List ℕ) (n : ℕ) → IfOk r (λ reply. IsArrayReply size h name n (answer_of reply)) → IfOk r (λ reply. Yields size source h typed (Array name n) (answer_of reply))
-yields_array (Ok reply) size source h typed name n is = arrayed name n (answer_of reply) is
-yields_array (Err w) size source h typed name n is = is
+pub yields_array : (r : Result Reply Want) (front : List ℕ) (size : ℕ) (source : SourceText) (h : Classes) (typed : TypedProgram) (name : List ℕ) (n : ℕ) → IfOk r (λ reply. IsArrayReply size h name n (answer_of reply)) → IfOk r (λ reply. Yields front size source h typed (Array name n) (answer_of reply))
+yields_array (Ok reply) front size source h typed name n is = arrayed name n (answer_of reply) is
+yields_array (Err w) front size source h typed name n is = is
 
-pub yields_member : (r : Result Reply Want) (size : ℕ) (source : SourceText) (h : Classes) (typed : TypedProgram) (named : QualifiedMember) → IfOk r (λ reply. IsMemberReply size h named (answer_of reply)) → IfOk r (λ reply. Yields size source h typed (MemberPointer named) (answer_of reply))
-yields_member (Ok reply) size source h typed named is = pointed named (answer_of reply) is
-yields_member (Err w) size source h typed named is = is
+pub yields_member : (r : Result Reply Want) (front : List ℕ) (size : ℕ) (source : SourceText) (h : Classes) (typed : TypedProgram) (named : QualifiedMember) → IfOk r (λ reply. IsMemberReply size h named (answer_of reply)) → IfOk r (λ reply. Yields front size source h typed (MemberPointer named) (answer_of reply))
+yields_member (Ok reply) front size source h typed named is = pointed named (answer_of reply) is
+yields_member (Err w) front size source h typed named is = is
+
+pub yields_dump : (r : Result Reply Want) (front : List ℕ) (size : ℕ) (source : SourceText) (h : Classes) (typed : TypedProgram) → IfOk r (λ reply. IsDumpReply front h (answer_of reply)) → IfOk r (λ reply. Yields front size source h typed Inspect (answer_of reply))
+yields_dump (Ok reply) front size source h typed is = inspected (answer_of reply) is
+yields_dump (Err w) front size source h typed is = is
 
 -- the alignment of a class by the rules is 8 bytes at most
 most : (a : ℕ) → IsAlignment a → a ≤ 8

@@ -29,8 +29,8 @@ Reads text tokens bad source = (rest : List Lexeme) × SourceReads text source (
 lexemes_of : (text : List ℕ) (tokens : List Token) (bad : Option ℕ) → AreTokens text tokens bad → AreLexemes text (lexemes text source_start tokens bad)
 lexemes_of text tokens bad cover = record { tokens = tokens; bad = bad; cover = cover; sorted = refl }
 
-source_of : (text : List ℕ) (tokens : List Token) (bad : Option ℕ) (source : SourceText) → AreTokens text tokens bad → Reads text tokens bad source → IsSource text source
-source_of text tokens bad source cover reads = record {
+input_of : (text : List ℕ) (tokens : List Token) (bad : Option ℕ) (source : SourceText) → AreTokens text tokens bad → Reads text tokens bad source → IsSource text source
+input_of text tokens bad source cover reads = record {
   all = lexemes text source_start tokens bad;
   sorts = lexemes_of text tokens bad cover;
   rest = reads.0;
@@ -46,12 +46,12 @@ text_stop text tokens bad e cover either = ⊎_elim (λ memory. inl memory)
 pub records_stop : (text : List ℕ) (tokens : List Token) (bad : Option ℕ) (source : SourceText) (e : Stop) → AreTokens text tokens bad → Reads text tokens bad source → StopsAt (faults_of source.records) e →
     (e ≡ stop.NoMemory) ⊎ Verdict text (Stops e)
 records_stop text tokens bad source e cover reads either = ⊎_elim (λ memory. inl memory)
-    (λ first. inr (by_records source e (source_of text tokens bad source cover reads) first)) either
+    (λ first. inr (by_records source e (input_of text tokens bad source cover reads) first)) either
 
 pub classes_stop : (text : List ℕ) (tokens : List Token) (bad : Option ℕ) (source : SourceText) (h : Classes) (e : Stop) → AreTokens text tokens bad → Reads text tokens bad source →
     (faults_of source.records ≡ []) × (h ≡ resolved source.records) → (e ≡ stop.NoMemory) ⊎ IsFirstFault h e → (e ≡ stop.NoMemory) ⊎ Verdict text (Stops e)
 classes_stop text tokens bad source h e cover reads passes either = ⊎_elim (λ memory. inl memory)
-    (λ first. inr (by_classes source e (source_of text tokens bad source cover reads) passes.0 (subst (λ (k : Classes). IsFirstFault k e) passes.1 first))) either
+    (λ first. inr (by_classes source e (input_of text tokens bad source cover reads) passes.0 (subst (λ (k : Classes). IsFirstFault k e) passes.1 first))) either
 
 -- the bodies of a text have few statements
 pub few_statements : (text : List ℕ) (tokens : List Token) (bad : Option ℕ) (source : SourceText) → length tokens ≤ max_text_bytes + 1 → Reads text tokens bad source → HasFewStatements (2 ^ 32) source
@@ -71,7 +71,7 @@ fails (stop.Limit limit) answer is = inr is
 pub bodies_stop : (text : List ℕ) (tokens : List Token) (bad : Option ℕ) (source : SourceText) (h : Classes) (e : Stop) → AreTokens text tokens bad → Reads text tokens bad source →
     (faults_of source.records ≡ []) × (h ≡ resolved source.records) → HasNoFault h → Fails e (program_of h source) → (e ≡ stop.NoMemory) ⊎ Verdict text (Stops e)
 bodies_stop text tokens bad source h e cover reads passes none is = ⊎_elim (λ memory. inl memory)
-    (λ resolves. inr (by_bodies source e (source_of text tokens bad source cover reads) passes.0 (subst (λ (k : Classes). HasNoFault k) passes.1 none)
+    (λ resolves. inr (by_bodies source e (input_of text tokens bad source cover reads) passes.0 (subst (λ (k : Classes). HasNoFault k) passes.1 none)
     (subst (λ (k : Classes). program_of k source ≡ Err e) passes.1 resolves)))
     (fails e (program_of h source) is)
 
@@ -79,12 +79,12 @@ pub words_stop : (text : List ℕ) (tokens : List Token) (bad : Option ℕ) (sou
     (faults_of source.records ≡ []) × (h ≡ resolved source.records) → HasNoFault h → program_of h source ≡ Ok program → (e ≡ stop.NoMemory) ⊎ ((e ≡ stop.Limit L7) × HasManyWords h) → (e ≡ stop.NoMemory) ⊎ Verdict text (Stops e)
 words_stop text tokens bad source h program e cover reads passes none resolves either = ⊎_elim (λ memory. inl memory)
     (λ many. inr (subst (λ (d : Stop). Verdict text (Stops d)) (sym many.0)
-    (by_words source program (source_of text tokens bad source cover reads) passes.0 (subst (λ (k : Classes). HasNoFault k) passes.1 none)
+    (by_words source program (input_of text tokens bad source cover reads) passes.0 (subst (λ (k : Classes). HasNoFault k) passes.1 none)
     (subst (λ (k : Classes). program_of k source ≡ Ok program) passes.1 resolves) (subst (λ (k : Classes). HasManyWords k) passes.1 many.1)))) either
 
 pub all_passed : (text : List ℕ) (tokens : List Token) (bad : Option ℕ) (source : SourceText) (h : Classes) (program : TypedProgram) → AreTokens text tokens bad → Reads text tokens bad source →
     (faults_of source.records ≡ []) × (h ≡ resolved source.records) → HasNoFault h → program_of h source ≡ Ok program → HasFewWords h → Verdict text (Accepts source h program)
 all_passed text tokens bad source h program cover reads passes none resolves few =
     subst (λ (k : Classes). Verdict text (Accepts source k program)) (sym passes.1)
-    (accepted source program (source_of text tokens bad source cover reads) passes.0 (subst (λ (k : Classes). HasNoFault k) passes.1 none)
+    (accepted source program (input_of text tokens bad source cover reads) passes.0 (subst (λ (k : Classes). HasNoFault k) passes.1 none)
     (subst (λ (k : Classes). program_of k source ≡ Ok program) passes.1 resolves) (subst (λ (k : Classes). HasFewWords k) passes.1 few))

@@ -19,7 +19,11 @@ pub mod ViewNames
 pub mod OneFault
 pub mod OneVerdict
 pub mod SameMains
+pub mod Asking
+pub mod DividedReplies
 pub mod OneOutput
+pub mod DividedAnswers
 pub mod SameTexts
 pub mod SomeFault
+pub mod SomeDivided
 pub mod SomeOutput

@@ -11,20 +11,20 @@ use Rattle.cxxabi_words.proofs.CommandLaws.{one_command}
 use Rattle.cxxabi_cmd.specs.declared.status.Status.{Status}
 use Rattle.cxxabi_cmd.specs.declared.status.Status.TheVariants.{Usage, Limit, WriteFault}
 use Rattle.cxxabi_cmd.specs.Streams.{IsPartOf}
-use Rattle.cxxabi_cmd.specs.Commands.{source_of}
+use Rattle.cxxabi_cmd.specs.Commands.{input_of}
 use Rattle.cxxabi_cmd.specs.Output.{Output, usage, too_long, Answer, line_alone, Answers, BreaksOff, IsAnswered}
 use Rattle.cxxabi_cmd.specs.Handed.{Seen, HandsOut}
 use Rattle.cxxabi_cmd.specs.invariants.Replies.{answer_of, machine_of, IsRead}
 
 -- more than the limit was read
 pub limit_output : (r : Result Reply Want) (bytes : List ℕ) (command : Command) → IfOk r (λ reply. answer_of reply ≡ line_alone (Limit L1)) → 262144 < length bytes →
-    IfOk r (λ reply. (words : List (List ℕ)) (given : List ℕ) → Says words command → IsRead bytes (source_of command given) → Output words given (answer_of reply))
+    IfOk r (λ reply. (words : List (List ℕ)) (given : List ℕ) → Says words command → IsRead bytes (input_of command given) → Output words given (answer_of reply))
 limit_output (Ok reply) bytes command alone long = λ words given says read. subst (λ a. Output words given a) (sym alone) (too_long command says (read.more long))
 limit_output (Err e) bytes command alone long = alone
 
 -- all was read
-pub read_output : (r : Result Reply Want) (bytes : List ℕ) (command : Command) → IfOk r (λ reply. (words : List (List ℕ)) (given : List ℕ) → Says words command → bytes ≡ source_of command given → Output words given (answer_of reply)) → length bytes ≤ 262144 →
-    IfOk r (λ reply. (words : List (List ℕ)) (given : List ℕ) → Says words command → IsRead bytes (source_of command given) → Output words given (answer_of reply))
+pub read_output : (r : Result Reply Want) (bytes : List ℕ) (command : Command) → IfOk r (λ reply. (words : List (List ℕ)) (given : List ℕ) → Says words command → bytes ≡ input_of command given → Output words given (answer_of reply)) → length bytes ≤ 262144 →
+    IfOk r (λ reply. (words : List (List ℕ)) (given : List ℕ) → Says words command → IsRead bytes (input_of command given) → Output words given (answer_of reply))
 read_output (Ok reply) bytes command output short = λ words given says read. output words given says (read.whole short)
 read_output (Err e) bytes command output short = output
 
@@ -47,18 +47,18 @@ broken_off words bytes before after answer written output is part =
 
 -- no machine for a text that is too long
 pub limit_machine : (r : Result Reply Want) (bytes : List ℕ) (command : Command) → IfOk r (λ reply. machine_of reply ≡ None) → 262144 < length bytes →
-    IfOk r (λ reply. (words : List (List ℕ)) (given : List ℕ) → Says words command → IsRead bytes (source_of command given) → HandsOut words given (machine_of reply))
+    IfOk r (λ reply. (words : List (List ℕ)) (given : List ℕ) → Says words command → IsRead bytes (input_of command given) → HandsOut words given (machine_of reply))
 limit_machine (Ok reply) bytes command none long =
     λ words given says read. subst (λ (m : Option Seen). HandsOut words given m) (sym none)
     (λ h rows program trace steps has.
     let one : has.command ≡ command = one_command words has.command command has.asked says in
-    let short : length (source_of command given) ≤ 262144 = subst (λ (c : Command). length (source_of c given) ≤ 262144) one has.short in
+    let short : length (input_of command given) ≤ 262144 = subst (λ (c : Command). length (input_of c given) ≤ 262144) one has.short in
     let more = read.more long in omega (arith, short, more))
 limit_machine (Err e) bytes command none long = none
 
 -- the machine for a text that was read whole
-pub read_machine : (r : Result Reply Want) (bytes : List ℕ) (command : Command) → IfOk r (λ reply. (words : List (List ℕ)) (given : List ℕ) → Says words command → bytes ≡ source_of command given → HandsOut words given (machine_of reply)) → length bytes ≤ 262144 →
-    IfOk r (λ reply. (words : List (List ℕ)) (given : List ℕ) → Says words command → IsRead bytes (source_of command given) → HandsOut words given (machine_of reply))
+pub read_machine : (r : Result Reply Want) (bytes : List ℕ) (command : Command) → IfOk r (λ reply. (words : List (List ℕ)) (given : List ℕ) → Says words command → bytes ≡ input_of command given → HandsOut words given (machine_of reply)) → length bytes ≤ 262144 →
+    IfOk r (λ reply. (words : List (List ℕ)) (given : List ℕ) → Says words command → IsRead bytes (input_of command given) → HandsOut words given (machine_of reply))
 read_machine (Ok reply) bytes command hands short = λ words given says read. hands words given says (read.whole short)
 read_machine (Err e) bytes command hands short = hands
 

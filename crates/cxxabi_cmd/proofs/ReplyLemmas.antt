@@ -1,5 +1,5 @@
 -- What the parts of the answer yield.
-use Rattle.std.proofs.Common.{◌≡◌, ℕ, ◌≤◌, ◌⊎◌, ⊎_elim, Bool, true, false, not, Option, Some, None, Result, Ok, Err, List, [], ◌∷◌, length, refl, sym, ◌∙◌, ap, subst}
+use Rattle.std.proofs.Common.{◌≡◌, ℕ, suc, ◌≤◌, ◌⊎◌, ⊎_elim, Bool, true, false, not, Option, Some, None, Result, Ok, Err, List, [], ◌∷◌, length, refl, sym, ◌∙◌, ap, subst}
 use Rattle.std.specs.Prelude.{IfOk, slice_get, nat_le, if◌then◌else◌}
 use Rattle.std.specs.Option.{is_some}
 use Rattle.foundation.specs.declared.memory.NoMemory.{NoMemory as Want}
@@ -19,37 +19,43 @@ use Rattle.abi_memptr.specs.Pointers.{Outcome, refused, given as given_text}
 use Rattle.abi_memptr.specs.Answers.{answer_of as answer_of_member}
 use Rattle.cxxabi_words.specs.declared.command.QualifiedMember.{QualifiedMember}
 use Rattle.cxxabi_words.specs.declared.command.Command.{Command}
-use Rattle.cxxabi_cmd.specs.declared.status.Status.TheVariants.{Limit}
+use Rattle.cxxabi_cmd.specs.declared.status.Status.TheVariants.{Limit, BadInput}
+use Rattle.cxxabi_cmd.specs.declared.status.InputRule.{InputRule}
+use Rattle.cxxabi_input.specs.Division.{line_count}
+use Rattle.abi_sound.specs.declared.class_layout.ClassLayout.{ClassLayout}
+use Rattle.abi_inspect.specs.Sayings.{seen_text}
+use Rattle.cxxabi_cmd.specs.Divided.{IsLayoutOf, IsDumpReply, dump_says, names_no_class, no_dump, IsListingReply, refused_listing, many_words, undivided_rule}
 use Rattle.cxxabi_cmd.specs.Answers.{IsArrayReply, no_element_class, elements_of, array_answer, IsMemberReply, no_class, no_whole, member_of, member_answer, limited_answer}
 use Rattle.cxxabi_words.specs.Commands.{Says}
 use Rattle.cxxabi_words.proofs.CommandLaws.{one_command}
 use Rattle.cxxabi_cmd.specs.declared.reply.Reply.{Reply}
-use Rattle.cxxabi_cmd.specs.Commands.{IsOnBytes, RunsMain, source_of}
+use Rattle.cxxabi_cmd.specs.Commands.{IsOnBytes, RunsMain, input_of, parts_of}
 use Rattle.cxxabi_cmd.specs.Verdict.{Verdict, Stops, Accepts}
 use Rattle.cxxabi_cmd.specs.Handed.{Seen, HandsOut, IsRun}
-use Rattle.cxxabi_cmd.specs.Output.{Answer, AsksFor, AsksForName, Output, stopped, yielded, Yields, counted, no_main, ran, unknown_class, listed, arrayed, pointed, Lists, whole, too_much, text_answer, text_limit, IsAnswered, line_alone, status_of_stop}
+use Rattle.cxxabi_cmd.specs.Output.{Answer, AsksFor, AsksForName, Output, undivided, stopped, yielded, Yields, counted, no_main, ran, unknown_class, listed, arrayed, pointed, inspected, no_layout, Lists, whole, too_much, text_answer, text_limit, IsAnswered, line_alone, status_of_stop}
 use Rattle.cxxabi_cmd.specs.declared.listing.Listing.{Listing}
 use Rattle.cxxabi_cmd.specs.invariants.Listings.{ListsName, is_unknown, is_class}
 use Rattle.cxxabi_cmd.specs.invariants.Replies.{answer_of, machine_of, HandsBy}
 use Rattle.cxxabi_cmd.proofs.RunAnswers.{run_answered}
 use Rattle.cxxabi_cmd.proofs.SameMains.{HasTree, main_there}
 use Rattle.cxxabi_cmd.proofs.OneVerdict.{one_verdict}
+use Rattle.cxxabi_cmd.proofs.SourceLemmas.{some_parts, parts_are}
 
 -- the listing of all classes, and of the class of a name
-pub yields_all : (r : Result Reply Want) (size : ℕ) (source : SourceText) (h : Classes) (typed : TypedProgram) (command : Command) (listing : Listing) (classes : List ClassId) → AsksFor h command listing classes → IfOk r (λ reply. Lists h listing classes (answer_of reply)) →
-    IfOk r (λ reply. Yields size source h typed command (answer_of reply))
-yields_all (Ok reply) size source h typed command listing classes asks is = listed command listing classes (answer_of reply) asks is
-yields_all (Err w) size source h typed command listing classes asks is = tt
+pub yields_all : (r : Result Reply Want) (front : List ℕ) (size : ℕ) (source : SourceText) (h : Classes) (typed : TypedProgram) (command : Command) (listing : Listing) (classes : List ClassId) → AsksFor h command listing classes → IfOk r (λ reply. Lists h listing classes (answer_of reply)) →
+    IfOk r (λ reply. Yields front size source h typed command (answer_of reply))
+yields_all (Ok reply) front size source h typed command listing classes asks is = listed command listing classes (answer_of reply) asks is
+yields_all (Err w) front size source h typed command listing classes asks is = tt
 
-yields_name : (size : ℕ) (source : SourceText) (h : Classes) (typed : TypedProgram) (command : Command) (listing : Listing) (name : List ℕ) (a : Answer) → AsksForName command name → ((c : ClassId) → slice_get (class_names h) c.0 ≡ Some name → AsksFor h command listing (c ∷ [])) →
-    ListsName size h listing name a → Yields size source h typed command a
-yields_name size source h typed command listing name _ names asks (is_unknown none) = unknown_class command name names none
-yields_name size source h typed command listing name _ names asks (is_class c a at lists) = listed command listing (c ∷ []) a (asks c at) lists
+yields_name : (front : List ℕ) (size : ℕ) (source : SourceText) (h : Classes) (typed : TypedProgram) (command : Command) (listing : Listing) (name : List ℕ) (a : Answer) → AsksForName command name → ((c : ClassId) → slice_get (class_names h) c.0 ≡ Some name → AsksFor h command listing (c ∷ [])) →
+    ListsName size h listing name a → Yields front size source h typed command a
+yields_name front size source h typed command listing name _ names asks (is_unknown none) = unknown_class command name names none
+yields_name front size source h typed command listing name _ names asks (is_class c a at lists) = listed command listing (c ∷ []) a (asks c at) lists
 
-pub yields_one : (r : Result Reply Want) (size : ℕ) (source : SourceText) (h : Classes) (typed : TypedProgram) (command : Command) (listing : Listing) (name : List ℕ) → AsksForName command name → ((c : ClassId) → slice_get (class_names h) c.0 ≡ Some name → AsksFor h command listing (c ∷ [])) →
-    IfOk r (λ reply. ListsName size h listing name (answer_of reply)) → IfOk r (λ reply. Yields size source h typed command (answer_of reply))
-yields_one (Ok reply) size source h typed command listing name names asks is = yields_name size source h typed command listing name (answer_of reply) names asks is
-yields_one (Err w) size source h typed command listing name names asks is = tt
+pub yields_one : (r : Result Reply Want) (front : List ℕ) (size : ℕ) (source : SourceText) (h : Classes) (typed : TypedProgram) (command : Command) (listing : Listing) (name : List ℕ) → AsksForName command name → ((c : ClassId) → slice_get (class_names h) c.0 ≡ Some name → AsksFor h command listing (c ∷ [])) →
+    IfOk r (λ reply. ListsName size h listing name (answer_of reply)) → IfOk r (λ reply. Yields front size source h typed command (answer_of reply))
+yields_one (Ok reply) front size source h typed command listing name names asks is = yields_name front size source h typed command listing name (answer_of reply) names asks is
+yields_one (Err w) front size source h typed command listing name names asks is = tt
 
 -- a main that is not there, and one that is
 pub is_missing : (m : Option BodyTree) (b : Bool) → is_some m ≡ not b → b ≡ true → m ≡ None
@@ -86,38 +92,60 @@ member_replied size h named _ (no_class none) = tt
 member_replied size h named _ (no_whole none) = tt
 member_replied size h named _ (member_of k d rows at of laid) = member_answered (answer_of_member h (places_of h rows) k named.member d)
 
-yields_answered : (size : ℕ) (source : SourceText) (h : Classes) (typed : TypedProgram) (command : Command) (a : Answer) → Yields size source h typed command a → IsAnswered a.status
-yields_answered size source h typed _ _ counted = tt
-yields_answered size source h typed _ _ (no_main command steps trace runs empty) = tt
-yields_answered size source h typed _ _ (ran command steps trace tree rows answer runs main laid is) = run_answered command h rows typed trace steps answer is
-yields_answered size source h typed _ _ (unknown_class command name names empty) = tt
-yields_answered size source h typed _ _ (listed command listing classes answer asks lists) = lists_answered h listing classes answer lists
-yields_answered size source h typed _ _ (arrayed name n answer is) = array_replied size h name n answer is
-yields_answered size source h typed _ _ (pointed named answer is) = member_replied size h named answer is
+dump_replied : (dump : List ℕ) (h : Classes) (a : Answer) → IsDumpReply dump h a → IsAnswered a.status
+dump_replied dump h _ (dump_says rows seen laid is) = limited_answered (seen_text h (places_of h rows) seen)
+dump_replied dump h _ (names_no_class unknown) = tt
+dump_replied dump h _ (no_dump rows line laid is) = tt
 
-pub reply_answered : (r : Result Reply Want) (size : ℕ) (source : SourceText) (h : Classes) (typed : TypedProgram) (command : Command) → IfOk r (λ reply. Yields size source h typed command (answer_of reply)) → IfOk r (λ reply. IsAnswered reply.status)
-reply_answered (Ok reply) size source h typed command is = yields_answered size source h typed command (answer_of reply) is
-reply_answered (Err w) size source h typed command is = is
+listing_replied : (listing : List ℕ) (h : Classes) (a : Answer) → IsListingReply listing h a → IsAnswered a.status
+listing_replied listing h _ (refused_listing rule line stops) = tt
+listing_replied listing h _ (many_words rows is many) = tt
+
+yields_answered : (front : List ℕ) (size : ℕ) (source : SourceText) (h : Classes) (typed : TypedProgram) (command : Command) (a : Answer) → Yields front size source h typed command a → IsAnswered a.status
+yields_answered front size source h typed _ _ counted = tt
+yields_answered front size source h typed _ _ (no_main command steps trace runs empty) = tt
+yields_answered front size source h typed _ _ (ran command steps trace tree rows answer runs main laid is) = run_answered command h rows typed trace steps answer is
+yields_answered front size source h typed _ _ (unknown_class command name names empty) = tt
+yields_answered front size source h typed _ _ (listed command listing classes answer asks lists) = lists_answered h listing classes answer lists
+yields_answered front size source h typed _ _ (arrayed name n answer is) = array_replied size h name n answer is
+yields_answered front size source h typed _ _ (pointed named answer is) = member_replied size h named answer is
+yields_answered front size source h typed _ _ (inspected answer is) = dump_replied front h answer is
+yields_answered front size source h typed _ _ (no_layout steps tree answer main is) = listing_replied front h answer is
+
+pub reply_answered : (r : Result Reply Want) (front : List ℕ) (size : ℕ) (source : SourceText) (h : Classes) (typed : TypedProgram) (command : Command) → IfOk r (λ reply. Yields front size source h typed command (answer_of reply)) → IfOk r (λ reply. IsAnswered reply.status)
+reply_answered (Ok reply) front size source h typed command is = yields_answered front size source h typed command (answer_of reply) is
+reply_answered (Err w) front size source h typed command is = is
+
+-- what is known of the input of an accepted source or of one that stops: its length, and its parts
+pub record IsDivided (command : Command) (bytes front text : List ℕ) : Type 0 where
+  pub short : length bytes ≤ 262144
+  pub parts : parts_of command bytes ≡ Some (front, text)
 
 -- the output for an accepted source
-pub accepted_output : (r : Result Reply Want) (size : ℕ) (bytes : List ℕ) (source : SourceText) (h : Classes) (typed : TypedProgram) (command : Command) → IfOk r (λ reply. Yields size source h typed command (answer_of reply)) → size ≡ length bytes → length bytes ≤ 262144 → Verdict bytes (Accepts source h typed) →
-    IfOk r (λ reply. (words : List (List ℕ)) (given : List ℕ) → Says words command → bytes ≡ source_of command given → Output words given (answer_of reply))
-accepted_output (Ok reply) size bytes source h typed command is same short verdict =
+pub accepted_output : (r : Result Reply Want) (bytes front text : List ℕ) (source : SourceText) (h : Classes) (typed : TypedProgram) (command : Command) → IfOk r (λ reply. Yields front (length text) source h typed command (answer_of reply)) → IsDivided command bytes front text →
+    Verdict text (Accepts source h typed) → IfOk r (λ reply. (words : List (List ℕ)) (given : List ℕ) → Says words command → bytes ≡ input_of command given → Output words given (answer_of reply))
+accepted_output (Ok reply) bytes front text source h typed command is divided verdict =
     λ words given says treats.
-    let here : Yields (length bytes) source h typed command (answer_of reply) = subst (λ (n : ℕ). Yields n source h typed command (answer_of reply)) same is in
-    yielded command source h typed (answer_of reply) says (subst (λ (b : List ℕ). length b ≤ 262144) treats short) (subst (λ (b : List ℕ). Verdict b (Accepts source h typed)) treats verdict)
-    (subst (λ (b : List ℕ). Yields (length b) source h typed command (answer_of reply)) treats here)
-accepted_output (Err w) size bytes source h typed command is same short verdict = is
+    let d = subst (λ (b : List ℕ). IsDivided command b front text) treats divided in
+    yielded command front text source h typed (answer_of reply) says d.short d.parts verdict is
+accepted_output (Err w) bytes front text source h typed command is divided verdict = is
+
+-- the parts of a run are those of the input
+same_parts : {command : Command} {input front text : List ℕ} {h : Classes} {rows : List ClassLayout} {program : TypedProgram} (is : IsRun command input h rows program) → parts_of command input ≡ Some (front, text) → (is.front ≡ front) × (is.text ≡ text)
+same_parts {front = front} {text = text} is parts = parts_are is.front is.text front text (sym is.parts ∙ parts)
 
 -- the machine for an accepted source
-hands : (words : List (List ℕ)) (given : List ℕ) (source : SourceText) (h : Classes) (typed : TypedProgram) (command : Command) (m : Option Seen) → HandsBy command source h typed m → length (source_of command given) ≤ 262144 → Verdict (source_of command given) (Accepts source h typed) → Says words command → HandsOut words given m
-hands words given source h typed command None nothing short verdict says = λ k rows program trace steps has.
+hands : (words : List (List ℕ)) (given front text : List ℕ) (source : SourceText) (h : Classes) (typed : TypedProgram) (command : Command) (m : Option Seen) → HandsBy command front source h typed m → IsDivided command (input_of command given) front text → Verdict text (Accepts source h typed) → Says words command →
+    HandsOut words given m
+hands words given front text source h typed command None nothing divided verdict says = λ k rows program trace steps has.
     let one : has.command ≡ command = one_command words has.command command has.asked says in
-    let is : IsRun (source_of command given) k rows program = subst (λ (c : Command). IsRun (source_of c given) k rows program) one has.is_run in
-    let same = one_verdict (source_of command given) (Accepts source h typed) (Accepts is.source k program) verdict is.accepted in
+    let is : IsRun command (input_of command given) k rows program = subst (λ (c : Command). IsRun c (input_of c given) k rows program) one has.is_run in
+    let parts = same_parts is divided.parts in
+    let same = one_verdict text (Accepts source h typed) (Accepts is.source k program) verdict (subst (λ (t : List ℕ). Verdict t (Accepts is.source k program)) parts.1 is.accepted) in
     let there = main_there source.main is.source.main is.tree same.0.main is.main in
-    nothing trace steps there.tree (subst (λ (c : Command). RunsMain c steps trace) one has.runs) (subst IsOnBytes one has.on_bytes) there.is
-hands words given source h typed command (Some m) run short verdict says = record {
+    let over : IsLayoutOf command front k rows = subst (λ (f : List ℕ). IsLayoutOf command f k rows) parts.0 is.laid in
+    nothing trace steps there.tree rows (subst (λ (c : Command). RunsMain c steps trace) one has.runs) (subst IsOnBytes one has.on_bytes) there.is (subst (λ (k' : Classes). IsLayoutOf command front k' rows) (sym same.1) over)
+hands words given front text source h typed command (Some m) run divided verdict says = record {
   h = h;
   rows = run.rows;
   program = typed;
@@ -128,44 +156,75 @@ hands words given source h typed command (Some m) run short verdict says = recor
     asked = says;
     runs = run.runs;
     on_bytes = run.on_bytes;
-    short = short;
-    is_run = record { source = source; accepted = verdict; tree = run.tree; main = run.main; laid = run.laid };
+    short = divided.short;
+    is_run = record { front = front; text = text; parts = divided.parts; source = source; accepted = verdict; tree = run.tree; main = run.main; laid = run.laid };
   };
   is_machine = run.is_machine;
 }
 
-pub accepted_machine : (r : Result Reply Want) (bytes : List ℕ) (source : SourceText) (h : Classes) (typed : TypedProgram) (command : Command) → IfOk r (λ reply. HandsBy command source h typed (machine_of reply)) → length bytes ≤ 262144 → Verdict bytes (Accepts source h typed) →
-    IfOk r (λ reply. (words : List (List ℕ)) (given : List ℕ) → Says words command → bytes ≡ source_of command given → HandsOut words given (machine_of reply))
-accepted_machine (Ok reply) bytes source h typed command is short verdict =
-    λ words given says treats. hands words given source h typed command (machine_of reply) is (subst (λ (b : List ℕ). length b ≤ 262144) treats short) (subst (λ (b : List ℕ). Verdict b (Accepts source h typed)) treats verdict) says
-accepted_machine (Err w) bytes source h typed command is short verdict = is
+pub accepted_machine : (r : Result Reply Want) (bytes front text : List ℕ) (source : SourceText) (h : Classes) (typed : TypedProgram) (command : Command) → IfOk r (λ reply. HandsBy command front source h typed (machine_of reply)) → IsDivided command bytes front text → Verdict text (Accepts source h typed) →
+    IfOk r (λ reply. (words : List (List ℕ)) (given : List ℕ) → Says words command → bytes ≡ input_of command given → HandsOut words given (machine_of reply))
+accepted_machine (Ok reply) bytes front text source h typed command is divided verdict =
+    λ words given says treats. hands words given front text source h typed command (machine_of reply) is (subst (λ (b : List ℕ). IsDivided command b front text) treats divided) verdict says
+accepted_machine (Err w) bytes front text source h typed command is divided verdict = is
 
 -- the output for a source that stops
 abbrev pub IsStopped : Stop → Reply → Type 0
 IsStopped s reply = (s ≡ stop.NoMemory → ⊥) × (answer_of reply ≡ line_alone (status_of_stop s))
 
-pub stopped_output : (r : Result Reply Want) (bytes : List ℕ) (command : Command) (s : Stop) → IfOk r (λ reply. IsStopped s reply) → (s ≡ stop.NoMemory) ⊎ Verdict bytes (Stops s) → length bytes ≤ 262144 →
-    IfOk r (λ reply. (words : List (List ℕ)) (given : List ℕ) → Says words command → bytes ≡ source_of command given → Output words given (answer_of reply))
-stopped_output (Ok reply) bytes command s is either short =
+pub stopped_output : (r : Result Reply Want) (bytes front text : List ℕ) (command : Command) (s : Stop) → IfOk r (λ reply. IsStopped s reply) → (s ≡ stop.NoMemory) ⊎ Verdict text (Stops s) → IsDivided command bytes front text →
+    IfOk r (λ reply. (words : List (List ℕ)) (given : List ℕ) → Says words command → bytes ≡ input_of command given → Output words given (answer_of reply))
+stopped_output (Ok reply) bytes front text command s is either divided =
     ⊎_elim (λ memory. absurd (is.0 memory))
     (λ verdict. λ words given says treats.
-    subst (λ (a : Answer). Output words given a) (sym is.1)
-    (stopped command s says (subst (λ (b : List ℕ). length b ≤ 262144) treats short) (subst (λ (b : List ℕ). Verdict b (Stops s)) treats verdict))) either
-stopped_output (Err w) bytes command s is either short = is
+    let d = subst (λ (b : List ℕ). IsDivided command b front text) treats divided in
+    subst (λ (a : Answer). Output words given a) (sym is.1) (stopped command front text s says d.short d.parts verdict)) either
+stopped_output (Err w) bytes front text command s is either divided = is
 
-stopped_hands : (words : List (List ℕ)) (given : List ℕ) (command : Command) (s : Stop) (m : Option Seen) → m ≡ None → Says words command → Verdict (source_of command given) (Stops s) → HandsOut words given m
-stopped_hands words given command s m same says verdict =
+stopped_hands : (words : List (List ℕ)) (given front text : List ℕ) (command : Command) (s : Stop) (m : Option Seen) → m ≡ None → Says words command → parts_of command (input_of command given) ≡ Some (front, text) → Verdict text (Stops s) → HandsOut words given m
+stopped_hands words given front text command s m same says parts verdict =
     subst (λ (n : Option Seen). HandsOut words given n) (sym same)
     (λ h rows program trace steps has.
     let one : has.command ≡ command = one_command words has.command command has.asked says in
-    let is : IsRun (source_of command given) h rows program = subst (λ (c : Command). IsRun (source_of c given) h rows program) one has.is_run in
-    one_verdict (source_of command given) (Stops s) (Accepts is.source h program) verdict is.accepted)
+    let is : IsRun command (input_of command given) h rows program = subst (λ (c : Command). IsRun c (input_of c given) h rows program) one has.is_run in
+    let text_is = (same_parts is parts).1 in
+    one_verdict text (Stops s) (Accepts is.source h program) verdict (subst (λ (t : List ℕ). Verdict t (Accepts is.source h program)) text_is is.accepted))
 
-pub stopped_machine : (r : Result Reply Want) (bytes : List ℕ) (command : Command) (s : Stop) → IfOk r (λ reply. IsStopped s reply) → IfOk r (λ reply. machine_of reply ≡ None) → (s ≡ stop.NoMemory) ⊎ Verdict bytes (Stops s) →
-    IfOk r (λ reply. (words : List (List ℕ)) (given : List ℕ) → Says words command → bytes ≡ source_of command given → HandsOut words given (machine_of reply))
-stopped_machine (Ok reply) bytes command s is same either =
-    ⊎_elim (λ memory. absurd (is.0 memory)) (λ verdict. λ words given says treats. stopped_hands words given command s (machine_of reply) same says (subst (λ (b : List ℕ). Verdict b (Stops s)) treats verdict)) either
-stopped_machine (Err w) bytes command s is same either = is
+pub stopped_machine : (r : Result Reply Want) (bytes front text : List ℕ) (command : Command) (s : Stop) → IfOk r (λ reply. IsStopped s reply) → IfOk r (λ reply. machine_of reply ≡ None) → (s ≡ stop.NoMemory) ⊎ Verdict text (Stops s) → IsDivided command bytes front text →
+    IfOk r (λ reply. (words : List (List ℕ)) (given : List ℕ) → Says words command → bytes ≡ input_of command given → HandsOut words given (machine_of reply))
+stopped_machine (Ok reply) bytes front text command s is same either divided =
+    ⊎_elim (λ memory. absurd (is.0 memory))
+    (λ verdict. λ words given says treats. stopped_hands words given front text command s (machine_of reply) same says (subst (λ (b : List ℕ). IsDivided command b front text) treats divided).parts verdict) either
+stopped_machine (Err w) bytes front text command s is same either divided = is
+
+-- the output for an input that no line divides
+pub undivided_output : (r : Result Reply Want) (bytes : List ℕ) (command : Command) (rule : InputRule) (line : ℕ) → IfOk r (λ reply. answer_of reply ≡ line_alone (BadInput rule line)) → rule ≡ undivided_rule command → line ≡ suc (line_count bytes) → parts_of command bytes ≡ None → length bytes ≤ 262144 →
+    IfOk r (λ reply. (words : List (List ℕ)) (given : List ℕ) → Says words command → bytes ≡ input_of command given → Output words given (answer_of reply))
+undivided_output (Ok reply) bytes command rule line is rule_is line_is none short =
+    λ words given says treats.
+    let same : answer_of reply ≡ line_alone (BadInput (undivided_rule command) (suc (line_count (input_of command given)))) =
+    is ∙ (ap (λ (x : InputRule). line_alone (BadInput x line)) rule_is ∙ (ap (λ (n : ℕ). line_alone (BadInput (undivided_rule command) n)) line_is ∙ ap (λ (b : List ℕ). line_alone (BadInput (undivided_rule command) (suc (line_count b)))) treats)) in
+    subst (λ (a : Answer). Output words given a) (sym same)
+    (undivided command says (subst (λ (b : List ℕ). length b ≤ 262144) treats short) (subst (λ (b : List ℕ). parts_of command b ≡ None) treats none))
+undivided_output (Err w) bytes command rule line is rule_is line_is none short = is
+
+undivided_hands : (words : List (List ℕ)) (given : List ℕ) (command : Command) (m : Option Seen) → m ≡ None → Says words command → parts_of command (input_of command given) ≡ None → HandsOut words given m
+undivided_hands words given command m same says none =
+    subst (λ (n : Option Seen). HandsOut words given n) (sym same)
+    (λ h rows program trace steps has.
+    let one : has.command ≡ command = one_command words has.command command has.asked says in
+    let is : IsRun command (input_of command given) h rows program = subst (λ (c : Command). IsRun c (input_of c given) h rows program) one has.is_run in
+    let clash : None ≡ some_parts is.front is.text = sym none ∙ is.parts in cc)
+
+pub undivided_machine : (r : Result Reply Want) (bytes : List ℕ) (command : Command) → IfOk r (λ reply. machine_of reply ≡ None) → parts_of command bytes ≡ None →
+    IfOk r (λ reply. (words : List (List ℕ)) (given : List ℕ) → Says words command → bytes ≡ input_of command given → HandsOut words given (machine_of reply))
+undivided_machine (Ok reply) bytes command same none =
+    λ words given says treats. undivided_hands words given command (machine_of reply) same says (subst (λ (b : List ℕ). parts_of command b ≡ None) treats none)
+undivided_machine (Err w) bytes command same none = same
+
+pub undivided_answered : (r : Result Reply Want) (rule : InputRule) (line : ℕ) → IfOk r (λ reply. answer_of reply ≡ line_alone (BadInput rule line)) → IfOk r (λ reply. IsAnswered reply.status)
+undivided_answered (Ok reply) rule line is = let same : reply.status ≡ BadInput rule line = ap (λ (a : Answer). a.status) is in subst IsAnswered (sym same) tt
+undivided_answered (Err w) rule line is = is
 
 stop_answered : (s : Stop) → (s ≡ stop.NoMemory → ⊥) → IsAnswered (status_of_stop s)
 stop_answered (stop.Refused rule at) never = tt

@@ -21,18 +21,18 @@ use Rattle.text_told.specs.declared.ending.End.TheVariants as ends
 use Rattle.text_told.specs.Told.{told, told_by, passes, ending_of}
 use Rattle.abi_sound.specs.declared.class_layout.ClassLayout.{ClassLayout}
 use Rattle.abi_sound.specs.Places.{Places, places_of}
-use Rattle.abi_layout.specs.Layouts.{IsLaid}
 use Rattle.abi_slots.specs.declared.code_numbers.CodeRow.{CodeRow}
 use Rattle.code_ops.specs.Setups.{setup}
 use Rattle.abi_refine.specs.Executions.{IsExecution}
 use Rattle.cxxabi_words.specs.declared.command.Command.{Command}
-use Rattle.cxxabi_words.specs.declared.command.Command.TheVariants.{Check, Run, Layout, LayoutOf, Tables, TablesOf, Paths, Gen, Array, MemberPointer}
+use Rattle.cxxabi_words.specs.declared.command.Command.TheVariants.{Check, Run, Layout, LayoutOf, Tables, TablesOf, Paths, Gen, Array, MemberPointer, Inspect, Foreign}
 use Rattle.cxxabi_words.specs.Commands.{most_steps}
 use Rattle.cxxabi_cmd.specs.declared.reply.Reply.{Reply}
 use Rattle.cxxabi_cmd.specs.declared.status.Status.{Status}
 use Rattle.cxxabi_cmd.specs.declared.status.Status.TheVariants.{Refused}
 use Rattle.cxxabi_cmd.specs.Statuses.{last_line}
 use Rattle.cxxabi_cmd.specs.Commands.{RunsMain, SumsUp}
+use Rattle.cxxabi_cmd.specs.Divided.{IsLayoutOf}
 use Rattle.cxxabi_cmd.specs.Handed.{Seen, IsMachineOf}
 use Rattle.cxxabi_cmd.specs.Output.{Answer, IsRunAnswer, ends_with, summed_up, ended_answer, summary_answer, status_of, Yields, no_main, ran, line_alone, IsAnswered}
 use Rattle.cxxabi_cmd.specs.invariants.Replies.{answer_of}
@@ -73,6 +73,8 @@ sums_decided (TablesOf name) e = inr (λ sums. sums)
 sums_decided (Paths steps) e = inr (λ sums. sums)
 sums_decided (Array name n) e = inr (λ sums. sums)
 sums_decided (MemberPointer named) e = inr (λ sums. sums)
+sums_decided Inspect e = inr (λ sums. sums)
+sums_decided (Foreign steps) e = inr (λ sums. sums)
 sums_decided (Gen n) ends.Done = inl tt
 sums_decided (Gen n) (ends.Undefined rule line) = inr (λ sums. sums)
 sums_decided (Gen n) ends.OutOfSteps = inr (λ sums. sums)
@@ -113,10 +115,10 @@ some_answer law command h rows typed trace steps keeps fine is main =
     (sums_decided command e.0)
 
 -- a command that runs `main` has an answer
-pub yields_runs : NeverWrong → (size : ℕ) (source : SourceText) (h : Classes) (rows : List ClassLayout) (typed : TypedProgram) (command : Command) (steps : ℕ) (trace : Bool) (main : Option BodyTree) → RunsMain command steps trace → IsHierarchy h → HasNoMeaning h → IsLaid h rows →
-    IsTypedProgram h typed → is_body typed.main ≡ is_some source.main → source.main ≡ main → (answer : Answer) × Yields size source h typed command answer
-yields_runs law size source h rows typed command steps trace None runs keeps fine laid is tie main = (line_alone (Refused UnknownName size), no_main command steps trace runs main)
-yields_runs law size source h rows typed command steps trace (Some tree) runs keeps fine laid is tie main =
+pub yields_runs : NeverWrong → (front : List ℕ) (size : ℕ) (source : SourceText) (h : Classes) (rows : List ClassLayout) (typed : TypedProgram) (command : Command) (steps : ℕ) (trace : Bool) (main : Option BodyTree) → RunsMain command steps trace → IsHierarchy h → HasNoMeaning h → IsLayoutOf command front h rows →
+    IsTypedProgram h typed → is_body typed.main ≡ is_some source.main → source.main ≡ main → (answer : Answer) × Yields front size source h typed command answer
+yields_runs law front size source h rows typed command steps trace None runs keeps fine laid is tie main = (line_alone (Refused UnknownName size), no_main command steps trace runs main)
+yields_runs law front size source h rows typed command steps trace (Some tree) runs keeps fine laid is tie main =
     let a = some_answer law command h rows typed trace steps keeps fine is (tie ∙ ap is_some main) in (a.0, ran command steps trace tree rows a.0 runs main laid a.1)
 
 -- the text of a run and its last line
@@ -134,11 +136,17 @@ pub summary_is : (command : Command) (h : Classes) (rows : List ClassLayout) (ty
 summary_is command h rows typed trace steps taken text e a sums same is counted ending =
     subst (λ (b : Answer). IsRunAnswer command h rows typed trace steps b) (sym (same ∙ (ap (λ (t : List ℕ). summary_answer h taken t) is ∙ ap (λ n. summary_answer h n (told h (places_of h rows) typed trace steps).text) counted))) (summed_up e ending sums)
 
+-- what a run over a layout answers, for a command that does not sum it up
+pub at_command : (r : Result Reply Want) (command : Command) (h : Classes) (rows : List ClassLayout) (typed : TypedProgram) (trace : Bool) (steps : ℕ) → ((e : End) → SumsUp command e → ⊥) →
+    IfOk r (λ reply. (c : Command) → ((e : End) → SumsUp c e → ⊥) → IsRunAnswer c h rows typed trace steps (answer_of reply)) → IfOk r (λ reply. IsRunAnswer command h rows typed trace steps (answer_of reply))
+at_command (Ok reply) command h rows typed trace steps plain is = is command plain
+at_command (Err w) command h rows typed trace steps plain is = is
+
 -- an answer that was made for a source with a main
-pub yields_ended : (r : Result Reply Want) (size : ℕ) (source : SourceText) (h : Classes) (rows : List ClassLayout) (typed : TypedProgram) (command : Command) (steps : ℕ) (trace : Bool) (tree : BodyTree) → RunsMain command steps trace →
-    IfOk r (λ reply. IsRunAnswer command h rows typed trace steps (answer_of reply)) → source.main ≡ Some tree → IsLaid h rows → IfOk r (λ reply. Yields size source h typed command (answer_of reply))
-yields_ended (Ok reply) size source h rows typed command steps trace tree runs is main laid = ran command steps trace tree rows (answer_of reply) runs main laid is
-yields_ended (Err w) size source h rows typed command steps trace tree runs is main laid = is
+pub yields_ended : (r : Result Reply Want) (front : List ℕ) (size : ℕ) (source : SourceText) (h : Classes) (rows : List ClassLayout) (typed : TypedProgram) (command : Command) (steps : ℕ) (trace : Bool) (tree : BodyTree) → RunsMain command steps trace →
+    IfOk r (λ reply. IsRunAnswer command h rows typed trace steps (answer_of reply)) → source.main ≡ Some tree → IsLayoutOf command front h rows → IfOk r (λ reply. Yields front size source h typed command (answer_of reply))
+yields_ended (Ok reply) front size source h rows typed command steps trace tree runs is main laid = ran command steps trace tree rows (answer_of reply) runs main laid is
+yields_ended (Err w) front size source h rows typed command steps trace tree runs is main laid = is
 
 -- the machine that a run leaves
 pub machine_is : (h : Classes) (rows : List ClassLayout) (typed : TypedProgram) (trace : Bool) (steps : ℕ) (numbers : List CodeRow) (text : List ℕ) (e : End) (seen : Seen) (m : Option Seen) → m ≡ Some seen → text ≡ (told h (places_of h rows) typed trace steps).text →

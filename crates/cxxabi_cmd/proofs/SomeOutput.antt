@@ -1,5 +1,5 @@
 -- Words and the bytes of a source have an answer.
-use Rattle.std.proofs.Common.{◌≡◌, ℕ, zero, suc, ◌<◌, ◌≤◌, ◌⊎◌, ⊎_elim, false, Some, Result, Ok, Err, List, [], ◌∷◌, length, refl}
+use Rattle.std.proofs.Common.{◌≡◌, ℕ, zero, suc, ◌<◌, ◌≤◌, ◌⊎◌, ⊎_elim, Bool, false, Option, Some, None, Result, Ok, Err, List, [], ◌∷◌, length, refl, arith}
 use Rattle.std.specs.Prelude.{slice_get}
 use Rattle.std.specs.Option.{is_some}
 use Rattle.std.proofs.lemmas.Bool.{cases_lt}
@@ -30,17 +30,27 @@ use Rattle.foundation.proofs.Places.{place_of}
 use Rattle.cxx_overrider.proofs.FaultSearch.{class_answer}
 use Rattle.abi_layout.proofs.rules.SomeAnswers.{large_decided, shared_decided}
 use Rattle.cxxabi_words.specs.declared.command.Command.{Command}
-use Rattle.cxxabi_words.specs.declared.command.Command.TheVariants.{Check, Run, Layout, LayoutOf, Tables, TablesOf, Paths, Gen, Array, MemberPointer}
+use Rattle.cxxabi_words.specs.declared.command.Command.TheVariants.{Check, Run, Layout, LayoutOf, Tables, TablesOf, Paths, Gen, Array, MemberPointer, Inspect, Foreign}
 use Rattle.cxxabi_words.specs.Commands.{Says, IsCommand, most_steps}
 use Rattle.cxxabi_words.proofs.CommandLaws.{some_command}
 use Rattle.cxxabi_cmd.specs.declared.listing.Listing.{Listing}
 use Rattle.cxxabi_cmd.specs.declared.listing.Listing.TheVariants.{OfLayout, OfTables}
-use Rattle.cxxabi_cmd.specs.declared.status.Status.TheVariants.{Refused, Usage, Limit}
+use Rattle.cxxabi_cmd.specs.declared.status.Status.TheVariants.{Refused, Usage, Limit, BadInput}
 use Rattle.cxxabi_cmd.specs.Answers.{IsArrayReply, no_element_class, elements_of, array_answer, IsMemberReply, no_class, no_whole, member_of, member_answer}
-use Rattle.cxxabi_cmd.specs.Commands.{by_run, by_paths, by_gen, source_of}
+use Rattle.cxxabi_cmd.specs.Commands.{RunsMain, by_run, by_paths, by_gen, by_foreign, input_of, parts_of}
+use Rattle.cxxabi_cmd.specs.Divided.{IsLayoutOf, IsDumpReply, IsListingReply, refused_listing, many_words, listing_rule, undivided_rule}
+use Rattle.cxxabi_input.specs.Division.{line_count}
+use Rattle.abi_sound.specs.declared.class_layout.ClassLayout.{ClassLayout}
+use Rattle.abi_layout.specs.Layouts.{IsLaid}
+use Rattle.abi_tables.specs.Counts.{all_words, most_words}
+use Rattle.abi_inspect.specs.Faults.{AreNamesWords}
+use Rattle.cxx_syntax.specs.declared.tree.BodyTree.{BodyTree}
 use Rattle.cxxabi_cmd.specs.Verdict.{AreLexemes, IsSource, HasNoFault, Judgement, Verdict, Stops, Accepts, by_text, by_records, by_classes, by_bodies, by_words, accepted}
-use Rattle.cxxabi_cmd.specs.Output.{source_limit, text_limit, Answer, AsksFor, all_layouts, one_layout, all_tables, one_tables, AsksForName, named_layout, named_tables, Lists, whole, too_much, Yields, counted, unknown_class, listed, arrayed, pointed, Output, usage, too_long, stopped, yielded, line_alone, count_answer, text_answer, status_of_stop, numbered, first_classes}
-use Rattle.cxxabi_cmd.proofs.Accepting.{ProgramsAreTyped, source_keeps, accepted_keeps, accepted_fine, accepted_typed, accepted_main}
+use Rattle.cxxabi_cmd.specs.Output.{source_limit, text_limit, Answer, AsksFor, all_layouts, one_layout, all_tables, one_tables, AsksForName, named_layout, named_tables, Lists, whole, too_much, Yields, counted, unknown_class, listed, arrayed, pointed, Output, usage, too_long, line_alone, count_answer, text_answer, status_of_stop, numbered, first_classes, no_main, inspected, no_layout}
+use Rattle.cxxabi_cmd.proofs.Accepting.{ProgramsAreTyped, source_keeps, accepted_keeps, accepted_fine, accepted_names, accepted_typed, accepted_main}
+use Rattle.cxxabi_cmd.proofs.Asking.{Judged, is_stopped, is_yielded, Parted, parted_output}
+use Rattle.cxxabi_cmd.proofs.SourceLemmas.{parts_short}
+use Rattle.cxxabi_cmd.proofs.SomeDivided.{SomeDumps, dump_replied, HasVerdict, is_sound, is_unsound, SomeListings}
 use Rattle.cxxabi_cmd.proofs.LaidRows.{no_meaning, sound_rows, words_decided}
 use Rattle.cxxabi_cmd.proofs.Listed.{SomeTables, AreKnown, named_below, some_texts, asked_known}
 use Rattle.cxxabi_cmd.proofs.RunAnswers.{NeverWrong, yields_runs}
@@ -113,24 +123,27 @@ lists law h listing classes keeps fine known =
     ⊎_elim (λ long. (line_alone (Limit L9), too_much laid.0 texts.0 laid.1 texts.1 long)) (λ short. (text_answer texts.0, whole laid.0 texts.0 laid.1 texts.1 short))
     (cases_lt text_limit (length texts.0))
 
-yields_list : SomeTables → (size : ℕ) (source : SourceText) (h : Classes) (typed : TypedProgram) (command : Command) (listing : Listing) (classes : List ClassId) → IsHierarchy h → HasNoFault h → AsksFor h command listing classes → (answer : Answer) × Yields size source h typed command answer
-yields_list law size source h typed command listing classes keeps fine asks =
+yields_list : SomeTables → (front : List ℕ) (size : ℕ) (source : SourceText) (h : Classes) (typed : TypedProgram) (command : Command) (listing : Listing) (classes : List ClassId) → IsHierarchy h → HasNoFault h → AsksFor h command listing classes → (answer : Answer) × Yields front size source h typed command answer
+yields_list law front size source h typed command listing classes keeps fine asks =
     let is = lists law h listing classes keeps fine (asked_known h command listing classes asks) in (is.0, listed command listing classes is.0 asks is.1)
 
-yields_named : SomeTables → (size : ℕ) (source : SourceText) (h : Classes) (typed : TypedProgram) (command : Command) (listing : Listing) (name : List ℕ) → IsHierarchy h → HasNoFault h → AsksForName command name →
-    ((c : ClassId) → slice_get (class_names h) c.0 ≡ Some name → AsksFor h command listing (c ∷ [])) → IsThere (class_names h) name → (answer : Answer) × Yields size source h typed command answer
-yields_named law size source h typed command listing name keeps fine names asks (there_at n at) = yields_list law size source h typed command listing (numbered n ∷ []) keeps fine (asks (numbered n) at)
-yields_named law size source h typed command listing name keeps fine names asks (nowhere none) =
+yields_named : SomeTables → (front : List ℕ) (size : ℕ) (source : SourceText) (h : Classes) (typed : TypedProgram) (command : Command) (listing : Listing) (name : List ℕ) → IsHierarchy h → HasNoFault h → AsksForName command name →
+    ((c : ClassId) → slice_get (class_names h) c.0 ≡ Some name → AsksFor h command listing (c ∷ [])) → IsThere (class_names h) name → (answer : Answer) × Yields front size source h typed command answer
+yields_named law front size source h typed command listing name keeps fine names asks (there_at n at) = yields_list law front size source h typed command listing (numbered n ∷ []) keeps fine (asks (numbered n) at)
+yields_named law front size source h typed command listing name keeps fine names asks (nowhere none) =
     (line_alone (Refused UnknownName size), unknown_class command name names (λ has. let place = place_of (class_names h) name has in none place.0 place.1))
 
 -- there is an array of each class, or a rule that refuses it
 abbrev pub SomeArrays : Type 0
 SomeArrays = (h : Classes) (l : Places) (c : ClassId) (n : ℕ) → IsHierarchy h → c.0 < length h → (answer : ArrayAnswer) × IsArrayAnswer h l c n answer
 
--- the laws of the layers below: a class has tables, and there is an answer for an array of it
+-- the laws of the layers below: a class has tables, there is an answer for an array of it, a dump says something or not, and a
+-- listing stands for a layout or not
 pub record SomeLaws : Type 0 where
   pub tables : SomeTables
   pub arrays : SomeArrays
+  pub dumps : SomeDumps
+  pub listings : SomeListings
 
 some_array : SomeArrays → (size : ℕ) (h : Classes) (name : List ℕ) (n : ℕ) → IsHierarchy h → IsThere (class_names h) name → (answer : Answer) × IsArrayReply size h name n answer
 some_array law size h name n keeps (there_at i at) =
@@ -148,35 +161,89 @@ some_member size h named keeps (there_at i at) (nowhere none) =
 some_member size h named keeps (nowhere none) there =
     (line_alone (Refused UnknownName size), no_class (λ has. let place = place_of (class_names h) named.class has in none place.0 place.1))
 
--- a command has an answer to an accepted source
-pub some_yield : SomeLaws → NeverWrong → (size : ℕ) (source : SourceText) (h : Classes) (typed : TypedProgram) (command : Command) → IsHierarchy h → HasNoFault h → IsTypedProgram h typed → is_body typed.main ≡ is_some source.main → (answer : Answer) × Yields size source h typed command answer
-some_yield law right size source h typed Check keeps fine is main = (count_answer h, counted)
-some_yield law right size source h typed (Run steps trace) keeps fine is main = let laid = some_layout h keeps in yields_runs right size source h laid.0 typed (Run steps trace) steps trace source.main (by_run steps trace) keeps (no_meaning h fine) laid.1 is main refl
-some_yield law right size source h typed Layout keeps fine is main = yields_list law.tables size source h typed Layout OfLayout (first_classes (length h)) keeps fine all_layouts
-some_yield law right size source h typed (LayoutOf name) keeps fine is main = yields_named law.tables size source h typed (LayoutOf name) OfLayout name keeps fine (named_layout name) (one_layout name) (some_place (class_names h) name)
-some_yield law right size source h typed Tables keeps fine is main = yields_list law.tables size source h typed Tables OfTables (first_classes (length h)) keeps fine all_tables
-some_yield law right size source h typed (TablesOf name) keeps fine is main = yields_named law.tables size source h typed (TablesOf name) OfTables name keeps fine (named_tables name) (one_tables name) (some_place (class_names h) name)
-some_yield law right size source h typed (Paths steps) keeps fine is main = let laid = some_layout h keeps in yields_runs right size source h laid.0 typed (Paths steps) steps false source.main (by_paths steps) keeps (no_meaning h fine) laid.1 is main refl
-some_yield law right size source h typed (Gen n) keeps fine is main = let laid = some_layout h keeps in yields_runs right size source h laid.0 typed (Gen n) most_steps false source.main (by_gen n) keeps (no_meaning h fine) laid.1 is main refl
-some_yield law right size source h typed (Array name n) keeps fine is main = let a = some_array law.arrays size h name n keeps (some_place (class_names h) name) in (a.0, arrayed name n a.0 a.1)
-some_yield law right size source h typed (MemberPointer named) keeps fine is main =
-    let a = some_member size h named keeps (some_place (class_names h) named.class) (some_place (class_names h) named.whole) in (a.0, pointed named a.0 a.1)
+-- what is said of a dump
+some_dump : SomeDumps → (dump : List ℕ) (h : Classes) → IsHierarchy h → HasNoFault h → AreNamesWords h → (answer : Answer) × IsDumpReply dump h answer
+some_dump law dump h keeps fine words =
+    let laid = some_layout h keeps in
+    dump_replied dump h laid.0 laid.1 (law h laid.0 dump (record { keeps = keeps; words = words; sound = sound_rows h laid.0 keeps fine laid.1 }))
 
-output_by : SomeLaws → ProgramsAreTyped → NeverWrong → (words : List (List ℕ)) (bytes : List ℕ) (command : Command) → Says words command → length (source_of command bytes) ≤ source_limit → (judgement : Judgement) → Verdict (source_of command bytes) judgement → (answer : Answer) × Output words bytes answer
-output_by law typing right words bytes command says short (Stops stop) verdict = (line_alone (status_of_stop stop), stopped command stop says short verdict)
-output_by law typing right words bytes command says short (Accepts source h typed) verdict =
-    let text = source_of command bytes in
-    let yields = some_yield law right (length text) source h typed command (accepted_keeps text source h typed verdict) (accepted_fine text source h typed verdict)
-    (accepted_typed typing text source h typed verdict) (accepted_main typing text source h typed verdict) in
-    (yields.0, yielded command source h typed yields.0 says short verdict yields.1)
+-- what is known where a command has an answer to an accepted source
+record IsReadyFor (h : Classes) (typed : TypedProgram) (source : SourceText) : Type 0 where
+  keeps : IsHierarchy h
+  fine : HasNoFault h
+  words : AreNamesWords h
+  typed_is : IsTypedProgram h typed
+  main : is_body typed.main ≡ is_some source.main
+
+-- `foreign` has an answer where there is a `main`
+foreign_by : SomeLaws → NeverWrong → (front : List ℕ) (size : ℕ) (source : SourceText) (h : Classes) (typed : TypedProgram) (steps : ℕ) (tree : BodyTree) → IsReadyFor h typed source → source.main ≡ Some tree →
+    HasVerdict h front → (answer : Answer) × Yields front size source h typed (Foreign steps) answer
+foreign_by law right front size source h typed steps tree ready main (is_sound rows is) =
+    ⊎_elim
+    (λ many. (line_alone (Limit L7), no_layout steps tree (line_alone (Limit L7)) main (many_words rows is many)))
+    (λ few. yields_runs right front size source h rows typed (Foreign steps) steps false source.main (by_foreign steps) ready.keeps (no_meaning h ready.fine) (is, few) ready.typed_is ready.main refl)
+    (cases_lt most_words (all_words h (places_of h rows)))
+foreign_by law right front size source h typed steps tree ready main (is_unsound rule line is) =
+    let answer = line_alone (BadInput (listing_rule rule) line) in (answer, no_layout steps tree answer main (refused_listing rule line is))
+
+some_foreign : SomeLaws → NeverWrong → (front : List ℕ) (size : ℕ) (source : SourceText) (h : Classes) (typed : TypedProgram) (steps : ℕ) (main : Option BodyTree) → IsReadyFor h typed source → source.main ≡ main →
+    (answer : Answer) × Yields front size source h typed (Foreign steps) answer
+some_foreign law right front size source h typed steps None ready main = (line_alone (Refused UnknownName size), no_main (Foreign steps) steps false (by_foreign steps) main)
+some_foreign law right front size source h typed steps (Some tree) ready main = foreign_by law right front size source h typed steps tree ready main (law.listings h front ready.keeps)
+
+-- a command that runs `main` over the layout of the rules has an answer
+some_run : NeverWrong → (front : List ℕ) (size : ℕ) (source : SourceText) (h : Classes) (typed : TypedProgram) (command : Command) (steps : ℕ) (trace : Bool) → RunsMain command steps trace → IsReadyFor h typed source →
+    ((rows : List ClassLayout) → IsLaid h rows → IsLayoutOf command front h rows) → (answer : Answer) × Yields front size source h typed command answer
+some_run right front size source h typed command steps trace does ready laid_by =
+    let laid = some_layout h ready.keeps in
+    yields_runs right front size source h laid.0 typed command steps trace source.main does ready.keeps (no_meaning h ready.fine) (laid_by laid.0 laid.1) ready.typed_is ready.main refl
+
+-- a command has an answer to an accepted source
+some_yield : SomeLaws → NeverWrong → (front : List ℕ) (size : ℕ) (source : SourceText) (h : Classes) (typed : TypedProgram) (command : Command) → IsReadyFor h typed source → (answer : Answer) × Yields front size source h typed command answer
+some_yield law right front size source h typed Check ready = (count_answer h, counted)
+some_yield law right front size source h typed (Run steps trace) ready = some_run right front size source h typed (Run steps trace) steps trace (by_run steps trace) ready (λ rows laid. laid)
+some_yield law right front size source h typed Layout ready = yields_list law.tables front size source h typed Layout OfLayout (first_classes (length h)) ready.keeps ready.fine all_layouts
+some_yield law right front size source h typed (LayoutOf name) ready = yields_named law.tables front size source h typed (LayoutOf name) OfLayout name ready.keeps ready.fine (named_layout name) (one_layout name) (some_place (class_names h) name)
+some_yield law right front size source h typed Tables ready = yields_list law.tables front size source h typed Tables OfTables (first_classes (length h)) ready.keeps ready.fine all_tables
+some_yield law right front size source h typed (TablesOf name) ready = yields_named law.tables front size source h typed (TablesOf name) OfTables name ready.keeps ready.fine (named_tables name) (one_tables name) (some_place (class_names h) name)
+some_yield law right front size source h typed (Paths steps) ready = some_run right front size source h typed (Paths steps) steps false (by_paths steps) ready (λ rows laid. laid)
+some_yield law right front size source h typed (Gen n) ready = some_run right front size source h typed (Gen n) most_steps false (by_gen n) ready (λ rows laid. laid)
+some_yield law right front size source h typed (Array name n) ready = let a = some_array law.arrays size h name n ready.keeps (some_place (class_names h) name) in (a.0, arrayed name n a.0 a.1)
+some_yield law right front size source h typed (MemberPointer named) ready =
+    let a = some_member size h named ready.keeps (some_place (class_names h) named.class) (some_place (class_names h) named.whole) in (a.0, pointed named a.0 a.1)
+some_yield law right front size source h typed Inspect ready = let a = some_dump law.dumps front h ready.keeps ready.fine ready.words in (a.0, inspected a.0 a.1)
+some_yield law right front size source h typed (Foreign steps) ready = some_foreign law right front size source h typed steps source.main ready refl
+
+some_judged : SomeLaws → ProgramsAreTyped → NeverWrong → (c : Command) (front text : List ℕ) → (judgement : Judgement) → Verdict text judgement → (answer : Answer) × Judged c front text answer
+some_judged law typing right c front text (Stops stop) verdict = (line_alone (status_of_stop stop), is_stopped stop verdict)
+some_judged law typing right c front text (Accepts source h typed) verdict =
+    let ready : IsReadyFor h typed source = record {
+      keeps = accepted_keeps text source h typed verdict;
+      fine = accepted_fine text source h typed verdict;
+      words = accepted_names text source h typed verdict;
+      typed_is = accepted_typed typing text source h typed verdict;
+      main = accepted_main typing text source h typed verdict;
+    } in
+    let yields = some_yield law right front (length text) source h typed c ready in
+    (yields.0, is_yielded source h typed yields.0 verdict yields.1)
+
+some_parted : SomeLaws → ProgramsAreTyped → NeverWrong → (c : Command) (input : List ℕ) (parts : Option (List ℕ × List ℕ)) → length input ≤ source_limit → parts_of c input ≡ parts → (answer : Answer) × Parted c input parts answer
+some_parted law typing right c input None short are = (line_alone (BadInput (undivided_rule c) (suc (line_count input))), refl)
+some_parted law typing right c input (Some p) short are =
+    let within = parts_short c input p.0 p.1 are in
+    let text = p.1 in
+    let judged = some_verdict text (omega (arith, within, short)) in
+    some_judged law typing right c p.0 text judged.0 judged.1
 
 -- words and bytes have an answer
 pub some_output : SomeLaws → ProgramsAreTyped → NeverWrong → (words : List (List ℕ)) (bytes : List ℕ) → (answer : Answer) × Output words bytes answer
 some_output law typing right words bytes =
     ⊎_elim
-    (λ command. let text = source_of command.0 bytes in
-    ⊎_elim (λ long. (line_alone (Limit L1), too_long command.0 command.1 long))
-    (λ short. let judged = some_verdict text short in output_by law typing right words bytes command.0 command.1 short judged.0 judged.1)
-    (cases_lt source_limit (length text)))
+    (λ command. let c = command.0 in
+    let input = input_of c bytes in
+    ⊎_elim (λ long. (line_alone (Limit L1), too_long c command.1 long))
+    (λ short. let parted = some_parted law typing right c input (parts_of c input) short refl in
+    (parted.0, parted_output words bytes c (parts_of c input) parted.0 command.1 short refl parted.1))
+    (cases_lt source_limit (length input)))
     (λ none. (line_alone Usage, usage none))
     (some_command words)

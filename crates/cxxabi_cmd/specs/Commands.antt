@@ -1,16 +1,24 @@
--- Which source each command treats, and which of them run `main`.
-use Rattle.std.specs.Prelude.{◌≡◌, ℕ, Bool, false, Option, Some, List}
+-- Which input each command treats, the parts that it has, and which commands run `main`.
+use Rattle.std.specs.Prelude.{◌≡◌, ℕ, Bool, false, Option, Some, List, []}
+use Rattle.cxxabi_input.specs.Division.{division}
 use Rattle.cxx_gen.specs.Generated.{generated}
 use Rattle.cxxabi_words.specs.declared.command.Command.{Command}
-use Rattle.cxxabi_words.specs.declared.command.Command.TheVariants.{Run, Paths, Gen}
+use Rattle.cxxabi_words.specs.declared.command.Command.TheVariants.{Run, Paths, Gen, Inspect, Foreign}
 use Rattle.cxxabi_words.specs.Commands.{Says, most_steps}
 use Rattle.text_told.specs.declared.ending.End.{End}
 use Rattle.text_told.specs.declared.ending.End.TheVariants.{Done}
 
--- the source that a command treats: `gen` its own, and each other what it reads
-abbrev pub source_of : Command → List ℕ → List ℕ
-source_of (Gen n) bytes = generated n
-source_of other bytes = bytes
+-- the input that a command treats: `gen` its own, and each other what it reads
+abbrev pub input_of : Command → List ℕ → List ℕ
+input_of (Gen n) bytes = generated n
+input_of other bytes = bytes
+
+-- what stands before the source in an input, and the source: a line divides the input of `inspect` and `foreign`, and that of each
+-- other command is a source
+abbrev pub parts_of : Command → List ℕ → Option (List ℕ × List ℕ)
+parts_of Inspect input = division input
+parts_of (Foreign steps) input = division input
+parts_of other input = Some ([], input)
 
 -- the command reads the source that it is given
 abbrev pub ReadsSource : Command → Type 0
@@ -26,6 +34,7 @@ pub data RunsMain : Command → ℕ → Bool → Type 0 where
   by_run : (steps : ℕ) (trace : Bool) → RunsMain (Run steps trace) steps trace
   by_paths : (steps : ℕ) → RunsMain (Paths steps) steps false
   by_gen : (n : ℕ) → RunsMain (Gen n) most_steps false
+  by_foreign : (steps : ℕ) → RunsMain (Foreign steps) steps false
 
 -- where the command runs a program, it does so on the byte machine
 abbrev pub IsOnBytes : Command → Type 0

@@ -12,7 +12,6 @@ use Rattle.cxx_syntax.specs.declared.source_text.SourceText.{SourceText}
 use Rattle.cxx_program.specs.declared.program.TypedProgram.{TypedProgram}
 use Rattle.abi_sound.specs.declared.class_layout.ClassLayout.{ClassLayout}
 use Rattle.abi_sound.specs.Places.{places_of}
-use Rattle.abi_layout.specs.Layouts.{IsLaid}
 use Rattle.abi_slots.specs.declared.code_numbers.CodeRow.{CodeRow}
 use Rattle.code_ops.specs.Setups.{setup}
 use Rattle.text_told.specs.declared.ending.End.{End}
@@ -20,7 +19,8 @@ use Rattle.text_told.specs.Told.{told, ending_of}
 use Rattle.abi_refine.specs.Executions.{IsExecution}
 use Rattle.cxxabi_words.specs.declared.command.Command.{Command}
 use Rattle.cxxabi_words.specs.Commands.{Says}
-use Rattle.cxxabi_cmd.specs.Commands.{IsOnBytes, RunsMain, source_of}
+use Rattle.cxxabi_cmd.specs.Commands.{IsOnBytes, RunsMain, input_of, parts_of}
+use Rattle.cxxabi_cmd.specs.Divided.{IsLayoutOf}
 use Rattle.cxxabi_cmd.specs.Verdict.{Verdict, Accepts}
 use Rattle.cxxabi_cmd.specs.Output.{source_limit}
 
@@ -41,13 +41,16 @@ pub record IsMachineOf (h : Classes) (rows : List ClassLayout) (program : TypedP
   pub ending : ending_of end_is ≡ (told h (places_of h rows) program trace steps).ending
   pub executed : IsExecution (setup h rows program) steps trace numbers machine.code machine.image machine.state (told h (places_of h rows) program trace steps).text end_is
 
--- the source is accepted with this program, has a `main`, and is run over this layout
-pub record IsRun (bytes : List ℕ) (h : Classes) (rows : List ClassLayout) (program : TypedProgram) : Type 0 where
+-- the source in the input is accepted with this program, has a `main`, and is run over the layout that the command treats
+pub record IsRun (command : Command) (input : List ℕ) (h : Classes) (rows : List ClassLayout) (program : TypedProgram) : Type 0 where
+  pub front : List ℕ
+  pub text : List ℕ
+  pub parts : parts_of command input ≡ Some (front, text)
   pub source : SourceText
-  pub accepted : Verdict bytes (Accepts source h program)
+  pub accepted : Verdict text (Accepts source h program)
   pub tree : BodyTree
   pub main : source.main ≡ Some tree
-  pub laid : IsLaid h rows
+  pub laid : IsLayoutOf command front h rows
 
 -- the words ask for a run on the byte machine, and there is one
 pub record HasRun (words : List (List ℕ)) (bytes : List ℕ) (h : Classes) (rows : List ClassLayout) (program : TypedProgram) (trace : Bool) (steps : ℕ) : Type 0 where
@@ -55,8 +58,8 @@ pub record HasRun (words : List (List ℕ)) (bytes : List ℕ) (h : Classes) (ro
   pub asked : Says words command
   pub runs : RunsMain command steps trace
   pub on_bytes : IsOnBytes command
-  pub short : length (source_of command bytes) ≤ source_limit
-  pub is_run : IsRun (source_of command bytes) h rows program
+  pub short : length (input_of command bytes) ≤ source_limit
+  pub is_run : IsRun command (input_of command bytes) h rows program
 
 -- it is the machine of that run
 pub record IsHandedOver (words : List (List ℕ)) (bytes : List ℕ) (machine : Seen) : Type 0 where

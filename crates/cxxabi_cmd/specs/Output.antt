@@ -1,4 +1,4 @@
--- Which text and which status belong to words and the bytes of a source.
+-- Which text and which status belong to words and the bytes of an input.
 use Rattle.std.specs.Prelude.{◌≡◌, ℕ, zero, suc, ◌<◌, ◌≤◌, Bool, Contains, slice_get, List, [], ◌∷◌, ◌++◌, length, map, codes, Option, Some, None, IfSome, string_bytes, String}
 use Rattle.std.specs.Fmt.{decimal}
 use Rattle.cxx_text.specs.Cover.{max_text_bytes}
@@ -26,13 +26,15 @@ use Rattle.abi_print.specs.LayoutTexts.{layout_text}
 use Rattle.abi_print.specs.TableTexts.{tables_text}
 use Rattle.cxxabi_words.specs.declared.command.QualifiedMember.{QualifiedMember}
 use Rattle.cxxabi_words.specs.declared.command.Command.{Command}
-use Rattle.cxxabi_words.specs.declared.command.Command.TheVariants.{Check, Layout, LayoutOf, Tables, TablesOf, Array, MemberPointer}
+use Rattle.cxxabi_words.specs.declared.command.Command.TheVariants.{Check, Layout, LayoutOf, Tables, TablesOf, Array, MemberPointer, Inspect, Foreign}
 use Rattle.cxxabi_words.specs.Commands.{Says, IsCommand}
 use Rattle.cxxabi_cmd.specs.declared.listing.Listing.{Listing}
 use Rattle.cxxabi_cmd.specs.declared.listing.Listing.TheVariants.{OfLayout, OfTables}
 use Rattle.cxxabi_cmd.specs.declared.status.Status.{Status}
 use Rattle.cxxabi_cmd.specs.declared.status.Status.TheVariants.{Done, Refused, BadInput, Usage, Undefined, OutOfSteps, Limit, ReadFault, WriteFault, NoMemory}
-use Rattle.cxxabi_cmd.specs.Commands.{RunsMain, SumsUp, source_of}
+use Rattle.cxxabi_cmd.specs.Commands.{RunsMain, SumsUp, input_of, parts_of}
+use Rattle.cxxabi_cmd.specs.Divided.{IsDumpReply, IsLayoutOf, IsListingReply, undivided_rule}
+use Rattle.cxxabi_input.specs.Division.{line_count}
 pub use Rattle.cxxabi_cmd.specs.Answers.{Answer, line_alone, text_answer, text_limit}
 use Rattle.cxxabi_cmd.specs.Answers.{IsArrayReply, IsMemberReply}
 use Rattle.cxxabi_cmd.specs.Statuses.{last_line}
@@ -120,24 +122,29 @@ pub data Lists (h : Classes) (listing : Listing) (classes : List ClassId) : Answ
   whole : (rows : List ClassLayout) (text : List ℕ) → IsLaid h rows → AreTexts h rows listing classes text → length text ≤ text_limit → Lists h listing classes (text_answer text)
   too_much : (rows : List ClassLayout) (text : List ℕ) → IsLaid h rows → AreTexts h rows listing classes text → text_limit < length text → Lists h listing classes (line_alone (Limit L9))
 
--- what a command answers to an accepted source of so many bytes, which resolves to this program
-pub data Yields (size : ℕ) (source : SourceText) (h : Classes) (typed : TypedProgram) : Command → Answer → Type 0 where
-  counted : Yields size source h typed Check (count_answer h)
-  no_main : (command : Command) (steps : ℕ) (trace : Bool) → RunsMain command steps trace → source.main ≡ None → Yields size source h typed command (line_alone (Refused UnknownName size))
-  ran : (command : Command) (steps : ℕ) (trace : Bool) (tree : BodyTree) (rows : List ClassLayout) (answer : Answer) → RunsMain command steps trace → source.main ≡ Some tree → IsLaid h rows →
-      IsRunAnswer command h rows typed trace steps answer → Yields size source h typed command answer
-  unknown_class : (command : Command) (name : List ℕ) → AsksForName command name → (Contains (class_names h) name → ⊥) → Yields size source h typed command (line_alone (Refused UnknownName size))
-  listed : (command : Command) (listing : Listing) (classes : List ClassId) (answer : Answer) → AsksFor h command listing classes → Lists h listing classes answer → Yields size source h typed command answer
-  arrayed : (name : List ℕ) (n : ℕ) (answer : Answer) → IsArrayReply size h name n answer → Yields size source h typed (Array name n) answer
-  pointed : (named : QualifiedMember) (answer : Answer) → IsMemberReply size h named answer → Yields size source h typed (MemberPointer named) answer
+-- what a command answers to an accepted source of so many bytes, which resolves to this program, behind this front
+pub data Yields (front : List ℕ) (size : ℕ) (source : SourceText) (h : Classes) (typed : TypedProgram) : Command → Answer → Type 0 where
+  counted : Yields front size source h typed Check (count_answer h)
+  no_main : (command : Command) (steps : ℕ) (trace : Bool) → RunsMain command steps trace → source.main ≡ None → Yields front size source h typed command (line_alone (Refused UnknownName size))
+  ran : (command : Command) (steps : ℕ) (trace : Bool) (tree : BodyTree) (rows : List ClassLayout) (answer : Answer) → RunsMain command steps trace → source.main ≡ Some tree → IsLayoutOf command front h rows →
+      IsRunAnswer command h rows typed trace steps answer → Yields front size source h typed command answer
+  unknown_class : (command : Command) (name : List ℕ) → AsksForName command name → (Contains (class_names h) name → ⊥) → Yields front size source h typed command (line_alone (Refused UnknownName size))
+  listed : (command : Command) (listing : Listing) (classes : List ClassId) (answer : Answer) → AsksFor h command listing classes → Lists h listing classes answer → Yields front size source h typed command answer
+  arrayed : (name : List ℕ) (n : ℕ) (answer : Answer) → IsArrayReply size h name n answer → Yields front size source h typed (Array name n) answer
+  pointed : (named : QualifiedMember) (answer : Answer) → IsMemberReply size h named answer → Yields front size source h typed (MemberPointer named) answer
+  inspected : (answer : Answer) → IsDumpReply front h answer → Yields front size source h typed Inspect answer
+  no_layout : (steps : ℕ) (tree : BodyTree) (answer : Answer) → source.main ≡ Some tree → IsListingReply front h answer → Yields front size source h typed (Foreign steps) answer
 
--- what is answered to words and the bytes of a source, which a command treats or has no use for
+-- what is answered to words and an input, which a command treats or has no use for
 pub data Output (words : List (List ℕ)) (bytes : List ℕ) : Answer → Type 0 where
   usage : (IsCommand words → ⊥) → Output words bytes (line_alone Usage)
-  too_long : (command : Command) → Says words command → source_limit < length (source_of command bytes) → Output words bytes (line_alone (Limit L1))
-  stopped : (command : Command) (stop : Stop) → Says words command → length (source_of command bytes) ≤ source_limit → Verdict (source_of command bytes) (Stops stop) → Output words bytes (line_alone (status_of_stop stop))
-  yielded : (command : Command) (source : SourceText) (h : Classes) (typed : TypedProgram) (answer : Answer) → Says words command → length (source_of command bytes) ≤ source_limit →
-      Verdict (source_of command bytes) (Accepts source h typed) → Yields (length (source_of command bytes)) source h typed command answer → Output words bytes answer
+  too_long : (command : Command) → Says words command → source_limit < length (input_of command bytes) → Output words bytes (line_alone (Limit L1))
+  undivided : (command : Command) → Says words command → length (input_of command bytes) ≤ source_limit → parts_of command (input_of command bytes) ≡ None →
+      Output words bytes (line_alone (BadInput (undivided_rule command) (suc (line_count (input_of command bytes)))))
+  stopped : (command : Command) (front text : List ℕ) (stop : Stop) → Says words command → length (input_of command bytes) ≤ source_limit → parts_of command (input_of command bytes) ≡ Some (front, text) →
+      Verdict text (Stops stop) → Output words bytes (line_alone (status_of_stop stop))
+  yielded : (command : Command) (front text : List ℕ) (source : SourceText) (h : Classes) (typed : TypedProgram) (answer : Answer) → Says words command → length (input_of command bytes) ≤ source_limit →
+      parts_of command (input_of command bytes) ≡ Some (front, text) → Verdict text (Accepts source h typed) → Yields front (length text) source h typed command answer → Output words bytes answer
 
 -- an answer was written: neither a fault nor want of memory
 abbrev pub IsAnswered : Status → Type 0

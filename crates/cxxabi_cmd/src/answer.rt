@@ -1,12 +1,13 @@
 //! What each command answers to an accepted source.
 
-ghost use Rattle.std.specs.Prelude.{◌≡◌, IfOk};
-ghost use Rattle.cxxabi_cmd.specs.Output.{Yields};
+ghost use Rattle.std.specs.Prelude.{◌≡◌, ◌≤◌, IfOk, length};
+ghost use Rattle.cxxabi_cmd.specs.Output.{Yields, source_limit};
 ghost use Rattle.cxxabi_cmd.specs.invariants.Listings.{IsReady};
 ghost use Rattle.cxxabi_cmd.specs.invariants.Replies.{answer_of, machine_of, HandsBy};
 ghost use Rattle.cxxabi_words.specs.invariants.Few.{HasFew};
 
 use crate::class_answer::{array_of, member_of};
+use crate::divided_answer::{inspect_dump, run_foreign};
 use crate::list_answer::{list_all, list_one};
 use crate::listing::Listing;
 use crate::reply::{Reply, class_count};
@@ -16,17 +17,19 @@ use cxxabi_words::Command;
 use foundation::NoMemory;
 use std::alloc::Global;
 
-// What a command answers to an accepted source of so many bytes.
+// What a command answers to an accepted source of so many bytes, behind this front.
 pub(crate) fn answer(
     alloc: Global,
     command: &Command,
+    front: &[u8],
     size: u32,
     accepted: &Accepted,
 ) -> Result<Reply, NoMemory>
     requires ready { IsReady accepted.now }
+    requires short { length front.now ≤ source_limit }
     requires few { HasFew command.now }
-    ensures yields { IfOk result (λ reply. Yields size accepted.now.source accepted.now.hierarchy accepted.now.program command.now (answer_of reply)) }
-    ensures machine { IfOk result (λ reply. HandsBy command.now accepted.now.source accepted.now.hierarchy accepted.now.program (machine_of reply)) }
+    ensures yields { IfOk result (λ reply. Yields front.now size accepted.now.source accepted.now.hierarchy accepted.now.program command.now (answer_of reply)) }
+    ensures machine { IfOk result (λ reply. HandsBy command.now front.now accepted.now.source accepted.now.hierarchy accepted.now.program (machine_of reply)) }
 {
     match command {
         Command::Check => class_count(alloc, &accepted.hierarchy),
@@ -43,5 +46,7 @@ pub(crate) fn answer(
         Command::Gen(_) => run_generated(alloc, size, accepted),
         Command::Array(name, count) => array_of(alloc, size, name.as_slice(), *count, accepted),
         Command::MemberPointer(named) => member_of(alloc, size, named, accepted),
+        Command::Inspect => inspect_dump(alloc, front, accepted),
+        Command::Foreign(steps) => run_foreign(alloc, front, size, *steps, accepted),
     }
 }

@@ -11,6 +11,7 @@
 
 mod answer;
 mod class_answer;
+mod divided_answer;
 mod list_answer;
 pub mod listing;
 pub mod reading;

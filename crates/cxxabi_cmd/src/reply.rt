@@ -2,13 +2,13 @@
 
 ghost use Rattle.std.specs.Prelude.{◌≡◌, None, IfOk};
 ghost use Rattle.cxxabi_cmd.specs.Answers.{limited_answer};
-ghost use Rattle.cxxabi_cmd.specs.Output.{line_alone, count_answer};
+ghost use Rattle.cxxabi_cmd.specs.Output.{line_alone, count_answer, status_of_stop};
 ghost use Rattle.cxxabi_cmd.specs.invariants.Replies.{answer_of, machine_of};
 
 use crate::status::{Status, last_line_of};
 use byte_machine::Machine;
 use byte_memory::PageMemory;
-use cxx_hierarchy::{Hierarchy, LimitNo};
+use cxx_hierarchy::{Hierarchy, LimitNo, Stop};
 use foundation::NoMemory;
 use std::alloc::Global;
 
@@ -66,4 +66,16 @@ pub(crate) fn class_count(alloc: Global, h: &Hierarchy) -> Result<Reply, NoMemor
         status: Status::Done,
         machine: None,
     })
+}
+
+/// What is answered to a source that stops.
+pub(crate) fn stopped(alloc: Global, stop: Stop) -> Result<Reply, NoMemory>
+    ensures answer { IfOk result (λ reply. (stop ≡ Stop.NoMemory → ⊥) × (answer_of reply ≡ line_alone (status_of_stop stop))) }
+    ensures machine { IfOk result (λ reply. machine_of reply ≡ None) }
+{
+    match stop {
+        Stop::Refused(rule, at) => line_alone(alloc, Status::Refused(rule, at)),
+        Stop::Limit(limit) => line_alone(alloc, Status::Limit(limit)),
+        Stop::NoMemory => Err(NoMemory),
+    }
 }

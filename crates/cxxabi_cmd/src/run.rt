@@ -1,57 +1,79 @@
 //! The whole program as one call.
 
-ghost use Rattle.std.specs.Prelude.{ℕ, ◌≡◌, ◌↔◌, ◌≤◌, ◌<◌, ◌⊎◌, ◌∷◌, ◌++◌, [], List, Some, None, IsTrue, IfSome, IfOk, IfErr, IsSome, OnOk, take, drop, length, string_bytes};
+ghost use Rattle.std.specs.Prelude.{ℕ, ◌≡◌, ◌↔◌, ◌≤◌, ◌<◌, ◌⊎◌, ◌∷◌, ◌++◌, [], List, Some, None, IsTrue, IfSome, IfOk, IfErr, IsSome, MatchOption, OnOk, take, drop, length, string_bytes};
 ghost use Rattle.std.specs.Option.{option_map};
 ghost use Rattle.cxxabi_cmd.specs.Streams.{Rose, IsPartOf};
 ghost use Rattle.cxxabi_words.specs.Commands.{Says, IsCommand};
-ghost use Rattle.cxxabi_cmd.specs.Commands.{ReadsSource, Tells, source_of};
-ghost use Rattle.cxxabi_cmd.specs.Output.{source_limit, texts_of, Output, Answer, Answers, BreaksOff, IsAnswered, IsSilent, line_alone, status_of_stop};
+ghost use Rattle.cxxabi_cmd.specs.Commands.{ReadsSource, Tells, input_of, parts_of};
+ghost use Rattle.cxxabi_cmd.specs.Divided.{undivided_rule};
+ghost use Rattle.cxxabi_cmd.specs.Output.{source_limit, texts_of, Output, Answer, Answers, BreaksOff, IsAnswered, IsSilent};
 ghost use Rattle.cxxabi_cmd.specs.invariants.Replies.{answer_of, machine_of, IsRead};
 ghost use Rattle.cxxabi_words.specs.invariants.Few.{HasFew};
 ghost use Rattle.cxxabi_cmd.specs.Handed.{HandsOut, seen_of};
 
 use crate::answer::answer;
 use crate::reading::{ReadStop, SOURCE_LIMIT, read_source};
-use crate::reply::{Reply, line_alone};
+use crate::reply::{Reply, line_alone, stopped};
 use crate::sink::Sink;
 use crate::source::Source;
-use crate::status::Status;
+use crate::status::{InputRule, Status};
 use crate::verdict::judge;
 use crate::writing::write_text;
 use abi_cookie::{one_answer, some_answer};
+use abi_foreign::{listing_or_refusal, one_listing, one_refusal};
+use abi_inspect::{one_reading, some_reading};
 use abi_tables::{one_tables, some_tables};
 use byte_machine::Machine;
 use byte_memory::PageMemory;
 use cxx_gen::generate;
-use cxx_hierarchy::{LimitNo, Stop};
+use cxx_hierarchy::LimitNo;
 use cxx_typing::programs_are_typed;
+use cxxabi_input::{Parts, divide, line_count};
 use cxxabi_words::{Command, command_of};
 use foundation::NoMemory;
 use path_model::runs_are_typed;
 use std::alloc::Global;
 
-// What is answered to a source that stops.
-fn stopped(alloc: Global, stop: Stop) -> Result<Reply, NoMemory>
-    ensures answer { IfOk result (λ reply. (stop ≡ Stop.NoMemory → ⊥) × (answer_of reply ≡ line_alone (status_of_stop stop))) }
-    ensures machine { IfOk result (λ reply. machine_of reply ≡ None) }
+// The parts of the input of a command.
+fn parts_of<'a>(command: &Command, input: &'a [u8]) -> Option<Parts<'a>>
+    ensures { MatchOption result (parts_of command.now input.now ≡ None) (λ parts. parts_of command.now input.now ≡ Some (parts.front.now, parts.source.now)) }
 {
-    match stop {
-        Stop::Refused(rule, at) => line_alone(alloc, Status::Refused(rule, at)),
-        Stop::Limit(limit) => line_alone(alloc, Status::Limit(limit)),
-        Stop::NoMemory => Err(NoMemory),
+    match command {
+        Command::Inspect | Command::Foreign(_) => divide(input),
+        _ => Some(Parts {
+            front: &input[..0],
+            source: input,
+        }),
     }
 }
 
-// What a command answers to the bytes of a source.
+// The rule on an input that no line divides.
+fn undivided_rule(command: &Command) -> InputRule
+    ensures { result ≡ undivided_rule command.now }
+{
+    match command {
+        Command::Foreign(_) => InputRule::F1,
+        _ => InputRule::I2,
+    }
+}
+
+// What a command answers to the bytes of an input.
 fn reply_to(alloc: Global, command: &Command, bytes: &[u8]) -> Result<Reply, NoMemory>
     requires short { length bytes.now ≤ source_limit }
     requires few { HasFew command.now }
-    ensures output { IfOk result (λ reply. (words : List (List ℕ)) (given : List ℕ) → Says words command.now → bytes.now ≡ source_of command.now given → Output words given (answer_of reply)) }
-    ensures machine { IfOk result (λ reply. (words : List (List ℕ)) (given : List ℕ) → Says words command.now → bytes.now ≡ source_of command.now given → HandsOut words given (machine_of reply)) }
+    ensures output { IfOk result (λ reply. (words : List (List ℕ)) (given : List ℕ) → Says words command.now → bytes.now ≡ input_of command.now given → Output words given (answer_of reply)) }
+    ensures machine { IfOk result (λ reply. (words : List (List ℕ)) (given : List ℕ) → Says words command.now → bytes.now ≡ input_of command.now given → HandsOut words given (machine_of reply)) }
     ensures answered { IfOk result (λ reply. IsAnswered reply.status) }
 {
-    match judge(alloc, bytes) {
-        Ok(accepted) => answer(alloc, command, bytes.len() as u32, &accepted),
+    let Some(parts) = parts_of(command, bytes) else {
+        let line = line_count(bytes) + 1;
+        return line_alone(alloc, Status::BadInput(undivided_rule(command), line));
+    };
+    match judge(alloc, parts.source) {
+        Ok(accepted) => {
+            let size = parts.source.len() as u32;
+            answer(alloc, command, parts.front, size, &accepted)
+        }
         Err(stop) => stopped(alloc, stop),
     }
 }
@@ -59,8 +81,8 @@ fn reply_to(alloc: Global, command: &Command, bytes: &[u8]) -> Result<Reply, NoM
 // What a command answers to what was read of its source, up to one byte past the limit.
 fn reply_within(alloc: Global, command: &Command, bytes: &[u8]) -> Result<Reply, NoMemory>
     requires few { HasFew command.now }
-    ensures output { IfOk result (λ reply. (words : List (List ℕ)) (given : List ℕ) → Says words command.now → IsRead bytes.now (source_of command.now given) → Output words given (answer_of reply)) }
-    ensures machine { IfOk result (λ reply. (words : List (List ℕ)) (given : List ℕ) → Says words command.now → IsRead bytes.now (source_of command.now given) → HandsOut words given (machine_of reply)) }
+    ensures output { IfOk result (λ reply. (words : List (List ℕ)) (given : List ℕ) → Says words command.now → IsRead bytes.now (input_of command.now given) → Output words given (answer_of reply)) }
+    ensures machine { IfOk result (λ reply. (words : List (List ℕ)) (given : List ℕ) → Says words command.now → IsRead bytes.now (input_of command.now given) → HandsOut words given (machine_of reply)) }
     ensures answered { IfOk result (λ reply. IsAnswered reply.status) }
 {
     if bytes.len() > SOURCE_LIMIT {
@@ -75,7 +97,7 @@ fn source_for<S: Source>(
     command: &Command,
     source: &mut S,
 ) -> Result<Vec<u8>, ReadStop>
-    ensures read { IfOk result (λ bytes. (given : List ℕ) → (ReadsSource command.now → S.remaining source.old ≡ Some given) → IsRead bytes.items (source_of command.now given)) }
+    ensures read { IfOk result (λ bytes. (given : List ℕ) → (ReadsSource command.now → S.remaining source.old ≡ Some given) → IsRead bytes.items (input_of command.now given)) }
     ensures left { OnOk result (ReadsSource command.now → IfSome (S.remaining source.old) (λ bytes. S.remaining source.new ≡ Some (drop 262145 bytes))) }
     ensures kept { (ReadsSource command.now → ⊥) → source.new ≡ source.old }
     ensures fault { IfErr result (λ stop. stop ≡ ReadStop.Fault → Rose (S.fault_count source.old) (S.fault_count source.new)) }
@@ -165,6 +187,9 @@ pub fn one_output()
 {
     one_tables();
     one_answer();
+    one_reading();
+    one_listing();
+    one_refusal();
 }
 
 /// Words and the bytes of a source have an answer, as a law for readers of `Output`. It does nothing.
@@ -173,6 +198,8 @@ pub fn some_output()
 {
     some_tables();
     some_answer();
+    some_reading();
+    listing_or_refusal();
     programs_are_typed();
     runs_are_typed();
 }

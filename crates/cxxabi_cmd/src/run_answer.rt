@@ -1,9 +1,13 @@
 //! What `run`, `paths` and `gen` answer: what `main` prints on the byte machine, and on the machine of paths, and the summary of a run.
 
-ghost use Rattle.std.specs.Prelude.{◌≡◌, ◌≤◌, ℕ, true, false, None, IfOk, MatchOption};
+ghost use Rattle.std.specs.Prelude.{◌≡◌, ◌≤◌, ℕ, List, true, false, None, IfOk, MatchOption};
 ghost use Rattle.std.specs.Option.{option_map};
 ghost use Rattle.path_model.specs.States.{is_body};
+ghost use Rattle.abi_sound.specs.Places.{places_of};
+ghost use Rattle.abi_tables.specs.Counts.{all_words, most_words};
+ghost use Rattle.text_told.specs.declared.ending.End.{End};
 ghost use Rattle.cxxabi_words.specs.Commands.{most_steps};
+ghost use Rattle.cxxabi_cmd.specs.Commands.{SumsUp};
 ghost use Rattle.cxxabi_cmd.specs.Output.{IsRunAnswer, Yields, ended_answer, status_of, summary_answer};
 ghost use Rattle.cxxabi_cmd.specs.Handed.{IsMachineOf, seen_of};
 ghost use Rattle.cxxabi_cmd.specs.invariants.Listings.{IsReady};
@@ -13,6 +17,7 @@ use crate::reply::{Reply, line_alone};
 use crate::status::{Status, last_line_of, number_of};
 use crate::verdict::Accepted;
 use abi_refine::{Execution, execute};
+use abi_sound::SoundLayout;
 use byte_machine::Machine;
 use byte_memory::PageMemory;
 use cxx_gen::{count_lines, last_line, summary};
@@ -78,24 +83,27 @@ fn summed_up(
     })
 }
 
-// What is answered to a program that has a main, run on the byte machine.
-fn run_by_bytes(
+// What is answered to a program that has a main, run on the byte machine over a layout.
+pub(crate) fn run_by_bytes<L: SoundLayout>(
     alloc: Global,
     steps: u32,
     trace: bool,
+    layout: &L,
     accepted: &Accepted,
 ) -> Result<Reply, NoMemory>
     requires ready { IsReady accepted.now }
+    requires layout { L.lays_out layout.now accepted.now.hierarchy }
+    requires words { all_words accepted.now.hierarchy (places_of accepted.now.hierarchy (L.rows layout.now)) ≤ most_words }
     requires main { is_body accepted.now.program.main ≡ true }
     requires few { steps ≤ most_steps }
-    ensures answer { IfOk result (λ reply. IsRunAnswer (Command.Run steps trace) accepted.now.hierarchy accepted.now.layout accepted.now.program trace steps (answer_of reply)) }
-    ensures machine { IfOk result (λ reply. MatchOption (machine_of reply) ⊥ (IsMachineOf accepted.now.hierarchy accepted.now.layout accepted.now.program trace steps)) }
+    ensures answer { IfOk result (λ reply. (command : Command) → ((end_is : End) → SumsUp command end_is → ⊥) → IsRunAnswer command accepted.now.hierarchy (L.rows layout.now) accepted.now.program trace steps (answer_of reply)) }
+    ensures machine { IfOk result (λ reply. MatchOption (machine_of reply) ⊥ (IsMachineOf accepted.now.hierarchy (L.rows layout.now) accepted.now.program trace steps)) }
 {
     let execution = execute(
         alloc,
         &accepted.hierarchy,
         &accepted.overriders,
-        &accepted.layout,
+        layout,
         &accepted.program,
         steps,
         trace,
@@ -178,13 +186,13 @@ pub(crate) fn run_on_bytes(
 ) -> Result<Reply, NoMemory>
     requires ready { IsReady accepted.now }
     requires few { steps ≤ most_steps }
-    ensures yields { IfOk result (λ reply. Yields size accepted.now.source accepted.now.hierarchy accepted.now.program (Command.Run steps trace) (answer_of reply)) }
-    ensures machine { IfOk result (λ reply. HandsBy (Command.Run steps trace) accepted.now.source accepted.now.hierarchy accepted.now.program (machine_of reply)) }
+    ensures yields { IfOk result (λ reply. (front : List ℕ) → Yields front size accepted.now.source accepted.now.hierarchy accepted.now.program (Command.Run steps trace) (answer_of reply)) }
+    ensures machine { IfOk result (λ reply. (front : List ℕ) → HandsBy (Command.Run steps trace) front accepted.now.source accepted.now.hierarchy accepted.now.program (machine_of reply)) }
 {
     if accepted.source.main.is_none() {
         return line_alone(alloc, Status::Refused(Rule::UnknownName, size));
     }
-    run_by_bytes(alloc, steps, trace, accepted)
+    run_by_bytes(alloc, steps, trace, &accepted.layout, accepted)
 }
 
 /// What `gen` answers to the source that it made, which is accepted and has so many bytes.
@@ -194,8 +202,8 @@ pub(crate) fn run_generated(
     accepted: &Accepted,
 ) -> Result<Reply, NoMemory>
     requires ready { IsReady accepted.now }
-    ensures yields { IfOk result (λ reply. (n : ℕ) → Yields size accepted.now.source accepted.now.hierarchy accepted.now.program (Command.Gen n) (answer_of reply)) }
-    ensures machine { IfOk result (λ reply. (n : ℕ) → HandsBy (Command.Gen n) accepted.now.source accepted.now.hierarchy accepted.now.program (machine_of reply)) }
+    ensures yields { IfOk result (λ reply. (n : ℕ) (front : List ℕ) → Yields front size accepted.now.source accepted.now.hierarchy accepted.now.program (Command.Gen n) (answer_of reply)) }
+    ensures machine { IfOk result (λ reply. (n : ℕ) (front : List ℕ) → HandsBy (Command.Gen n) front accepted.now.source accepted.now.hierarchy accepted.now.program (machine_of reply)) }
 {
     if accepted.source.main.is_none() {
         return line_alone(alloc, Status::Refused(Rule::UnknownName, size));
@@ -212,7 +220,7 @@ pub(crate) fn run_on_paths(
 ) -> Result<Reply, NoMemory>
     requires ready { IsReady accepted.now }
     requires few { steps ≤ most_steps }
-    ensures yields { IfOk result (λ reply. Yields size accepted.now.source accepted.now.hierarchy accepted.now.program (Command.Paths steps) (answer_of reply)) }
+    ensures yields { IfOk result (λ reply. (front : List ℕ) → Yields front size accepted.now.source accepted.now.hierarchy accepted.now.program (Command.Paths steps) (answer_of reply)) }
     ensures machine { IfOk result (λ reply. machine_of reply ≡ None) }
 {
     if accepted.source.main.is_none() {

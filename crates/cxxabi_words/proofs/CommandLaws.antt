@@ -55,6 +55,8 @@ few_by_form _ _ (commands.paths steps n is) = few_steps steps n is
 few_by_form _ _ (commands.gen digits n is) = (is.least, is.within)
 few_by_form _ _ (commands.array class digits n name is) = (is.least, is.within)
 few_by_form _ _ (commands.member class member one two) = tt
+few_by_form _ _ commands.inspect = tt
+few_by_form _ _ (commands.foreign steps n is) = few_steps steps n is
 few_by_form _ _ (commands.member_for class member whole one two three) = tt
 
 -- a command that words ask for has such numbers

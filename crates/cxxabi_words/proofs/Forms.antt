@@ -8,10 +8,10 @@ use Rattle.std.proofs.lemmas.List.{append_assoc}
 use Rattle.clap.specs.Words.{Text}
 use Rattle.foundation.proofs.Truth.{is_false, split}
 use Rattle.cxxabi_words.specs.declared.command.Command.{Command}
-use Rattle.cxxabi_words.specs.declared.command.Command.TheVariants.{Check, Layout, LayoutOf, Tables, TablesOf, Run, Paths, Gen, Array, MemberPointer}
+use Rattle.cxxabi_words.specs.declared.command.Command.TheVariants.{Check, Layout, LayoutOf, Tables, TablesOf, Run, Paths, Gen, Array, MemberPointer, Inspect, Foreign}
 use Rattle.cxxabi_words.specs.Commands as commands
 use Rattle.cxxabi_words.specs.Commands.{Given, IsForm, IsBudget, IsCount, IsName, word_alone, word_with, most_classes, most_elements}
-use Rattle.cxxabi_words.specs.invariants.Asked.{array_form, array_of, asked, budgeted, check_form, counted, cut_at, cut_scope, form_of, gen_form, is_name, layout_form, member_cut, member_form, member_in, member_of, paths_form, plain_form, run_form, tables_form}
+use Rattle.cxxabi_words.specs.invariants.Asked.{array_form, array_of, asked, budgeted, check_form, counted, cut_at, cut_scope, foreign_form, form_of, gen_form, inspect_form, is_name, layout_form, member_cut, member_form, member_in, member_of, paths_form, plain_form, run_form, tables_form}
 use Rattle.cxxabi_words.proofs.Counts.{budgeted_sound, budgeted_complete, counted_sound, counted_complete}
 use Rattle.cxxabi_words.proofs.NameCuts.{Lacks, cut_nowhere, cut_sound, cut_whole, name_complete, name_lacks, name_sound, scope_lacks, scope_sound, scope_whole}
 
@@ -147,6 +147,10 @@ for_complete class member whole one two three =
     ∙ ap (member_cut ((class ++ 58 ∷ 58 ∷ member) ++ 64 ∷ whole)) (cut_whole 64 (class ++ 58 ∷ 58 ∷ member) whole (scope_lacks class member one two))
     ∙ in_complete class member (Some whole) one two three
 
+inspect_sound : (arg : Option Text) (c : Command) → inspect_form arg ≡ Some c → IsForm (with_arg (codes "inspect") arg) c
+inspect_sound None c same = let one : Inspect ≡ c = cc in subst (λ d. IsForm (word_alone (codes "inspect")) d) one commands.inspect
+inspect_sound (Some arg) c same = cc
+
 plain_sound : (word : Text) (arg : Option Text) (c : Command) → plain_form word arg ≡ Some c → IsForm (with_arg word arg) c
 plain_sound word arg c =
     let P : Text → Type 0 = λ w. IsForm (with_arg w arg) c in
@@ -155,7 +159,8 @@ plain_sound word arg c =
     (by_word word (codes "tables") (Some (tables_form arg)) _ c P (tables_sound arg c)
     (by_word word (codes "gen") (gen_form arg) _ c P (gen_sound arg c)
     (by_word word (codes "array") (array_form arg) _ c P (array_sound arg c)
-    (by_word word (codes "memptr") (member_form arg) None c P (member_sound arg c) (λ none. cc))))))
+    (by_word word (codes "memptr") (member_form arg) _ c P (member_sound arg c)
+    (by_word word (codes "inspect") (inspect_form arg) None c P (inspect_sound arg c) (λ none. cc)))))))
 
 run_sound : (arg steps : Option Text) (trace : Bool) (c : Command) → run_form arg steps trace ≡ Some c → IsForm (with_all (codes "run") arg steps trace) c
 run_sound None steps trace c same =
@@ -170,6 +175,13 @@ paths_sound None steps false c same =
 paths_sound None steps true c same = cc
 paths_sound (Some arg) steps trace c same = cc
 
+foreign_sound : (arg steps : Option Text) (trace : Bool) (c : Command) → foreign_form arg steps trace ≡ Some c → IsForm (with_all (codes "foreign") arg steps trace) c
+foreign_sound None steps false c same =
+    let number = made (budgeted steps) Foreign c same in
+    subst (λ d. IsForm (with_all (codes "foreign") None steps false) d) number.2 (commands.foreign steps number.0 (budgeted_sound steps number.0 number.1))
+foreign_sound None steps true c same = cc
+foreign_sound (Some arg) steps trace c same = cc
+
 without_option : (word : Text) (arg steps : Option Text) (trace : Bool) (c : Command) → (if is_some steps || trace then None else plain_form word arg) ≡ Some c → IsForm (with_all word arg steps trace) c
 without_option word arg None false c same = plain_sound word arg c same
 without_option word arg None true c same = cc
@@ -179,7 +191,8 @@ form_sound : (word : Text) (arg steps : Option Text) (trace : Bool) (c : Command
 form_sound word arg steps trace c =
     let P : Text → Type 0 = λ w. IsForm (with_all w arg steps trace) c in
     by_word word (codes "run") (run_form arg steps trace) _ c P (run_sound arg steps trace c)
-    (by_word word (codes "paths") (paths_form arg steps trace) _ c P (paths_sound arg steps trace c) (without_option word arg steps trace c))
+    (by_word word (codes "paths") (paths_form arg steps trace) _ c P (paths_sound arg steps trace c)
+    (by_word word (codes "foreign") (foreign_form arg steps trace) _ c P (foreign_sound arg steps trace c) (without_option word arg steps trace c)))
 
 -- what the function gives is a form
 pub asked_sound : (g : Given) (c : Command) → asked g ≡ Some c → IsForm g c
@@ -200,5 +213,7 @@ asked_complete _ _ (commands.run steps n trace is) = ap (option_map (λ k. Run k
 asked_complete _ _ (commands.paths steps n is) = ap (option_map Paths) (budgeted_complete steps n is)
 asked_complete _ _ (commands.gen digits n is) = ap (option_map Gen) (counted_complete 4 most_classes digits n is)
 asked_complete _ _ (commands.array class digits n name is) = array_complete class digits n name is
+asked_complete _ _ commands.inspect = refl
+asked_complete _ _ (commands.foreign steps n is) = ap (option_map Foreign) (budgeted_complete steps n is)
 asked_complete _ _ (commands.member class member one two) = own_complete class member one two
 asked_complete _ _ (commands.member_for class member whole one two three) = for_complete class member whole one two three

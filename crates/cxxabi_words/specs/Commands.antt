@@ -9,7 +9,7 @@ use Rattle.clap.specs.declared.builder.ArgAction.TheVariants.{SetTrue}
 use Rattle.cxx_text.specs.declared.token.Kind.TheVariants.{Word}
 use Rattle.cxx_text.specs.OneToken.{IsToken}
 use Rattle.cxxabi_words.specs.declared.command.Command.{Command}
-use Rattle.cxxabi_words.specs.declared.command.Command.TheVariants.{Check, Layout, LayoutOf, Tables, TablesOf, Run, Paths, Gen, Array, MemberPointer}
+use Rattle.cxxabi_words.specs.declared.command.Command.TheVariants.{Check, Layout, LayoutOf, Tables, TablesOf, Run, Paths, Gen, Array, MemberPointer, Inspect, Foreign}
 
 -- the steps that a run may take where the words say none
 abbrev pub budget : ℕ
@@ -118,6 +118,9 @@ pub data IsForm : Given → Command → Type 0 where
       IsForm (word_with (codes "memptr") (class ++ (codes "::" ++ member))) (MemberPointer (record { class = class; member = member; whole = class }))
   member_for : (class member whole : Text) → IsName class → IsName member → IsName whole →
       IsForm (word_with (codes "memptr") (class ++ (codes "::" ++ (member ++ (codes "@" ++ whole))))) (MemberPointer (record { class = class; member = member; whole = whole }))
+  inspect : IsForm (word_alone (codes "inspect")) Inspect
+  foreign : (steps : Option Text) (n : ℕ) → IsBudget steps n →
+      IsForm (record { command = Some (codes "foreign"); arg = None; steps = steps; trace = false }) (Foreign n)
 
 -- the words ask for the command: `clap` takes them, and gives its form
 pub record Says (words : List Text) (command : Command) : Type 0 where

@@ -2,7 +2,7 @@
 
 ghost use Rattle.std.specs.Prelude.{◌≡◌, IfOk, MatchOption, map, option_map, string_bytes};
 ghost use Rattle.cxxabi_words.specs.Commands.{IsCommand, Says};
-ghost use Rattle.cxxabi_words.specs.invariants.Asked.{array_form, array_of, check_form, form_of, gen_form, layout_form, member_form, member_in, member_of, paths_form, plain_form, run_form, tables_form};
+ghost use Rattle.cxxabi_words.specs.invariants.Asked.{array_form, array_of, check_form, foreign_form, form_of, gen_form, inspect_form, layout_form, member_form, member_in, member_of, paths_form, plain_form, run_form, tables_form};
 
 use crate::names::{cut_at, cut_scope, is_name};
 use crate::numbers::{budget_of, count_of};
@@ -57,6 +57,10 @@ pub enum Command {
     Array(Name, u32),
     /// A pointer to a member.
     MemberPointer(QualifiedMember),
+    /// What the text of one dump says.
+    Inspect,
+    /// A run of `main` on the byte machine over the layout of a listing, of at most so many steps.
+    Foreign(u32),
 }
 
 // The name that a word is.
@@ -179,6 +183,16 @@ fn member_form(alloc: Global, arg: Option<&str>) -> Result<Option<Command>, NoMe
     }
 }
 
+// The command `inspect`, which takes no argument.
+fn inspect_form(arg: Option<&str>) -> Option<Command>
+    ensures { result ≡ inspect_form (option_map (λ s. s.now) arg.entry) }
+{
+    match arg {
+        Some(_) => None,
+        None => Some(Command::Inspect),
+    }
+}
+
 // The command of a word and an argument, without an option.
 fn plain_form(alloc: Global, word: &str, arg: Option<&str>) -> Result<Option<Command>, NoMemory>
     ensures { IfOk result (λ found. found ≡ plain_form word.now (option_map (λ s. s.now) arg.entry)) }
@@ -190,6 +204,7 @@ fn plain_form(alloc: Global, word: &str, arg: Option<&str>) -> Result<Option<Com
         "gen" => Ok(gen_form(arg)),
         "array" => array_form(alloc, arg),
         "memptr" => member_form(alloc, arg),
+        "inspect" => Ok(inspect_form(arg)),
         _ => Ok(None),
     }
 }
@@ -214,6 +229,16 @@ fn paths_form(arg: Option<&str>, steps: Option<&str>, trace: bool) -> Option<Com
     Some(Command::Paths(budget_of(steps)?))
 }
 
+// The command `foreign`, which takes no argument and has no trace.
+fn foreign_form(arg: Option<&str>, steps: Option<&str>, trace: bool) -> Option<Command>
+    ensures { result ≡ foreign_form (option_map (λ s. s.now) arg.entry) (option_map (λ s. s.now) steps.entry) trace }
+{
+    if arg.is_some() || trace {
+        return None;
+    }
+    Some(Command::Foreign(budget_of(steps)?))
+}
+
 // The command of what the words give, and None where that is no form.
 fn form_of(
     alloc: Global,
@@ -227,6 +252,7 @@ fn form_of(
     match word {
         "run" => Ok(run_form(arg, steps, trace)),
         "paths" => Ok(paths_form(arg, steps, trace)),
+        "foreign" => Ok(foreign_form(arg, steps, trace)),
         _ => {
             if steps.is_some() || trace {
                 return Ok(None);

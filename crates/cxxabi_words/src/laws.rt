@@ -3,7 +3,7 @@
 ghost use Rattle.std.specs.Prelude.{◌≡◌, ◌≤◌, ◌⊎◌, ℕ, Bool, List};
 ghost use Rattle.cxxabi_words.specs.Commands.{IsCommand, Says, most_classes, most_elements, most_steps};
 ghost use Rattle.cxxabi_words.specs.declared.command.Command.{Command};
-ghost use Rattle.cxxabi_words.specs.declared.command.Command.TheVariants.{Array, Gen, Paths, Run};
+ghost use Rattle.cxxabi_words.specs.declared.command.Command.TheVariants.{Array, Foreign, Gen, Paths, Run};
 
 /// Words ask for one command.
 pub fn one_command()
@@ -19,6 +19,7 @@ pub fn some_command()
 pub fn few_said()
     ensures steps { (words : List (List ℕ)) (n : ℕ) (trace : Bool) → Says words (Run n trace) → (1 ≤ n) × (n ≤ most_steps) }
     ensures path_steps { (words : List (List ℕ)) (n : ℕ) → Says words (Paths n) → (1 ≤ n) × (n ≤ most_steps) }
+    ensures foreign_steps { (words : List (List ℕ)) (n : ℕ) → Says words (Foreign n) → (1 ≤ n) × (n ≤ most_steps) }
     ensures classes { (words : List (List ℕ)) (n : ℕ) → Says words (Gen n) → (1 ≤ n) × (n ≤ most_classes) }
     ensures elements { (words : List (List ℕ)) (class : List ℕ) (n : ℕ) → Says words (Array class n) → (1 ≤ n) × (n ≤ most_elements) }
 {}

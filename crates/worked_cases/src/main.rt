@@ -10,6 +10,7 @@
 //!   handed out.
 //! - `run --trace`, where it comes to the end of `main`: by these words, and on the machine of paths with its trace.
 //! - `layout`, with the name of a class: by these words, and by the calls below the program.
+//! - `inspect`, where it says values: by these words, and the dump is written again from these values.
 //! - any other: by these words.
 //!
 //! Where nothing else is said a case goes through `run_cxxabi` with a source and a sink over bytes, some of whose calls may fail.
@@ -19,8 +20,12 @@ mod adapters;
 mod case;
 mod counted_run;
 mod counting_memory;
+mod hinted_calls;
+mod hinted_visits;
 mod other_calls;
 mod own_layout;
+mod page_memory;
+mod read_back;
 mod traced_run;
 
 use adapters::is_adapted;
@@ -29,6 +34,7 @@ use counted_run::is_counted_run;
 use cxxabi_cmd::{BytesSink, BytesSource, run_cxxabi};
 use other_calls::is_answered;
 use own_layout::is_layout;
+use read_back::is_read_back;
 use std::alloc::{AllocError, Global};
 use std::io::Read;
 use traced_run::is_traced_run;
@@ -118,6 +124,10 @@ fn is_right(alloc: Global, case: &Case) -> anyhow::Result<bool> {
         }
         words if is_traced(words) => is_run_with_trace(alloc, case, words),
         [word, ..] if word.as_str() == "run" || word.as_str() == "paths" => is_run(alloc, case),
+        [word] if word.as_str() == "inspect" && case.status == 0 => {
+            let answered = machine_after(alloc, case, &case.words)?.is_some();
+            Ok(answered && is_read_back(alloc, case.source))
+        }
         [word, name] if word.as_str() == "layout" && case.status == 0 => {
             let answered = machine_after(alloc, case, &case.words)?.is_some();
             Ok(answered && is_layout(alloc, case.source, name.as_bytes(), case.text))

@@ -5,6 +5,8 @@
 
 ghost use Rattle.std.specs.Prelude.{◌≤◌, ◌<◌, length};
 
+use crate::hinted_calls::{hint_text, visits_text};
+use crate::page_memory::pages_text;
 use abi_layout::lay_out;
 use abi_primary::{Primary, dynamic_flags, holder_of, is_nearly_empty, primary_base};
 use abi_slots::Slots;
@@ -151,19 +153,32 @@ fn is_generated(alloc: Global, classes: &str, text: &[u8]) -> bool {
     }
 }
 
-/// Whether the calls that these words name give this text for a source: `body`, `class` with a name, or `source` with a number of
-/// classes.
+/// Whether the calls that these words name give this text for a source: `body`, `class` with a name, `source` with a number of classes,
+/// `hint` with the classes of a cast, `visits` with the class to which one leads, or `pages`, which needs no source.
 pub fn is_answered(alloc: Global, words: &[String], source: &[u8], text: &[u8]) -> bool {
     if source.len() > 262_144 {
         return false;
     }
     match words {
+        [word] if word.as_str() == "pages" => match pages_text(alloc) {
+            Ok(made) => made.as_bytes() == text,
+            Err(_) => false,
+        },
         [word] if word.as_str() == "body" => is_made(body_text(alloc, source), text),
         [word, name] if word.as_str() == "class" => {
             is_made(class_text(alloc, source, name.as_bytes()), text)
         }
         [word, classes] if word.as_str() == "source" => {
             is_generated(alloc, classes.as_str(), text)
+        }
+        [word, from, to] if word.as_str() == "hint" => {
+            is_made(
+                hint_text(alloc, source, from.as_bytes(), to.as_bytes()),
+                text,
+            )
+        }
+        [word, name] if word.as_str() == "visits" => {
+            is_made(visits_text(alloc, source, name.as_bytes()), text)
         }
         _ => false,
     }

@@ -12,15 +12,17 @@ use Rattle.abi_sound.specs.Places.{places_of}
 use Rattle.abi_slots.specs.Slots.{AreSlots}
 use Rattle.abi_tables.specs.Counts.{all_words, most_words}
 use Rattle.abi_layout.specs.AbiLayouts.{IsAbiLayout}
+use Rattle.abi_inspect.specs.Faults.{AreNamesWords}
 use Rattle.abi_lower.specs.Bounds.{IsSmall}
 use Rattle.cxxabi_cmd.specs.declared.listing.Listing.{Listing}
 use Rattle.cxxabi_cmd.specs.declared.status.Status.TheVariants.{Refused}
 use Rattle.cxxabi_cmd.specs.declared.verdict.Accepted.{Accepted}
 use Rattle.cxxabi_cmd.specs.Output.{Answer, IsClassText, AreTexts, Lists, line_alone, text_limit}
 
--- the layout, the final overriders, and what the classes list for their tables are those of the classes, and the tables are within the
--- limit; the program is typed, has a main where the source has one, and is small enough to be lowered
+-- the layout, the final overriders, and what the classes list for their tables are those of the classes, whose names are words, and
+-- the tables are within the limit; the program is typed, has a main where the source has one, and is small enough to be lowered
 pub record IsReady (accepted : Accepted) : Type 0 where
+  pub words : AreNamesWords accepted.hierarchy
   pub layout : IsAbiLayout accepted.hierarchy accepted.layout
   pub overriders : AreOverriders accepted.hierarchy accepted.overriders
   pub slots : AreSlots accepted.hierarchy (places_of accepted.hierarchy accepted.layout) accepted.slots

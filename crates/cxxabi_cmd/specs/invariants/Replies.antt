@@ -6,10 +6,10 @@ use Rattle.cxx_syntax.specs.declared.tree.BodyTree.{BodyTree}
 use Rattle.cxx_syntax.specs.declared.source_text.SourceText.{SourceText}
 use Rattle.cxx_program.specs.declared.program.TypedProgram.{TypedProgram}
 use Rattle.abi_sound.specs.declared.class_layout.ClassLayout.{ClassLayout}
-use Rattle.abi_layout.specs.Layouts.{IsLaid}
 use Rattle.cxxabi_cmd.specs.declared.reply.Reply.{Reply}
 use Rattle.cxxabi_words.specs.declared.command.Command.{Command}
 use Rattle.cxxabi_cmd.specs.Commands.{IsOnBytes, RunsMain}
+use Rattle.cxxabi_cmd.specs.Divided.{IsLayoutOf}
 use Rattle.cxxabi_cmd.specs.Output.{Answer, source_limit}
 use Rattle.cxxabi_cmd.specs.Handed.{Seen, seen_of, IsMachineOf}
 
@@ -26,7 +26,7 @@ abbrev pub machine_of : Reply → Option Seen
 machine_of reply = option_map (λ m. seen_of m) reply.machine
 
 -- the machine of the run of a source's program
-pub record IsRunBy (command : Command) (source : SourceText) (h : Classes) (program : TypedProgram) (machine : Seen) : Type 0 where
+pub record IsRunBy (command : Command) (front : List ℕ) (source : SourceText) (h : Classes) (program : TypedProgram) (machine : Seen) : Type 0 where
   pub trace : Bool
   pub steps : ℕ
   pub runs : RunsMain command steps trace
@@ -34,10 +34,10 @@ pub record IsRunBy (command : Command) (source : SourceText) (h : Classes) (prog
   pub tree : BodyTree
   pub main : source.main ≡ Some tree
   pub rows : List ClassLayout
-  pub laid : IsLaid h rows
+  pub laid : IsLayoutOf command front h rows
   pub is_machine : IsMachineOf h rows program trace steps machine
 
 -- the machine of the run that a command makes, or none where it makes none
-abbrev pub HandsBy : Command → SourceText → Classes → TypedProgram → Option Seen → Type 0
-HandsBy command source h program None = (trace : Bool) (steps : ℕ) (tree : BodyTree) → RunsMain command steps trace → IsOnBytes command → source.main ≡ Some tree → ⊥
-HandsBy command source h program (Some machine) = IsRunBy command source h program machine
+abbrev pub HandsBy : Command → List ℕ → SourceText → Classes → TypedProgram → Option Seen → Type 0
+HandsBy command front source h program None = (trace : Bool) (steps : ℕ) (tree : BodyTree) (rows : List ClassLayout) → RunsMain command steps trace → IsOnBytes command → source.main ≡ Some tree → IsLayoutOf command front h rows → ⊥
+HandsBy command front source h program (Some machine) = IsRunBy command front source h program machine

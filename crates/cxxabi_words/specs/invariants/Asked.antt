@@ -8,7 +8,7 @@ use Rattle.clap.specs.Words.{Text}
 use Rattle.cxx_text.specs.Bytes.{begins, is_letter, is_word_byte}
 use Rattle.cxxabi_words.specs.Commands.{Given, budget, most_classes, most_elements, most_steps}
 use Rattle.cxxabi_words.specs.declared.command.Command.{Command}
-use Rattle.cxxabi_words.specs.declared.command.Command.TheVariants.{Check, Layout, LayoutOf, Tables, TablesOf, Run, Paths, Gen, Array, MemberPointer}
+use Rattle.cxxabi_words.specs.declared.command.Command.TheVariants.{Check, Layout, LayoutOf, Tables, TablesOf, Run, Paths, Gen, Array, MemberPointer, Inspect, Foreign}
 
 -- the number that at most so many digits say
 abbrev pub is_count : ℕ → ℕ → Text → Bool
@@ -79,6 +79,10 @@ abbrev pub member_form : Option Text → Option Command
 member_form None = None
 member_form (Some arg) = member_cut arg (cut_at 64 arg)
 
+abbrev pub inspect_form : Option Text → Option Command
+inspect_form None = Some Inspect
+inspect_form (Some arg) = None
+
 -- a command that has no option
 abbrev pub plain_form : Text → Option Text → Option Command
 plain_form word arg =
@@ -87,7 +91,8 @@ plain_form word arg =
     else (if bytes_eq word (codes "tables") then Some (tables_form arg)
     else (if bytes_eq word (codes "gen") then gen_form arg
     else (if bytes_eq word (codes "array") then array_form arg
-    else (if bytes_eq word (codes "memptr") then member_form arg else None)))))
+    else (if bytes_eq word (codes "memptr") then member_form arg
+    else (if bytes_eq word (codes "inspect") then inspect_form arg else None))))))
 
 abbrev pub run_form : Option Text → Option Text → Bool → Option Command
 run_form None steps trace = option_map (λ n. Run n trace) (budgeted steps)
@@ -98,11 +103,17 @@ paths_form None steps false = option_map Paths (budgeted steps)
 paths_form None steps true = None
 paths_form (Some arg) steps trace = None
 
+abbrev pub foreign_form : Option Text → Option Text → Bool → Option Command
+foreign_form None steps false = option_map Foreign (budgeted steps)
+foreign_form None steps true = None
+foreign_form (Some arg) steps trace = None
+
 abbrev pub form_of : Text → Option Text → Option Text → Bool → Option Command
 form_of word arg steps trace =
     if bytes_eq word (codes "run") then run_form arg steps trace
     else (if bytes_eq word (codes "paths") then paths_form arg steps trace
-    else (if is_some steps || trace then None else plain_form word arg))
+    else (if bytes_eq word (codes "foreign") then foreign_form arg steps trace
+    else (if is_some steps || trace then None else plain_form word arg)))
 
 abbrev pub asked : Given → Option Command
 asked g = option_and_then (λ word. form_of word g.arg g.steps g.trace) g.command

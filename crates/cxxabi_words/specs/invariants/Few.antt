@@ -2,7 +2,7 @@
 use Rattle.std.specs.Prelude.{◌≤◌}
 use Rattle.cxxabi_words.specs.Commands.{most_classes, most_elements, most_steps}
 use Rattle.cxxabi_words.specs.declared.command.Command.{Command}
-use Rattle.cxxabi_words.specs.declared.command.Command.TheVariants.{Run, Paths, Gen, Array}
+use Rattle.cxxabi_words.specs.declared.command.Command.TheVariants.{Run, Paths, Gen, Array, Foreign}
 
 -- the numbers of a command are within their limits
 abbrev pub HasFew : Command → Type 0
@@ -10,4 +10,5 @@ HasFew (Run n trace) = (1 ≤ n) × (n ≤ most_steps)
 HasFew (Paths n) = (1 ≤ n) × (n ≤ most_steps)
 HasFew (Gen n) = (1 ≤ n) × (n ≤ most_classes)
 HasFew (Array class n) = (1 ≤ n) × (n ≤ most_elements)
+HasFew (Foreign n) = (1 ≤ n) × (n ≤ most_steps)
 HasFew other = Unit {0}

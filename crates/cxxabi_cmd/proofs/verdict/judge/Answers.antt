@@ -3,7 +3,7 @@ use Rattle.std.proofs.lemmas.Result.{err_from_is_err_and}
 use Rattle.std.specs.Prelude.{IfErr}
 use Rattle.cxx_hierarchy.specs.declared.stop.Stop.TheVariants as stop
 use Rattle.cxxabi_cmd.specs.Verdict.{Verdict, Stops}
-use Rattle.cxxabi_cmd.proofs.Accepting.{accepted_keeps, accepted_typed, accepted_main}
+use Rattle.cxxabi_cmd.proofs.Accepting.{accepted_keeps, accepted_names, accepted_typed, accepted_main}
 use Rattle.cxxabi_cmd.proofs.LaidRows.{is_laid, few_words}
 use Rattle.cxxabi_cmd.proofs.SmallPrograms.{small_program}
 use Rattle.cxxabi_cmd.proofs.Judging.{text_stop, records_stop, classes_stop, few_statements, few_together, bodies_stop, words_stop, all_passed}
@@ -56,6 +56,7 @@ returns-in-Ok-clause-ready c =
     let keeps = accepted_keeps c.args.bytes.now source h program verdict in
     let typed = accepted_typed c.programs_are_typed.ensures c.args.bytes.now source h program verdict in
     record {
+      words = accepted_names c.args.bytes.now source h program verdict;
       layout = layout;
       overriders = c.in_ok-overriders.ensures.overriders;
       slots = c.in-Ok.ensures.slots;

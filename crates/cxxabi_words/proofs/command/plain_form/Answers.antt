@@ -11,4 +11,5 @@ returns-in_default c =
     let gen = other_word word (codes "gen") c.in_default.not-gen in
     let array = other_word word (codes "array") c.in_default.not-array in
     let member = other_word word (codes "memptr") c.in_default.not-memptr in
-    rw (check, layout, tables, gen, array, member) refl
+    let inspect = other_word word (codes "inspect") c.in_default.not-inspect in
+    rw (check, layout, tables, gen, array, member, inspect) refl

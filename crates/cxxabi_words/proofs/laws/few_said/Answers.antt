@@ -1,4 +1,4 @@
-use Rattle.cxxabi_words.specs.declared.command.Command.TheVariants.{Run, Paths, Gen, Array}
+use Rattle.cxxabi_words.specs.declared.command.Command.TheVariants.{Run, Paths, Gen, Array, Foreign}
 use Rattle.cxxabi_words.proofs.CommandLaws as command_laws
 use Rattle.cxxabi_words.proofs.laws.few_said.Goals as goal
 
@@ -13,3 +13,6 @@ returns-clause-classes c = λ words n says. command_laws.few_said words (Gen n) 
 
 pub returns-clause-elements : goal.returns-clause-elements
 returns-clause-elements c = λ words class n says. command_laws.few_said words (Array class n) says
+
+pub returns-clause-foreign_steps : goal.returns-clause-foreign_steps
+returns-clause-foreign_steps c = λ words n says. command_laws.few_said words (Foreign n) says

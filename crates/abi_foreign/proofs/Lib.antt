@@ -1,0 +1,22 @@
+mod Digits
+mod Found
+mod ReadLines
+mod LineReads
+mod PrimaryReads
+mod ClassReads
+mod Once
+mod ListingReads
+mod Positions
+mod RowSteps
+mod RowFacts
+mod Stands
+pub mod SumFacts
+mod ListedTexts
+mod Written
+mod WrittenRows
+mod Verdicts
+mod Checks
+mod SaidLines
+mod OneAnswer
+mod SomeReading
+mod SomeAnswer
