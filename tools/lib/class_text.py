@@ -36,7 +36,9 @@ def _stand_in_text(record, name, reason):
     if not record.is_pod:
         lines.append(f"  {name}() {{}}")
     for number, piece in enumerate(members, 1):
-        lines.append(f"  {piece.word} {piece.name}{'' if number == 1 else f'_{number}'}{'' if piece.length is None else f'[{piece.length}]'};")
+        piece.said = f"{piece.name}{'' if number == 1 else f'_{number}'}"
+        lines.append(f"  {piece.word} {piece.said}{'' if piece.length is None else f'[{piece.length}]'};")
+    record.stand_in = members
     return "\n".join(lines) + "\n};\n"
 
 

@@ -33,10 +33,10 @@ def unit(sources):
     return "".join(cpp_text.in_namespace(name, cpp_text.source_text(found)) for name, found in sources.items())
 
 
-def by_clang(sources):
-    """Clang's word on each class, by the names of source and class."""
+def by_clang(sources, flags=()):
+    """Clang's word on each class, by the names of source and class, also by flags of the user's."""
     names = [f"{name}::{one}" for name, found in sources.items() for one in found]
-    layouts = clang.layouts(unit(sources), names, FLAGS[:2])
+    layouts = clang.layouts(unit(sources), names, FLAGS[:2] + list(flags))
     found = {}
     for name, classes in sources.items():
         for one in classes:

@@ -61,6 +61,8 @@ class Record:
     parts: list = field(default_factory=list)  # members, methods and the destructor, in their order
     dropped: dict = field(default_factory=dict)  # what a class of the workbench has no place for, counted by its sort
     layout: object = None
+    missing: str = ""  # why there is no layout of it
+    stand_in: list = field(default_factory=list)  # the members that a stand-in of its size has
 
     @property
     def name(self):

@@ -49,6 +49,7 @@ class Types:
         self.names = names
         self.around = [""]
         self.known = {}
+        self.other, self.wide = OTHER, WIDE  # those of x86-64; another target may have other sizes
 
     def inside(self, record):
         """The types as the members of a class name them: a name without scope is looked up from the class outwards."""
@@ -129,10 +130,10 @@ class Types:
             return Kind("scalar", SAME[name])
         if name in FLOATING:
             return Kind("scalar", FLOATING[name], note=name, change="floating types")
-        if name in OTHER:
-            return Kind("scalar", OTHER[name], note=name, change="types of characters")
-        if name in WIDE:
-            size, align = WIDE[name]
+        if name in self.other:
+            return Kind("scalar", self.other[name], note=name, change="types of characters")
+        if name in self.wide:
+            size, align = self.wide[name]
             return Kind("bytes", size=size, align=align, note=name, change="numbers without a scalar of their size")
         if name.startswith("std::nullptr_t"):
             return Kind("pointer", note=name, change="pointers to what is no class here")

@@ -26,6 +26,7 @@ class Part:
     name: str
     told: str
     parts: list = field(default_factory=list)
+    moved: str = ""  # where it lies in the layout that this one is drawn beside, where that is another place
 
     @property
     def end(self):
@@ -42,9 +43,10 @@ class Part:
     @property
     def tip(self):
         """What the part is, with its bytes."""
+        behind = f"; {self.moved}" if self.moved else ""
         if self.is_mark:
-            return f"{self.told}: no bytes, at {self.place}"
-        return f"{self.told}: {amounts.size_text(self.size)} at {amounts.place_text(self.place)}"
+            return f"{self.told}: no bytes, at {self.place}{behind}"
+        return f"{self.told}: {amounts.size_text(self.size)} at {amounts.place_text(self.place)}{behind}"
 
     def all(self):
         """This part and all below it, each before its own parts."""
@@ -127,7 +129,7 @@ class Objects:
         at, found = part.place, []
         for inner in sorted((one for one in part.parts if not one.is_mark), key=lambda one: one.place):
             found += self.padding(part, at, inner.place, data_end)
-            at = inner.end
+            at = max(at, inner.end)  # in a layout from elsewhere two boxes may overlap
         part.parts += found + self.padding(part, at, part.end, data_end)
         part.parts.sort(key=lambda one: (one.place, one.is_mark))
 

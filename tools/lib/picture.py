@@ -4,6 +4,7 @@ from xml.sax.saxutils import escape
 
 from . import amounts, strips, svg
 
+PLAIN, MOVED = 'stroke="#222222"', 'stroke="#c0392b" stroke-width="2.4"'  # the border of a box, and of one that lies elsewhere in the other layout
 ROW, MARK, GAP, MARGIN, LETTER, SMALL = 26, 11, 6, 26, 6.7, 5.2
 LEAST, MOST, WANTED = 16, 48, 900  # pixels a byte, and of a short object in all
 
@@ -78,7 +79,7 @@ class Row:
         x, part = self.x(piece.start), piece.part
         self.wide = max(self.wide, self.extent(piece)[1])
         return [f'<g class="empty-base"><title>{escape(part.tip)}</title>',
-                f'<path d="M{x:.1f},{y} l5,9 l-10,0 z" fill="{SHADES[part.sort]}" stroke="#222222"/>',
+                f'<path d="M{x:.1f},{y} l5,9 l-10,0 z" fill="{SHADES[part.sort]}" {MOVED if part.moved else PLAIN}/>',
                 f'<text x="{x + 8:.1f}" y="{y + 10}" font-size="11">{escape(part.name)}</text></g>']
 
     def box(self, piece, y, lane):
@@ -86,7 +87,7 @@ class Row:
         self.boxes[id(part)] = (x, y)
         ink = "#ffffff" if part.sort == "virtual pointer" else "#000000"
         lines = [f'<g class="{part.sort.replace(" ", "-")}"><title>{escape(part.tip)}</title>',
-                 f'<rect x="{x:.1f}" y="{y}" width="{width:.1f}" height="{ROW}" fill="{SHADES[part.sort]}" stroke="#222222"/>']
+                 f'<rect x="{x:.1f}" y="{y}" width="{width:.1f}" height="{ROW}" fill="{SHADES[part.sort]}" {MOVED if part.moved else PLAIN}/>']
         label = self.label(piece, width, lane)
         if label and SHADES[part.sort].startswith("url"):
             wide = len(label) * LETTER + 4
@@ -145,7 +146,7 @@ def wrapped(texts, width):
 
 def drawn(whole, title, top):
     """The lines of one object, how wide it is, and where it ends."""
-    unit = min(MOST, max(LEAST, WANTED / min(whole.size, strips.MOST)))
+    unit = min(MOST, max(LEAST, WANTED / max(1, min(whole.size, strips.MOST))))
     lines, wide = [f'<text x="{MARGIN}" y="{top + 16}" font-size="14" font-weight="bold">{escape(title)}</text>'], len(title) * 8.6
     top += 26
     for strip in strips.strips(whole):
@@ -172,11 +173,15 @@ def key_lines(sorts, top):
 
 
 def pictures(objects):
-    """One document with the objects, given as wholes with their titles, one below the other."""
-    lines, right = key_lines({part.sort for whole, _ in objects for part in whole.all()}, 10)
+    """One document with the objects, given as wholes with their titles, and with lines to stand below where there are some, one below the other."""
+    lines, right = key_lines({part.sort for whole, *_ in objects for part in whole.all()}, 10)
     top, width = 36, right
-    for whole, title in objects:
+    for whole, title, *below in objects:
         more, wide, top = drawn(whole, title, top)
         lines += more
+        for text in below[0] if below else []:
+            top += 14
+            lines.append(f'<text class="below" x="{MARGIN}" y="{top}" font-size="11">{escape(text)}</text>')
+            wide = max(wide, MARGIN + len(text) * LETTER)
         top, width = top + 14, max(width, wide)
     return svg.document(width + MARGIN, top, PATTERNS + "\n".join(lines))

@@ -17,10 +17,13 @@ def effective_align(record):
 
 
 class Plan:
-    """The pieces of one class. `changes` has the way in which each piece is another type; `unlike` what of the layout is not kept."""
+    """The pieces of one class. `changes` has the way in which each piece is another type; `unlike` what of the layout is not kept.
 
-    def __init__(self, record, types, is_empty, left_out):
-        self.record, self.types, self.is_empty, self.left_out = record, types, is_empty, left_out
+    With `anywhere` the places need not be those of the rules: each member keeps its type and lies where the layout has it.
+    """
+
+    def __init__(self, record, types, is_empty, left_out, anywhere=False):
+        self.record, self.types, self.is_empty, self.left_out, self.anywhere = record, types, is_empty, left_out, anywhere
         self.by_member, self.changes, self.unlike = {}, {}, ""
         self.pos, self.align = self.start()
         self.bit = 0  # the bit behind the last bit-field that was said
@@ -77,7 +80,8 @@ class Plan:
 
     def bit_fields(self, run, limit, is_wide):
         """The pieces of a run of bit-fields: bit-fields where the rules can put them as the compiler does, else scalars over their bytes."""
-        said = self.said_bits(run)
+        found = (self.bits_anywhere(run) if self.anywhere and not self.needs_filler(run) else None) or self.said_bits(run)
+        said = found or (self.bits_anywhere(run) if self.anywhere else None)
         if said is not None:
             self.by_member.update(said)
             return
@@ -111,6 +115,23 @@ class Plan:
             free = first + width
         said[id(run[-1])] += self.filler(free, end, run[-1].access, passed)
         self.keep_bits(said, max(free, end))
+        return said
+
+    def needs_filler(self, run):
+        """Whether C++ itself has bits in a run that no member takes: those without a name, and those of a field that is wider than its type."""
+        sizes = [8 * self.types.size(self.types.kind(one.type)) for one in run]
+        return any(not one.name or one.bits[1] - one.bits[0] >= most for one, most in zip(run, sizes))
+
+    def bits_anywhere(self, run):
+        """The pieces of a run, each bit-field at its bits, wherever these are; None where one has a type that is no number."""
+        kinds = {id(one): self.types.kind(one.type) for one in run if one.name}
+        if any(kind.sort != "scalar" or kind.length is not None for kind in kinds.values()):
+            return None
+        said = {id(one): [] for one in run}
+        for one in [one for one in run if one.name]:
+            kind, count = kinds[id(one)], one.bits[1] - one.bits[0] + 1
+            said[id(one)].append(self.bit_field(one, kind, min(count, 1 if kind.word == "bool" else 8 * self.types.size(kind)), count))
+        self.keep_bits(said, max([one.bits[1] + 1 for one in run if one.name], default=8 * self.pos))
         return said
 
     def filler(self, free, first, access, passed):
@@ -201,6 +222,8 @@ class Plan:
 
     def need_place(self, member, kind, align):
         """Ends the plan where the rules put a member elsewhere; a member with empty classes may lie elsewhere by the rules too."""
+        if self.anywhere:
+            return
         natural = -(-self.pos // align) * align
         has_empty = kind.sort == "object"
         if member.place < natural or (member.place > natural and not has_empty) or member.place % align:
@@ -220,7 +243,7 @@ class Plan:
             if natural < layout.size and not any("virtual base" in row[2] for row in layout.rows):
                 self.behind = stand_ins.pieces(self.pos, layout.size, MOST_ALIGN, "padding", "public", f"padding up to a multiple of {layout.align}")
                 self.align = max([self.align, *(stand_ins.width(piece.word) for piece in self.behind)])
-        if self.align != effective_align(self.record):
+        if self.align != effective_align(self.record) and not self.anywhere:
             has_bits = any(member.is_bit_field for member in self.record.members)
             why = self.record.attribute or ("no scalar over its bit-fields has that" if has_bits else "the attributes of its members")
             raise Misplaced(f"its alignment is {layout.align}, where the rules give {self.align}: {why}")

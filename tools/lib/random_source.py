@@ -9,10 +9,11 @@ SCALARS = ["bool", "char", "signed char", "unsigned char", "short", "unsigned sh
 
 
 class Maker:
-    """Makes sources of one seed. A class that the program refuses is made anew. So many of a hundred members are bit-fields."""
+    """Makes sources of one seed. A class that the program refuses is made anew. So many of a hundred members are bit-fields. With `plain` there are
+    functions that are not virtual, too."""
 
-    def __init__(self, seed, bit_fields=0):
-        self.random, self.bit_fields = random.Random(seed), bit_fields
+    def __init__(self, seed, bit_fields=0, plain=False):
+        self.random, self.bit_fields, self.plain = random.Random(seed), bit_fields, plain
 
     def source(self, count):
         """A source of so many classes, or fewer where the program refuses what comes."""
@@ -40,6 +41,8 @@ class Maker:
             parts += [self.field(number, before) for number in range(self.random.randrange(0, 8 if self.bit_fields else 4))]
         if sort in ("dynamic", "mixed", "pointer alone"):
             parts += self.functions(name, before)
+        if self.plain and self.chance(40):
+            parts.append(f"long g{self.random.randrange(3)}(int a) {{ return 1; }}")
         if self.chance(25):
             parts.append(f"{name}() {{}}")
         if self.chance(15):
@@ -87,9 +90,9 @@ def bit_width(chosen, kind):
     return min(most, chosen.choice([chosen.randrange(1, most + 1), chosen.randrange(1, most + 1), chosen.randrange(1, 9), most, max(1, most - 1)]))
 
 
-def sources(count, seed, bit_fields=0):
+def sources(count, seed, bit_fields=0, plain=False):
     """Sources with at least so many classes in all, by a name for each."""
-    maker, made, number = Maker(seed, bit_fields), 0, 0
+    maker, made, number = Maker(seed, bit_fields, plain), 0, 0
     while made < count:
         number += 1
         text = maker.source(maker.random.randrange(3, 10))

@@ -27,10 +27,10 @@ class Restated:
 
 
 class Restating:
-    """The classes of one source, which of them can be said, and how."""
+    """The classes of one source, which of them can be said, and how. With `anywhere` their members may lie where the rules put none."""
 
-    def __init__(self, names):
-        self.names = names
+    def __init__(self, names, anywhere=False):
+        self.names, self.anywhere = names, anywhere
         self.types = Types(names)
         self.functions = Functions(names.order)
         self.levels = {}   # by the name of a class: what becomes of it, and the reason where it is not said
@@ -92,7 +92,7 @@ class Restating:
         """The members of a class as they are said; raises `Misplaced` where they cannot be."""
         if record.name not in self.plans:
             left_out = [one for one in self.held(record) if self.level(one)[0] == LEFT_OUT]
-            self.plans[record.name] = Plan(record, self.types.inside(record), self.is_empty, left_out)
+            self.plans[record.name] = Plan(record, self.types.inside(record), self.is_empty, left_out, self.anywhere)
         return self.plans[record.name]
 
     def needs(self, record):
@@ -116,7 +116,7 @@ class Restating:
 
     def found_level(self, record):
         if record.layout is None:
-            return LEFT_OUT, "clang gives no layout of it"
+            return LEFT_OUT, record.missing or "clang gives no layout of it"
         if record.layout.size > MOST_SIZE:
             return LEFT_OUT, f"its size is {record.layout.size}, and {MOST_SIZE} is the most that the program takes (L6)"
         if record.layout.size // effective_align(record) > MOST_ELEMENTS:

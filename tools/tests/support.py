@@ -7,7 +7,7 @@ import unittest
 
 TOOLS = os.path.dirname(os.path.dirname(os.path.abspath(__file__)))
 sys.path.insert(0, TOOLS)
-from lib import program  # noqa: E402
+from lib import elf, problem, program  # noqa: E402
 
 
 def run(tool, *words, text="", environment=None):
@@ -22,3 +22,15 @@ def needs(*commands):
     """Skips a test where a command is missing, and says which."""
     missing = [command for command in commands if shutil.which(command) is None]
     return unittest.skipIf(missing, f"{', '.join(missing)} missing")
+
+
+def has_elftools():
+    """Whether python3-pyelftools is there, by which object files are read."""
+    try:
+        elf.library()
+    except problem.Problem:
+        return False
+    return True
+
+
+needs_elftools = unittest.skipUnless(has_elftools(), "python3-pyelftools is missing: apt-get install python3-pyelftools")

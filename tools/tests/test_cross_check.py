@@ -6,7 +6,7 @@ import tempfile
 import unittest
 
 import support
-from lib import compare, compiled_tables, compiled_types, compilers, layout_text, program, random_source, source
+from lib import compare, compiled_tables, compiled_types, compilers, cookies, layout_text, member_pointers, problem, program, random_source, source
 
 EXAMPLES = os.path.join(program.TOP, "examples")
 DIAMOND = os.path.join(EXAMPLES, "diamond.cpp")
@@ -87,10 +87,10 @@ primary none
 
 
 def changed(folder, pattern, replacement):
-    """A program that answers as Tagymelur does, but for one text; its path."""
+    """Where a program answers as Tagymelur does, but for one text, and takes or refuses what its text says."""
     path = os.path.join(folder, "planted")
     with open(path, "w", encoding="utf-8") as file:
-        file.write(f'#!/bin/sh\n"{program.path()}" "$@" | sed "s/{pattern}/{replacement}/"\n')
+        file.write(f'#!/bin/sh\ntext=$("{program.path()}" "$@" | sed "s/{pattern}/{replacement}/")\n[ -z "$text" ] || printf "%s\\n" "$text"\ncase $text in refused*) exit 1;; esac\n')
     os.chmod(path, os.stat(path).st_mode | stat.S_IXUSR)
     return dict(os.environ, TAGYMELUR=path)
 
@@ -224,6 +224,81 @@ class Tables(unittest.TestCase):
         for symbol, words in (("_ZThn16_N1B1gEv", "func B::g this -16"), ("_ZTv0_n24_N1D1fEv", "func D::f this 0 vcall -24"), ("_ZTcv0_n32_v8_n40_N1D5cloneEv", "func D::clone this 0 vcall -32 return vbase -40 8"),
                               ("_ZTch0_h16_N1B5cloneEv", "func B::clone return 16"), ("_ZN1DD0Ev", "deleting D::~D"), ("_ZTI12Long_name_12", "typeinfo Long_name_12"), ("__cxa_pure_virtual", "pure")):
             self.assertEqual(compiled_tables.plain(symbol), words)
+
+
+POINTED = """struct X { long a; virtual void x() {} X() {} ~X() {} };
+struct A { long b; int some[3]; A* self; private: char c; public: virtual A* clone() { return this; } int plain(int q, A* z) { return q; } };
+struct B : X, A { int few : 3; virtual B* clone() { return this; } virtual ~B() {} };
+struct C : virtual A { short s; };
+struct L : A {}; struct R : A {}; struct T : L, R {}; struct P { B b; X more[2]; virtual void p() = 0; };
+"""
+
+
+@support.needs_program
+@support.needs("clang++", "g++")
+class Answers(unittest.TestCase):
+    """Pointers to members and arrays with cookies."""
+
+    def test_agreement(self):
+        done = support.run("cross-check", "--member-pointers", "-", text=POINTED)
+        self.assertEqual((done.returncode, done.stderr), (0, ""), done.stdout)
+        self.assertRegex(done.stdout, r"^\d+ pointers to members of 8 classes of 1 sources compared, 13 refused, 0 new differences\n$")
+        done = support.run("cross-check", "--cookies", "-", text=POINTED)
+        self.assertEqual((done.returncode, done.stderr), (0, ""), done.stdout)
+        self.assertEqual(done.stdout, "7 arrays of 8 classes of 1 sources compared, 2 with a cookie, 0 new differences\n")
+
+    @support.needs_elftools
+    def test_debug_information(self):
+        done = support.run("cross-check", "--debug-information", "-", text=POINTED)
+        self.assertEqual((done.returncode, done.stderr), (0, ""), done.stdout)
+        self.assertEqual(done.stdout, "32 layouts of 8 classes of 1 sources compared, 0 left out, 0 new differences\n")
+        with tempfile.TemporaryDirectory() as folder:
+            done = support.run("cross-check", "--debug-information", "--only", "g++", "-", text=POINTED, environment=changed(folder, "16 base \\*A", "24 base *A"))
+            self.assertEqual(done.returncode, 1, done.stdout)
+            self.assertIn("16 base *A", done.stdout)
+        done = support.run("cross-check", "--debug-information", "--random", "40", "--seed", "5")
+        self.assertEqual(done.returncode, 0, done.stdout + done.stderr)
+
+    def test_planted_differences_are_found(self):
+        plants = [("--member-pointers", "adj 16", "adj 8"), ("--member-pointers", "virtual 9", "virtual 1"), ("--member-pointers", "data 8", "data 0"), ("--member-pointers", "refused M5 VirtualBase", "data 8"),
+                  ("--member-pointers", "code A::plain", "code A::clone"), ("--cookies", "cookie 8", "cookie 16"), ("--cookies", "end 0 at 8", "end 1 at 8"), ("--cookies", "region", "region 8"), ("--cookies", "element 0 at 8", "element 0 at 0")]
+        for word, pattern, replacement in plants:
+            with tempfile.TemporaryDirectory() as folder:
+                done = support.run("cross-check", word, "-", text=POINTED, environment=changed(folder, pattern, replacement))
+                self.assertIn(done.returncode, (1, 2), f"{pattern}: {done.stdout}")
+                self.assertTrue("a new difference" in done.stdout or "is not known here" in done.stderr, f"{pattern}: {done.stdout}{done.stderr}")
+                self.assertNotIn("Traceback", done.stderr)
+
+    def test_random_classes(self):
+        for word in ("--member-pointers", "--cookies"):
+            done = support.run("cross-check", word, "--random", "60", "--seed", "5", "--bit-fields")
+            self.assertEqual(done.returncode, 0, done.stdout + done.stderr)
+            self.assertGreater(int(done.stdout.split()[0]), 40)
+
+    def test_bad_input(self):
+        for words, text, said in ((["-", "--cookies"], "struct A { int x;", "refused E2 Syntax at 17"), (["-", "--member-pointers"], "", "no class to compare"), (["-", "--cookies", "--member-pointers"], "", "give one")):
+            done = support.run("cross-check", *words, text=text)
+            self.assertEqual((done.returncode, done.stdout), (2, ""))
+            self.assertIn(said, done.stderr)
+
+
+class Words(unittest.TestCase):
+    def test_words_of_memptr(self):
+        for answer, words in (("data 24\nbytes 1800000000000000\n", ["24"]), ("function virtual 1 adj 16\ncalls B::clone at 0\n", ["1", "16"]), ("function code A::plain adj 0\ncalls A::plain at 0\n", ["A::plain", "0"]),
+                              ("function virtual 17 adj 0\npure A::f at 0\n", ["17", "0"]), ("data 24\nbytes 1900000000000000\n", ["24 in the bytes 1900000000000000"])):
+            self.assertEqual(member_pointers.words_of(answer), words)
+        with self.assertRaises(problem.Problem):
+            member_pointers.words_of("data x\n")
+
+    def test_words_of_assembly(self):
+        text = "pointer_0:\n\t.zero\t8\npointer_1:\n\t.quad\t17\n\t.quad\t16                              # 0x10\nother:\n\t.quad\t3\npointer_12:\n\t.quad\t_ZN2s11A5plainEiPS0_\n\t.zero\t8\n"
+        self.assertEqual(member_pointers.of_assembly(text), {0: ["0"], 1: ["17", "16"], 12: ["A::plain", "0"]})
+
+    def test_words_of_arrays(self):
+        answer = "region 24\ncookie 8\ncount 0200000000000000\nelement 0 at 8\nelement 1 at 16\nend 1 at 16\nend 0 at 8\n"
+        self.assertEqual(cookies.words_of(answer, True), "region 24 cookie 8 count 2 element 0 at 8 element 1 at 16 end 1 at 16 end 0 at 8")
+        self.assertNotIn("end", cookies.words_of(answer, False))
+        self.assertEqual(cookies.once("end 1 at 16 end 1 at 16 end 0 at 8"), "end 1 at 16 end 0 at 8")
 
 
 class MissingCompiler(unittest.TestCase):

@@ -15,30 +15,30 @@ CPP = "// { dg-do run }\n#include <cstdio>\nstruct A { int x; };\nint main() { p
 NO_SOURCE = "Dear reader,\n\tthis is no source: \"at all\" # \x01\n"
 # for each tool the words that take a source, where {} is its file, or nothing where it comes on standard input
 TAKING = {
-    "as-json": ["layout", "--source", "{}"], "cross-check": ["{}"], "cross-run": ["{}"], "draw": ["A", "{}"], "explain": ["check"], "from-cpp": ["{}"], "gcc-tests": ["{}"],
-    "no-memory": ["--about", "2", "check"], "padding": ["A", "{}"], "page": ["{}"], "run-cpp": ["{}"], "same-runs": ["{}"], "worked-cases": ["{}"],
+    "as-json": ["layout", "--source", "{}"], "cross-check": ["{}"], "cross-run": ["{}"], "draw": ["A", "{}"], "explain": ["check"], "from-cpp": ["{}"], "gcc-tests": ["{}"], "listing": ["{}"],
+    "no-memory": ["--about", "2", "check"], "other-layouts": ["{}"], "padding": ["A", "{}"], "page": ["{}"], "run-cpp": ["{}"], "same-runs": ["{}"], "worked-cases": ["{}"],
 }
 WITHOUT = {"large-source": [], "timings": ["--list"], "definition-lines": [], "package": ["made"], "c-library": ["made"], "fuzz": ["--inputs", "2"], "stack": ["--under", "8000"]}  # these take none, and these words do well
 NO_WORDS = {
-    "as-json": 2, "c-library": 2, "cross-check": 2, "cross-run": 2, "definition-lines": 0, "draw": 1, "explain": 2, "from-cpp": 2, "gcc-tests": 2, "large-source": 0, "no-memory": 2, "package": 2, "padding": 1,
+    "as-json": 2, "c-library": 2, "cross-check": 2, "cross-run": 2, "definition-lines": 0, "draw": 1, "explain": 2, "from-cpp": 2, "gcc-tests": 2, "large-source": 0, "listing": 2, "no-memory": 2, "other-layouts": 2, "package": 2, "padding": 1,
     "page": 1, "run-cpp": 2, "same-runs": 2, "worked-cases": 2,
 }
 ODD = {
     "as-json": [["nosuch"], ["run", "A"], ["layout", "--steps", "3"], ["run", "--steps", "0"], ["run", "--steps", "9" * 30]], "c-library": [["--built"], ["made", "--built", "/nowhere/library"], ["made", "more"]],
     "package": [["made", "--version", "new"], ["made", "--library", "/nowhere"], ["/dev/null/x"]], "page": [["--nothing"]],
     "stack": [["--under", "0"], ["--under", "8", "--all"], ["more"]], "fuzz": [["--minutes", "0"], ["--minutes", "nan"], ["--inputs", "0"], ["--minutes", "1", "--inputs", "1"], ["--seed", "x"], ["--keep", "/dev/null/x", "--inputs", "1"], ["more"]],
-    "cross-check": [["--random", "-5"], ["--random", "0"], ["--random", "x"], ["--only", "cc"]], "cross-run": [["--random", "-5"], ["--seed", "x"], ["--keep"]],
-    "definition-lines": [["more"]], "draw": [["A", "B", "C"], ["--folder"], ["--nothing"]], "explain": [["--code", "E99"], ["--code", ""]],
+    "cross-check": [["--random", "-5"], ["--random", "0"], ["--random", "x"], ["--only", "cc"], ["--cookies", "--member-pointers", "{}"]], "cross-run": [["--random", "-5"], ["--seed", "x"], ["--keep"]],
+    "definition-lines": [["more"]], "draw": [["A", "B", "C"], ["--folder"], ["--nothing"], ["--beside"], ["--beside", "{}", "--tables"], ["--beside", "/nowhere/file"]], "explain": [["--code", "E99"], ["--code", ""]],
     "from-cpp": [["--class"], ["--program", "--print", "{}"], ["--print", "{}", "{}"], ["--program", "--all", "{}"]], "gcc-tests": [["--jobs", "0", "{}"], ["--jobs", "x", "{}"], ["--table"]],
-    "run-cpp": [["--nothing", "{}"], ["--trace"]], "large-source": [["nosuch"], ["chain", "99"], ["chain", "1", "2"]], "no-memory": [["nosuch"], ["--every", "0", "check"], ["--jobs", "-1", "check"]],
-    "padding": [["A", "B", "C"]], "same-runs": [["--steps", "0", "x"], ["--seconds", "-1", "x"]], "timings": [["--only", "nosuch"], ["--runs", "0"]], "worked-cases": [["--nothing"]],
+    "run-cpp": [["--nothing", "{}"], ["--trace"]], "large-source": [["nosuch"], ["chain", "99"], ["chain", "1", "2"]], "listing": [["--object"], ["--source", "{}", "{}"], ["--object", "{}", "--source"], ["--object", "/nowhere/file.o"], ["{}", "--nothing"], ["{}", "--chance", "1"]], "no-memory": [["nosuch"], ["--every", "0", "check"], ["--jobs", "-1", "check"]],
+    "other-layouts": [["--random", "0"], ["--nothing"], ["--seed", "x", "{}"]], "padding": [["A", "B", "C"]], "same-runs": [["--steps", "0", "x"], ["--seconds", "-1", "x"]], "timings": [["--only", "nosuch"], ["--runs", "0"]], "worked-cases": [["--nothing"]],
 }
 # the status where a source is empty or is none of the language; each other tool has 1. A program that asks for no memory there, or
 # whose allocations cannot be counted, is told by no-memory with status 2
-EMPTY = {"as-json": 0, "cross-check": 2, "cross-run": 2, "explain": 0, "gcc-tests": 2, "no-memory": (0, 2), "same-runs": 0}
-WRONG = {"cross-check": 2, "cross-run": 2, "gcc-tests": 2, "no-memory": (0, 2), "same-runs": 0}
-COMPILERS = {"c-library": ["made"], "cross-check": ["{}"], "cross-run": ["{}"], "from-cpp": ["{}"], "fuzz": ["--beside", "--inputs", "1"], "gcc-tests": ["{}"], "no-memory": ["check"], "run-cpp": ["{}"], "timings": ["--only", "compilers"]}
-OF_CPP = {"from-cpp", "gcc-tests", "run-cpp"}
+EMPTY = {"as-json": 0, "cross-check": 2, "cross-run": 2, "explain": 0, "gcc-tests": 2, "no-memory": (0, 2), "other-layouts": 0, "same-runs": 0}
+WRONG = {"cross-check": 2, "cross-run": 2, "gcc-tests": 2, "no-memory": (0, 2), "other-layouts": 2, "same-runs": 0}
+COMPILERS = {"c-library": ["made"], "cross-check": ["{}"], "cross-run": ["{}"], "from-cpp": ["{}"], "fuzz": ["--beside", "--inputs", "1"], "gcc-tests": ["{}"], "listing": ["{}"], "no-memory": ["check"], "run-cpp": ["{}"], "timings": ["--only", "compilers"]}
+OF_CPP = {"from-cpp", "gcc-tests", "listing", "run-cpp"}
 NAMES = sorted(name for name in os.listdir(support.TOOLS) if os.path.isfile(os.path.join(support.TOOLS, name)))
 
 
@@ -116,7 +116,7 @@ class Ends(unittest.TestCase):
 
     def test_no_program(self):
         for name, words in {**TAKING, "timings": ["--only", "run"], "package": ["made"], "fuzz": ["--inputs", "1"], "stack": []}.items():
-            if name not in ("worked-cases", "from-cpp"):
+            if name not in ("worked-cases", "from-cpp", "listing"):
                 self.assertIn("/nowhere/tagymelur", self.end(name, words, 2, self.proper(name), TAGYMELUR="/nowhere/tagymelur"))
 
     def test_an_output_that_cannot_be_written(self):

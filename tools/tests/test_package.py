@@ -44,11 +44,11 @@ class Package(unittest.TestCase):
 
     def test_what_it_holds(self):
         names = set(call(["bash", "-c", f"cd {self.root} && find . -type f -o -type l"]).stdout.splitlines())
-        tools = [name for name in os.listdir(os.path.join(self.root, "usr/lib/tagymelur/tools")) if name != "lib"]
+        tools = [name for name in os.listdir(os.path.join(self.root, "usr/lib/tagymelur/tools")) if name not in ("lib", "gdb")]
         self.assertGreater(len(tools), 8)
         wanted = ["usr/bin/tagymelur", "usr/share/man/man1/tagymelur.1.gz", "usr/share/doc/tagymelur/copyright", "usr/share/doc/tagymelur/PROVED", "usr/lib/python3/dist-packages/tagymelur/__init__.py",
                   "usr/share/bash-completion/completions/tagymelur", "usr/share/zsh/vendor-completions/_tagymelur"]
-        wanted += [f"usr/bin/tagymelur-{name}" for name in tools] + [f"usr/share/man/man1/tagymelur-{name}.1.gz" for name in tools]
+        wanted += ["usr/lib/tagymelur/tools/gdb/tagymelur.py"] + [f"usr/bin/tagymelur-{name}" for name in tools] + [f"usr/share/man/man1/tagymelur-{name}.1.gz" for name in tools]
         self.assertEqual([name for name in wanted if f"./{name}" not in names], [])
         self.assertEqual([name for name in names if "__pycache__" in name or "/tests/" in name], [])
         self.assertIn("Version: 1.2\n", call(["dpkg-deb", "-f", self.package]).stdout)

@@ -108,11 +108,12 @@ def dumps(random, seed, number, known):
 
 
 def behind(random, known, sort, takes, found):
-    """A text, a line `program` and a source, with changes; now and then for a command that takes a source."""
+    """A text, a line `program` and a source, mostly with a change in one of them; now and then for a command that takes a source."""
     text, source = random.choice(found)
-    if random.random() < 0.9:
+    changed = random.random()
+    if changed < 0.75:
         text = random.choice(TEXT_CHANGES)(random, text)
-    else:
+    elif changed < 0.85:
         source = random.choice(CHANGES)(random, source)
     between = random.choice(["program\n"] * 12 + ["", "program", "program \n", "program\nprogram\n"])
     return of_command(random, known, sort, (takes, takes, commands.SOURCE) if random.random() < 0.1 else (takes,), text + between + source)
@@ -120,8 +121,10 @@ def behind(random, known, sort, takes, found):
 
 @functools.cache
 def listed():
-    """The listings of all classes that stand in worked cases, with their sources."""
-    return [(case.text, case.source) for case in worked.cases() if case.words == ("layout",) and case.status == 0]
+    """The listings of all classes that stand in worked cases, with their sources: answers of `layout`, and inputs of `foreign`, whose sources have a `main`."""
+    laid = [(case.text, case.source) for case in worked.cases() if case.words == ("layout",) and case.status == 0]
+    given = [case.source.partition("program\n") for case in worked.cases() if case.words[:1] == ("foreign",)]
+    return laid + 4 * [(listing, source) for listing, between, source in given if between]
 
 
 @functools.cache

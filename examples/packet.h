@@ -1,0 +1,1 @@
+struct __attribute__((packed)) Packet { char kind; int length; };

@@ -1,0 +1,2 @@
+class Sample { int at; char kind; };
+class Marked : Sample { char mark; };
