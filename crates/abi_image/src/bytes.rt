@@ -10,6 +10,7 @@ ghost use Rattle.abi_image.specs.invariants.Drafts.{IsIn};
 use crate::BASE;
 use crate::draft::Draft;
 use byte_code::ImageBytes;
+use byteorder::{ByteOrder, LittleEndian};
 use foundation::{NoMemory, Sequence};
 use std::alloc::Global;
 
@@ -17,7 +18,9 @@ use std::alloc::Global;
 fn push_word(bytes: &mut Vec<u8>, word: u64) -> Result<(), NoMemory>
     ensures { OnOk result (bytes.new.items ≡ bytes.old.items ++ to_le_bytes w64 word) }
 {
-    bytes.extend_from_slice(&word.to_le_bytes())?;
+    let mut eight = [0; 8];
+    LittleEndian::write_u64(&mut eight, word);
+    bytes.extend_from_slice(&eight)?;
     Ok(())
 }
 

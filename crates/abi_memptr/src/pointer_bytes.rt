@@ -13,6 +13,7 @@ use crate::pointers::MemberPointer;
 use abi_slots::{BlockKind, CodeNumbers, Slots};
 use abi_sound::{SoundLayout, member_place};
 use byte_code::code::ByteList;
+use byteorder::{ByteOrder, LittleEndian};
 use cxx_hierarchy::{ClassId, Hierarchy};
 use cxx_overrider::{FunctionId, Overriders};
 use cxx_search::names_are_signatures;
@@ -90,7 +91,9 @@ fn function_word(
 fn word_bytes(alloc: Global, word: u64) -> Result<Vec<u8>, NoMemory>
     ensures { IfOk result (λ bytes. bytes.items ≡ word_bytes word) }
 {
-    let bytes = Vec::from_slice(alloc, &word.to_le_bytes())?;
+    let mut eight = [0; 8];
+    LittleEndian::write_u64(&mut eight, word);
+    let bytes = Vec::from_slice(alloc, &eight)?;
     Ok(bytes)
 }
 
@@ -99,7 +102,8 @@ fn two_words(alloc: Global, first: u64, second: u64) -> Result<Vec<u8>, NoMemory
     ensures { IfOk result (λ bytes. bytes.items ≡ word_bytes first ++ word_bytes second) }
 {
     let mut bytes = word_bytes(alloc, first)?;
-    bytes.extend_from_slice(&second.to_le_bytes())?;
+    let behind = word_bytes(alloc, second)?;
+    bytes.extend_from_slice(&behind)?;
     Ok(bytes)
 }
 

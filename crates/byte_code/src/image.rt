@@ -10,6 +10,7 @@ ghost use Rattle.byte_code.specs.declared.image.BaseRecord.{BaseRecord};
 ghost use Rattle.byte_code.specs.declared.image.ThunkRecord.{ThunkRecord};
 
 use crate::code::ImageBytes;
+use byteorder::{ByteOrder, LittleEndian};
 
 /// An entry of a virtual table: the number of the code that it runs, none at a pure or unused one, and the address of its thunk,
 /// none where nothing is adjusted (Itanium C++ ABI 2.5.2).
@@ -48,9 +49,9 @@ pub struct ThunkRecord {
     pub ret_add: i64,
 }
 
-/// The number whose eight bytes stand from an index on.
+/// The number whose eight bytes stand from an index on, the lowest first; none where there are fewer.
 #[tactic(auto, unfolding(crate::specs::Images::number_at))]
-fn number_at(bytes: &[u8], at: u128) -> Option<u64>
+pub fn number_at(bytes: &[u8], at: u128) -> Option<u64>
     ensures { result ≡ number_at bytes.now at }
 {
     if at > bytes.len() as u128 {
@@ -58,7 +59,7 @@ fn number_at(bytes: &[u8], at: u128) -> Option<u64>
     }
     let at = at as usize;
     let chunk = bytes[at..].first_chunk::<8>()?;
-    Some(u64::from_le_bytes(*chunk))
+    Some(LittleEndian::read_u64(chunk))
 }
 
 /// The signed number of a word.

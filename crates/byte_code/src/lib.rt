@@ -20,7 +20,7 @@ pub mod width;
 
 pub use crate::base_reader::BaseReader;
 pub use crate::code::{Block, BlockList, ByteList, Code, ImageBytes, OpList};
-pub use crate::image::{BaseRecord, EntryRecord, InfoRecord, ThunkRecord};
+pub use crate::image::{BaseRecord, EntryRecord, InfoRecord, ThunkRecord, number_at};
 pub use crate::op::{
     ArithKind, BaseHand, Check, Finish, FinishList, NumberKind, Op, Opening, Phase, PointSource,
     PrintAs, RegisterList, ResultUse, Setting, TraceKind, Whose,

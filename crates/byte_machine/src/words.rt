@@ -1,12 +1,12 @@
 //! Words that are added, and words behind address points.
 
 ghost use Rattle.std.specs.Prelude.{◌≡◌, ◌+◌};
-ghost use Rattle.byte_code.specs.Images.{number_at, word_at};
+ghost use Rattle.byte_code.specs.Images.{word_at};
 ghost use Rattle.byte_machine.specs.Running.{moved, table_word};
 ghost use Rattle.byte_machine.specs.Plans.{word_bytes};
 
 use crate::heap::Heap;
-use byte_code::ImageBytes;
+use byte_code::{ImageBytes, number_at};
 use byte_memory::Memory;
 
 /// An address, or a word, moved by another; addresses wrap at 2^64.
@@ -23,19 +23,6 @@ pub fn word_bytes(number: i32) -> u64
     (8 * number as i64).cast_unsigned()
 }
 
-/// The word whose eight bytes stand from an index on, none where there are fewer.
-#[tactic(auto, unfolding(byte_code::specs::Images::number_at))]
-fn bytes_at(bytes: &[u8], index: u128) -> Option<u64>
-    ensures { result ≡ number_at bytes.now index }
-{
-    if index > bytes.len() as u128 {
-        return None;
-    }
-    let index = index as usize;
-    let chunk = bytes[index..].first_chunk::<8>()?;
-    Some(u64::from_le_bytes(*chunk))
-}
-
 /// The word of an image at an address and so many bytes behind it, none outside of the image.
 pub fn word_behind(image: &ImageBytes, at: u64, bytes: u64) -> Option<u64>
     ensures { result ≡ word_at image.now (at + bytes) }
@@ -45,7 +32,7 @@ pub fn word_behind(image: &ImageBytes, at: u64, bytes: u64) -> Option<u64>
     if there < base {
         return None;
     }
-    bytes_at(image.bytes.as_slice(), there - base)
+    number_at(image.bytes.as_slice(), there - base)
 }
 
 /// The word that stands so many bytes behind the address point to which the virtual pointer at an address leads.

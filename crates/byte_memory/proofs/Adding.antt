@@ -1,6 +1,6 @@
 -- Pages after fresh ones were put behind them.
-use Rattle.std.proofs.Common.{◌≡◌, ◌≢◌, ℕ, zero, suc, ◌+◌, ◌-◌, ◌*◌, ◌/◌, ◌%◌, ◌<◌, ◌≤◌, ◌⊎◌, inl, inr, ⊎_elim, Option, Some, None, List, [], ◌∷◌, ◌++◌, length, get_or, refl, ap, sym, ◌∙◌, arith, Bool, true, false, cond}
-use Rattle.std.specs.Prelude.{nat_eq, nat_le, nat_lt, ◌&&◌, ◌||◌, if◌then◌else◌, is_some, MatchOption, MatchResult, Result, Ok, Err, IfOk}
+use Rattle.std.proofs.Common.{◌≡◌, ℕ, zero, suc, ◌+◌, ◌-◌, ◌/◌, ◌%◌, ◌<◌, ◌≤◌, ◌⊎◌, inl, inr, ⊎_elim, Option, Some, None, List, [], ◌∷◌, ◌++◌, length, get_or, refl, ap, sym, ◌∙◌, arith, Bool, true, false, cond}
+use Rattle.std.specs.Prelude.{nat_eq, ◌||◌, if◌then◌else◌, is_some, MatchOption, MatchResult, Result, Ok, Err, IfOk}
 use Rattle.std.specs.List.{slice_get, find}
 use Rattle.std.specs.Option.{option_or}
 use Rattle.std.specs.Result.{is_ok, is_err}
@@ -11,7 +11,7 @@ use Rattle.std.proofs.lemmas.Option.{slice_get_cases, slice_get_within}
 use Rattle.byte_memory.specs.declared.page.Page.{Page}
 use Rattle.byte_memory.specs.Bits.{is_among}
 use Rattle.byte_memory.specs.Pages.{numbered, page_bit, bits_of, users_of, claimed, AreFresh, AreAdded}
-use Rattle.byte_memory.proofs.Lists.{is_false, find-none, find-first}
+use Rattle.byte_memory.proofs.Lists.{find-none, find-first}
 use Rattle.byte_memory.proofs.Tables.{AreOrdered}
 
 slice_get-append_cases : (xs ys : List Page) (i : ℕ) (x : Page) → slice_get (xs ++ ys) i ≡ Some x → (slice_get xs i ≡ Some x) ⊎ ((length xs ≤ i) × (slice_get ys (i - length xs) ≡ Some x))

@@ -42,13 +42,6 @@ has_bit-high low high place fits h =
 pub has_bit-mod : (v place : ℕ) → place < 8 → has_bit (v % 256) place ≡ has_bit v place
 has_bit-mod v place h = let e : v % 256 + 256 * (v / 256) ≡ v = omega arith in sym (has_bit-low (v % 256) (v / 256) place h) ∙ ap (λ x. has_bit x place) e
 
--- the bits of the higher bytes
-pub has_bit-div : (v place : ℕ) → has_bit (v / 256) place ≡ has_bit v (place + 8)
-has_bit-div v place =
-    let e : v % 256 + 256 * (v / 256) ≡ v = omega arith in
-    let back : (place + 8) - 8 ≡ place = omega arith in
-    ap (has_bit (v / 256)) (sym back) ∙ (sym (has_bit-high (v % 256) (v / 256) (place + 8) (omega arith) (omega arith)) ∙ ap (λ x. has_bit x (place + 8)) e)
-
 -- a number of bits is below their power
 pub below : (low high n : ℕ) → low < 2 → high < 2 ^ n → low + 2 * high < 2 ^ (suc n)
 below low high n l h = rw pow-suc (omega arith)

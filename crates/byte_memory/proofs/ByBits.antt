@@ -1,9 +1,9 @@
 -- What stores and copies of bits leave as it was, and what they give.
-use Rattle.std.proofs.Common.{◌≡◌, ℕ, ◌+◌, ◌-◌, ◌*◌, ◌<◌, ◌≤◌, ◌%◌, ◌^◌, ◌⊎◌, inl, inr, ⊎_elim, Option, Some, ap, sym, ◌∙◌, arith, Bool, true, false}
+use Rattle.std.proofs.Common.{◌≡◌, ℕ, ◌+◌, ◌-◌, ◌*◌, ◌<◌, ◌≤◌, ◌%◌, ◌^◌, ◌⊎◌, inl, inr, ⊎_elim, Option, Some, ap, ◌∙◌, arith, Bool, true, false}
 use Rattle.std.specs.Prelude.{if◌then◌else◌, []}
 use Rattle.std.proofs.lemmas.Bool.Decides.{nat_tests}
 use Rattle.byte_memory.specs.Bits.{has_bit, number_from, stored, copied, is_among}
-use Rattle.byte_memory.specs.Bytes.{number_from_bytes, stored_bytes}
+use Rattle.byte_memory.specs.Bytes.{number_from_bytes}
 use Rattle.byte_memory.specs.Store.{Store, byte_at, store_of}
 use Rattle.byte_memory.proofs.BitNumbers.{number_from-same}
 use Rattle.byte_memory.proofs.ByteViews.{number_from-bytes, byte_at-store}

@@ -1,5 +1,5 @@
 -- What a close changes in a memory of pages.
-use Rattle.std.proofs.Common.{◌≡◌, ◌≢◌, ℕ, zero, suc, ◌+◌, ◌-◌, ◌*◌, ◌/◌, ◌%◌, ◌<◌, ◌≤◌, ◌⊎◌, ⊎_elim, Option, Some, None, List, [], ◌∷◌, length, set, map, refl, ap, sym, ◌∙◌, arith, Bool, true, false, cond}
+use Rattle.std.proofs.Common.{◌≡◌, ◌≢◌, ℕ, ◌+◌, ◌-◌, ◌*◌, ◌/◌, ◌%◌, ◌<◌, ◌≤◌, ⊎_elim, Option, Some, None, List, [], ◌∷◌, map, refl, ap, sym, ◌∙◌, arith, Bool, true, false, cond}
 use Rattle.std.specs.Prelude.{nat_eq, nat_le, nat_lt, ◌&&◌, if◌then◌else◌, is_some, is_none, count_by, All}
 use Rattle.std.specs.List.{slice_get, find}
 use Rattle.std.proofs.lemmas.Bool.Decides.{nat_tests}
@@ -7,12 +7,12 @@ use Rattle.std.proofs.lemmas.Bool.{cases_lt}
 use Rattle.byte_memory.specs.declared.memory.Region.{Region}
 use Rattle.byte_memory.specs.declared.page.Page.{Page}
 use Rattle.byte_memory.specs.Bits.{is_among, cleared}
-use Rattle.byte_memory.specs.Regions.{fault_at, fault_in, holds, starts, shut, IsAscending}
+use Rattle.byte_memory.specs.Regions.{fault_at, fault_in, holds, shut, IsAscending}
 use Rattle.byte_memory.specs.Pages.{meets, numbered, page_bit, bits_of, users_of, released, reached_bits}
 use Rattle.byte_memory.proofs.Ascending.{IsAscendingBy-apart}
 use Rattle.byte_memory.proofs.Lists.{counted, counted_one, counted_none, count_by-set, count_by-two, find-index}
-use Rattle.byte_memory.proofs.Reached.{shut_same, shut-set, starts-differ, found_starts}
-use Rattle.byte_memory.proofs.Tables.{released-last, released-more}
+use Rattle.byte_memory.proofs.Reached.{shut_same, shut-set, starts-differ}
+use Rattle.byte_memory.proofs.Tables.{released-more}
 
 holds_shut : (at a : ℕ) (r : Region) → holds a 1 (shut at r) ≡ holds a 1 r
 holds_shut at a r =

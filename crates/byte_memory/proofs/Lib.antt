@@ -4,6 +4,7 @@ pub mod Reached
 pub mod BitLists
 pub mod WordNumbers
 pub mod CellBits
+pub mod WordBytes
 pub mod BitNumbers
 pub mod Numbers
 pub mod Copies

@@ -1,6 +1,6 @@
 -- What an open changes in a memory of pages.
-use Rattle.std.proofs.Common.{◌≡◌, ℕ, zero, suc, ◌+◌, ◌-◌, ◌*◌, ◌/◌, ◌%◌, ◌<◌, ◌≤◌, Option, Some, None, List, [], ◌∷◌, ◌++◌, length, refl, ap, sym, ◌∙◌, subst, arith, Bool, true, false, cond}
-use Rattle.std.specs.Prelude.{nat_eq, nat_le, nat_lt, ◌&&◌, ◌||◌, if◌then◌else◌, is_some, is_none, count_by, All}
+use Rattle.std.proofs.Common.{◌≡◌, ℕ, ◌+◌, ◌-◌, ◌*◌, ◌/◌, ◌%◌, ◌<◌, ◌≤◌, Option, Some, None, List, [], ◌∷◌, ◌++◌, length, refl, ap, sym, ◌∙◌, subst, arith, Bool, true, false, cond}
+use Rattle.std.specs.Prelude.{nat_lt, ◌||◌, if◌then◌else◌, is_some, is_none, count_by, All}
 use Rattle.std.specs.List.{slice_get, find}
 use Rattle.std.specs.Option.{option_or}
 use Rattle.std.proofs.lemmas.Bool.Decides.{nat_tests}
@@ -12,7 +12,7 @@ use Rattle.byte_memory.specs.declared.memory.Region.{Region}
 use Rattle.byte_memory.specs.declared.page.Page.{Page}
 use Rattle.byte_memory.specs.Bits.{is_among}
 use Rattle.byte_memory.specs.Regions.{fault_at, fault_in, holds, rounded, IsAscending}
-use Rattle.byte_memory.specs.Pages.{meets, numbered, bits_of, users_of, reached_bits, next_start, start_after, AreAdded}
+use Rattle.byte_memory.specs.Pages.{meets, numbered, users_of, reached_bits, next_start, start_after, AreAdded}
 use Rattle.byte_memory.proofs.Lists.{counted, counted_one, counted_none, count_by-cons, count_by-found}
 use Rattle.byte_memory.proofs.Reachable.{ends_below_next}
 use Rattle.byte_memory.proofs.Closing.{meets_among}

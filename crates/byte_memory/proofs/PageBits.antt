@@ -1,22 +1,20 @@
 -- The bits of pages, and of the words that stand in them.
-use Rattle.std.proofs.Common.{◌≡◌, ◌≢◌, ℕ, zero, suc, ◌+◌, ◌-◌, ◌*◌, ◌/◌, ◌%◌, ◌<◌, ◌≤◌, ◌^◌, ◌⊎◌, inl, inr, ⊎_elim, Option, Some, None, List, [], ◌∷◌, ◌++◌, length, get_or, set, refl, ap, sym, ◌∙◌, subst, arith, Bool, true, false, bit_or, max}
-use Rattle.std.specs.Prelude.{nat_eq, nat_le, nat_lt, ◌&&◌, if◌then◌else◌, is_some}
+use Rattle.std.proofs.Common.{◌≡◌, ℕ, ◌+◌, ◌-◌, ◌*◌, ◌/◌, ◌%◌, ◌<◌, ◌≤◌, ◌^◌, ⊎_elim, Some, None, List, length, set, refl, ap, sym, ◌∙◌, arith, false, bit_or, max}
+use Rattle.std.specs.Prelude.{nat_eq}
 use Rattle.std.specs.Int.{bit_at}
-use Rattle.std.specs.List.{slice_get, find}
+use Rattle.std.specs.List.{find}
 use Rattle.std.proofs.lemmas.Bool.Decides.{nat_tests}
 use Rattle.std.proofs.lemmas.Bool.{cases_lt}
-use Rattle.std.proofs.lemmas.Nat.Bits.{bit_at-lt, bit_at_or, bit_at_above, bit_at-zero, bit_at_cat_low, bit_at_cat_high}
-use Rattle.std.proofs.lemmas.Nat.{pow_pos, shl_whole}
-use Rattle.std.proofs.lemmas.Option.{slice_get-get_or, slice_get_past}
-use Rattle.std.proofs.Math.Nat.{pow-succ', pow-le-pow_right}
+use Rattle.std.proofs.lemmas.Nat.Bits.{bit_at_or, bit_at_above, bit_at-zero}
+use Rattle.std.proofs.lemmas.Nat.{pow_pos}
+use Rattle.std.proofs.Math.Nat.{pow-le-pow_right}
 use Rattle.byte_memory.specs.declared.cells.Cell.{Cell}
 use Rattle.byte_memory.specs.declared.cells.Word.{Word}
 use Rattle.byte_memory.specs.declared.page.Page.{Page}
-use Rattle.byte_memory.specs.Bits.{has_bit, is_among}
-use Rattle.byte_memory.specs.Words.{masked, word_bit, bits_in, with_word}
-use Rattle.byte_memory.specs.Regions.{IsAscendingBy, IsCount}
+use Rattle.byte_memory.specs.Bits.{has_bit}
+use Rattle.byte_memory.specs.Words.{masked, word_bit, bits_in}
 use Rattle.byte_memory.specs.Pages.{numbered, page_bit, bits_of}
-use Rattle.byte_memory.proofs.Ascending.{HasAddress, find-empty, find-last, find-fails}
+use Rattle.byte_memory.proofs.Ascending.{HasAddress}
 use Rattle.byte_memory.proofs.CellBits.{bits_in_past}
 use Rattle.byte_memory.proofs.WordNumbers.{low_inside, shifted_low, shifted_high}
 use Rattle.byte_memory.proofs.ByteViews.{power_of_bytes}

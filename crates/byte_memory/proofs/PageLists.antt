@@ -1,13 +1,12 @@
 -- The numbers of the pages that are kept.
-use Rattle.std.proofs.Common.{◌≡◌, ℕ, zero, suc, ◌+◌, ◌<◌, ◌≤◌, Some, None, List, [], ◌∷◌, length, map, refl, ap, sym, ◌∙◌, arith, Bool, true, false, cond}
+use Rattle.std.proofs.Common.{◌≡◌, ℕ, zero, suc, Some, List, [], ◌∷◌, map, refl, sym, ◌∙◌, arith, Bool, true, false}
 use Rattle.std.specs.Prelude.{nat_eq, nat_lt, is_some, count_by}
 use Rattle.std.specs.List.{slice_get, find, list_any}
 use Rattle.std.proofs.lemmas.Bool.Decides.{nat_tests}
-use Rattle.std.proofs.lemmas.List.{length-map}
 use Rattle.byte_memory.specs.declared.memory.Region.{Region}
 use Rattle.byte_memory.specs.declared.page.Page.{Page}
 use Rattle.byte_memory.specs.Pages.{meets, numbered, ArePages}
-use Rattle.byte_memory.proofs.Lists.{counted, counted_one, counted_none, count_by-cons}
+use Rattle.byte_memory.proofs.Lists.{counted_one, counted_none, count_by-cons}
 use Rattle.byte_memory.proofs.Tables.{AreOrdered}
 
 abbrev pub numbers_of : List Page → List ℕ

@@ -1,21 +1,20 @@
 -- Pages found by their numbers, after one was changed or taken out.
-use Rattle.std.proofs.Common.{◌≡◌, ◌≢◌, ℕ, zero, suc, ◌+◌, ◌-◌, ◌*◌, ◌/◌, ◌%◌, ◌<◌, ◌≤◌, ◌^◌, ◌⊎◌, inl, inr, ⊎_elim, Option, Some, None, List, [], ◌∷◌, ◌++◌, length, get_or, set, refl, ap, sym, ◌∙◌, subst, arith, Bool, true, false}
-use Rattle.std.specs.Prelude.{nat_eq, nat_le, nat_lt, ◌&&◌, if◌then◌else◌, is_some, remove, vec_capacity}
+use Rattle.std.proofs.Common.{◌≡◌, ◌≢◌, ℕ, zero, suc, ◌+◌, ◌-◌, ◌*◌, ◌/◌, ◌%◌, ◌<◌, ◌≤◌, ◌^◌, ⊎_elim, Option, Some, None, List, [], ◌∷◌, ◌++◌, length, get_or, set, refl, ap, sym, ◌∙◌, arith, Bool, true, false}
+use Rattle.std.specs.Prelude.{nat_eq, nat_lt, if◌then◌else◌, is_some, remove, vec_capacity}
 use Rattle.std.specs.List.{slice_get, find}
 use denote.Struct.Props.{props}
 use Rattle.std.proofs.lemmas.Bool.Decides.{nat_tests}
-use Rattle.std.proofs.lemmas.Bool.{cases_lt}
 use Rattle.std.proofs.lemmas.List.Folds.{find_past}
 use Rattle.std.proofs.lemmas.List.{length_push}
-use Rattle.std.proofs.lemmas.Option.{slice_get_read, slice_get_past, slice_get_within, get_or_from_slice_get}
+use Rattle.std.proofs.lemmas.Option.{slice_get_within, get_or_from_slice_get}
 use Rattle.byte_memory.specs.declared.cells.Word.{Word}
 use Rattle.byte_memory.specs.declared.page.Page.{Page}
 use Rattle.byte_memory.specs.Bits.{has_bit, is_among}
 use Rattle.byte_memory.specs.Words.{word_bit, bits_in, with_word}
 use Rattle.byte_memory.specs.Regions.{IsAscendingBy}
-use Rattle.byte_memory.specs.Pages.{numbered, page_bit, bits_of, users_of, claimed, released, AreUsedAs, AreFresh}
+use Rattle.byte_memory.specs.Pages.{numbered, page_bit, bits_of, users_of, released, AreUsedAs, AreFresh}
 use Rattle.byte_memory.proofs.BitLists.{has_bit-shifted}
-use Rattle.byte_memory.proofs.Lists.{slice_get-push_cases, is_false, find-none, find-first, slice_get-set, slice_get-remove}
+use Rattle.byte_memory.proofs.Lists.{slice_get-push_cases, find-none, find-first, slice_get-set, slice_get-remove}
 
 -- the pages stand in the order of their numbers
 abbrev pub AreOrdered : List Page → Type 0

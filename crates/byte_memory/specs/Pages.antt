@@ -1,4 +1,4 @@
-use Rattle.std.specs.Prelude.{◌≡◌, ℕ, ◌+◌, ◌-◌, ◌*◌, ◌/◌, ◌%◌, ◌<◌, ◌≤◌, Bool, false, nat_lt, nat_eq, ◌&&◌, if◌then◌else◌, Option, Some, None, List, length, slice_get, is_none, is_some, ◌||◌}
+use Rattle.std.specs.Prelude.{◌≡◌, ℕ, ◌+◌, ◌-◌, ◌*◌, ◌/◌, ◌%◌, ◌<◌, Bool, nat_lt, nat_eq, ◌&&◌, if◌then◌else◌, Option, Some, None, List, length, slice_get, is_none, is_some, ◌||◌}
 use Rattle.std.specs.List.{find, list_any}
 use Rattle.byte_memory.specs.declared.memory.Region.{Region}
 use Rattle.byte_memory.specs.declared.page.Page.{Page}

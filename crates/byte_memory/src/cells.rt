@@ -1,8 +1,10 @@
 //! Cells, one for each address, and the bits in them.
 
-ghost use Rattle.std.specs.Prelude.{◌≡◌, ℕ, ◌+◌, ◌-◌, ◌*◌, ◌<◌, ◌≤◌, ◌^◌, length, if◌then◌else◌, IfSome};
+ghost use Rattle.std.specs.Prelude.{◌≡◌, ℕ, ◌+◌, ◌-◌, ◌*◌, ◌<◌, ◌≤◌, ◌^◌, length, slice_get, Some, if◌then◌else◌, IfSome};
 ghost use Rattle.byte_memory.specs.Bits.{has_bit, number_from, cleared, is_among};
 ghost use Rattle.byte_memory.specs.Words.{word_bit, bits_in, with_word};
+
+use byteorder::{ByteOrder, LittleEndian};
 
 /// A byte, with a mask of those of its bits that are set.
 #[derive(Clone, Copy)]
@@ -76,6 +78,14 @@ pub fn from_bit(word: Word, first: u8) -> Word
     }
 }
 
+/// The cell of a number.
+fn cell_at(cells: &[Cell], number: usize) -> Cell
+    requires { number < length cells.now }
+    ensures { slice_get cells.now number ≡ Some result }
+{
+    cells[number]
+}
+
 /// The word in n cells from one on.
 pub fn read_word(cells: &[Cell], at: usize, n: u8) -> Word
     requires within { at + n ≤ length cells.now }
@@ -84,32 +94,34 @@ pub fn read_word(cells: &[Cell], at: usize, n: u8) -> Word
     ensures value { result.value < 256 ^ n }
     ensures set { result.set < 256 ^ n }
 {
-    if n == 0 {
-        return Word { value: 0, set: 0 };
+    let mut values = [0; 8];
+    let mut sets = [0; 8];
+    for i in 0..n as usize {
+        let cell = cell_at(cells, at + i);
+        values[i] = cell.value;
+        sets[i] = cell.set;
     }
-    let low = cells[at];
-    let high = read_word(cells, at + 1, n - 1);
     Word {
-        value: low.value as u64 + 256 * high.value,
-        set: low.set as u64 + 256 * high.set,
+        value: LittleEndian::read_u64(&values),
+        set: LittleEndian::read_u64(&sets),
     }
 }
 
 /// Writes the low n bytes of a word into the cells from one on.
 pub fn write_word(cells: &mut [Cell], at: usize, n: u8, word: Word)
-    requires { at + n ≤ length cells.old }
+    requires within { at + n ≤ length cells.old }
+    requires small { n ≤ 8 }
     ensures { bits_in cells.new ≡ with_word (bits_in cells.old) at n word }
 {
-    if n > 0 {
-        cells[at] = Cell {
-            value: (word.value % 256) as u8,
-            set: (word.set % 256) as u8,
+    let mut values = [0; 8];
+    let mut sets = [0; 8];
+    LittleEndian::write_u64(&mut values, word.value);
+    LittleEndian::write_u64(&mut sets, word.set);
+    for i in 0..n as usize {
+        cells[at + i] = Cell {
+            value: values[i],
+            set: sets[i],
         };
-        let high = Word {
-            value: word.value / 256,
-            set: word.set / 256,
-        };
-        write_word(cells, at + 1, n - 1, high);
     }
 }
 

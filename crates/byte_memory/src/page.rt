@@ -57,7 +57,8 @@ pub fn read_page(page: &Page, at: usize, n: u8) -> Word
 
 /// Writes the low n bytes of a word into a page, from a byte on.
 pub fn write_page(page: &mut Page, at: usize, n: u8, word: Word)
-    requires { at + n ≤ 4096 }
+    requires inside { at + n ≤ 4096 }
+    requires short { n ≤ 8 }
     ensures number { page.new.number ≡ page.old.number }
     ensures users { page.new.users ≡ page.old.users }
     ensures bits { bits_in page.new.cells.items ≡ with_word (bits_in page.old.cells.items) at n word }

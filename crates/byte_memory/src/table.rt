@@ -95,6 +95,7 @@ fn write_part(pages: &mut Vec<Page>, number: u64, at: usize, n: u8, word: Word)
     requires ascending { IsAscendingBy (λ page. page.number) (λ page. 1) pages.old.items }
     requires there { is_some (find (numbered number) pages.old.items) ≡ true }
     requires inside { at + n ≤ 4096 }
+    requires short { n ≤ 8 }
     ensures ascending { IsAscendingBy (λ page. page.number) (λ page. 1) pages.new.items }
     ensures same { AreUsedAs pages.old.items pages.new.items }
     ensures bits { bits_of pages.new.items ≡ with_word (bits_of pages.old.items) (4096 * number + at) n word }

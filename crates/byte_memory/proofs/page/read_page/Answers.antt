@@ -1,4 +1,4 @@
-use Rattle.std.proofs.Common.{arith, rules, ◌≡◌, ◌+◌, ◌-◌, ◌<◌, ◌≤◌, ◌^◌, length, refl}
+use Rattle.std.proofs.Common.{arith, rules, ◌≡◌, ◌+◌, ◌-◌, ◌≤◌, length, refl}
 use Rattle.std.specs.Prelude.{vec_len}
 use Rattle.byte_memory.proofs.PageBits.{read-short, power-at_least, power-more}
 use Rattle.byte_memory.proofs.page.read_page.Goals as goal

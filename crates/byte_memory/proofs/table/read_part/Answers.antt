@@ -1,4 +1,4 @@
-use Rattle.std.proofs.Common.{◌≡◌, ◌∙◌, refl, length}
+use Rattle.std.proofs.Common.{◌∙◌, refl, length}
 use Rattle.std.proofs.lemmas.Option.{slice_get_read}
 use Rattle.byte_memory.proofs.PageBits.{read-part, read-no_page, power-at_least}
 use Rattle.byte_memory.proofs.table.read_part.Goals as goal

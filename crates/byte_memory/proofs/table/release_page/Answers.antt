@@ -1,4 +1,4 @@
-use Rattle.std.proofs.Common.{◌≡◌, ◌∙◌, ◌+◌, ◌-◌, ◌<◌, ◌≤◌, ap, sym, refl, length, arith}
+use Rattle.std.proofs.Common.{◌≡◌, ◌∙◌, ◌-◌, ◌≤◌, ap, refl, length}
 use Rattle.std.specs.Prelude.{Some}
 use Rattle.std.specs.List.{find, slice_get}
 use Rattle.std.proofs.lemmas.Option.{slice_get_read}

@@ -14,8 +14,8 @@ read_word-source-requires-clause-within c = rw c.deref-3.ensures.value (reached 
 pub read_word-word-requires-clause-within : goal.read_word-word-requires-clause-within
 read_word-word-requires-clause-within c = rw c.deref-4.ensures.value (reached _ _ _ _ c.args.self.now.ends (rw c.deref-2.ensures.value at c.in_ok-check-2.ensures))
 
-pub write_word-requires : goal.write_word-requires
-write_word-requires c = rw c.deref_mut.ensures.value (reached _ _ _ _ c.args.self.now.ends (rw c.deref-2.ensures.value at c.in_ok-check-2.ensures))
+pub write_word-requires-clause-within : goal.write_word-requires-clause-within
+write_word-requires-clause-within c = rw c.deref_mut.ensures.value (reached _ _ _ _ c.args.self.now.ends (rw c.deref-2.ensures.value at c.in_ok-check-2.ensures))
 
 pub returns : goal.returns
 returns c =

@@ -11,8 +11,8 @@ use Rattle.byte_memory.proofs.flat.FlatMemoryMemory.store_bits.Goals as goal
 pub read_word-word-requires-clause-within : goal.read_word-word-requires-clause-within
 read_word-word-requires-clause-within c = rw c.deref-2.ensures.value (reached _ _ _ _ c.args.self.now.ends (rw c.deref.ensures.value at c.in_ok-check.ensures))
 
-pub write_word-requires : goal.write_word-requires
-write_word-requires c = rw c.deref_mut.ensures.value (reached _ _ _ _ c.args.self.now.ends (rw c.deref.ensures.value at c.in_ok-check.ensures))
+pub write_word-requires-clause-within : goal.write_word-requires-clause-within
+write_word-requires-clause-within c = rw c.deref_mut.ensures.value (reached _ _ _ _ c.args.self.now.ends (rw c.deref.ensures.value at c.in_ok-check.ensures))
 
 pub returns : goal.returns
 returns c =

@@ -1,11 +1,10 @@
 use Rattle.std.proofs.Common.{rules, arith, ◌≡◌, ◌∙◌, ◌<◌, ◌≤◌, ◌*◌, ◌+◌, ◌-◌, ◌/◌, ap, sym, subst, refl, map, ℕ}
-use Rattle.std.specs.Prelude.{All, count_by, nat_lt, if◌then◌else◌}
-use Rattle.std.specs.List.{find}
+use Rattle.std.specs.Prelude.{count_by, nat_lt}
 use Rattle.std.proofs.lemmas.Option.{slice_get_within, get_or_from_slice_get}
 use Rattle.byte_memory.specs.declared.memory.Region.{Region}
 use Rattle.byte_memory.specs.Bits.{is_among, cleared}
 use Rattle.byte_memory.specs.Regions.{shut}
-use Rattle.byte_memory.specs.Pages.{meets, next_start, numbered, released, bits_of, reached_bits}
+use Rattle.byte_memory.specs.Pages.{meets, next_start, bits_of, reached_bits}
 use Rattle.byte_memory.proofs.Reached.{found_starts, sizes_shut, total_of-shut, IsAscending-shut}
 use Rattle.byte_memory.proofs.Reachable.{ends_below_next, next-shut}
 use Rattle.byte_memory.proofs.Closing.{Closing, close-users, close-kept, close-bits, close-unset}

@@ -1,4 +1,4 @@
-use Rattle.std.proofs.Common.{rules, arith, ◌≡◌, ◌∙◌, ◌≤◌, ◌*◌, ◌+◌, ap, sym, None}
+use Rattle.std.proofs.Common.{rules, arith, ◌≡◌, ◌∙◌, ◌*◌, ◌+◌, ap, sym, None}
 use Rattle.byte_memory.specs.Bits.{number_from}
 use Rattle.byte_memory.specs.Regions.{fault_at}
 use Rattle.byte_memory.specs.Store.{byte_span}

@@ -1,13 +1,12 @@
-use Rattle.std.proofs.Common.{rules, arith, ◌≡◌, ◌∙◌, ◌<◌, ◌≤◌, ◌*◌, ◌+◌, ◌-◌, ◌/◌, ◌%◌, ◌++◌, [], ◌∷◌, ap, sym, subst, refl, true, false, ℕ, None}
-use Rattle.std.specs.Prelude.{All, count_by, nat_lt, if◌then◌else◌, vec_len, vec_capacity, is_none, Bool, Option}
-use Rattle.std.specs.List.{find}
+use Rattle.std.proofs.Common.{arith, ◌≡◌, ◌∙◌, ◌<◌, ◌≤◌, ◌*◌, ◌+◌, ◌-◌, ◌/◌, ◌++◌, [], ◌∷◌, ap, sym, subst, refl, true, false, ℕ, None}
+use Rattle.std.specs.Prelude.{All, count_by, nat_lt}
 use Rattle.std.specs.Result.{is_ok, is_err}
 use Rattle.std.proofs.lemmas.Option.{slice_get-get_or}
 use Rattle.std.proofs.lemmas.List.Elements.{All-push}
 use Rattle.std.proofs.lemmas.List.Sums.{sum_by-append}
 use Rattle.byte_memory.specs.declared.memory.Region.{Region}
-use Rattle.byte_memory.specs.Regions.{rounded, total_of, fault_at}
-use Rattle.byte_memory.specs.Pages.{meets, next_start, numbered, bits_of, reached_bits, AreAdded}
+use Rattle.byte_memory.specs.Regions.{rounded}
+use Rattle.byte_memory.specs.Pages.{meets, next_start, bits_of, reached_bits, AreAdded}
 use Rattle.byte_memory.proofs.Ascending.{IsAscendingBy-push}
 use Rattle.byte_memory.proofs.Adding.{added_of, if_ok_of}
 use Rattle.byte_memory.proofs.Reachable.{ends_below_next}

@@ -1,4 +1,4 @@
-use Rattle.std.proofs.Common.{rules, arith, ◌≡◌, ◌∙◌, ◌≤◌, ◌*◌, ◌+◌, ap, sym, None, refl}
+use Rattle.std.proofs.Common.{arith, ◌≡◌, ◌∙◌, ◌*◌, ◌+◌, ap, sym, None, refl}
 use Rattle.byte_memory.specs.Bits.{stored}
 use Rattle.byte_memory.specs.Regions.{fault_at}
 use Rattle.byte_memory.specs.Store.{byte_span}
