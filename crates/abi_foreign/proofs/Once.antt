@@ -21,7 +21,7 @@ use Rattle.abi_foreign.specs.invariants.Pieces.{IsApart}
 use Rattle.abi_foreign.specs.invariants.Said.{AreSmall, sizes_then, after_size, after_align, after_dsize, after_nvsize, primary_line_text, base_tail, bases_text, members_text, declared_text, tail_by, AreSmallNumbers, AreSmallPlaces, said_text, said_in, said_before, sizes_head, IsSaid, AreSaid}
 use Rattle.abi_foreign.proofs.Digits.{number_once}
 use Rattle.abi_foreign.proofs.LineReads.{in_pieces, field_split, tail_apart_by}
-use Rattle.abi_foreign.proofs.PrimaryReads.{word_once, writable_plain, split_line}
+use Rattle.abi_foreign.proofs.PrimaryReads.{word_once, writable_plain, split_line, split_three}
 use Rattle.abi_foreign.proofs.ClassReads.{said_joined}
 use Rattle.abi_foreign.proofs.Positions.{get_below}
 
@@ -69,9 +69,6 @@ primary_once h keeps p q x y wp wq e =
 pushed_same : {X : Type 0} (a b : X) (xs ys : List X) → a ≡ b → xs ≡ ys → a ∷ xs ≡ b ∷ ys
 pushed_same a b xs ys e f = cc
 
-three_split : (a b c d : List ℕ) → (a ++ b ++ c) ++ d ≡ a ++ (b ++ (c ++ d))
-three_split a b c d = simp append_assoc
-
 bases_once : (h : Classes) (list : List Subobject) (p q x y : List ℕ) → length p ≡ length list → length q ≡ length list → AreSmallNumbers p → AreSmallNumbers q → bases_text h list p ++ x ≡ bases_text h list q ++ y → (p ≡ q) × (x ≡ y)
 bases_once h [] [] [] x y some each low small e = (refl, e)
 bases_once h [] [] (n ∷ q) x y some each low small e = absurd (omega arith)
@@ -80,7 +77,7 @@ bases_once h (s ∷ list) [] q x y some each low small e = absurd (omega arith)
 bases_once h (s ∷ list) (m ∷ p) [] x y some each low small e = absurd (omega arith)
 bases_once h (s ∷ list) (m ∷ p) (n ∷ q) x y some each low small e =
     let one = number_once m n (base_tail h s) (bases_text h list p ++ x) (bases_text h list q ++ y) refl low.0 small.0
-    (sym (three_split (decimal m) (base_tail h s) (bases_text h list p) x) ∙ e ∙ three_split (decimal n) (base_tail h s) (bases_text h list q) y) in
+    (sym (split_three (decimal m) (base_tail h s) (bases_text h list p) x) ∙ e ∙ split_three (decimal n) (base_tail h s) (bases_text h list q) y) in
     let more = bases_once h list p q x y (omega arith) (omega arith) low.1 small.1 one.1 in
     (pushed_same m n p q one.0 more.0, more.1)
 

@@ -62,7 +62,7 @@ writable_plain h (Direct b) writable has = writable.1.one_line has
 writable_plain h (Virtual v) writable has =
     ⊎_elim virtual_plain (λ in_name. writable.1 (contains_from_has (name_of h v) 10 in_name)) (has_cases (codes "virtual ") (name_of h v) 10 (has_from_contains (codes "virtual " ++ name_of h v) 10 has))
 
-split_three : (a b e rest : List ℕ) → (a ++ b ++ e) ++ rest ≡ a ++ (b ++ (e ++ rest))
+pub split_three : (a b e rest : List ℕ) → (a ++ b ++ e) ++ rest ≡ a ++ (b ++ (e ++ rest))
 split_three a b e rest = simp append_assoc
 
 pub split_line : (a b rest : List ℕ) → (a ++ b ++ codes "\n") ++ rest ≡ a ++ (b ++ (10 ∷ rest))

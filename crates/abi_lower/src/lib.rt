@@ -6,7 +6,8 @@
 //!
 //! This crate owns the number of each place (`number_of`) and of each function (`code_rows`), in `specs/invariants/Numbers.antt`, and
 //! within which bounds all numbers fit (`IsSmall`, in `specs/Bounds.antt`). The layer above may rely on `lower`: its code and its numbers
-//! are those of the program (`IsLowered` of code_blocks).
+//! are those of the program (`IsLowered` of code_blocks). `hint_of`, the hint that each cast in it carries, is handed on from
+//! code_statements.
 #![tactic(auto)]
 
 pub mod block_sites;

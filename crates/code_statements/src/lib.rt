@@ -6,8 +6,9 @@
 //! at a distance that the layout gives.
 //!
 //! This crate owns the ops of right sides and of statements (`specs/Rights.antt`, `specs/Statements.antt`), `copy_front`, `copy_used` and
-//! `copy_ops`. The layer above may rely on calls that put these ops behind others, `push_copy_front`, `push_copy_used` and `push_copy`
-//! among them, at a cost of the class's subobjects and leaves. What the blocks do is the matter of the crates `agree_..`.
+//! `copy_ops`, and the hint of a `dynamic_cast` (`specs/Hints.antt`; Itanium C++ ABI 2.9.7). The layer above may rely on `hint_of`, and on
+//! calls that put these ops behind others, `push_copy_front`, `push_copy_used` and `push_copy` among them, at a cost of the class's
+//! subobjects and leaves. What the blocks do is the matter of the crates `agree_..`.
 #![tactic(auto)]
 
 pub mod calls;
