@@ -152,7 +152,7 @@ def own_functions(part):
 
 
 def generated(part):
-    """The source that `gen` makes of 1,000 classes (docs/GENERATOR.md): an object of each class, and a call."""
+    """The source that `gen` makes of 1,000 classes (docs/RUNS.md): an object of each class, and a call."""
     count = 1000 // part
     base = lambda n: f"A{n - 1}, " if n % 2 else ""
     classes = "".join(f"struct A{n} : {base(n)}virtual V {{ long x{n}; virtual long f() {{ return {n}; }} }};\n" for n in range(count))

@@ -265,9 +265,26 @@ class Pages(unittest.TestCase):
         for machine in ("run", "paths"):
             self.assertEqual(program.text_of([machine], source), block(text, "dump #1 P 4"))
 
+    def test_the_diamond_step_by_step(self):
+        """Each row of the table of `step` tells what it says: the trace of so many steps has the cells up to there."""
+        text = page("docs", "RUNS.md")
+        source = block(text, "struct V { long v; virtual long f() { return 1; } };")
+        told, count = [], 0
+        for row in text[text.index("| Step | `step` goes by |"):].split("\n\n")[0].splitlines()[2:]:
+            cells = [cell.strip(" `") for cell in row.split("|")]
+            told += [cells[-2]] if cells[-2] else []
+            count = int(cells[1])
+            lines = program.answer(["run", "--trace", "--steps", str(count)], source)[0].splitlines()
+            self.assertEqual([line for line in lines if not line.startswith("out of steps")], told, row)
+        self.assertEqual(count, 20)
+        self.assertEqual(program.answer(["run", "--steps", "19"], source)[1], 4)
+        self.assertEqual(program.answer(["run", "--steps", "20"], source)[1], 0)
+        pure = source.replace("{ return 2; }", "= 0;")
+        self.assertEqual(program.answer(["run"], pure), ("undefined U6 PureCall line 2\n", 3))
+
     def test_the_generated_source(self):
-        text = page("docs", "GENERATOR.md")
-        source = block(text, "struct V { long v;")
+        text = page("docs", "RUNS.md")
+        source = block(text, "struct V { long v; virtual long f() { return 0; } };")
         self.assertEqual(program.text_of(["gen", "2"], ""), block(text, "classes 3"))
         self.assertEqual(program.answer(["run", "--steps", "24"], source), ("0\n1\n", 0))
         self.assertEqual(program.answer(["run", "--steps", "23"], source)[1], 4)
