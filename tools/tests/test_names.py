@@ -67,15 +67,14 @@ class Names(unittest.TestCase):
                         count += 1
         self.assertGreater(count, 50)
 
-    def test_each_crate_of_the_tables_is_there(self):
-        crates = set(os.listdir(CRATES))
-        for page in ("ARCHITECTURE.md", "PROOFS.md"):
-            with open(os.path.join(program.TOP, "docs", page), encoding="utf-8") as file:
-                text = file.read()
-            named = re.findall(r"^\| (\w+) \|", text, re.M)
-            if "| Crate |" in text:
-                self.assertEqual(set(named) - {"Crate", "Promise"}, crates, page)
-                self.assertEqual(len(named), len(set(named)), page)
+    def test_the_table_of_crates(self):
+        """It stands on one page, with each crate once."""
+        tables = []
+        for page in PAGES:
+            with open(page, encoding="utf-8") as file:
+                tables += re.findall(r"^\| Crate \|.*\n\|[-|]+\n((?:\|.*\n)+)", file.read(), re.M)
+        self.assertEqual(len(tables), 1)
+        self.assertEqual(sorted(re.findall(r"^\| (\w+) \|", tables[0], re.M)), sorted(os.listdir(CRATES)))
 
     def test_each_crate_is_drawn(self):
         with open(os.path.join(program.TOP, "docs", "ARCHITECTURE.md"), encoding="utf-8") as file:
