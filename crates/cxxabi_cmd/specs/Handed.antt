@@ -34,7 +34,8 @@ abbrev pub seen_of : {M : Type 0} {memory : Ghosts M} → Machine M memory → S
 seen_of machine = record { code = code_of machine; image = image_of machine; state = state_of machine }
 
 -- the machine of the run of a program: its code, with these numbers of functions, is that of the program, and its image has the tables of
--- the classes; turns over them lead from an empty memory to its state, told the text of the run, and ended as the run did
+-- the classes; turns over them lead from an empty memory to its state, told the text of the run, and ended as the run did, unless the text
+-- passed its limit
 pub record IsMachineOf (h : Classes) (rows : List ClassLayout) (program : TypedProgram) (trace : Bool) (steps : ℕ) (machine : Seen) : Type 0 where
   pub numbers : List CodeRow
   pub end_is : End

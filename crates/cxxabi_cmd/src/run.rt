@@ -143,7 +143,7 @@ fn deliver<K: Sink>(sink: &mut K, text: &[u8], status: Status) -> Status
 
 /// Does all that the program does: reads the source where the words are a command that reads it, and writes the answer.
 ///
-/// `last` is set in every call: to the byte machine of what `run` or `gen` ran, or to None where there was no such run.
+/// `last` is set in every call: to the byte machine of what `run`, `gen` or `foreign` ran, or to None where there was no such run.
 pub fn run_cxxabi<S: Source, K: Sink>(
     alloc: Global,
     words: &[String],
