@@ -6,11 +6,16 @@
     tagymelur.tables(text)["D"].groups        virtual tables, VTT and type information
     tagymelur.run(text).lines                 what main prints; `trace=True` gives the events too
     tagymelur.paths(text).lines               the same by the machine of paths
+    tagymelur.array(text, "D", 3).elements    what new D[3] makes
+    tagymelur.memptr(text, "D::f").calls      the pointer &D::f; `memptr(text, "V::f", "D")` is that for objects of D
+    tagymelur.inspect(text, dump).fields      what the text of a dump says of each field
+    tagymelur.foreign(text, listing).lines    what main prints over a listing of layouts
     for one in tagymelur.many(texts, tagymelur.layout):
         one.value or one.error
 
 A source that is not taken raises `Refused`, a run that ends otherwise than by its end `Undefined`, `OutOfSteps` or `Limit`. Each has `rule`,
-`line`, `sentence` and, where there are such, `at`, `column`, `section` and the `lines` that were printed before. `Unavailable` is raised where the
+`line`, `sentence` and, where there are such, `at`, `column`, `section` and the `lines` that were printed before; the line of a rule F or I is
+one of the listing or the dump. `Unavailable` is raised where the
 program cannot be run. The program is the one that the variable TAGYMELUR names, else the one of the repository or of the package.
 """
 import os
@@ -24,13 +29,15 @@ for _folder in (os.path.join(_HERE, "..", "..", "tools"), os.path.join(_HERE, ".
         __path__.append(_folder)
         break
 
-from .lib import answers as _answers, class_tables as _class_tables, layout_text as _layout_text  # noqa: E402
+from .lib import answers as _answers, class_tables as _class_tables, layout_text as _layout_text, small_texts as _small_texts  # noqa: E402
 from .lib.answers import End, Event, Run  # noqa: E402
 from .lib.class_tables import ClassTables  # noqa: E402
 from .lib.layout_text import Layout  # noqa: E402
 from .lib.problem import Problem as _Problem  # noqa: E402
+from .lib.small_texts import Array, Dump, MemberPointer  # noqa: E402
 
-__all__ = ["Answer", "ClassTables", "End", "Error", "Event", "Layout", "Limit", "OutOfSteps", "Refused", "Run", "Unavailable", "Undefined", "check", "layout", "many", "paths", "run", "tables"]
+__all__ = ["Answer", "Array", "ClassTables", "Dump", "End", "Error", "Event", "Layout", "Limit", "MemberPointer", "OutOfSteps", "Refused", "Run", "Unavailable", "Undefined",
+           "array", "check", "foreign", "inspect", "layout", "many", "memptr", "paths", "run", "tables"]
 
 
 class Error(Exception):
@@ -49,7 +56,7 @@ class Error(Exception):
 
 
 class Refused(Error):
-    """The source is not taken."""
+    """The source is not taken, or the listing or the dump before it, or there is no such array or member pointer."""
 
 
 class Undefined(Error):
@@ -93,21 +100,30 @@ def _text(words, source):
     return text
 
 
+def _one(found, name):
+    if name not in found:
+        raise Unavailable(f"the program's answer does not have {name}")
+    return found[name]
+
+
 def check(source):
     """How many classes the source has."""
-    return int(_text(["check"], source).split()[0])
+    text = _text(["check"], source)
+    if not text.endswith(" classes\n"):
+        raise Unavailable(f"the program's answer has a text that is not known here: {text!r}")
+    return int(text.split()[0])
 
 
 def layout(source, name=None):
     """The layouts of all classes by name, or that of one class."""
-    found = _layout_text.read(_text(["layout"] + ([] if name is None else [name]), source))
-    return found if name is None else found[name]
+    found = _asked(_layout_text.read, _text(["layout"] + ([] if name is None else [name]), source))
+    return found if name is None else _one(found, name)
 
 
 def tables(source, name=None):
     """The tables of all classes by name, or those of one class."""
-    found = _class_tables.read(_text(["tables"] + ([] if name is None else [name]), source))
-    return found if name is None else found[name]
+    found = _asked(_class_tables.read, _text(["tables"] + ([] if name is None else [name]), source))
+    return found if name is None else _one(found, name)
 
 
 def run(source, steps=None, trace=False):
@@ -120,6 +136,28 @@ def run(source, steps=None, trace=False):
 def paths(source, steps=None):
     """What `main` prints on the machine of paths."""
     found = _asked(_answers.run, source, "paths", steps)
+    _checked(found.end, found.lines)
+    return found
+
+
+def array(source, name, count):
+    """What `new name[count]` makes."""
+    return _asked(_small_texts.array, _text(["array", f"{name}@{count}"], source))
+
+
+def memptr(source, member, of=None):
+    """The pointer to a member, named as `C::m`; for objects of the class `of`, else of C."""
+    return _asked(_small_texts.member_pointer, _text(["memptr", member if of is None else f"{member}@{of}"], source))
+
+
+def inspect(source, dump):
+    """What the text of one dump says of each field."""
+    return _asked(_small_texts.dump, _text(["inspect"], _answers.joined(dump, source)))
+
+
+def foreign(source, listing, steps=None):
+    """What `main` prints on the byte machine over the layouts of a listing."""
+    found = _asked(_answers.run, _answers.joined(listing, source), "foreign", steps)
     _checked(found.end, found.lines)
     return found
 

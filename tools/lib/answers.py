@@ -9,7 +9,10 @@ KINDS = {0: "done", 1: "refused", 2: "usage", 3: "undefined", 4: "out of steps",
 
 @dataclass
 class End:
-    """How the program ended. `at` is a byte from 0; line and column count from 1; None where an end has no such thing."""
+    """How the program ended. `at` is a byte from 0; line and column count from 1; None where an end has no such thing.
+
+    Bytes and lines are those of the source; the line of a rule of listings and dumps (F, I) is one of the text before it.
+    """
 
     kind: str
     status: int
@@ -49,25 +52,38 @@ def place_of(source, at):
     return front.count("\n") + 1, at - front.rfind("\n")
 
 
-def ask(words, source):
-    """The text without the line that tells the end, and the end."""
-    text, status = program.answer(words, source)
-    lines = text.splitlines()
+def ask(words, text):
+    """What the program says to words and its input, without the line that tells the end, and the end."""
+    answer, status = program.answer(words, text)
+    lines = answer.splitlines()
     if status == 0:
-        return text, End("done", 0)
+        return answer, End("done", 0)
     last = lines[-1] if lines and status in KINDS else ""
-    end = end_of(last, status, source)
+    end = end_of(last, status, source_of(words, text))
     return "".join(f"{line}\n" for line in (lines[:-1] if last else lines)), end
+
+
+def joined(before, source):
+    """The input of `foreign` and `inspect`: a listing or a dump, a line `program`, and the source."""
+    return before + ("" if before.endswith("\n") or not before else "\n") + "program\n" + source
+
+
+def source_of(words, text):
+    """The part of an input that is the source, in which places count."""
+    found = re.search(r"^program(?:\n|\Z)", text, re.M) if words[:1] in (["foreign"], ["inspect"]) else None
+    return text[found.end():] if found else text
 
 
 def end_of(last, status, source):
     """The end that a last line tells, with the sentence of docs/ERRORS.md."""
     end = End(KINDS.get(status, "failed"), status, sentence=program.STATUSES.get(status))
-    refused, undefined = re.match(r"refused (E\d+) (\w+) at (\d+)$", last), re.match(r"undefined (U\d+) (\w+) line (\d+)$", last)
-    limit = re.match(r"limit (L\d+)$", last)
+    refused = re.match(r"refused ([EMAFI]\d+) (\w+)(?: at (\d+)| line (\d+))?$", last)
+    undefined, limit = re.match(r"undefined (U\d+) (\w+) line (\d+)$", last), re.match(r"limit (L\d+)$", last)
     if refused:
-        end.rule, end.name, end.at = refused[1], refused[2], int(refused[3])
-        end.line, end.column = place_of(source, end.at)
+        end.rule, end.name, end.line = refused[1], refused[2], _number(refused[4])
+        if refused[3]:
+            end.at = int(refused[3])
+            end.line, end.column = place_of(source, end.at)
     elif undefined:
         end.rule, end.name, end.line = undefined[1], undefined[2], int(undefined[3])
     elif limit:
@@ -82,6 +98,10 @@ def end_of(last, status, source):
     return end
 
 
+def _number(text):
+    return None if text is None else int(text)
+
+
 def event_of(text):
     """A line of a trace."""
     found = re.match(r"(call|built|ending) (\S+) #(\d+)\+(\d+)$", text)
@@ -90,10 +110,10 @@ def event_of(text):
     return Event("printed", text)
 
 
-def run(source, machine="run", steps=None, trace=False):
-    """A run on one of the machines, `run` or `paths`; however it ended."""
+def run(text, machine="run", steps=None, trace=False):
+    """A run on one of the machines, `run` or `paths`, or on `foreign` over a listing before the source; however it ended."""
     words = [machine] + ([] if steps is None else ["--steps", str(steps)]) + (["--trace"] if trace else [])
-    text, end = ask(words, source)
-    events = [event_of(line) for line in text.splitlines()]
-    lines = [event.text for event in events if event.kind == "printed"] if trace else text.splitlines()
+    answer, end = ask(words, text)
+    events = [event_of(line) for line in answer.splitlines()]
+    lines = [event.text for event in events if event.kind == "printed"] if trace else answer.splitlines()
     return Run(lines, end, events if trace else [])
