@@ -53,14 +53,14 @@ class Links:
         """The text of a table's word, with a link from what it names."""
         if not word.names:
             return escape(word.text)
-        front, _, behind = word.text.partition(word.names)
+        front, _, behind = word.text.partition(" " + word.names)  # a class may be called `a`, as a part of `vbase`
         if word.sort == "typeinfo":
             link = f'<a href="#{self.info_id(word.names)}">{escape(word.names)}</a>'
         elif word.sort == "vbase":
             link = self.to_class(word.names)
         else:
             link = self.to_function(word.names)
-        return escape(front) + link + escape(behind)
+        return escape(front) + " " + link + escape(behind)
 
 
 def index(chapter):

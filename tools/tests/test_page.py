@@ -81,6 +81,12 @@ class Text(unittest.TestCase):
         self.assertIn("// &lt;/script&gt;&lt;b&gt;&amp; ü", page)
         self.assertEqual(page.count("</script>"), 2)
 
+    def test_names_that_are_parts_of_words(self):
+        """A class may be called as a part of `vbase` or `typeinfo`: the link is on its name."""
+        found = re.findall(r"<td>((?:vbase|typeinfo|func) .*?)</td>", made(text="struct a { virtual void f() {} }; struct t : virtual a { virtual void v() {} };"))
+        plain = {re.sub(r"<a href=\"#s1-([^\"]*)\">([^<]*)</a>", r"[\1 \2]", one) for one in found}
+        self.assertEqual(plain, {"vbase 0 [class-a a]", "typeinfo [typeinfo-a a]", "typeinfo [typeinfo-t t]", "func [function-a-f a::f]", "func [function-t-v t::v]"})
+
     def test_padding_beside_bit_fields_is_counted_in_bits(self):
         page = made(text="struct S { S() {} int x : 25; }; struct R : S { int z : 2; bool y : 1; char c; };\nint main() { R* r = new R; r->z = 3; int z = r->z; print(z); }\n")
         self.assertIn("<h4>Padding: 3 bytes and 4 bits of 8 bytes</h4>", page)
