@@ -91,6 +91,44 @@ class Build(unittest.TestCase):
             self.assertIn("proving and building", self.run_script("check", top=other).stderr)
             self.assertEqual(len(self.builds()), 2)
 
+    def copied(self, room):
+        """Another checkout of the same sources."""
+        other = os.path.join(room, "other")
+        shutil.copytree(self.top, other, ignore=shutil.ignore_patterns("out", "cache", "bin", "calls"))
+        return other
+
+    def test_what_rt_built_serves_other_checkouts_too(self):
+        """The program came by a build of `rt ci` alone: the first call keeps it."""
+        built = os.path.join(self.top, "crates/tagymelur/out/tagymelur")
+        os.makedirs(os.path.dirname(built))
+        self.write("crates/tagymelur/out/tagymelur", '#!/bin/sh\necho ran "$@"\ncat\n')
+        os.chmod(built, stat.S_IRWXU)
+        self.assertEqual((self.run_script("check").stderr, self.run_script("check").stderr), ("", ""))
+        with tempfile.TemporaryDirectory() as room:
+            done = self.run_script("check", top=self.copied(room))
+            self.assertEqual((done.returncode, done.stdout, done.stderr), (0, "ran check\ntext\n", ""))
+        self.assertFalse(os.path.exists(self.calls))
+
+    def test_what_the_program_is_made_of_and_the_log_count(self):
+        self.run_script("check")
+        with tempfile.TemporaryDirectory() as room:
+            other = self.copied(room)
+            self.run_script("check", top=other)
+            with open(os.path.join(self.top, "crates/tagymelur/out/build.log"), encoding="utf-8") as log, open(os.path.join(other, "crates/tagymelur/out/build.log"), encoding="utf-8") as copied:
+                self.assertEqual(log.read(), copied.read())
+        with tempfile.TemporaryDirectory() as room:
+            other = self.copied(room)
+            with open(os.path.join(other, "HANDLES"), "w", encoding="utf-8") as file:
+                file.write("Handles allowed: another.\n")
+            self.assertIn("proving and building", self.run_script("check", top=other).stderr)
+
+    def test_a_cache_that_cannot_be_written(self):
+        self.write("cache", "no folder")
+        done = self.run_script("check")
+        self.assertEqual((done.returncode, done.stdout), (0, "ran check\ntext\n"))
+        self.assertEqual(done.stderr.count("could not be kept"), 1)
+        self.assertEqual(self.run_script("check").stderr, "")
+
     def test_a_build_that_is_stopped_ends_what_it_started(self):
         for number in (signal.SIGTERM, signal.SIGINT, signal.SIGHUP):
             sleeper = os.path.join(self.top, f"sleeper{number}")
