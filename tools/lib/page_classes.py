@@ -74,13 +74,13 @@ def index(chapter):
         saved = layout.size - chapter.orders[name].size
         rows.append(f'<tr data-words="{escape(words.lower())}"><th scope="row">{chapter.links.to_class(name)}</th><td class="number">{layout.size}</td>'
                     f'<td class="number">{layout.align}</td><td class="number">{amounts.plain(lost)}</td><td class="number">{saved or ""}</td><td>{bases}</td></tr>')
-    return ('<table class="index"><thead><tr><th scope="col">Class</th><th scope="col">Size</th><th scope="col">Alignment</th><th scope="col">Padding</th>'
+    return (f'<table class="index" aria-label="Classes of {escape(chapter.name)}"><thead><tr><th scope="col">Class</th><th scope="col">Size</th><th scope="col">Alignment</th><th scope="col">Padding</th>'
             '<th scope="col">Another order saves</th><th scope="col">Bases</th></tr></thead><tbody>\n' + "\n".join(rows) + "\n</tbody></table>")
 
 
 def section(chapter, name):
     layout, links = chapter.layouts[name], chapter.links
-    parts = [f'<section class="class" id="{links.class_id(name)}"><h3>{chapter.classes[name].tag} {escape(name)}</h3>', facts(chapter, layout), drawing(chapter, name),
+    parts = [f'<section class="class" id="{links.class_id(name)}"><h3>{chapter.classes[name].tag} {escape(name)}</h3><div class="body">', facts(chapter, layout), drawing(chapter, name),
              padding(chapter, layout), functions(chapter, name)]
     tables = chapter.tables[name]
     if tables.groups:
@@ -89,7 +89,7 @@ def section(chapter, name):
     if tables.vtt:
         parts.append(vtt(links, tables))
         parts += [group_html(links, group) for group in tables.groups[1:]]
-    return "\n".join([*parts, info(links, tables.info), "</section>"])
+    return "\n".join([*parts, info(links, tables.info), "</div></section>"])
 
 
 def facts(chapter, layout):

@@ -5,6 +5,7 @@ from html import escape
 from . import class_tables, holes, marked_run, orders, page_classes, page_run, parts, picture, pointers, program, time_line
 
 HERE = os.path.dirname(os.path.abspath(__file__))
+MANY = 100  # classes, from which on the browser draws each when it comes into sight; before that it is not known to a screen reader
 
 
 class Chapter:
@@ -59,7 +60,7 @@ def page(chapters):
 <svg width="0" height="0" style="position:absolute" aria-hidden="true" focusable="false">{patterns}</svg>
 <header><h1>{escape(names)}</h1><p>{count} classes: how each is laid out, its virtual tables, and what its objects go through. All numbers are bytes.</p>
 <div class="search"><label for="search">Search classes, bases, members and functions</label><input type="search" id="search" autocomplete="off"><span id="found" aria-live="polite"></span></div></header>
-<main id="main">{"".join(chapter.html() for chapter in chapters)}</main>
+<main id="main"{' class="many"' if count > MANY else ""}>{"".join(chapter.html() for chapter in chapters)}</main>
 <footer><p>Made by <code>tools/page</code> of Tagymelur. docs/PAGE.md says how the pictures and the time line are made.</p></footer>
 <script>{_file("page.js")}</script></body></html>
 """

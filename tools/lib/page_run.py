@@ -128,8 +128,8 @@ def section(chapter, line):
 <label>Moment <input type="range" min="1" max="{max(1, last)}" value="1"></label> <span class="count">1 of {last}</span></div>
 <p class="now" aria-live="polite"></p>
 <ul class="phases" aria-label="Colours of the phases">{"".join(f'<li class="{phase}">{name}</li>' for phase, name in PHASES.items())}</ul>
-<div class="both"><div class="stages">{stages(chapter, line)}</div><ol class="source" aria-label="The source">{lines}</ol></div>
-<h3>All moments</h3><div class="wide"><table class="moments"><thead><tr><th scope="col">Moment</th><th scope="col">Line</th><th scope="col">What happens</th><th scope="col">What is read and set</th></tr></thead><tbody>
+<div class="both"><div class="stages">{stages(chapter, line)}</div><ol class="source" tabindex="0" aria-label="The source">{lines}</ol></div>
+<h3>All moments</h3><div class="wide"><table class="moments" aria-label="All moments"><thead><tr><th scope="col">Moment</th><th scope="col">Line</th><th scope="col">What happens</th><th scope="col">What is read and set</th></tr></thead><tbody>
 {rows}
 </tbody></table></div>
 <script type="application/json" class="data">{data}</script></section>"""

@@ -7,28 +7,16 @@ import sys
 import tempfile
 import unittest
 
+import browser
 import support
 from lib import class_tables, layout_text, marked_run, program, source, statements, time_line
 
 EXAMPLES = os.path.join(program.TOP, "examples")
-CHROMIUM = ["chromium", "--headless", "--no-sandbox", "--disable-gpu", "--enable-logging=stderr", "--virtual-time-budget=4000", "--window-size=1200,900"]
-# Runs in the page: searches, steps by button and key, and writes what it sees.
-SCRIPT = """<script>window.addEventListener("load", () => {
-  const box = document.getElementById("search"), told = [];
-  const shown = () => Array.from(document.querySelectorAll(".index tbody tr")).filter((row) => !row.hidden).map((row) => row.querySelector("a").textContent).join(" ");
-  const now = () => document.querySelector(".now").textContent + " / " + document.querySelector(".count").textContent;
-  box.value = "b1"; box.dispatchEvent(new Event("input")); told.push(shown());
-  box.value = "nothing such"; box.dispatchEvent(new Event("input")); told.push(shown());
-  document.querySelector("[data-go=forward]").click(); told.push(now());
-  document.querySelector(".run").scrollIntoView();
-  for (let n = 0; n < 7; n++) { document.dispatchEvent(new KeyboardEvent("keydown", { key: "ArrowRight", bubbles: true })); }
-  document.body.dispatchEvent(new KeyboardEvent("keydown", { key: "ArrowLeft", bubbles: true })); document.body.dispatchEvent(new KeyboardEvent("keydown", { key: "ArrowRight", bubbles: true })); told.push(now());
-  told.push(Array.from(document.querySelectorAll(".stage:not([hidden]) tr[data-place]")).map((row) => row.textContent).join("; "));
-  told.push(Array.from(document.querySelectorAll(".stage:not([hidden]) tr[data-part]")).map((row) => row.textContent).join("; "));
-  told.push(String(document.documentElement.scrollWidth <= innerWidth));
-  told.push(String(Math.round(performance.now())));
-  document.title = told.join("\\n");
-});</script>"""
+HERE = os.path.dirname(os.path.abspath(__file__))
+SHOWN = "Array.from(document.querySelectorAll('.index tbody tr')).filter((row) => !row.hidden).map((row) => row.querySelector('a').textContent).join(' ')"
+NOW = "document.querySelector('.now').textContent + ' / ' + document.querySelector('.count').textContent"
+ROWS = "Array.from(document.querySelectorAll('.stage:not([hidden]) tr[data-%s]')).map((row) => row.textContent).join('; ')"
+NAMELESS = ("button", "link", "slider", "searchbox", "image", "region")
 
 
 def example(name):
@@ -177,34 +165,136 @@ class Padding(unittest.TestCase):
         self.assertEqual(saved, {"A": "8", "B": "", "P": "2", "Q": ""})
 
 
-def seen(text, *words):
-    """The title that a page has after its script, and what the console told; the page is a file in a folder of its own."""
-    with tempfile.TemporaryDirectory() as folder:
-        path = os.path.join(folder, "page.html")
-        with open(path, "w", encoding="utf-8") as file:
-            file.write(text.replace("</body>", SCRIPT + "</body>"))
-        done = subprocess.run([*CHROMIUM, f"--user-data-dir={folder}/profile", *words, "--dump-dom", f"file://{path}"], stdout=subprocess.PIPE, stderr=subprocess.PIPE, encoding="utf-8", timeout=90)
-        title = re.search(r"<title>(.*?)</title>", done.stdout, re.S)
-        return title[1].split("\n") if title else [], [line for line in done.stderr.splitlines() if "CONSOLE" in line]
-
-
 @support.needs_program
 @support.needs("chromium")
 class Browser(unittest.TestCase):
-    def test_search_and_steps(self):
-        for width in ("1200,900", "390,800"):
-            title, console = seen(made(os.path.join(EXAMPLES, "construction.cpp")), f"--window-size={width}")
-            self.assertEqual(console, [])
-            self.assertEqual(title[:-1], ["B1 D", "", "Line 20: the bases of D come first. / 2 of 44",
-                                     "Line 9: B1 is ready. The pointer at 0 leads to B1@0 of B1@0 in D; the pointer at 40 leads to V@40 of B1@0 in D. / 9 of 44",
-                                     "0B1@0 of B1@0 in D; 16not set; 40V@40 of B1@0 in D", "D0bases; B10ready, building; *V40complete; B216raw", "true"])
+    """The page as a user has it: real keys and clicks, in a window and on a telephone, on a light, a dark and a printed ground."""
+
+    @classmethod
+    def setUpClass(cls):
+        cls.room = tempfile.TemporaryDirectory()
+        cls.addClassCleanup(cls.room.cleanup)
+        cls.path = cls.written("construction.html", made(os.path.join(EXAMPLES, "construction.cpp")))
+
+    @classmethod
+    def written(cls, name, text):
+        path = os.path.join(cls.room.name, name)
+        with open(path, "w", encoding="utf-8") as file:
+            file.write(text)
+        return path
+
+    def test_the_search(self):
+        with browser.Page(self.path) as page:
+            page.click("#search")
+            page.type("b1")
+            self.assertEqual((page.value(SHOWN), page.value("document.getElementById('found').textContent")), ("B1 D", "2 of 4 classes"))
+            page.key("Enter")
+            self.assertEqual(page.value("location.hash"), "#s1-class-B1")
+            self.assertTrue(page.value("(() => { const box = document.getElementById('s1-class-B1').getBoundingClientRect(); return box.top > -1 && box.top < innerHeight; })()"))
+            page.type(" nothing such")
+            self.assertEqual(page.value(SHOWN), "")
+            self.assertEqual(page.told, [])
+
+    def test_steps_by_buttons_and_keys(self):
+        for width in (1200, 390):
+            with browser.Page(self.path, width) as page:
+                page.click("[data-go=forward]")
+                self.assertEqual(page.value(NOW), "Line 20: the bases of D come first. / 2 of 44")
+                for name in ["ArrowRight"] * 8 + ["ArrowLeft"]:
+                    page.key(name)
+                self.assertEqual(page.value(NOW), "Line 9: B1 is ready. The pointer at 0 leads to B1@0 of B1@0 in D; the pointer at 40 leads to V@40 of B1@0 in D. / 9 of 44")
+                self.assertEqual(page.value(ROWS % "place"), "0B1@0 of B1@0 in D; 16not set; 40V@40 of B1@0 in D")
+                self.assertEqual(page.value(ROWS % "part"), "D0bases; B10ready, building; *V40complete; B216raw")
+                for go, key, at in (("last", "End", 44), ("back", "ArrowLeft", 43), ("first", "Home", 1)):
+                    page.click(f"[data-go={go}]")
+                    self.assertTrue(page.value(NOW).endswith(f"/ {at} of 44"))
+                    page.key("ArrowRight")
+                    page.key(key)
+                    self.assertTrue(page.value(NOW).endswith(f"/ {at} of 44"), (go, key))
+                self.assertTrue(page.value("document.documentElement.scrollWidth <= innerWidth"))
+                self.assertEqual(page.told, [])
+
+    def test_the_phases_have_the_colours_of_their_key(self):
+        """At each moment each bar has the colour that the list of phases gives to the phase in its row."""
+        script = """(() => { const key = {}, wrong = [], seen = new Set();
+          for (const one of document.querySelectorAll(".phases li")) { key[one.textContent] = getComputedStyle(one).backgroundColor; }
+          for (const button of document.querySelectorAll("[data-moment]")) { button.click();
+            for (const row of document.querySelectorAll(".stage:not([hidden]) tr[data-part]")) {
+              const name = row.querySelector(".phase").textContent, bar = document.querySelector(`.stage:not([hidden]) g[data-part="${row.dataset.part}"] rect`);
+              seen.add(name); if (getComputedStyle(bar).fill !== key[name]) { wrong.push(name); } } }
+          return [Object.values(key).length, new Set(Object.values(key)).size, Array.from(seen).sort().join(), wrong.join()]; })()"""
+        with browser.Page(self.path) as page:
+            self.assertEqual(page.value(script), [7, 7, "bases,complete,ended,ending bases,raw,ready, building,ready, ending", ""])
+
+    def test_it_opens_at_a_moment_and_asks_for_no_other_file(self):
+        with browser.Page(self.path + "#s1-run-9") as page:
+            self.assertIn(" / 9 of 44", page.value(NOW))
+            self.assertEqual([one["params"]["url"].partition("#")[0] for one in page.events if one["method"] == "asked"], ["file://" + self.path])
+
+    def test_contrast(self):
+        """On each ground each text is told from what lies behind it; one that is too faint is seen."""
+        with open(os.path.join(HERE, "contrast.js"), encoding="utf-8") as file:
+            script = file.read()
+        several = self.written("several.html", made(*(os.path.join(EXAMPLES, name) for name in ("construction.cpp", "covariant.cpp", "padding.cpp", "delete.cpp"))))
+        with browser.Page(several) as page:
+            for dark, kind in ((False, "screen"), (True, "screen"), (True, "print")):
+                page.media(dark, kind)
+                for place in ("", "#s1-class-D", "#s1-function-V-f", "#s1-run-24"):
+                    page.open(several + place)
+                    page.value("document.querySelector('[data-moment=\"24\"]').click()")
+                    found = page.value(script)
+                    self.assertGreater(found["count"], 400)
+                    self.assertEqual(found["low"], [], (dark, kind, place))
+            page.value("document.querySelector('.now').style.color = '#777777'")
+            page.media(False)
+            self.assertEqual(len(page.value(script)["low"]), 1)
+
+    def test_what_a_screen_reader_is_given(self):
+        with browser.Page(self.path) as page:
+            found = self.read_aloud(page)
+        self.assertEqual([one for one in found if one[0] in NAMELESS and not one[1]], [])
+        roles = [role for role, _ in found]
+        self.assertTrue({"banner", "main", "contentinfo", "searchbox", "slider", "table", "image"} <= set(roles))
+        self.assertIn(("table", "All moments"), found)
+        self.assertTrue(any(role == "image" and name.startswith("D: size 56") and "Members: long d at 32" in name for role, name in found))
+
+    @staticmethod
+    def read_aloud(page):
+        """The roles and names that a screen reader is given."""
+        nodes = [one for one in page.call("Accessibility.getFullAXTree")["nodes"] if not one.get("ignored")]
+        return [(one["role"]["value"], one.get("name", {}).get("value", "")) for one in nodes]
+
+    def test_the_headings_of_many_classes(self):
+        """They are there before their classes come into sight."""
+        path = self.written("many.html", made(text="".join(f"struct C{n} {{ int x; }};\n" for n in range(101))))
+        with browser.Page(path) as page:
+            self.assertEqual(sum(role == "heading" and name.startswith("struct C") for role, name in self.read_aloud(page)), 101)
+
+    def test_the_printed_page_has_all_classes_and_moments(self):
+        with browser.Page(self.path) as page:
+            page.click("#search")
+            page.type("b1")
+            page.media(kind="print")
+            self.assertEqual(page.value("Array.from(document.querySelectorAll('.index tbody tr')).filter((row) => row.getClientRects().length).length"), 4)
+            self.assertEqual(page.value("Array.from(document.querySelectorAll('.moments tbody tr')).filter((row) => row.getClientRects().length).length"), 44)
+            self.assertEqual(page.value("Array.from(document.querySelectorAll('.controls, .search')).filter((one) => one.getClientRects().length).length"), 0)
+            path = os.path.join(self.room.name, "page.pdf")
+            page.printed(path)
+            with open(path, "rb") as file:
+                self.assertEqual(file.read(5), b"%PDF-")
 
     def test_a_thousand_classes_open(self):
         """Two seconds on a quiet machine; a busy one has five times as long here."""
         text = "".join(f"struct C{n}{f' : C{n - 1}' if n % 10 else ''} {{ char a; long b; {'virtual ' if n % 3 else ''}void f() {{}} }};\n" for n in range(1000)) + "int main() { C9* p = new C9; }"
-        title, console = seen(made(text=text))
-        self.assertEqual((console, title[0]), ([], ""))
-        self.assertLess(int(title[-1]), 10_000)
+        path = self.written("thousand.html", made(text=text))
+        with browser.Page(path) as page:
+            page.value("new Promise((done) => requestAnimationFrame(() => requestAnimationFrame(done)))")
+            took = page.value("performance.now()")
+            page.click("#search")
+            page.type("c77")
+            self.assertEqual(page.value(SHOWN), "C77 C78 " + " ".join(f"C{n}" for n in range(770, 780)))
+            self.assertEqual(page.told, [])
+        self.assertLess(took, 10_000)
 
 
 if __name__ == "__main__":
