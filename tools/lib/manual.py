@@ -35,15 +35,20 @@ def _head(name, version, sentence):
     return f'.TH {name.upper()} 1 "" "Tagymelur {version}"\n.SH NAME\n{quoted(name)} \\- {quoted(sentence)}\n'
 
 
+def plain(text):
+    """A text of Markdown without its links and emphasis."""
+    return re.sub(r"\*([^*]+)\*", r"\1", re.sub(r"\[([^]]+)\]\([^)]*\)", r"\1", text))
+
+
 def of_program(version):
     """The page of the program, from the tables of README.md."""
     text = page_text("README.md")
-    words = "\n".join(f".TP\n.B {quoted(cells[0])}\n{quoted(re.sub(r'[][()]', '', cells[1]))}" for cells in table(text, "| Command | What it answers |"))
-    ends = "\n".join(f".TP\n.B {cells[0]}\n{quoted(cells[1])}: {quoted(cells[2])}" for cells in table(text, "| Exit status |"))
+    words = "\n".join(f".TP\n.B {quoted(cells[0])}\n{quoted(plain(cells[1]))}" for cells in table(text, "| Command | What it answers |"))
+    ends = "\n".join(f".TP\n.B {cells[0]}\n{quoted(plain(cells[1]))}: {quoted(plain(cells[2]))}" for cells in table(text, "| Exit status |"))
     return (_head("tagymelur", version, "a proved workbench for the C++ object model")
             + ".SH SYNOPSIS\n.B tagymelur\n.I COMMAND\n.RI [ CLASS ]\n.RB [ \\-\\-steps\n.IR N ]\n.RB [ \\-\\-trace ]\n.RI \"< \" SOURCE\n"
             + ".SH DESCRIPTION\nIt reads classes of C++ from standard input, and writes how the Itanium C++ ABI lays them out, their virtual tables, or what main prints.\n"
-            + f".SH COMMANDS\n{words}\n.SH \"EXIT STATUS\"\n{ends}\n.SH \"SEE ALSO\"\n/usr/share/tagymelur/docs/LANGUAGE.md, /usr/share/tagymelur/docs/ERRORS.md\n")
+            + f".SH COMMANDS\n{words}\n.SH \"EXIT STATUS\"\n{ends}\n.SH \"SEE ALSO\"\nThe pages are in /usr/share/tagymelur/docs, as LANGUAGE.md and ERRORS.md.\n")
 
 
 def help_of(tool):
@@ -62,7 +67,9 @@ def of_tool(tool, version, said):
 
 
 def options(said):
-    return sorted(set(re.findall(r"(?<![\w-])--[a-z][a-z-]*", said)))
+    """The options of a tool, and the words of which it takes one, as its `--help` lists them."""
+    listed = [word for words in re.findall(r"\{([a-z,-]+)\}", said.partition("\n\n")[0]) for word in words.split(",")]
+    return sorted(set(re.findall(r"(?<![\w-])--[a-z][a-z-]*", said))) + list(dict.fromkeys(listed))
 
 
 def for_bash(helps):

@@ -50,20 +50,20 @@ def kit():
     return subprocess.run(["rt", "version"], stdout=subprocess.PIPE, stderr=subprocess.DEVNULL, encoding="utf-8").stdout.strip() or "not known"
 
 
-def said(program):
+def said(program, log=LOG):
     """What the log of the build says of each crate; nothing where the program is not the one of that build, or older than a file of a crate."""
     built = os.path.join(TOP, "crates", "tagymelur", "out", "tagymelur")
-    if not os.path.exists(LOG) or os.path.realpath(program) != os.path.realpath(built):
+    if not os.path.exists(log) or os.path.realpath(program) != os.path.realpath(built):
         return {}
     if any(os.path.getmtime(path) > os.path.getmtime(built) for name in needed() for path in files_of(name)):
         return {}
-    with open(LOG, encoding="utf-8", errors="replace") as file:
+    with open(log, encoding="utf-8", errors="replace") as file:
         return {line[1]: line[2] for line in re.finditer(r"^rt: ([a-z0-9_]+) (proved|is kept)", file.read(), re.M)}
 
 
-def report(program):
+def report(program, log=LOG):
     """The text of the file PROVED."""
-    told, names = said(program), needed()
+    told, names = said(program, log), needed()
     missing = [name for name in names if name not in told]
     lines = [f"kit: {kit()}", f"program: SHA-256 {_file_sum(program)} before it was stripped"]
     if missing:

@@ -57,8 +57,12 @@ class Build(unittest.TestCase):
         with open(os.path.join(self.top, name), "w", encoding="utf-8") as file:
             file.write(text)
 
+    def environment(self, **more):
+        """With the stand-in on the path, and a cache of its own."""
+        return {**os.environ, "PATH": os.path.join(self.top, "bin") + os.pathsep + os.environ["PATH"], "RT_CALLS": self.calls, "XDG_CACHE_HOME": os.path.join(self.top, "cache"), **more}
+
     def run_script(self, *words, status="0", top=None):
-        environment = dict(os.environ, PATH=os.path.join(self.top, "bin") + os.pathsep + os.environ["PATH"], RT_STATUS=status, RT_CALLS=self.calls, XDG_CACHE_HOME=os.path.join(self.top, "cache"))
+        environment = self.environment(RT_STATUS=status)
         return subprocess.run([os.path.join(top or self.top, "tagymelur"), *words], input="text\n", capture_output=True, encoding="utf-8", env=environment)
 
     def test_it_tells_how_far_it_is_and_builds_once(self):
@@ -97,17 +101,30 @@ class Build(unittest.TestCase):
         shutil.copytree(self.top, other, ignore=shutil.ignore_patterns("out", "cache", "bin", "calls"))
         return other
 
+    def put(self, name, text):
+        """A file of the checkout that may be run."""
+        os.makedirs(os.path.join(self.top, os.path.dirname(name)), exist_ok=True)
+        self.write(name, text)
+        os.chmod(os.path.join(self.top, name), stat.S_IRWXU)
+
     def test_what_rt_built_serves_other_checkouts_too(self):
         """The program came by a build of `rt ci` alone: the first call keeps it."""
-        built = os.path.join(self.top, "crates/tagymelur/out/tagymelur")
-        os.makedirs(os.path.dirname(built))
-        self.write("crates/tagymelur/out/tagymelur", '#!/bin/sh\necho ran "$@"\ncat\n')
-        os.chmod(built, stat.S_IRWXU)
+        for name in ("foundation", "b", "c"):
+            os.makedirs(os.path.join(self.top, "crates", name, "out", "rlib", name + ".rlib"))
+        self.put("crates/tagymelur/out/tagymelur", '#!/bin/sh\necho ran "$@"\ncat\n')
         self.assertEqual((self.run_script("check").stderr, self.run_script("check").stderr), ("", ""))
         with tempfile.TemporaryDirectory() as room:
             done = self.run_script("check", top=self.copied(room))
             self.assertEqual((done.returncode, done.stdout, done.stderr), (0, "ran check\ntext\n", ""))
         self.assertFalse(os.path.exists(self.calls))
+
+    def test_a_program_from_elsewhere_is_not_kept(self):
+        """It stands where a built one would, and what rt makes of the crates below does not."""
+        self.put("crates/tagymelur/out/tagymelur", '#!/bin/sh\necho ran "$@"\ncat\n')
+        self.assertEqual(self.run_script("check").stderr, "")
+        self.assertFalse(os.path.exists(os.path.join(self.top, "cache")))
+        with tempfile.TemporaryDirectory() as room:
+            self.assertIn("proving and building", self.run_script("check", top=self.copied(room)).stderr)
 
     def test_what_the_program_is_made_of_and_the_log_count(self):
         self.run_script("check")
@@ -132,7 +149,7 @@ class Build(unittest.TestCase):
     def test_a_build_that_is_stopped_ends_what_it_started(self):
         for number in (signal.SIGTERM, signal.SIGINT, signal.SIGHUP):
             sleeper = os.path.join(self.top, f"sleeper{number}")
-            environment = dict(os.environ, PATH=os.path.join(self.top, "bin") + os.pathsep + os.environ["PATH"], RT_CALLS=self.calls, RT_SLEEPS=sleeper)
+            environment = self.environment(RT_SLEEPS=sleeper)
             script = subprocess.Popen([os.path.join(self.top, "tagymelur"), "check"], stdin=subprocess.DEVNULL, stdout=subprocess.PIPE, stderr=subprocess.PIPE, env=environment, encoding="utf-8")
             self.wait_for(lambda: os.path.exists(sleeper) and os.path.getsize(sleeper) > 0)
             with open(sleeper, encoding="utf-8") as file:
@@ -162,8 +179,7 @@ class Build(unittest.TestCase):
         os.chmod(os.path.join(self.top, "crates/tagymelur/out/tagymelur"), stat.S_IRWXU)
         os.utime(os.path.join(self.top, "crates/tagymelur/out/tagymelur"), (4e9, 4e9))
         master, terminal = pty.openpty()
-        environment = dict(os.environ, PATH=os.path.join(self.top, "bin") + os.pathsep + os.environ["PATH"])
-        done = subprocess.run([os.path.join(self.top, "tagymelur"), *words], input=text, stdout=subprocess.PIPE, stderr=terminal, env=environment, encoding="utf-8")
+        done = subprocess.run([os.path.join(self.top, "tagymelur"), *words], input=text, stdout=subprocess.PIPE, stderr=terminal, env=self.environment(), encoding="utf-8")
         os.set_blocking(master, False)
         try:
             told = os.read(master, 65536).decode()

@@ -1,9 +1,13 @@
 """tools/package and tools/c-library: what they hold, README's lines after the package is unpacked, lintian, and bad input."""
 import os
+import pty
 import re
+import select
 import subprocess
 import tempfile
+import time
 import unittest
+import unittest.mock
 
 import support
 from lib import manual, program, proved
@@ -65,6 +69,19 @@ class Package(unittest.TestCase):
         self.assertIn("The run of main", self.line("tools/page examples/construction.cpp").stdout)
         self.assertEqual(self.line("ls examples/first.cpp | while read one; do crates/tagymelur/out/tagymelur run < $one; done").stdout, "5\n")
 
+    def test_the_launcher(self):
+        """At a terminal it lists the commands; it answers by a link from elsewhere, and builds nothing, also where there is a command rt."""
+        os.makedirs(os.path.join(self.room.name, "bin"))
+        for name, text in (("rt", f"#!/bin/sh\ntouch {self.room.name}/called\n"),):
+            with open(os.path.join(self.room.name, "bin", name), "w", encoding="utf-8") as file:
+                file.write(text)
+            os.chmod(file.name, 0o755)
+        done = self.line(f"PATH={self.room.name}/bin:$PATH; script -qec ./tagymelur /dev/null; {self.root}/usr/bin/tagymelur check < examples/diamond.cpp")
+        self.assertIn("usage", done.stdout)
+        self.assertIn("memptr C::M[@D]", done.stdout)
+        self.assertTrue(done.stdout.endswith("4 classes\n"), done.stdout)
+        self.assertFalse(os.path.exists(os.path.join(self.room.name, "called")))
+
     def test_the_questions_of_the_readme(self):
         """Each command says in the folder of the trial what it says in the repository."""
         asked = re.findall(r"^\| [^|]*\? \| `([^`]*)` \|", README, re.M)
@@ -91,6 +108,18 @@ class Package(unittest.TestCase):
         done = self.line(f"cd /; source {self.root}/usr/share/bash-completion/completions/tagymelur; _tagymelur tagymelur la; echo ${{COMPREPLY[0]}}; _tagymelur tagymelur-draw --tab; echo ${{COMPREPLY[0]}}")
         self.assertEqual(done.stdout, "layout\n--tables\n")
 
+    def test_each_command_has_its_completion(self):
+        """bash looks for a file of the command's name, zsh at the first line of the files in its folder."""
+        commands = sorted(os.listdir(os.path.join(self.root, "usr/bin")))
+        folder = os.path.join(self.root, "usr/share/bash-completion/completions")
+        self.assertEqual(sorted(os.listdir(folder)), commands)
+        for name in commands:
+            done = self.line(f"cd /; source {folder}/{name}; complete -p {name}; _tagymelur {name} --; echo ${{COMPREPLY[@]}}")
+            self.assertIn(f"-F _tagymelur {name}\n", done.stdout)
+            self.assertIn("--help" if name != "tagymelur" else "--steps", done.stdout)
+        with open(os.path.join(self.root, "usr/share/zsh/vendor-completions/_tagymelur"), encoding="utf-8") as file:
+            self.assertEqual(sorted(file.readline().split()[1:]), commands)
+
     def test_what_was_proved(self):
         with open(os.path.join(self.root, "usr/share/doc/tagymelur/PROVED"), encoding="utf-8") as file:
             lines = file.read().splitlines()
@@ -115,22 +144,81 @@ class Package(unittest.TestCase):
         self.assertEqual(done.returncode, 0, done.stdout)
 
 
+class Shell:
+    """zsh at a terminal, in which a test writes as a hand does."""
+
+    def __init__(self, folder):
+        self.process, self.terminal = pty.fork()
+        if self.process == 0:
+            os.execvpe("zsh", ["zsh", "-f", "-i"], {**os.environ, "TERM": "dumb", "HOME": folder, "PS1": "> "})
+
+    def write(self, text, awaited=None):
+        """Writes, and reads until what is awaited comes, or for half a minute."""
+        os.write(self.terminal, text.encode())
+        told, end = "", time.monotonic() + 30
+        while awaited and not re.search(awaited, told):
+            if not select.select([self.terminal], [], [], max(0, end - time.monotonic()))[0]:
+                raise AssertionError(f"{awaited} did not come: {told!r}")
+            told += os.read(self.terminal, 4096).decode(errors="replace")
+        if awaited is None:
+            os.waitpid(self.process, 0)
+            os.close(self.terminal)
+
+
 class Words(unittest.TestCase):
     def test_bad_input(self):
         for tool, words, variable, status, said in [
                 ("package", (), None, 2, "usage: "), ("package", ("/tmp/x", "--version", "new"), None, 2, "digits and dots"), ("package", ("/tmp/x",), "/nowhere/program", 2, "cannot be run"),
                 ("package", ("/tmp/x",), os.path.join(program.TOP, "README.md"), 2, "is no binary"), ("package", ("/dev/null/x",), "/bin/true", 2, "cannot be made"),
-                ("package", ("/tmp/x", "--library", "/nowhere"), "/bin/true", 2, "has no libtagymelur.a"), ("c-library", (), None, 2, "usage: "), ("c-library", ("/tmp/x", "--built", "/nowhere/file"), None, 2, "is not there")]:
+                ("package", ("/tmp/x", "--library", "/nowhere"), "/bin/true", 2, "has no libtagymelur.a"), ("package", ("/tmp/x", "--log", "/nowhere"), "/bin/true", 2, "is no file"), ("c-library", (), None, 2, "usage: "), ("c-library", ("/tmp/x", "--built", "/nowhere/file"), None, 2, "is not there")]:
             done = support.run(tool, *words, environment={**os.environ, **({"TAGYMELUR": variable} if variable else {})})
             self.assertEqual((done.returncode, done.stdout), (status, ""), (tool, words))
             self.assertIn(said, done.stderr)
             self.assertNotIn("Traceback", done.stderr)
 
+    @support.needs("zsh")
+    def test_the_completion_of_zsh(self):
+        """What zsh itself writes behind the front of a word, at the key Tab."""
+        with tempfile.TemporaryDirectory() as room:
+            with open(os.path.join(room, "_tagymelur"), "w", encoding="utf-8") as file:
+                file.write(manual.for_zsh({name: manual.help_of(name) for name in ("draw", "as-json")}))
+            shell = Shell(room)
+            shell.write(f"bindkey -e; fpath=({room} $fpath); autoload -U compinit; compinit -u -D; tell() {{ print to''ld $@ }}; cd {room}; print re''ady\n", r"ready")
+            for line, wanted in (("tagymelur lay", "tagymelur layout"), ("tagymelur-draw --tab", "tagymelur-draw --tables"), ("tagymelur-as-json mem", "tagymelur-as-json memptr"),
+                                 ("tagymelur-as-json --so", "tagymelur-as-json --source")):
+                shell.write(f"{line}\t\x01tell \n", rf"told {wanted} *\r?\n")
+            shell.write("exit\n")
+
+    def test_words_that_are_completed(self):
+        self.assertEqual(manual.options("usage: x [-h] [--steps N]\n   {layout,run}\n\n  --steps N  in --well-known words {no,words}\n"), ["--steps", "--well-known", "layout", "run"])
+
+    def test_what_a_log_says(self):
+        """The log of a build counts for the built program alone."""
+        with tempfile.TemporaryDirectory() as room:
+            log = os.path.join(room, "log")
+            with open(log, "w", encoding="utf-8") as file:
+                file.write("rt: foundation proved\n")
+            self.assertEqual(proved.said("/bin/true", log), {})
+            with unittest.mock.patch.object(proved, "TOP", room), unittest.mock.patch.object(proved, "needed", lambda: ["foundation"]):
+                built = os.path.join(room, "crates", "tagymelur", "out", "tagymelur")
+                os.makedirs(os.path.dirname(built))
+                os.makedirs(os.path.join(room, "crates", "foundation", "src"))
+                with open(built, "w", encoding="utf-8"), open(os.path.join(room, "crates", "foundation", "src", "lib.rt"), "w", encoding="utf-8") as source:
+                    pass
+                os.utime(source.name, (1e9, 1e9))
+                self.assertEqual(proved.said(built, log), {"foundation": "proved"})
+                os.utime(source.name, (4e9, 4e9))
+                self.assertEqual(proved.said(built, log), {})
+
     def test_a_manual_page(self):
         page = manual.of_tool("none", "1", "usage: tools/none [-h]\n\nDoes nothing.\n\n.TH is no request here\n")
         self.assertIn("tagymelur\\-none \\- does nothing\n", page)
         self.assertIn("\\&.TH is no request", page)
-        self.assertIn(".B check\n", manual.of_program("1"))
+        program_page = manual.of_program("1")
+        self.assertIn(".B check\n", program_page)
+        self.assertIn("the elements of new C[N] lie", program_page)
+        self.assertIn("in which delete[] ends them; N is 1 to 4,096 (ARRAYS.md)\n", program_page)
+        self.assertNotIn("docs/ARRAYS.md", program_page)
 
 
 if __name__ == "__main__":
