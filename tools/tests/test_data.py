@@ -182,7 +182,7 @@ class Module(unittest.TestCase):
     def test_the_session_of_the_page(self):
         with open(os.path.join(program.TOP, "docs", "DATA.md"), encoding="utf-8") as file:
             shown = re.search(r"^    >>> (?:    .*\n|.+\n)+", file.read(), re.M)[0]
-        session = doctest.DocTestParser().get_doctest(shown, {"open": lambda path: open(os.path.join(program.TOP, path), encoding="utf-8")}, "docs/DATA.md", None, 0)
+        session = doctest.DocTestParser().get_doctest(shown, {"open": lambda path: io.StringIO(example(os.path.basename(path)))}, "docs/DATA.md", None, 0)
         told = io.StringIO()
         doctest.DocTestRunner().run(session, out=told.write)
         self.assertEqual((told.getvalue(), len(session.examples)), ("", 6))
