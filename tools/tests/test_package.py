@@ -76,7 +76,7 @@ class Package(unittest.TestCase):
             with open(os.path.join(self.room.name, "bin", name), "w", encoding="utf-8") as file:
                 file.write(text)
             os.chmod(file.name, 0o755)
-        done = self.line(f"PATH={self.room.name}/bin:$PATH; script -qec ./tagymelur /dev/null; {self.root}/usr/bin/tagymelur check < examples/diamond.cpp")
+        done = self.line(f"PATH={self.room.name}/bin:$PATH; script -qec ./tagymelur /dev/null < /dev/null; {self.root}/usr/bin/tagymelur check < examples/diamond.cpp")
         self.assertIn("usage", done.stdout)
         self.assertIn("memptr C::M[@D]", done.stdout)
         self.assertTrue(done.stdout.endswith("4 classes\n"), done.stdout)
