@@ -39,12 +39,22 @@ def boxed(program_tree):
             return
         children = tree.parts(node)
         for position, child in enumerate(children):
-            walk(child, is_direct(node, kind, position, direct))
+            walk(child, is_direct(node, kind, position, direct) and not is_changed_choice(kind, child, position))
         for child in node.get("array_filler", []):
             walk(child, False)
 
     walk(program_tree.top, True)
     return found
+
+
+def is_changed_choice(kind, child, position):
+    """Whether a place is changed that a condition chooses: no path of the language leads to one of two."""
+    if position or kind not in ("BinaryOperator", "CompoundAssignOperator", "UnaryOperator"):
+        return False
+    child = tree.bare(child)
+    while child["kind"] == "BinaryOperator" and child["opcode"] == ",":
+        child = tree.bare(tree.parts(child)[1])
+    return child["kind"] == "ConditionalOperator" and child.get("valueCategory") == "lvalue"
 
 
 def is_direct(node, kind, position, direct):

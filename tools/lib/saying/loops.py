@@ -5,6 +5,7 @@ from . import tree
 from .refusal import CannotSay
 
 LOOPS = {"WhileStmt", "DoStmt", "ForStmt"}
+LABELS = {"CaseStmt", "DefaultStmt"}
 
 
 @dataclass
@@ -28,6 +29,11 @@ def leaving(node, in_loop=False, in_switch=False):
     if kind in ("LambdaExpr", "CXXRecordDecl"):
         return False
     return any(leaving(part, in_loop or kind in LOOPS, in_switch or kind == "SwitchStmt") for part in tree.parts(node))
+
+
+def has_label(node):
+    """Whether a label of a switch stands in a statement that is none of an inner switch."""
+    return node.get("kind") in LABELS or node.get("kind") != "SwitchStmt" and any(has_label(part) for part in tree.parts(node))
 
 
 class Loops:
@@ -63,6 +69,7 @@ class Loops:
         """`while` and `for`: the condition is asked inside the loop."""
         loop = self.begin_loop(body)
         self.scopes.append([])
+        loop.scopes = len(self.scopes)  # what is declared in the condition ends behind the turn, on each way
         if declared:
             self.statement(declared)
         if condition is not None:
@@ -163,21 +170,33 @@ class Loops:
             self.close()
 
     def sections(self, body):
-        """The sections of a switch: labels, where None is the default, and the statements behind them."""
-        found = []
-        for one in tree.parts(body) if body["kind"] == "CompoundStmt" else [body]:
+        """The sections of a switch: labels, where None is the default, and the statements behind them. Variables that stand before a label are declared before all sections."""
+        found, statements = [], tree.parts(body) if body["kind"] == "CompoundStmt" else [body]
+        last = max([at for at, one in enumerate(statements) if one["kind"] in LABELS] or [-1])
+        for at, one in enumerate(statements):
             labels = []
-            while one["kind"] in ("CaseStmt", "DefaultStmt"):
+            while one["kind"] in LABELS:
                 labels.append(self.label(one))
                 one = tree.parts(one)[-1]
             if labels:
                 found.append((labels, []))
-            if not found or any(part.get("kind") in ("CaseStmt", "DefaultStmt") for part in tree.within(one) if one["kind"] != "SwitchStmt"):
+            if one["kind"] == "DeclStmt" and at < last:
+                self.between_labels(one)
+                continue
+            if not found or has_label(one):
                 raise CannotSay(one, "a switch with statements before its first label, or labels in inner statements", "its sections do not stand one behind the other")
-            if one["kind"] == "DeclStmt":
-                raise CannotSay(one, "a variable between the labels of a switch", "each section is a block of its own; put braces around it")
             found[-1][1].append(one)
         return found
+
+    def between_labels(self, node):
+        """Declares what stands before a label of a switch, where C++ lets a run jump past it: it has no initialiser, and making it does nothing."""
+        for one in tree.parts(node):
+            shape = self.shape_of(one) if one["kind"] == "VarDecl" else None
+            inside = shape.inner if shape and shape.sort == "array" else shape
+            made = shape and (self.initial(one) is not None and shape.sort != "object" or one.get("storageClass") == "static")
+            if made or inside and inside.sort == "object" and (self.program.constructions.runs_code(inside.record) or self.program.has_destructor(inside.record)):
+                raise CannotSay(one, "a variable that is made between the labels of a switch", "each section is a block of its own; put braces around it")
+        self.statement(node)
 
     def label(self, node):
         if node["kind"] == "DefaultStmt":
