@@ -13,9 +13,14 @@ from lib.saying import back, beside, runs, source
 FOLDER = os.path.join(os.path.dirname(os.path.abspath(__file__)), "programs")
 CASES = sorted(glob.glob(os.path.join(FOLDER, "*.cc")))
 FLAGS = ["-std=gnu++98"]
+ORDER = """#include <cstdio>
+int g = 1; int f() { return puts("f"); }
+struct T { T() {} ~T() { puts("end"); } };
+struct A { A(int) { puts("A"); } A(int *p) { *p = 8; } A(const T &) {} }; struct G { int n; G() : n(g) {} G(int) { g++; } };
+"""
 HEADERS = "#include <cassert>\n#include <cstdio>\n#include <cstdlib>\n#include <iostream>\n#include <typeinfo>\n"
-CPP11 = {"lambdas"}
-ALONE = {"statics", "ends", "asserts", "namespaces", "streams", "lambdas"}  # they have objects outside of functions, end early, or name the outermost scope
+CPP11 = {"lambdas", "member_defaults"}
+ALONE = {"statics", "names_of_ours", "ends", "asserts", "namespaces", "streams", "lambdas", "member_defaults"}  # they have objects outside of functions, end early, or name the outermost scope
 
 
 def written(path):
@@ -83,6 +88,24 @@ class Programs(unittest.TestCase):
                     ran = runs.run(said, (machine,))
                     self.assertEqual((ran.output.text, ran.output.status), wanted(path), ran.why)
 
+    @support.needs_program
+    def test_operands_are_calculated_from_left_to_right(self):
+        """C++ leaves the order open, and docs/PROGRAMS.md says which one is taken: what a later operand changes is read before."""
+        text = """#include <cstdio>
+int g = 1;
+int f() { g = 5; return 0; }
+int *place() { g = 7; return new int(0); }
+struct K { int n; int with(int, int k) { return n + k; } };
+int two(int a, int b) { return a * 10 + b; }
+int main() {
+    K one = {1}, other = {100}, *p = &one;
+    printf("%d\\n", g + f()); g = 1; printf("%d\\n", two(g, f())); g = 1; printf("%d %d\\n", g, f());
+    printf("%d\\n", p->with((p = &other) != 0, 2)); g = 1; *place() = g; printf("%d\\n", g);
+    int *q = new int(3); g = 2; *q = g + (g = 4, 10); printf("%d\\n", *q);
+}
+"""
+        self.assertEqual(printed(text), ["1", "10", "1 0", "3", "7", "12"])
+
     @support.needs("g++")
     def test_both_compilers_print_what_is_wanted(self):
         paths = [path for path in CASES if name_of(path) not in ALONE]
@@ -96,20 +119,40 @@ class Programs(unittest.TestCase):
                         self.assertEqual(beside.built(compiler, [path], flags_of(path)), wanted(path))
 
 
-def refused(text, flags=None):
-    """The sentence with which a text is refused."""
+def with_file(text, work):
+    """What is found out about a text, as a file of its own."""
 
-    def work(folder):
+    def inside(folder):
         path = os.path.join(folder, "bad.cc")
         with open(path, "w", encoding="utf-8") as file:
             file.write(text)
+        return work(path)
+
+    return clang.in_folder(inside)
+
+
+def refused(text, flags=None):
+    """The sentence with which a text is refused."""
+
+    def work(path):
         try:
             said_of(path, flags)
         except problem.Problem as error:
             return str(error)
         return ""
 
-    return clang.in_folder(work)
+    return with_file(text, work)
+
+
+def printed(text):
+    """The lines that a text prints on both machines."""
+
+    def work(path):
+        said = said_of(path, FLAGS)
+        ran = [runs.run(said, (machine,)) for machine in ("run", "paths")]
+        return ran[0].why or ran[0].output.text.splitlines() if ran[0].printed == ran[1].printed else "the machines differ"
+
+    return with_file(text, work)
 
 
 @support.needs("clang++", "c++filt")
@@ -131,6 +174,15 @@ class Refusals(unittest.TestCase):
             ("struct A { virtual ~A() {} };\nint main() { A a; A &b = dynamic_cast<A &>(a); A &c = a; struct D : A {}; D &d = dynamic_cast<D &>(c); }\n", "2:", "dynamic_cast to a reference"),
             ("struct T { T *me; T(T *t) : me(t) {} };\nstruct H { T t; H() : t((T *)0), u(&t) {} T u; };\nint main() { H h; }\n", "2:", "under construction"),
             ("int f();\nint main() { return f(); }\n", "2:", "a call of f cannot be said: the function is not defined"),
+            (ORDER + "struct B : A { A a; int b; A c; B() : A(1), a(2), b(f()), c(3) {} };\nint main() { B b; }\n", "5:53", "this initialiser of b cannot be said: it would be calculated before"),
+            (ORDER + "struct B { A a; int b; A c; B() : a(2), b(++g), c(3) {} };\nint main() { B b; }\n", "5:43", "this initialiser of b cannot be said"),
+            (ORDER + "struct B { A a, c; B() : a(&g), c(g) {} };\nint main() { B b; }\n", "5:33", "this argument of a base or member cannot be said: it would be calculated before"),
+            (ORDER + "struct B { G a; A c; B() : c(++g) {} };\nint main() { B b; }\n", "5:28", "this argument of a base or member cannot be said"),
+            (ORDER + "struct B { A a; B() : a(T()) {} };\nint main() { B b; }\n", "5:25", "a temporary object in an argument of a base or member cannot be said: it ends behind the constructor"),
+            (ORDER + "int main() { G a[2] = {G(g), G(g)}; }\n", "5:30", "this argument of an element of an array cannot be said: it would be calculated before"),
+            ("int main() { switch (1) { case 0: static int n = 1; case 1: return n; } }\n", "1:35", "a variable that is made between the labels of a switch"),
+            ("int main() { switch (1) { case 0: do { case 1: return 0; } while (1); } }\n", "1:35", "labels in inner statements"),
+            ("struct T { int n; T(int k) : n(k) {} };\nT made() { return T(1); }\nint main() { T a[2] = {T(2), made()}; }\n", "3:30", "what a function gives is an object of its own, and no element"),
             ("#include <cstdio>\nint f() { return puts(\"f\"); }\nstruct A { A(int) { puts(\"A\"); } };\nstruct B : A { A a; B() : A(1), a(f()) {} };\nint main() { B b; }\n", "4:", "it would be calculated before"),
         ):
             with self.subTest(word):
@@ -156,6 +208,20 @@ class RunCpp(unittest.TestCase):
         done = support.run("run-cpp", os.path.join(FOLDER, "..", "undefined.cc"))
         self.assertEqual((done.stdout, done.returncode), ("1\n", 3))
         self.assertRegex(done.stderr, r"undefined\.cc:5:5: undefined U2 Dangling\n")
+
+    @support.needs_program
+    def test_an_index_and_a_division_are_named_where_they_stand(self):
+        for text, place, word in (
+            ("struct H { int m[2]; int get(int i) { return m[i]; } };\nint main() { H h; h.m[0] = 4; return h.get(0) + h.get(2); }\n", "1:39", "an index outside of the array"),
+            ("int main() {\n    long a[3];\n    for (int i = 0; i <= 3; i++)\n        a[i] = i;\n}\n", "4:9", "an index outside of the array"),
+            ("struct T { int n; T() : n(1) {} };\nint main() { T t[2]; int i = -1;\nreturn t[i].n; }\n", "3:1", "an index outside of the array"),
+            ("int over(int a, int b) {\n  return a / b;\n}\nint main() { return over(6, 2) - 3 + over(1, 0); }\n", "2:3", "a division by zero"),
+            ("int main() { unsigned a = 5, b = 5;\na %= b - 5; }\n", "2:1", "a division by zero"),
+        ):
+            with self.subTest(text):
+                done = with_file(text, lambda path: support.run("run-cpp", path))
+                self.assertEqual((done.stdout, done.returncode), ("", 3), done.stderr)
+                self.assertRegex(done.stderr, rf"bad\.cc:{place}: undefined U1 NullUse \({word}\)\n")
 
     @support.needs_program
     def test_a_trace_has_the_names_of_the_program(self):

@@ -18,7 +18,7 @@ class Body(Lines, Numbers, Places, Expressions, Calls, Objects, Loops, Statement
         super().__init__(program)
         self.in_functions, self.record = in_functions, record
         self.this = "this" if record else ""
-        self.variables, self.initialisers = {}, {}
+        self.variables, self.initialisers, self.handed = {}, {}, {}
         self.ends, self.scopes, self.loops, self.returned = [[]], [], [], set()
         self.branch, self.branch_depth, self.branches_open = None, 0, 0
         self.result, self.result_is_reference = None, False

@@ -126,7 +126,7 @@ class Calls:
         base = tree.parts(callee)[0]
         if declared["kind"] == "CXXDestructorDecl":
             raise CannotSay(node, "a call of a destructor", "the language ends objects by delete alone")
-        target = self.pointer(base) if callee["isArrow"] else self.address(base)
+        target = self.steady(self.pointer(base) if callee["isArrow"] else self.address(base), base, arguments)
         qualified = qualified_by(callee, self.program.file_bytes)
         return self.method_text(node, number, target, arguments, qualified)
 
@@ -161,7 +161,7 @@ class Calls:
             given = tree.bare(arguments[position]) if position < len(arguments) else {"kind": "CXXDefaultArgExpr"}
             if given["kind"] == "CXXDefaultArgExpr":
                 given = self.program.tree.default(number, position)
-            found.append(self.passed(parameter, given))
+            found.append(self.steady(self.passed(parameter, given), parameter, arguments[position + 1:]))
         return found
 
     def passed(self, parameter, given):

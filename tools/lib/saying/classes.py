@@ -1,5 +1,5 @@
 """The text of a class: its bases, members, one constructor, functions and destructor."""
-from . import constructions, tree
+from . import constructions, effects, tree
 from .body import result_text
 from .places import is_reference
 from .refusal import CannotSay, place_of
@@ -142,11 +142,17 @@ class ConstructorBody:
     def __init__(self, program, record, constructor):
         self.program, self.record, self.constructor = program, record, constructor
         self.definition = program.constructions.body(constructor) or constructor
-        self.body = program.new_body(False, record)
+        self.body, self.handed = program.new_body(False, record), {}
 
     def lines(self, name):
         """The constructor as a function of its class, with its parameters."""
         said = self.body.take_parameters(self.constructor)
+        for number in self.program.early.fields(self.record, self.constructor):
+            field = self.program.tree.nodes[number]
+            self.handed[number] = self.body.scope.new(field.get("name", "unnamed"))
+            said.append(f"{self.body.shape_of(field).word} {self.handed[number]}")
+        if len(said) > 16:
+            raise CannotSay(self.definition, f"the constructor of {self.record.name}", "it has more than 16 parameters, with the values of members that are handed over")
         words = [one.rsplit(" ", 1)[0] for one in said]
         self.say()
         return words, self.body.function(f"void {name}({', '.join(said)})")
@@ -156,7 +162,7 @@ class ConstructorBody:
         body.result = self.program.shapes.of("void")
         body.place_now = place_of(self.definition)
         body.take_parameters(self.constructor) if not hasattr(body, "copied_in") else None
-        for one in constructions.initialisers(self.definition):
+        for one in effects.initialisers(self.definition):
             if tree.parts(one):
                 with body.full():
                     self.initialise(one, tree.bare(tree.parts(one)[-1]))
@@ -177,6 +183,9 @@ class ConstructorBody:
             given = tree.bare(tree.parts(field)[-1])
         shape = self.body.shape_of(field)
         place = f"this->{self.program.names.member(self.record, field['id'])}"
+        if field["id"] in self.handed:
+            self.body.put(f"{place}{'.v' if self.program.is_boxed(field['id']) and not is_reference(field) else ''} = {self.handed[field['id']]};")
+            return
         if given["kind"] == "ArrayInitLoopExpr":
             raise CannotSay(self.definition, "a copy of an array in a constructor", "it is none of all leaves of the object")
         if given["kind"] == "CXXConstructExpr" and shape.sort in ("object", "array") and not is_reference(field):

@@ -4,11 +4,11 @@ A class with several constructors, or with one that has parameters, is *told*: f
 which its constructor takes the first. A call has the number of a constructor and its arguments; the number 0 is that of none, for an
 object that is copied leaf by leaf. A *plan* is a function that puts the calls of an object, of its bases and of its members
 into their lists, in the order in which they are built. So bases and members are made in the order of C++, and only the
-arguments are calculated earlier; `order` refuses those where that could be seen.
+arguments are calculated earlier; `early` refuses those where that could be seen.
 """
 import re
 
-from . import order, tree
+from . import effects, tree
 from .refusal import CannotSay
 
 
@@ -115,7 +115,11 @@ class Constructions:
             return True
         if is_copy(constructor):
             return not self.copies_plainly(record)
-        return any(not self.makes_alone(one) for one in initialisers(constructor))
+        return any(not self.makes_alone(one) for one in effects.initialisers(constructor))
+
+    def is_plain_copy(self, constructor, record):
+        """Whether a constructor copies leaf by leaf, and runs nothing."""
+        return constructor is not None and is_copy(constructor) and not self.has_code(constructor, record)
 
     def makes_alone(self, initialiser):
         """Whether an initialiser only makes a base or member by its constructor."""
@@ -127,7 +131,8 @@ class Constructions:
         if record.name not in self.known:
             coded = [one for one in self.constructors(record) if self.has_code(one, record) and (self.body(one) is not None or self.is_own(one))]
             parameters = any(tree.parameters(one) for one in coded)
-            self.known[record.name] = bool(coded) and (len(coded) > 1 or parameters or self.is_copied_within(record) or not self.default_coded(record, coded))
+            self.known[record.name] = bool(coded) and (len(coded) > 1 or parameters or self.is_copied_within(record) or not self.default_coded(record, coded) or
+                                                      any(self.program.early.fields(record, one) for one in coded))
         return self.known[record.name]
 
     def default_coded(self, record, coded):
@@ -219,20 +224,16 @@ class Constructions:
     def elements(self, body, record, given):
         """Tells the constructors of elements what to do: the arguments are calculated in order, and the last element is told first."""
         said = [self.element(body, record, tree.bare(one)) for one in given]
-        calls = [any(order.level(argument, set()) == 2 for argument in self.element_arguments(record, one)) for one in given]
-        if len(given) > 1 and any(calls) and (self.runs_code(record) or self.is_told(record)):
-            raise CannotSay(tree.bare(given[0]), "elements of an array whose arguments call functions", "all would be calculated before the first element is made")
+        done = effects.NOTHING
+        for one in map(self.made_by, map(tree.bare, given)):
+            asked, constructor = self.program.effects, self.constructor_of(record, one)
+            value = frozenset().union(asked.of_defaults(constructor, tree.parts(one)), *(asked.of(part, set(), False) for part in tree.parts(one)))
+            if not effects.commute(done, value):
+                raise CannotSay(one, "this argument of an element of an array", "it would be calculated before the constructor of an earlier element runs, and that could be seen")
+            done |= asked.of_constructor(record, constructor)
         for plan, operands in reversed(said):
             if plan:
                 self.call_plan(body, plan, operands)
-
-    def element_arguments(self, record, node):
-        """What an element's constructor is given, defaults too."""
-        node = self.made_by(tree.bare(node))
-        constructor = self.constructor_of(record, node)
-        wanted = tree.parameters(constructor) if constructor is not None else []
-        given = [tree.bare(one) for one in tree.parts(node)]
-        return [self.program.tree.default(constructor["id"], at) if one["kind"] == "CXXDefaultArgExpr" else one for at, one in enumerate(given[:len(wanted)])]
 
     def made_by(self, node):
         """The constructor's expression of an element: no copy of it is made."""
@@ -244,17 +245,13 @@ class Constructions:
         """The plan of one element and its operands; no plan where nothing is to be told."""
         node = self.made_by(node)
         if node["kind"] not in ("CXXConstructExpr", "CXXTemporaryObjectExpr"):
-            raise CannotSay(node, "an element of an array", "it is made by no constructor")
+            raise CannotSay(node, "an element of an array that no constructor makes", "what a function gives is an object of its own, and no element")
         constructor = self.constructor_of(record, node)
         self.use(node, record, constructor)
         if constructor is not None and is_copy(constructor) and not self.has_code(constructor, record):
             raise CannotSay(node, "an element of an array that is a copy", "the language makes all elements by one new")
         given = body.operands(node, constructor["id"], tree.parts(node)) if constructor is not None else []
         return (self.program.plan(record, constructor, True), given) if self.needs_plan(record) else (None, given)
-
-
-def initialisers(constructor):
-    return [child for child in tree.parts(constructor) if child["kind"] == "CXXCtorInitializer"]
 
 
 def listed(node):

@@ -1,5 +1,5 @@
 """Expressions: each becomes statements with one operation each, and what is left is one right side or one operand of our language."""
-from . import tree
+from . import order, tree
 from .lines import is_operand
 from .numbers import CASTS
 from .places import DERIVED
@@ -59,6 +59,16 @@ class Expressions:
         """An operand that converts to the type of a parameter by itself."""
         text = self.assigned(node)
         return text if is_operand(text) else self.hold(text, self.word(node))
+
+    def steady(self, text, node, later):
+        """An operand that keeps its value while `later` operands are calculated: that of a variable is copied where one of them changes something."""
+        if not self.is_plain_name(text) or not any(order.changes(one) for given in later for one in tree.within(given)):
+            return text
+        return self.hold_as(text, self.word(node))
+
+    def is_plain_name(self, text):
+        """Whether an operand is the name of a variable of the user's that holds a number or pointer itself."""
+        return any(one.name == text and one.mode == "plain" for one in self.variables.values()) or self.program.globals.is_plain(text)
 
     def effect(self, node):
         """Says an expression for what it does, and drops its value."""
@@ -171,7 +181,8 @@ class Expressions:
             raise CannotSay(node, f"{sign} of pointers", "the language has no arithmetic on pointers, and no order of them")
         if self.shape(left).floating or self.shape(right).floating:
             raise CannotSay(node, "a comparison of floating-point numbers", "the language has none")
-        return self.calculated(sign, self.operand(left), self.operand(right), self.shape(left), node)
+        first = self.steady(self.operand(left), left, [right])
+        return self.calculated(sign, first, self.operand(right), self.shape(left), node)
 
     def calculated(self, sign, left, right, shape, node):
         """One operation; what the language does not have is a function that does it."""
@@ -183,7 +194,16 @@ class Expressions:
 
     def helped(self, word, left, right, shape, node):
         name = self.program.helper(word, shape)
+        if self.program.placed and word in ("divide", "remainder"):
+            self.ask_divisor(right)
         return f"{self.functions(node)}->{name}({left}, {right})"
+
+    def ask_divisor(self, divisor):
+        """Ends the run at the place of a division by zero."""
+        self.open(f"if ({self.hold_as(f'{divisor} == 0', 'bool')})")
+        nothing = self.hold_as("0", self.program.names.helpers["functions"] + "*")
+        self.put(f"{nothing}->{self.program.division_end()}();")
+        self.close()
 
     def of_UnaryOperator(self, node):
         sign, inside = node["opcode"], tree.parts(node)[0]
@@ -255,7 +275,7 @@ class Expressions:
             return self.compound(node, target, source)
         if self.shape(target).sort == "object":
             raise CannotSay(node, "an assignment of an object", "it is none of a class")
-        value = self.argument(source)
+        value = self.steady(self.argument(source), source, [target])
         place = self.place(target)
         if place != value:
             self.put(f"{place} = {value};")
@@ -265,7 +285,7 @@ class Expressions:
         shape = self.shape(target)
         if shape.sort != "number" or shape.floating:
             raise CannotSay(node, f"{node['opcode']} on what is no whole number", "the language calculates with whole numbers alone")
-        value = self.operand(source)
+        value = self.steady(self.operand(source), source, [target])
         place = self.place(target)
         wide = self.program.shapes.of(node["computeLHSType"].get("desugaredQualType", node["computeLHSType"]["qualType"]))
         if wide.floating:

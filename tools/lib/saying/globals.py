@@ -26,10 +26,14 @@ class Globals:
     def __init__(self, program):
         self.program = program
         self.found = {}
-        self.count, self.guards = None, []
+        self.count, self.guards, self.end_words = None, [], None
 
     def is_global(self, node):
         return node["kind"] == "VarDecl" and (node["id"] in {one["id"] for one in self.program.tree.variables} or node.get("storageClass") == "extern")
+
+    def is_plain(self, name):
+        """Whether a name is that of a variable that holds a number or pointer itself."""
+        return any(one.variable.name == name and one.variable.mode == "plain" for one in self.found.values())
 
     def definition(self, first):
         """The declaration of a variable that makes it, and its position among all."""
@@ -204,7 +208,8 @@ class Globals:
         ending = [one for one in reversed(self.ordered()) if one.ends]
         if not self.count:
             return [f"delete {one.variable.name};" for one in ending]
-        lines = [f"bool b = 0 < {self.count};", "bool e;", "while (b) {", f"  int last = {self.count};", f"  {self.count} = last - 1;"]
+        turn, is_last, last = self.end_words = self.end_words or [self.program.names.added(word) for word in ("turn", "is_last", "last")]
+        lines = [f"bool {turn} = 0 < {self.count};", f"bool {is_last};", f"while ({turn}) {{", f"  int {last} = {self.count};", f"  {self.count} = {last} - 1;"]
         for one in ending:
-            lines += [f"  e = {one.counter} == last;", "  if (e) {", f"    {one.counter} = 0;", f"    delete {one.variable.name};", "  }"]
-        return [*lines, f"  b = 0 < {self.count};", "}"]
+            lines += [f"  {is_last} = {one.counter} == {last};", f"  if ({is_last}) {{", f"    {one.counter} = 0;", f"    delete {one.variable.name};", "  }"]
+        return [*lines, f"  {turn} = 0 < {self.count};", "}"]

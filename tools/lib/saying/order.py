@@ -1,13 +1,8 @@
-"""What an expression or constructor touches, so that an argument is only calculated earlier where nobody can see it.
-
-Levels of an expression: 0 constants and parameters, 1 it reads what others may change, 2 it calls or changes something.
-Levels of a constructor: 0 it sets its own object alone, 1 it prints too, 2 anything.
-"""
+"""What an expression may touch, by its form alone: 0 constants and parameters, 1 it reads what others may change, 2 it calls or changes something."""
 from . import tree
 from .numbers import CASTS
 
 CALLS = {"CallExpr", "CXXMemberCallExpr", "CXXOperatorCallExpr", "CXXNewExpr", "CXXDeleteExpr", "CXXConstructExpr", "CXXTemporaryObjectExpr", "LambdaExpr", "CXXThrowExpr"}
-PRINTS = {"printf", "puts", "putchar", "operator<<"}
 
 
 def changes(node):
@@ -35,32 +30,3 @@ def reads(node, parameters):
         return True
     text = inside.get("type", {}).get("qualType", "")
     return inside["referencedDecl"]["id"] not in parameters and not text.startswith("const ")
-
-
-def known_call(node):
-    """The name of a called function that has a name."""
-    for one in tree.within(tree.parts(node)[0]):
-        if one.get("kind") == "DeclRefExpr":
-            return one["referencedDecl"].get("name", "")
-    return ""
-
-
-def is_own_place(node):
-    """Whether an assignment changes a member of the object under construction."""
-    target = tree.bare(tree.parts(node)[0])
-    while target["kind"] in ("MemberExpr", "ArraySubscriptExpr", "ImplicitCastExpr"):
-        target = tree.bare(tree.parts(target)[0])
-    return target["kind"] == "CXXThisExpr"
-
-
-def body_level(node):
-    """The level of a constructor's body."""
-    found = 0
-    for one in tree.within(node):
-        if not changes(one):
-            continue
-        if one["kind"] in ("CallExpr", "CXXOperatorCallExpr") and known_call(one) in PRINTS:
-            found = max(found, 1)
-        elif one["kind"] in CALLS or not is_own_place(one):
-            return 2
-    return found

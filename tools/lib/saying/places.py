@@ -74,10 +74,11 @@ class Places:
         return self.initialisers.get(node["referencedMemberDecl"])
 
     def member_place(self, node):
-        initial = self.initial_member(node)
+        initial, declared = self.initial_member(node), self.program.tree.nodes[node["referencedMemberDecl"]]
+        if initial is not None and declared["id"] in self.handed:
+            return self.handed[declared["id"]] + ("->v" if is_reference(declared) else "")
         if initial is not None:
             return self.hold(self.right(initial), self.word(node))
-        declared = self.program.tree.nodes[node["referencedMemberDecl"]]
         if declared["kind"] == "VarDecl":
             self.effect(tree.parts(node)[0])
             variable = self.program.global_variable(declared)
@@ -186,7 +187,7 @@ class Places:
         if initial is not None:
             if not is_reference(declared):
                 raise CannotSay(node, f"the member {declared.get('name', '')} in an initialiser", "what is under construction has no pointer yet that the language gives")
-            return self.address(initial)
+            return self.handed.get(declared["id"]) or self.address(initial)
         path = self.path(node)
         return self.hold(path if is_reference(declared) else "&" + path, self.pointer_word(node))
 
@@ -202,8 +203,12 @@ class Places:
         if value is not None:
             self.check_index(node, value, declared)
             return self.hold(f"&{holder}->{name}[{value}]", word)
-        accessor = self.program.accessor(declared, name, node)
-        return self.hold(f"{holder}->{accessor}({self.operand(index)})", word)
+        accessor, number = self.program.accessor(declared, name, node), self.operand(index)
+        if self.program.placed:
+            owner = self.program.tree.record_of_field(declared, node) if declared["kind"] == "FieldDecl" else None
+            holder_word = self.program.names.record(owner) if owner else self.program.array_class(declared, self.shape_of(declared))
+            holder = self.hold_as(f"{holder}->in_{name}({number})", holder_word + "*")
+        return self.hold(f"{holder}->{accessor}({number})", word)
 
     def address_of_UnaryOperator(self, node):
         if node["opcode"] == "*":

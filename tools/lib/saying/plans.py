@@ -1,5 +1,5 @@
 """Plans: functions that tell the constructors of an object, of its bases and of its members what to do."""
-from . import constructions, order, tree
+from . import constructions, effects, tree
 from .numbers import CASTS
 from .places import is_reference
 from .refusal import CannotSay, place_of
@@ -39,18 +39,40 @@ class Plans:
             body.place_now = place_of(constructor)
         parts = self.parts(record, constructor, complete, blank)
         body.initialisers = {} if blank or constructor is None else self.initial_values(constructor)
-        if not blank:
-            self.check_order(record, constructor, parts)
-        given = [self.arguments(body, part) for part in parts]
-        self.own_call(body, record, constructor, blank, [one.split()[-1] for one in parameters])
+        items = [] if blank else self.program.early.items(record, constructor)
+        if items:
+            self.program.early.check(record, constructor)
+        given = self.calculated(body, parts, items)
+        self.own_call(body, record, constructor, blank, [*(one.split()[-1] for one in parameters), *body.handed.values()])
         for part, operands in reversed(list(zip(parts, given))):
             self.tell(body, part, operands)
         return body.function(f"void {name}({', '.join(parameters)})")
 
+    def calculated(self, body, parts, items):
+        """The arguments of the parts, and the early values of members between them, in the order of C++."""
+        given, done = [], 0
+        for part in parts:
+            at = next((at for at, one in enumerate(items) if one.given is part.node), done)
+            self.hand(body, items[done:at])
+            done = max(done, at)
+            given.append(self.arguments(body, part))
+        self.hand(body, items[done:])
+        return given
+
+    def hand(self, body, items):
+        """Calculates early values, each in a variable from which it is handed over."""
+        for one in items:
+            if one.is_early:
+                shape = body.shape_of(one.field)
+                name = body.kept(shape.word)
+                with body.full():
+                    body.put(f"{name} = {body.address(one.given) if is_reference(one.field) else body.argument(one.given)};")
+                body.handed[one.field["id"]] = name
+
     def initial_values(self, constructor):
         """What each member is set to, by the number of its declaration."""
         definition = self.made.body(constructor) or constructor
-        return {one["anyInit"]["id"]: tree.parts(one)[-1] for one in constructions.initialisers(definition) if "anyInit" in one and tree.parts(one)}
+        return {one["anyInit"]["id"]: tree.parts(one)[-1] for one in effects.initialisers(definition) if "anyInit" in one and tree.parts(one)}
 
     def own_call(self, body, record, constructor, blank, given):
         """Puts the call of the class itself in front of the list of its class."""
@@ -103,7 +125,7 @@ class Plans:
     def told_parts(self, record, constructor):
         """The bases and members that a constructor makes, by its initialisers in clang's tree."""
         definition = (self.made.body(constructor) or constructor) if constructor is not None else None
-        listed = constructions.initialisers(definition) if definition is not None else []
+        listed = effects.initialisers(definition) if definition is not None else []
         if not listed:
             return self.default_parts(record)
         found, shared = [], self.made.virtual_bases(record)
@@ -153,36 +175,18 @@ class Plans:
     def arguments(self, body, part):
         if part.blank or part.constructor is None or not self.made.needs_plan(part.record):
             return []
+        for one in part.arguments:
+            self.check_temporaries(one)
         return body.operands(part.node or part.constructor, part.constructor["id"], part.arguments)
+
+    def check_temporaries(self, node):
+        """Refuses an argument with a temporary object that would have to live until the base or member is made, where its end does something."""
+        for one in tree.within(node):
+            if one.get("kind") == "CXXBindTemporaryExpr" and self.program.effects.ends(one):
+                raise CannotSay(one, "a temporary object in an argument of a base or member", "it ends behind the constructor of the base or member, and that could be seen")
 
     def tell(self, body, part, operands):
         if not self.made.needs_plan(part.record):
             return
         name = self.program.plan(part.record, None if part.blank else part.constructor, not part.is_base, blank=part.blank)
         body.in_elements(None, part.count, lambda _: body.put(f"{body.functions(None)}->{name}({', '.join(operands)});"))
-
-    # The order.
-
-    def check_order(self, record, constructor, parts):
-        """Refuses an argument that is calculated earlier than C++ does it, where that can be seen."""
-        parameters = {one["id"] for one in tree.parameters(self.made.body(constructor) or constructor)} if constructor else set()
-        before = 0
-        for part in parts:
-            asked = max([order.level(one, parameters) for one in part.arguments] or [0])
-            if asked + before > 2 or asked == 2 and before:
-                raise CannotSay(part.node, "this argument of a base or member", "it would be calculated before the constructor of an earlier base or member runs, and that could be seen")
-            before = max(before, self.code_level(part.record, part.constructor, part.blank))
-
-    def code_level(self, record, constructor, blank=False):
-        """How much the making of a base or member can change."""
-        if blank or constructor is None:
-            return max([self.code_level(inside, self.made.default(inside)) for inside, _ in self.made.subobjects(record)] or [0]) if not blank else 0
-        definition = self.made.body(constructor)
-        if definition is None:
-            return max([self.code_level(inside, self.made.default(inside)) for inside, _ in self.made.subobjects(record)] or [0])
-        own = order.body_level(tree.body_of(definition))
-        inner = [self.code_level(part.record, part.constructor, part.blank) for part in self.told_parts(record, constructor)]
-        values = [order.level(tree.parts(one)[-1], set()) for one in constructions.initialisers(definition) if tree.parts(one) and not self.made.makes_alone(one)]
-        return max([own, *inner, *[2 for value in values if value == 2]])
-
-

@@ -74,7 +74,7 @@ class Printing:
         holes = [found for found in HOLE.finditer(text) if found[5] != "%"]
         if len(holes) != len(arguments) - 1:
             raise CannotSay(node, "printf", "its format does not fit the number of its arguments")
-        operands = [self.filled(body, found, given) for found, given in zip(holes, arguments[1:])]
+        operands = [body.steady(self.filled(body, hole, given), given, arguments[at + 2:]) for at, (hole, given) in enumerate(zip(holes, arguments[1:]))]
         plain = re.sub(r"%(l|ll|h|hh)?[dui]\n$", "%d\n", text) if len(operands) == 1 else text
         self.template(body, ("text", plain if plain == "%d\n" else text), operands)
         return ""

@@ -6,7 +6,7 @@ from .. import clang, problem, program
 from . import back, source
 
 STEPS = "4000000"
-WORDS = {"division": "a division by zero", "end": "the end of the program"}
+WORDS = {"division": "a division by zero", "end": "the end of the program", "index": "an index outside of the array"}
 
 
 class Ran:
@@ -14,7 +14,7 @@ class Ran:
 
     def __init__(self, said, printed, status):
         self.said, self.printed, self.run_status = said, printed, status
-        self.output = back.put_back(said.text, printed)
+        self.output, self.note = back.put_back(said.text, printed), ""
         self.why = "" if self.output.status is not None else self.reason()
 
     def reason(self):
@@ -25,18 +25,29 @@ class Ran:
         number = int(line[1]) if line else self.said.text.encode("latin-1", "replace")[:int(byte[1])].count(b"\n") + 1 if byte else 0
         if not number:
             return last
-        note = WORDS.get(self.said.notes.get(number, ""), "")
+        self.note = note = WORDS.get(self.said.notes.get(number, ""), "")
         place = self.said.places[number - 1] if number <= len(self.said.places) else None
         where = f"{os.path.relpath(place[0])}:{place[1]}:{place[2]}: " if place and place[0] else ""
         words = re.sub(r" (line|at) \d+$", "", last)
         return f"{where}{words}{' (' + note + ')' if note else ''}"
 
 
-def say(files, flags):
-    """The source that says these files."""
+def say(files, flags, placed=False):
+    """The source that says these files; one that is `placed` refuses an index and a division where they stand."""
     for file in files:
         problem.read_text(file)
-    return source.said(clang.unit(files), flags)
+    return source.said(clang.unit(files), flags, placed=placed)
+
+
+def with_place(ran, files, flags):
+    """A run that was refused for an index or a division, once more, with the place of that step; the run itself where it has no such step, or no room for it."""
+    if not ran.note:
+        return ran
+    try:
+        again = run(say(files, flags, placed=True))
+    except problem.Problem:
+        return ran
+    return again if again.note == ran.note else ran
 
 
 def run(said, words=("run",), seconds=None):

@@ -1,11 +1,19 @@
 """Puts a program together: the classes in an order that has each behind those that it needs, the functions, the globals and `main`."""
+import re
+
 from .. import clang, problem
 from .whole import LIMIT_BYTES, LIMIT_CLASSES, Program, Said, main_of
 
 
-def said(text, flags, by=""):
-    """The source that says a program of C++, with what is known of its lines; `by` names the file that the flags are from."""
-    program = Program(text, flags)
+ACCESSOR = re.compile(r"( *)\w+\* at_\w+\(long i\) \{")
+
+
+def said(text, flags, by="", placed=False):
+    """The source that says a program of C++, with what is known of its lines; `by` names the file that the flags are from.
+
+    One that is `placed` is longer, and refuses an index outside of its array and a division by zero where they stand.
+    """
+    program = Program(text, flags, placed)
     main = main_of(program.tree)
     if main is None:
         raise problem.Problem("the files have no main; --program says a whole program, and a program begins there")
@@ -143,15 +151,16 @@ class Text:
         self.add(f"  {self.names.all} = new {self.names.helpers['functions']};")
         for text, place in self.program.globals.start():
             self.add("  " + text, place)
-        self.add(f"  int status = {self.names.all}->{self.main}();")
+        status, bad, mark = (self.names.added(word) for word in ("status", "bad", "mark"))
+        self.add(f"  int {status} = {self.names.all}->{self.main}();")
         for line in self.program.globals.finish():
             self.add("  " + line)
         if self.bad_end is not None:
-            self.add("  bool bad = status != 0;")
-            self.add("  if (bad) {")
-            self.add(f"    {self.names.helpers['text']}* mark = &{self.names.texts}->e[{self.bad_end}];")
-            self.add("    print(mark);")
-            self.add("    print(status);")
+            self.add(f"  bool {bad} = {status} != 0;")
+            self.add(f"  if ({bad}) {{")
+            self.add(f"    {self.names.helpers['text']}* {mark} = &{self.names.texts}->e[{self.bad_end}];")
+            self.add(f"    print({mark});")
+            self.add(f"    print({status});")
             self.add("  }")
         self.add("}")
 
@@ -165,4 +174,17 @@ class Text:
             raise problem.Problem(f"the program needs {classes} classes in the language, and {LIMIT_CLASSES} are the most")
         names = {ours: theirs for theirs, ours in self.names.record_names.items()}
         functions = {ours: self.names.shown(first) for first, ours in self.names.functions.items()}
+        self.note_helpers()
         return Said(text, [place for _, place in self.lines], self.notes, names, self.names.helpers["functions"], functions)
+
+    def note_helpers(self):
+        """Notes the lines that a run refuses for an index outside of its array, or a division by zero."""
+        division, end = self.program.ends.get("division", ""), None
+        for number, (text, _) in enumerate(self.lines, 1):
+            found = ACCESSOR.fullmatch(text)
+            end = found[1] + "}" if found else end
+            if end is not None or self.program.placed and re.fullmatch(r" *\w+ = \w+->at_\w+\(\w+\);", text):
+                self.notes.setdefault(number, "index")
+            elif division and text.endswith(f"->{division}();"):
+                self.notes.setdefault(number, "division")
+            end = None if text == end else end

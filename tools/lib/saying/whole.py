@@ -7,6 +7,8 @@ from .arithmetic import Arithmetic
 from .body import Body
 from .classes import Classes, ConstructorBody, returns_early
 from .constructions import Constructions
+from .early import Early
+from .effects import Effects
 from .globals import Globals
 from .names import Names
 from .plans import Plans
@@ -33,15 +35,16 @@ class Said:
 
 
 class Program:
-    """One program at work. Functions wait in a queue until their bodies are said."""
+    """One program at work. Functions wait in a queue until their bodies are said. One that is `placed` asks each index and divisor at its place."""
 
-    def __init__(self, text, flags):
-        self.text_of_unit, self.flags = text, flags
+    def __init__(self, text, flags, placed=False):
+        self.text_of_unit, self.flags, self.placed = text, flags, placed
         self.tree = tree.Tree(text, flags)
         self.names = Names(self.tree)
         self.shapes = Shapes(self.tree.names, self.names)
         self.boxed = boxes.boxed(self.tree)
         self.printing, self.constructions = Printing(), Constructions(self)
+        self.effects, self.early = Effects(self), Early(self)
         self.classes, self.plans, self.arithmetic, self.globals = Classes(self), Plans(self), Arithmetic(self), Globals(self)
         self.waiting, self.queued = [], set()
         self.functions, self.methods = [], {}
@@ -223,6 +226,9 @@ class Program:
             word = self.element_word(declared, shape)
             self.accessors[owner, name] = f"at_{name}"
             self.classes.add(owner, accessor_lines(f"at_{name}", word, name, shape.length, place_of(declared)))
+            if self.placed:
+                holder = self.names.record(self.tree.record_of_field(declared, node)) if declared["kind"] == "FieldDecl" else owner
+                self.classes.add(owner, asking_lines(f"in_{name}", holder, shape.length, place_of(declared)))
         return self.accessors[owner, name]
 
     # Saying functions.
@@ -338,6 +344,12 @@ def accessor_lines(name, word, member, length, place):
 
     half(0, length, 1)
     lines.append("}")
+    return [(line, place) for line in lines]
+
+
+def asking_lines(name, word, length, place):
+    """A function that gives its object where there is an element of this number, and null else."""
+    lines = [f"{word}* {name}(long i) {{", f"  {word}* r = 0;", "  bool b = i < 0;", "  if (b) {", "    return r;", "  }", f"  b = i < {length};", "  if (b) {", "    r = this;", "  }", "  return r;", "}"]
     return [(line, place) for line in lines]
 
 
