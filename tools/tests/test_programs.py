@@ -1,5 +1,6 @@
 """tools/from-cpp --program and tools/run-cpp on small programs of C++, each with one construct, beside what both compilers' programs print."""
 import glob
+import html
 import os
 import re
 import subprocess
@@ -7,7 +8,7 @@ import tempfile
 import unittest
 
 import support
-from lib import clang, problem
+from lib import clang, problem, program
 from lib.saying import back, beside, runs, source
 
 FOLDER = os.path.join(os.path.dirname(os.path.abspath(__file__)), "programs")
@@ -231,6 +232,32 @@ class RunCpp(unittest.TestCase):
         self.assertEqual(lines[:5], ["call main", "A 4", "built A #+0", "call B::id #+0", "B 3 2"])
         self.assertFalse([line for line in lines if "plan" in line or "_call" in line])
 
+    def moments(self, path):
+        """The lines and texts of the moments of a program's page."""
+        done = support.run("run-cpp", "--page", path)
+        self.assertEqual((done.returncode, done.stderr), (0, ""))
+        rows = re.findall(r'<tr id="s1-moment-.*?</tr>', done.stdout)
+        cells = [[html.unescape(re.sub(r"<[^>]+>", "", cell)) for cell in re.findall(r"<td.*?</td>", row)] for row in rows]
+        return done.stdout, [(cell[1], cell[2]) for cell in cells]
+
+    @support.needs_program
+    def test_a_page_has_the_words_and_lines_of_the_program(self):
+        """What C++ does while a Dog is built, in the lines of the user's file, with the object whose Animal is ready and building."""
+        page, moments = self.moments(os.path.join(program.TOP, "examples", "dog.cpp"))
+        self.assertEqual([text for _, text in moments[:9]], ["call main", "call twice(int)", "new Dog: object #4", "the bases of Dog come first", "the bases of Animal come first", "Animal is ready", "call Animal::speak #4+0", "...", "Animal is built"])
+        self.assertEqual([(line, text) for line, text in moments if "speak" in text or text in ("...", "woof 8")], [("3", "call Animal::speak #4+0"), ("4", "..."), ("9", "call Dog::speak #4+0"), ("10", "woof 8")])
+        self.assertEqual(moments[-1][0], "16")
+        self.assertRegex(moments[-1][1], r"dog\.cpp:16:5: undefined U1 NullUse")
+        self.assertIn("<code>    Dog(int a) : age(a) { speak(); }</code>", page)
+
+    @support.needs_program
+    def test_a_page_of_a_program_that_ends_itself(self):
+        text = "#include <cstdio>\n#include <cstdlib>\nint main() {\n    printf(\"%d and %d\\n\", 1, 2);\n    puts(\"\");\n    exit(3);\n}\n"
+        _, moments = with_file(text, self.moments)
+        self.assertEqual(moments[:3], [("", "call main"), ("4", "1 and 2"), ("5", "an empty line")])
+        self.assertEqual(moments[-1], ("", "the program ends with status 3"))
+        self.assertFalse([text for _, text in moments if "exit" in text or "end" in text.split()], moments)
+
     @support.needs_program
     @support.needs("g++")
     def test_beside_the_compilers(self):
@@ -273,7 +300,7 @@ class RunCpp(unittest.TestCase):
         self.assertIn("the source is not C++ by gnu++98, but by gnu++11", done.stderr)
 
     def test_bad_words(self):
-        for words, status in (([], 2), (["/nowhere.cc"], 2), ([os.path.join(FOLDER, "..", "broken.cc")], 1)):
+        for words, status in (([], 2), (["/nowhere.cc"], 2), (["--page", "--trace", __file__], 2), ([os.path.join(FOLDER, "..", "broken.cc")], 1)):
             done = support.run("run-cpp", *words)
             self.assertEqual((done.returncode, done.stdout), (status, ""))
             self.assertNotIn("Traceback", done.stderr)

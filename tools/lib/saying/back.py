@@ -67,12 +67,17 @@ def put_back(source, printed):
     return out
 
 
+def holes(rows, number):
+    """How many lines behind the number of a template fill its holes."""
+    kind, text = rows[number]
+    return 1 if kind == "exit" else sum(hole[5] != "%" for hole in HOLE.finditer(text)) if kind in ("text", "aside") else 0
+
+
 def filled_in(rows, number, lines, out):
     """Writes the text of a number with what fills its holes, which are the lines behind it; nothing where the run ends before them."""
     try:
         kind, text = rows[number]
-        count = 1 if kind == "exit" else sum(hole[5] != "%" for hole in HOLE.finditer(text)) if kind in ("text", "aside") else 0
-        words = list(itertools.islice(lines, count))
+        words = list(itertools.islice(lines, holes(rows, number)))
         out.last = next((word for word in words if ENDS.fullmatch(word)), "")
         if not out.last:
             template(rows, kind, text, iter(words), out)
