@@ -164,6 +164,8 @@ class Refusals(unittest.TestCase):
             ("int main() {\n  again:\n    goto again;\n}\n", "2:3", "the language has no jumps"),
             ("int main() {\n    asm(\"nop\");\n}\n", "2:5", "inline assembly"),
             ("int main() { double d = 1.5; return d + 1 > 2; }\n", "1:", "floating-point"),
+            ("int main() { double d = 1.5, e = d * 2; return (int)e; }\n", "1:34", "a calculation with floating-point numbers cannot be said"),
+            ("int main() { double d = 1.5; return d == 1.5; }\n", "1:37", "a comparison of floating-point numbers cannot be said"),
             ("int f() { return 1; }\nint main() { int (*p)() = f; return p(); }\n", "2:", "a pointer or reference to a function"),
             ("union U { int a; long b; };\nint main() { U u; u.a = 1; return u.a; }\n", "1:1", "a union"),
             ("struct B { int low : 40; };\nint main() { B b; b.low = 1; return 0; }\n", "1:12", "the bit-field low cannot be said: its width is 40, and int has 32 bits"),

@@ -21,7 +21,7 @@ class Expressions:
         shape = self.shape(node)
         if shape.sort == "object":
             raise CannotSay(node, "an object as a value", "it is used where a number or pointer is wanted")
-        if shape.floating and node["kind"] in ("BinaryOperator", "UnaryOperator", "CompoundAssignOperator") and node["opcode"] not in ("=", ",", "*"):
+        if shape.floating and (node["kind"] in ("BinaryOperator", "CompoundAssignOperator") and node["opcode"] not in ("=", ",") or node["kind"] == "UnaryOperator" and node["opcode"] != "*"):
             raise CannotSay(node, "a calculation with floating-point numbers", "the language has none")
         if node["kind"] in CASTS:
             return self.of_cast(node)
