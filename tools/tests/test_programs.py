@@ -213,6 +213,21 @@ class RunCpp(unittest.TestCase):
         self.assertRegex(done.stderr, r"undefined\.cc:5:5: undefined U2 Dangling\n")
 
     @support.needs_program
+    @support.needs("g++")
+    def test_each_undefined_step_is_named_and_sanitizers_see_what_the_page_says(self):
+        page = written(os.path.join(program.TOP, "docs", "PROGRAMS.md"))
+        rows = re.findall(r"^\| (U(\d+) \w+) \| (yes|no) \| (yes|no) \|", page, re.M)
+        self.assertEqual([int(number) for _, number, _, _ in rows], list(range(1, 13)))
+        for name, number, *seen in rows:
+            path = os.path.join(FOLDER, "..", "undefined", f"u{number}.cc")
+            with self.subTest(name):
+                self.assertRegex(runs.run(said_of(path)).why, rf"u{number}\.cc:\d+:\d+: undefined {name}$")
+                for compiler, word in zip(("g++", "clang++"), seen):
+                    text, status, report = beside.reported(compiler, [path], ["-fsanitize=undefined,address"])
+                    self.assertIsNotNone(text, status)
+                    self.assertEqual(bool(report), word == "yes", report)
+
+    @support.needs_program
     def test_an_index_and_a_division_are_named_where_they_stand(self):
         for text, place, word in (
             ("struct H { int m[2]; int get(int i) { return m[i]; } };\nint main() { H h; h.m[0] = 4; return h.get(0) + h.get(2); }\n", "1:39", "an index outside of the array"),

@@ -1,26 +1,34 @@
 """The same program as a compiler builds it: what it writes, and where that differs."""
 import os
+import re
 import subprocess
 
 from .. import clang
 
 SECONDS = 20
+REPORT = re.compile(r"(?:runtime error|ERROR: AddressSanitizer): (.*?)(?: on (?:unknown )?address .*)?$", re.M)
 
 
 def built(compiler, files, flags):
     """What the program prints and its status, built by a compiler; None and what it said where it is not taken."""
+    return reported(compiler, files, flags)[:2]
+
+
+def reported(compiler, files, flags):
+    """The same, and what a sanitizer among the flags reports first, or an empty text. A leak at the end counts as nothing."""
 
     def work(folder):
         program = os.path.join(folder, "program")
         sources = [os.path.abspath(file) for file in files]
         _, said, good = clang.call([compiler, "-w", "-O0", *flags, "-x", "c++", *sources, "-o", program])
         if not good:
-            return None, next((line for line in said.splitlines() if "error" in line), "it gives no program")
+            return None, next((line for line in said.splitlines() if "error" in line), "it gives no program"), ""
         try:
-            done = subprocess.run([program], stdout=subprocess.PIPE, stderr=subprocess.PIPE, timeout=SECONDS, cwd=folder)
+            done = subprocess.run([program], stdout=subprocess.PIPE, stderr=subprocess.PIPE, timeout=SECONDS, cwd=folder, env={**os.environ, "ASAN_OPTIONS": "detect_leaks=0"})
         except subprocess.TimeoutExpired:
-            return None, f"the program does not end in {SECONDS} seconds"
-        return done.stdout.decode("latin-1"), 128 - done.returncode if done.returncode < 0 else done.returncode
+            return None, f"the program does not end in {SECONDS} seconds", ""
+        report = REPORT.search(done.stderr.decode("latin-1"))
+        return done.stdout.decode("latin-1"), 128 - done.returncode if done.returncode < 0 else done.returncode, report[1] if report else ""
 
     return clang.in_folder(work)
 
