@@ -47,8 +47,8 @@ class Beside:
         for key, part in places[0].items():
             other = places[1].get(key)
             if other is not None and other.place != part.place:
-                part.moved = f"by {self.name} at {amounts.place_text(other.place)}"
-                other.moved = f"by the rules at {amounts.place_text(part.place)}"
+                part.note = f"by {self.name} at {amounts.place_text(other.place)}"
+                other.note = f"by the rules at {amounts.place_text(part.place)}"
 
     def moves(self, name):
         """What is another in the listing, in lines."""

@@ -14,7 +14,7 @@ DEEPEST = 40_000  # calls inside each other: members inside members, at most 1,0
 
 @dataclass
 class Part:
-    """sort: whole, base, shared base, held base, empty base, member, object, element, repeat, virtual pointer, padding or tail padding.
+    """sort: whole, base, shared base, held base, empty base, member, object, element, repeat, cookie, virtual pointer, padding or tail padding.
 
     Place and size are in bytes; those of a bit-field, and of padding beside one, have eighths. `name` is what a picture writes into the
     box, and `told` what the part is, in words.
@@ -26,7 +26,7 @@ class Part:
     name: str
     told: str
     parts: list = field(default_factory=list)
-    moved: str = ""  # where it lies in the layout that this one is drawn beside, where that is another place
+    note: str = ""  # why the part is marked in a picture: where it lies in the layout that this one is drawn beside, or what leads to it
 
     @property
     def end(self):
@@ -43,7 +43,7 @@ class Part:
     @property
     def tip(self):
         """What the part is, with its bytes."""
-        behind = f"; {self.moved}" if self.moved else ""
+        behind = f"; {self.note}" if self.note else ""
         if self.is_mark:
             return f"{self.told}: no bytes, at {self.place}{behind}"
         return f"{self.told}: {amounts.size_text(self.size)} at {amounts.place_text(self.place)}{behind}"

@@ -4,14 +4,14 @@ from xml.sax.saxutils import escape
 
 from . import amounts, strips, svg
 
-PLAIN, MOVED = 'stroke="#222222"', 'stroke="#c0392b" stroke-width="2.4"'  # the border of a box, and of one that lies elsewhere in the other layout
+PLAIN, MARKED = 'stroke="#222222"', 'stroke="#c0392b" stroke-width="2.4"'  # the border of a box, and of one that has a note
 ROW, MARK, GAP, MARGIN, LETTER, SMALL = 26, 11, 6, 26, 6.7, 5.2
 LEAST, MOST, WANTED = 16, 48, 900  # pixels a byte, and of a short object in all
 
 # Fill and pattern of each sort of part. The patterns tell the sorts apart where colours are lost.
 SHADES = {
     "whole": "#ffffff", "base": "#cfe3f5", "shared base": "url(#shared)", "held base": "url(#held)", "empty base": "#cfe3f5", "member": "#fff3c4",
-    "object": "#ffe0a3", "element": "#ffe9c2", "repeat": "url(#repeat)", "virtual pointer": "#4a4a4a", "padding": "url(#padding)", "tail padding": "url(#tail)",
+    "object": "#ffe0a3", "element": "#ffe9c2", "repeat": "url(#repeat)", "cookie": "#f6d5d5", "virtual pointer": "#4a4a4a", "padding": "url(#padding)", "tail padding": "url(#tail)",
 }
 PATTERNS = """<defs>
 <pattern id="shared" width="6" height="6" patternUnits="userSpaceOnUse" patternTransform="rotate(45)"><rect width="6" height="6" fill="#dff0d8"/><rect width="1.6" height="6" fill="#b4d8a4"/></pattern>
@@ -23,7 +23,7 @@ PATTERNS = """<defs>
 </defs>
 """
 KEYS = [("base", "base"), ("shared base", "shared base (*)"), ("held base", "shared base that this subobject holds"), ("empty base", "empty base: no bytes"),
-        ("virtual pointer", "virtual pointer"), ("member", "member"), ("object", "member of class type"), ("element", "first element"), ("repeat", "elements alike"),
+        ("virtual pointer", "virtual pointer"), ("member", "member"), ("object", "member of class type"), ("element", "element"), ("repeat", "elements alike"), ("cookie", "cookie"),
         ("padding", "padding"), ("tail padding", "tail padding")]
 
 
@@ -79,7 +79,7 @@ class Row:
         x, part = self.x(piece.start), piece.part
         self.wide = max(self.wide, self.extent(piece)[1])
         return [f'<g class="empty-base"><title>{escape(part.tip)}</title>',
-                f'<path d="M{x:.1f},{y} l5,9 l-10,0 z" fill="{SHADES[part.sort]}" {MOVED if part.moved else PLAIN}/>',
+                f'<path d="M{x:.1f},{y} l5,9 l-10,0 z" fill="{SHADES[part.sort]}" {MARKED if part.note else PLAIN}/>',
                 f'<text x="{x + 8:.1f}" y="{y + 10}" font-size="11">{escape(part.name)}</text></g>']
 
     def box(self, piece, y, lane):
@@ -87,7 +87,7 @@ class Row:
         self.boxes[id(part)] = (x, y)
         ink = "#ffffff" if part.sort == "virtual pointer" else "#000000"
         lines = [f'<g class="{part.sort.replace(" ", "-")}"><title>{escape(part.tip)}</title>',
-                 f'<rect x="{x:.1f}" y="{y}" width="{width:.1f}" height="{ROW}" fill="{SHADES[part.sort]}" {MOVED if part.moved else PLAIN}/>']
+                 f'<rect x="{x:.1f}" y="{y}" width="{width:.1f}" height="{ROW}" fill="{SHADES[part.sort]}" {MARKED if part.note else PLAIN}/>']
         label = self.label(piece, width, lane)
         if label and SHADES[part.sort].startswith("url"):
             wide = len(label) * LETTER + 4

@@ -5,7 +5,7 @@ from . import amounts, strips
 
 LEAST = 3
 MOST = 14
-BOXES = ("base", "shared base", "held base", "object", "element")
+BOXES = ("base", "shared base", "held base", "object", "element", "cookie")
 
 
 def text(whole, title):

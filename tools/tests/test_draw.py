@@ -7,7 +7,7 @@ import xml.etree.ElementTree as tree
 
 import leaves
 import support
-from lib import parts, picture, program, random_source, table_picture, table_text
+from lib import array_parts, member_parts, parts, picture, program, random_source, table_picture, table_text
 
 EXAMPLES = os.path.join(program.TOP, "examples")
 STREAMS = os.path.join(os.path.dirname(os.path.abspath(__file__)), "streams.cc")
@@ -209,6 +209,76 @@ class Draw(unittest.TestCase):
             self.drawn(HELD, "--folder", folder)
             self.drawn(HELD, "--tables", "--folder", folder)
             self.assertEqual(sorted(os.listdir(folder)), [name + ending for name in "ABCD" for ending in (".svg", ".tables.svg")])
+
+    def test_an_array_has_its_cookie_and_its_elements(self):
+        """The parts of random arrays lie where `array` tells them, and fill the region but for what is behind the elements."""
+        counts = {True: 0, False: 0}
+        for _, text in random_source.sources(40, 17):
+            objects = objects_of(text)
+            for name in objects.layouts:
+                answer, status = program.answer(["array", f"{name}@3"], text)
+                if status:
+                    self.assertEqual(answer, "refused A1 Abstract\n")
+                    continue
+                whole, _, below = array_parts.of_array(objects, f"{name}@3")
+                cookie = [part for part in whole.parts if part.sort == "cookie"]
+                counts[bool(cookie)] += 1
+                self.assertEqual(below[1] == "delete[] ends the elements 2, 1, 0", bool(cookie), name)
+                elements = [part for part in whole.parts if part.sort == "element"]
+                self.assertEqual([f"element {number} at {part.place}" for number, part in enumerate(elements)], re.findall(r"element.*", answer))
+                self.assertEqual([one.end for one in [*cookie, *elements]], [one.place for one in elements[0 if cookie else 1:]] + [whole.size], name)
+        self.assertGreater(min(counts.values()), 5)
+        far = array_parts.of_array(objects_of("struct E { int x; };"), "E@0040")[0]
+        self.assertEqual([part.tip for part in far.parts][-2:], ["E [15]: 4 bytes at 60", "E [16] to [39], each as [0]: 96 bytes at 64"])
+
+    def test_a_pointer_to_a_member_marks_where_it_leads(self):
+        """Of random classes the marked part is the member at the place that `memptr` tells, or the subobject that a function gets."""
+        marked = {"member": 0, "function": 0}
+        for _, text in random_source.sources(30, 19, plain=True):
+            objects = objects_of(text)
+            for name in objects.layouts:
+                for owner in objects.layouts:
+                    fields = {field.name for field in objects.classes[owner].fields}
+                    for member in sorted(fields | {function.name for function in objects.classes[owner].functions if function.kind == "function"}):
+                        answer, status = program.answer(["memptr", f"{owner}::{member}@{name}"], text)
+                        if status == 0:
+                            whole, _, below = member_parts.of_member(objects, f"{owner}::{member}@{name}")
+                            one, = [part for part in whole.all() if part.note]
+                            self.assertEqual(one.place, int(re.search(r"(?:data|adj) (\d+)", answer)[1]), answer)
+                            self.assertEqual(one.name.lstrip("*"), member if member in fields else owner)
+                            self.assertEqual(len(below), 1 if member in fields else 2)
+                            marked["member" if member in fields else "function"] += 1
+        self.assertGreater(min(marked.values()), 20)
+
+    def test_a_dump_has_its_values(self):
+        lines = """dump #3 H 32
+0 01 bool q[0].b
+1 bits 0 3 -2 int q[0].i
+1 bits 3 5 -- int q[0].j
+2 pad 2
+4 00 bool q[1].b
+5 bits 0 3 3 int q[1].i
+5 bits 3 5 -7 int q[1].j
+6 pad 2
+8 null H* to[0]
+16 #2+40 H* to[1]
+24 ff char c[0]
+25 -- char c[1]
+26 pad 6
+program
+struct Q { bool b; int i : 3; int j : 5; }; struct H { Q q[2]; H* to[2]; char c[2]; };
+"""
+        with tempfile.TemporaryDirectory() as folder:
+            path = os.path.join(folder, "dumped")
+            with open(path, "w", encoding="utf-8") as file:
+                file.write(lines)
+            document = tree.fromstring(self.drawn("", "--dump", path))
+            text = self.drawn("", "--dump", path, "--text")
+        tips = [one.find(SVG + "title").text for one in groups(document)]
+        for told in ("bool b = 1: 1 byte at 0", "int i : 3 = -2: 3 bits at 1", "int j : 5 = unset: 5 bits at 1.3", "bool b = 0: 1 byte at 4", "int i : 3 = 3: 3 bits at 5", "int j : 5 = -7: 5 bits at 5.3",
+                     "H*[2] to = null, #2+40: 16 bytes at 8", "char[2] c = -1, unset: 2 bytes at 24"):
+            self.assertIn(told, tips)
+        self.assertIn("  8: H*[2] to = null, #2+40\n", text)
 
     def test_options_between_the_words(self):
         with tempfile.TemporaryDirectory() as folder:

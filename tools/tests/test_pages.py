@@ -1,6 +1,7 @@
 """The examples of the pages are what the program answers: README.md, and those of docs/ that show a source with its answer."""
 import os
 import re
+import shutil
 import subprocess
 import tempfile
 import unittest
@@ -144,6 +145,50 @@ class Commands(unittest.TestCase):
                 self.assertTrue(os.path.exists(os.path.join(program.TOP, os.path.dirname(name), target)), f"{name}: {target}")
 
 
+# what made the pictures whose command does not stand beside them
+MADE_BY = {
+    "diamond.svg": "tools/draw D < examples/diamond.cpp", "marked.svg": "tools/listing examples/sample.h -- --target=arm64-apple-ios | tools/draw --beside - Marked",
+    "button.svg": "tools/from-cpp /usr/include/FL/Fl_Button.H --class Fl_Button | tools/draw Fl_Button",
+}
+
+
+class Pictures(unittest.TestCase):
+    folder = os.path.join(program.TOP, "docs", "pictures")
+
+    def shown(self):
+        """The alternative text and the file of each picture that a page shows, by the page."""
+        for name in PAGES:
+            for told, target in re.findall(r"!\[([^\]]*)\]\(([^)]*)\)", page(name)):
+                yield name, told, os.path.basename(target)
+
+    def test_each_is_shown_and_told(self):
+        self.assertEqual({file for _, _, file in self.shown()}, set(os.listdir(self.folder)))
+        for name, told, file in self.shown():
+            self.assertGreater(len(told.split()), 3, f"{name}: {file}")
+
+    def test_a_picture_and_an_example_for_each_command(self):
+        """The commands that have a page of their own."""
+        pages = {name for name, _, _ in self.shown()}
+        for command, name in re.findall(r"^\| `(\w+)[^|]*\| .*?\(\[\w+\.md\]\((docs/\w+\.md)\)\)", page("README.md"), re.M):
+            if command != "gen":
+                self.assertIn(name, pages)
+                self.assertTrue(any(re.search(rf"\./tagymelur {command}\b", one) for one, _ in commands(page(name))), f"{name} has no example of {command}")
+
+    @support.needs_program
+    @support.needs("sh")
+    def test_each_drawing_is_what_its_command_prints(self):
+        made_by = dict(MADE_BY)
+        for name in PAGES:
+            made_by.update({file: command for command, file in re.findall(r"^    (tools/.*) > docs/pictures/(\S+)$", page(name), re.M)})
+        drawings = {name for name in os.listdir(self.folder) if name.endswith(".svg")}
+        self.assertEqual(set(made_by), drawings)
+        for file, command in made_by.items():
+            if ("listing" in command or "from-cpp" in command) and not shutil.which("clang++") or "/FL/" in command and not os.path.exists("/usr/include/FL/Fl_Button.H"):
+                continue
+            done = subprocess.run(["sh", "-c", command], cwd=program.TOP, capture_output=True, encoding="utf-8", env=dict(os.environ, TAGYMELUR=program.path()))
+            self.assertEqual(done.stdout, page("docs", "pictures", file), f"{command}: {done.stderr}")
+
+
 @support.needs_program
 class Sources(unittest.TestCase):
     """The classes that pages show are taken, and have the sizes and words that the pages say."""
@@ -281,6 +326,21 @@ class Pages(unittest.TestCase):
         self.assertEqual(program.answer(["run", "--steps", "20"], source)[1], 0)
         pure = source.replace("{ return 2; }", "= 0;")
         self.assertEqual(program.answer(["run"], pure), ("undefined U6 PureCall line 2\n", 3))
+
+    def test_a_dump_that_is_none(self):
+        text, dumped = page("docs", "INSPECT.md"), example("dumped.txt")
+        said, = re.findall(r"With `(\w+)` in place of `(\w+)` the answer is `(refused .*?)`, and so it is with `([\w-]+)`", text)
+        short, proper, answer, mixed = said
+        for value in (short, mixed):
+            self.assertEqual(program.answer(["inspect"], dumped.replace(proper, value)), (f"{answer}\n", 1))
+
+    def test_a_listing_that_overlaps(self):
+        text, moved = page("docs", "FOREIGN.md"), example("moved.txt")
+        line = re.search(r"With `(.*?)` in the fourth line", text)[1].split("\n")[0]
+        lines = moved.splitlines()
+        lines[3] = line
+        self.assertEqual(program.answer(["foreign"], "\n".join(lines) + "\n"), ("refused F6 Overlap line 1\n", 1))
+        self.assertIn("\nrefused F6 Overlap line 1\n", text)
 
     def test_the_generated_source(self):
         text = page("docs", "RUNS.md")

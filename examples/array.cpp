@@ -1,0 +1,1 @@
+struct X { long a; virtual ~X() {} };
