@@ -16,12 +16,12 @@ NO_SOURCE = "Dear reader,\n\tthis is no source: \"at all\" # \x01\n"
 # for each tool the words that take a source, where {} is its file, or nothing where it comes on standard input
 TAKING = {
     "as-json": ["layout", "--source", "{}"], "cross-check": ["{}"], "cross-run": ["{}"], "draw": ["A", "{}"], "explain": ["check"], "from-cpp": ["{}"], "gcc-tests": ["{}"], "listing": ["{}"],
-    "no-memory": ["--about", "2", "check"], "other-layouts": ["{}"], "padding": ["A", "{}"], "page": ["{}"], "run-cpp": ["{}"], "same-runs": ["{}"], "worked-cases": ["{}"],
+    "no-memory": ["--about", "2", "check"], "other-layouts": ["{}"], "padding": ["A", "{}"], "page": ["{}"], "read-dumps": ["{}"], "run-cpp": ["{}"], "same-runs": ["{}"], "worked-cases": ["{}"],
 }
 WITHOUT = {"large-source": [], "timings": ["--list"], "definition-lines": [], "package": ["made"], "c-library": ["made"], "fuzz": ["--inputs", "2"], "stack": ["--under", "8000"]}  # these take none, and these words do well
 NO_WORDS = {
     "as-json": 2, "c-library": 2, "cross-check": 2, "cross-run": 2, "definition-lines": 0, "draw": 1, "explain": 2, "from-cpp": 2, "gcc-tests": 2, "large-source": 0, "listing": 2, "no-memory": 2, "other-layouts": 2, "package": 2, "padding": 1,
-    "page": 1, "run-cpp": 2, "same-runs": 2, "worked-cases": 2,
+    "page": 1, "read-dumps": 2, "run-cpp": 2, "same-runs": 2, "worked-cases": 2,
 }
 ODD = {
     "as-json": [["nosuch"], ["run", "A"], ["layout", "--steps", "3"], ["run", "--steps", "0"], ["run", "--steps", "9" * 30]], "c-library": [["--built"], ["made", "--built", "/nowhere/library"], ["made", "more"]],
@@ -31,12 +31,12 @@ ODD = {
     "definition-lines": [["more"]], "draw": [["A", "B", "C"], ["--folder"], ["--nothing"], ["--beside"], ["--beside", "{}", "--tables"], ["--beside", "/nowhere/file"], ["--array", "A@0"], ["--array", "A@4097"], ["--array", "A@3", "--member", "A::c"], ["--member", "A"], ["--dump", "/nowhere/file"], ["--dump", "{}", "A"], ["--array", "A@3", "--folder", "x"]], "explain": [["--code", "E99"], ["--code", ""]],
     "from-cpp": [["--class"], ["--program", "--print", "{}"], ["--print", "{}", "{}"], ["--program", "--all", "{}"]], "gcc-tests": [["--jobs", "0", "{}"], ["--jobs", "x", "{}"], ["--table"]],
     "run-cpp": [["--nothing", "{}"], ["--trace"]], "large-source": [["nosuch"], ["chain", "99"], ["chain", "1", "2"]], "listing": [["--object"], ["--source", "{}", "{}"], ["--object", "{}", "--source"], ["--object", "/nowhere/file.o"], ["{}", "--nothing"], ["{}", "--chance", "1"]], "no-memory": [["nosuch"], ["--every", "0", "check"], ["--jobs", "-1", "check"]],
-    "other-layouts": [["--random", "0"], ["--nothing"], ["--seed", "x", "{}"]], "padding": [["A", "B", "C"]], "same-runs": [["--steps", "0", "x"], ["--seconds", "-1", "x"]], "timings": [["--only", "nosuch"], ["--runs", "0"]], "worked-cases": [["--nothing"]],
+    "other-layouts": [["--random", "0"], ["--nothing"], ["--seed", "x", "{}"]], "padding": [["A", "B", "C"]], "read-dumps": [["--random", "0"], ["--changed", "x", "{}"], ["--nothing"], ["--keep", "/dev/null/x", "{}"]], "same-runs": [["--steps", "0", "x"], ["--seconds", "-1", "x"]], "timings": [["--only", "nosuch"], ["--runs", "0"]], "worked-cases": [["--nothing"]],
 }
 # the status where a source is empty or is none of the language; each other tool has 1. A program that asks for no memory there, or
 # whose allocations cannot be counted, is told by no-memory with status 2
-EMPTY = {"as-json": 0, "cross-check": 2, "cross-run": 2, "explain": 0, "gcc-tests": 2, "no-memory": (0, 2), "other-layouts": 0, "same-runs": 0}
-WRONG = {"cross-check": 2, "cross-run": 2, "gcc-tests": 2, "no-memory": (0, 2), "other-layouts": 2, "same-runs": 0}
+EMPTY = {"as-json": 0, "cross-check": 2, "cross-run": 2, "explain": 0, "gcc-tests": 2, "no-memory": (0, 2), "other-layouts": 0, "read-dumps": 2, "same-runs": 0}
+WRONG = {"cross-check": 2, "cross-run": 2, "gcc-tests": 2, "no-memory": (0, 2), "other-layouts": 2, "read-dumps": 2, "same-runs": 0}
 COMPILERS = {"c-library": ["made"], "cross-check": ["{}"], "cross-run": ["{}"], "from-cpp": ["{}"], "fuzz": ["--beside", "--inputs", "1"], "gcc-tests": ["{}"], "listing": ["{}"], "no-memory": ["check"], "run-cpp": ["{}"], "timings": ["--only", "compilers"]}
 OF_CPP = {"from-cpp", "gcc-tests", "listing", "run-cpp"}
 NAMES = sorted(name for name in os.listdir(support.TOOLS) if os.path.isfile(os.path.join(support.TOOLS, name)))
