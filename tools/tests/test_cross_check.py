@@ -2,11 +2,12 @@
 import os
 import re
 import stat
+import subprocess
 import tempfile
 import unittest
 
 import support
-from lib import compare, compiled_tables, compiled_types, compilers, cookies, layout_text, member_pointers, problem, program, random_source, source
+from lib import compare, compiled_tables, compiled_types, compilers, cookies, layout_text, member_pointers, object_files, problem, program, random_source, source
 
 EXAMPLES = os.path.join(program.TOP, "examples")
 DIAMOND = os.path.join(EXAMPLES, "diamond.cpp")
@@ -280,6 +281,62 @@ class Answers(unittest.TestCase):
             done = support.run("cross-check", *words, text=text)
             self.assertEqual((done.returncode, done.stdout), (2, ""))
             self.assertIn(said, done.stderr)
+
+
+@support.needs_program
+@support.needs_elftools
+class Objects(unittest.TestCase):
+    """The layouts of an object file of C++ beside those of the program: `--object`."""
+
+    SOURCE = """struct V { long v; virtual void f(); };
+void V::f() {}
+template <class T> struct Of : virtual V { T t; Of* next; };
+struct Gap { int a; int : 32; char c; };
+struct Wide { int a; } __attribute__((aligned(16)));
+union U { int i; char c[6]; };
+Of<int> one; Gap gap; Wide wide; U u;
+"""
+
+    def compared(self, compiler, version):
+        with tempfile.TemporaryDirectory() as folder:
+            path = os.path.join(folder, "classes.o")
+            flags = ["-femit-class-debug-always"] if compiler == "g++" else ["-fstandalone-debug"]
+            subprocess.run([compiler, f"-gdwarf-{version}", "-fno-eliminate-unused-debug-types", *flags, "-c", "-x", "c++", "-o", path, "-"], input=self.SOURCE, encoding="utf-8", check=True)
+            done = support.run("cross-check", "--show", "--object", path)
+            return done, done.stdout.replace(path, "classes.o")
+
+    @support.needs("g++", "clang++")
+    def test_both_compilers(self):
+        for compiler in ("g++", "clang++"):
+            for version in (4, 5):
+                done, told = self.compared(compiler, version)
+                self.assertEqual((done.returncode, done.stderr), (0, ""), told)
+                self.assertEqual(told.splitlines(), [
+                    "Gap, classes.o: bit-fields without a name are not told, so that the class is said without them",
+                    "  class Gap size 8 align 4 dsize 8 nvsize 8 nvalign 4", "  4 field char c", "  classes.o: class Gap size 12 align 4 dsize 12 nvsize 12 nvalign 4", "  classes.o: 8 field char c",
+                    "Wide, classes.o: a class or member that is aligned above 8 has an alignment of 8 here", "  class Wide size 16 align 8 dsize 16 nvsize 16 nvalign 8",
+                    "  classes.o: class Wide size 16 align 16 dsize 16 nvsize 16 nvalign 16",
+                    "classes.o: 4 classes compared with all members, 1 by a stand-in of their size, 0 not told",
+                    "1 classes differ: a class or member that is aligned above 8 has an alignment of 8 here", "1 classes differ: bit-fields without a name are not told, so that the class is said without them",
+                    "1 object files, 0 new differences"])
+
+    def test_a_difference_is_new_where_no_reason_is_known(self):
+        head = lambda size, align: f"class X size {size} align {align} dsize {size} nvsize {size} nvalign {align}"
+        plain = ["primary none", "0 field int a", "4 field int b"]
+        for ours, theirs, known in (
+            ([head(8, 4), *plain], [head(12, 4), "primary none", "0 field int a", "8 field int b"], object_files.UNNAMED), ([head(8, 4), *plain], [head(16, 4), *plain], object_files.UNNAMED),
+            ([head(8, 4), *plain], [head(8, 4), "primary none", "4 field int a", "0 field int b"], ""), ([head(8, 4), *plain], [head(8, 8), *plain], ""), ([head(32, 8), *plain], [head(32, 16), *plain], object_files.ALIGNED),
+            ([head(32, 8), *plain], [head(48, 16), *plain], ""), ([head(16, 8), "primary B", "0 base B"], [head(24, 8), "primary B", "0 base B"], ""), ([head(16, 8), "primary none", "0 field int a"], [head(24, 8), "primary none", "4 field int a"], object_files.UNNAMED),
+            ([head(8, 4), *plain], [head(12, 4), "primary none", "4 field int a", "4 field int b"], ""),
+        ):
+            self.assertEqual(object_files.reason(ours, theirs), known, f"{ours} {theirs}")
+
+    def test_bad_input(self):
+        for words, said in ((["--object", "/nowhere/file.o"], "cannot be read"), (["--object", __file__], "is no object file"), (["--object", "x.o", "--random", "3"], "stands alone")):
+            done = support.run("cross-check", *words)
+            self.assertEqual((done.returncode, done.stdout), (2, ""))
+            self.assertIn(said, done.stderr)
+            self.assertNotIn("Traceback", done.stderr)
 
 
 class Words(unittest.TestCase):
