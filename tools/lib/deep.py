@@ -1,7 +1,8 @@
 """The deepest shapes of each command: blocks, bases, members in members, open calls, and long texts of one class."""
 from dataclasses import dataclass
 
-from . import limits, run_shapes, shapes
+from . import chance_layouts, limits, listing, run_shapes, shapes
+from . import source as sources
 
 DEPTH = 1023  # members in members, or bases
 
@@ -44,6 +45,41 @@ def virtual_members():
     return shapes.construction_chain(1) + "struct M { " + " ".join(f"K{n} m{n};" for n in range(60)) + " };\n" + "int main() { M* p = new M; M* q = new M; *p = *q; dump(p); delete q; }\n"
 
 
+def listed(source):
+    """A source behind a listing of its classes, which is sound and none of a compiler: the input of `foreign`."""
+    classes = sources.classes(source)
+    return listing.with_program(listing.text(classes, chance_layouts.Chance(classes, 1).seen), source)
+
+
+def dumped_elements():
+    """A dump of 8,192 numbers with its source: more have no room in 262,144 bytes."""
+    lines = "".join(f"{at} -- char b[{at // 4096}].a[{at % 4096}]\n" for at in range(8192))
+    return listing.with_program(f"dump #1 B 8192\n{lines}", "struct A { char a[4096]; };\nstruct B { A b[2]; };\n")
+
+
+def dumped_members():
+    """A dump of the number in the innermost member, with its source."""
+    place = ".".join(["m"] * (DEPTH + 1))
+    return listing.with_program(f"dump #1 M{DEPTH} 4\n0 07000000 int {place}\n", members("dump(p);"))
+
+
+def over_more_than_a_source():
+    """The commands of arrays, pointers to members, listings and dumps."""
+    chain, overriding = shapes.chain(1), shapes.overriding_chain(1)
+    return [
+        Deep("elements with 1,022 bases in a chain", ("array", "K1022@3"), chain),
+        Deep("elements of 65,536 parts", ("array", "B@15"), shapes.parts(1)),
+        Deep("4,096 elements that are ended", ("array", "A@4096"), "struct A { ~A() {} };"),
+        Deep("a member of the innermost of 1,022 bases", ("memptr", "K0::x@K1022"), chain),
+        Deep("a function of the innermost of 1,022 bases, which each overrides", ("memptr", "K0::f@K1022"), overriding),
+        Deep("a listing of 65,536 parts", ("foreign",), listed(shapes.with_main(shapes.parts(1)))),
+        Deep("a listing of 1,021 subobjects in diamonds", ("foreign",), listed(shapes.with_main(shapes.diamonds(1)))),
+        Deep("a listing of 1,023 members in each other", ("foreign",), listed(members("print(1);"))),
+        Deep("a dump of 8,192 numbers", ("inspect",), dumped_elements()),
+        Deep("a dump of a number in 1,023 members", ("inspect",), dumped_members()),
+    ]
+
+
 def over_one_source(what, source, class_name, *more):
     """The commands that read a source, on one, and further ones."""
     words = [("check",), ("layout",), ("layout", class_name), ("tables",), ("tables", class_name), ("run",), ("run", "--trace"), ("paths",), *more]
@@ -80,4 +116,5 @@ def rows():
         *over_a_run("members with virtual bases, copied, dumped and ended", virtual_members()),
         *over_a_run("casts among 1,000 subobjects", run_shapes.cross_casts(10).source),
         Deep("1,000 classes", ("gen", "1000"), ""),
+        *over_more_than_a_source(),
     ]

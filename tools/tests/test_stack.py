@@ -8,6 +8,7 @@ import unittest.mock
 
 import support
 from lib import deep, stack
+from lib.fuzzing import commands
 
 # A program that needs some 512 kB of stack
 NEEDY = r"""
@@ -20,6 +21,16 @@ int main(void) {
     return write(1, "right\n", 5 + room[0]) == 6 ? 0 : 7;
 }
 """
+
+
+class Shapes(unittest.TestCase):
+    def test_each_command_has_a_deep_shape(self):
+        tried = {row.words[0] for row in deep.rows()}
+        self.assertEqual(tried, {command.name.split()[0] for command in commands.COMMANDS})
+
+    def test_what_is_given_fits_into_a_source(self):
+        for row in deep.over_more_than_a_source():
+            self.assertLessEqual(len(row.source), 262_144, row.what)
 
 
 @support.needs("gcc", "sh")
