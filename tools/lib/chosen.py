@@ -3,9 +3,12 @@ import os
 import re
 
 from . import clang, cpp_tree, restate
+from .cpp_types import without_arguments
 from .problem import Problem
 
 COMPLETE = "tagymelur_complete"
+ASK = "{}, of which the source makes no class: --class '{}<int>' makes one"
+MOST_SHOWN = 20
 
 
 def names(arguments, text, flags):
@@ -54,8 +57,17 @@ def records(found, arguments, text, flags):
     named = [record for record in found.order if not (record.is_nameless and record.tag == "union")]
     chosen = [record for record in named if arguments.all or cpp_tree.is_in(record, files)]
     if not chosen:
-        raise Problem("the files define no class; --all takes those of the headers that they include, --class NAME one of them")
+        made = templates(found, arguments)
+        raise Problem(f"the files define no class{', but class templates: ' + ASK.format(', '.join(made[:MOST_SHOWN]), made[0]) if made else ''}; --all takes those of the headers that they include, --class NAME one of them")
     return chosen
+
+
+def templates(found, arguments):
+    """The class templates of the files of which the source makes no class."""
+    if arguments.classes:
+        return []
+    files, made = _files(arguments), {without_arguments(name) for record in found.order for name in record.names}
+    return [name for name, file in found.templates.items() if name not in made and (arguments.all or os.path.realpath(file) in files)]
 
 
 def _named(found, name, text, flags):
@@ -65,10 +77,20 @@ def _named(found, name, text, flags):
     by = _other_standards(name, text, flags)
     if by:
         raise Problem(f"no class {name} is defined here by {clang.standard_by(flags)[0]}, but by {' and '.join(by)}: give -- -std={by[0]}")
-    near = _near(found, name)
+    plain, near = cpp_tree.spelled(name), _near(found, name)
+    unmade = [one for one in [*found.templates, *found.declared] if one not in found.records and plain in (one, _last(one))]
+    if plain in unmade or unmade and not near:
+        raise Problem(_unmade(found, plain if plain in unmade else unmade[0]))
     if len(near) == 1:
         raise Problem(f"no class {name} is defined here, but {near[0]} is: give --class '{near[0]}'")
     raise Problem(f"no class {name} is defined here; give the whole name with its namespaces" + (f"; did you mean {', '.join(near)}?" if near else ""))
+
+
+def _unmade(found, name):
+    """What is said of a name that the source has, and that is no class that it defines."""
+    if name in found.templates:
+        return f"{name} is a class template: give its arguments, as --class '{name}<int>'"
+    return f"{name} is declared here and not defined, so nothing is known of its members: give the header that defines it"
 
 
 def _near(found, name):

@@ -43,7 +43,7 @@ class Base:
 
 @dataclass
 class Record:
-    """A complete class of the source. `names` are the spellings by which types may name it, the first is the full one."""
+    """A complete class of the source. `names` are spellings that mean it and no other class, the first is the full one."""
 
     names: list
     tag: str
@@ -91,6 +91,8 @@ class Names:
     constants: dict = field(default_factory=dict)
     order: list = field(default_factory=list)
     incomplete: dict = field(default_factory=dict)  # the specialisations that the source does not complete, with the file of each
+    templates: dict = field(default_factory=dict)  # the class templates that are defined, with the file of each
+    declared: set = field(default_factory=set)  # the classes that are declared; those that are defined are records
 
     def record(self, name):
         """The class of a name, also by typedefs."""
@@ -202,6 +204,8 @@ class _Walk:
             known[index] = (_type(child), default, child.get("name"))
         for pattern in _children(node, "CXXRecordDecl"):
             self.pattern(pattern)
+            if pattern.get("completeDefinition"):
+                self.names.templates.setdefault(spelled(scopes[0] + node.get("name", "")), _place(node).get("file", ""))
         for one in _children(node, "ClassTemplateSpecializationDecl"):
             self.record(one, scopes)
 
@@ -257,8 +261,9 @@ class _Walk:
             found.setdefault(str(value), scope + constant.get("name", ""))
         return found
 
-    def spellings(self, node, scopes):
-        """The full name of a class, and those that leave out arguments which are the defaults, from the last on."""
+    def spellings(self, node, scopes, is_default=None):
+        """The full name of a class, and those that leave out arguments which may be the defaults, from the last on."""
+        is_default = is_default or _may_be_default
         name = node.get("name") or _unnamed(node)
         if node["kind"] != "ClassTemplateSpecializationDecl":
             return [scope + name for scope in scopes]
@@ -269,7 +274,7 @@ class _Walk:
             arguments.append(self.argument(child, types.get(kind, kind)))
             types[own] = arguments[-1]
         fronts = [[argument for argument in arguments if argument]]
-        while fronts[-1] and _may_be_default(fronts[-1][-1], parameters.get(len(fronts[-1]) - 1, NO_PARAMETER)[1]):
+        while fronts[-1] and is_default(fronts[-1][-1], parameters.get(len(fronts[-1]) - 1, NO_PARAMETER)[1], types, scopes[0]):
             fronts.append(fronts[-1][:-1])
         return [f"{scope}{name}<{', '.join(front)}>" for scope in scopes for front in fronts]
 
@@ -292,6 +297,8 @@ class _Walk:
         if node.get("isImplicit") or not node.get("completeDefinition"):
             if node["kind"] == "ClassTemplateSpecializationDecl":
                 self.names.incomplete.setdefault(self.spellings(node, scopes)[0], _place(node).get("file", ""))
+            elif not node.get("isImplicit"):
+                self.names.declared.add(spelled(self.spellings(node, scopes)[0]))
             return
         spellings = _by_constructor(node, self.spellings(node, scopes))
         inner = [name + "::" for name in spellings] + (scopes if "name" not in node else [])
@@ -300,10 +307,11 @@ class _Walk:
         if full in self.names.records and self.names.records[full].name == full:
             return
         data, place = node.get("definitionData", {}), _place(node)
-        one = Record([spelled(name) for name in spellings], node.get("tagUsed", "struct"), place.get("file", ""), place.get("line", 0), data.get("isPOD", False))
+        sure = [spelled(name) for name in _by_constructor(node, self.spellings(node, scopes, _is_default))]
+        one = Record(sure, node.get("tagUsed", "struct"), place.get("file", ""), place.get("line", 0), data.get("isPOD", False))
         one.is_tagged, one.is_abstract = "name" in node, data.get("isAbstract", False)
         one.attribute = _shaping(node)
-        for name in reversed(one.names):
+        for name in reversed([spelled(name) for name in spellings]):
             known = self.names.records.get(name)
             if known is None or name == one.name:
                 self.names.records[name] = one
@@ -383,12 +391,20 @@ def _method(node, access):
     return Method(node["name"], _type(node), parameters, node.get("virtual", False), node.get("pure", False), access, node.get("mangledName", ""), deleted)
 
 
-def _may_be_default(argument, default):
+def _may_be_default(argument, default, *_):
     """Whether an argument can be the default of its parameter; one that names other parameters is not compared."""
     if default is None:
         return False
     plain = spelled(default)
     return not re.fullmatch(r"[a-z ]+", plain) or plain == spelled(argument)
+
+
+def _is_default(argument, default, arguments, scope):
+    """Whether an argument is the default of its parameter, which may name others, by their `arguments`, and what is in the template's own scope."""
+    if default is None:
+        return False
+    default = re.sub(r"\w+", lambda word: arguments.get(word[0]) or word[0], default)
+    return spelled(default).replace(scope, "") == spelled(argument).replace(scope, "")
 
 
 def _place(node):

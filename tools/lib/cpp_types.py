@@ -143,10 +143,16 @@ class Types:
         under = self.found(self.names.enums, name)
         if under:
             return Kind("scalar", self.kind(under, depth + 1).word, note=name, change="enumerations")
-        other = self.found(self.names.typedefs, name)
+        other = self.found(self.names.typedefs, name) or self.with_arguments_meant(name)
         if other:
             return self.kind(other, depth + 1)
         return Kind("unknown", note=name, change="types that no name of this source leads to")
+
+    def with_arguments_meant(self, name):
+        """The name of a specialisation with what its arguments are by their typedefs; none where they are none."""
+        head, bracket, rest = name.partition("<")
+        meant = re.sub(r"(?<![\w:>])[a-zA-Z_][\w:]*(?![\w:<])", lambda word: self.found(self.names.typedefs, word[0]) or word[0], rest)
+        return head + bracket + meant if spelled(meant) != rest else None
 
     def size(self, kind):
         """The bytes of one element of a kind; 0 where they are not known."""

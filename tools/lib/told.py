@@ -2,13 +2,15 @@
 from collections import Counter
 
 from . import class_text
+from .chosen import ASK, MOST_SHOWN
 from .restate import LEFT_OUT, MOST_PARAMETERS, SAID, STAND_IN, shown
 
 MOST_BYTES, MOST_CLASSES = 262144, 1024  # the limits L1 and L2 of the program
 
 
-def lines(restating, restated, chosen, quiet):
-    """The lines for standard error."""
+def lines(restating, restated, chosen, arguments, templates=()):
+    """The lines for standard error, by the words of the tool. The templates are those of which there is no class."""
+    quiet = arguments.quiet
     said = [record for record in restated.records if restating.level(record)[0] == SAID]
     stand_ins = [record for record in restated.records if restating.level(record)[0] == STAND_IN]
     left_out = [record for record in chosen if restating.level(record)[0] == LEFT_OUT]
@@ -16,7 +18,7 @@ def lines(restating, restated, chosen, quiet):
     found += _counted("members of other types", _members(restating, said)) + _counted("types in signatures", _signatures(restating, said))
     found += [f"not as in C++: {shown(record)}: {restating.plan(record).unlike}" for record in said if restating.plan(record).unlike and not quiet]
     found += _grouped("a stand-in of its size", restating, stand_ins, quiet) + _grouped("left out", restating, left_out, quiet)
-    found += _limits(restated)
+    found += _templates(templates, quiet) + _limits(restated, arguments.classes)
     stand_in = f", {len(stand_ins)} by a stand-in of their size" if stand_ins else ""
     return found + [f"{len(said)} classes said{stand_in}, {len(left_out)} left out"]
 
@@ -80,10 +82,18 @@ def _grouped(title, restating, records, quiet):
     return [f"{title}: {', '.join(names)}: {reason}" for reason, names in reasons.items()]
 
 
-def _limits(restated):
-    """Whether the text is more than the program takes, and what to do then."""
+def _templates(templates, quiet):
+    if not templates:
+        return []
+    shown = ", ".join(templates[:MOST_SHOWN]) + (f" and {len(templates) - MOST_SHOWN} more" if len(templates) > MOST_SHOWN else "")
+    return [f"class templates {len(templates)}" + ("" if quiet else ": " + ASK.format(shown, templates[0]))]
+
+
+def _limits(restated, named):
+    """Whether the text is more than the program takes, and what to do then; of classes that were named there is nothing to leave out."""
     size, count = len(restated.text.encode("utf-8", "replace")), len(restated.records) + ("struct opaque {" in restated.text)
     if size <= MOST_BYTES and count <= MOST_CLASSES:
         return []
     over = [f"{size} bytes, where {MOST_BYTES} are the most (L1)"] * (size > MOST_BYTES) + [f"{count} classes, where {MOST_CLASSES} are the most (L2)"] * (count > MOST_CLASSES)
-    return [f"too much for one source: {' and '.join(over)}: --class NAME gives one class and what it needs"]
+    advice = "that is what these classes need" if named else "--class NAME gives one class and what it needs"
+    return [f"too much for one source: {' and '.join(over)}: {advice}"]

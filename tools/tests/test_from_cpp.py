@@ -197,11 +197,34 @@ class FromCpp(unittest.TestCase):
         self.assertIn("struct n_Box_bool {\n  bool t;\n", self.said(from_text(text, "--class", "n::Box<bool>")))
         self.assertIn("struct n_Box_char {\n  char t;\n", self.said(from_text(text)))
 
+    def test_a_template_of_which_there_is_no_class_is_told(self):
+        text = "namespace n { template<class T> struct Stack { T t; }; template<class T, int N> struct Fixed { T t[N]; }; template<class T> struct Used { T t; }; } struct Hidden; struct A { n::Used<int> u; Hidden* h; };"
+        done = from_text(text)
+        self.assertIn("class templates 2: n::Stack, n::Fixed, of which the source makes no class: --class 'n::Stack<int>' makes one\n", done.stderr)
+        self.assertIn("class templates 2\n", from_text(text, "--quiet").stderr)
+        done = from_text("template<class T> struct Stack { T t; };")
+        self.assertEqual(done.returncode, 1)
+        self.assertIn("the files define no class, but class templates: Stack, of which the source makes no class: --class 'Stack<int>' makes one", done.stderr)
+        for name, said in (("Stack", "n::Stack is a class template: give its arguments, as --class 'n::Stack<int>'"), ("n::Fixed", "n::Fixed is a class template"), ("Hidden", "Hidden is declared here and not defined")):
+            self.assertIn(said, from_text(text, "--class", name).stderr)
+
+    def test_a_short_name_is_shown_where_all_that_it_leaves_out_is_default(self):
+        text = """namespace n { template<long a, long b = 1> struct Ratio {}; template<class T> struct Less {}; template<class T, class R = Ratio<1, 1>, class L = Less<T> > struct Time { T t; };
+            typedef Time<int> Seconds; }
+            struct A { n::Time<int, n::Ratio<1, 1000> > milli; n::Seconds second; virtual void f(n::Time<int, n::Ratio<1, 1000> >*, n::Time<n::Time<n::Seconds> >*); }; struct B { n::Time<n::Time<n::Time<int> > > t; };"""
+        said = self.said(from_text(text))
+        self.assertIn("// n::Time<int, n::Ratio<1, 1000>>\n", said)
+        self.assertIn("// n::Time<int>\n", said)
+        self.assertIn("virtual void f(n_Time_int_n_Ratio_1_1000* p1, n_Time_n_Time_n_Time_int* p2) {}", said)
+        self.assertEqual(len(re.findall(r"^// n::Time<int", said, re.M)), 2)
+
     def test_more_than_the_program_takes_is_told(self):
         text = "".join(f"struct S{number} {{ int x; }};\n" for number in range(1025))
         done = from_text(text)
         self.assertIn("too much for one source: 1025 classes, where 1024 are the most (L2): --class NAME gives one class and what it needs\n", done.stderr)
         self.assertNotIn("too much", from_text(text, "--class", "S7").stderr)
+        held = text + "struct All { " + " ".join(f"S{number} s{number};" for number in range(1000)) + " };" + "struct More { " + " ".join(f"S{number} s{number};" for number in range(1000, 1025)) + " All all; };"
+        self.assertIn("the most (L2): that is what these classes need\n", from_text(held, "--class", "More").stderr)
 
     def test_the_flags_of_a_project(self):
         with tempfile.TemporaryDirectory() as folder:
