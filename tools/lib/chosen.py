@@ -2,7 +2,7 @@
 import os
 import re
 
-from . import clang, cpp_tree, restate
+from . import clang, cpp_tree, originals, restate
 from .cpp_types import without_arguments
 from .problem import Problem
 
@@ -71,7 +71,7 @@ def templates(found, arguments):
 
 
 def _named(found, name, text, flags):
-    record = found.record(name)
+    record = found.record(name) or originals.meant(found, name, text, flags)
     if record is not None:
         return record
     by = _other_standards(name, text, flags)

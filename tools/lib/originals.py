@@ -13,10 +13,7 @@ from .cpp_types import without_arguments
 def bind(names, text, flags):
     """Gives each class of a source its layout, and its members and bases the types that stand in the layout."""
     probes = "".join(_probe(number, record) for number, record in enumerate(names.order) if not record.is_unnameable)
-    words = ["clang++", "-x", "c++", "-w", "-fsyntax-only", "-ferror-limit=0", "-Xclang", "-fdump-record-layouts",
-             "-Xclang", "-fdump-record-layouts-canonical", *flags, "-"]
-    output, _, _ = clang.call(words, text + PROBES + probes)
-    found = {spelled(name): layout for name, layout in clang.read_layouts(output).items()}
+    found = _layouts(text + PROBES + probes, flags)
     pointed = _pointed(found)
     by_place = _by_place(found)
     for number, record in enumerate(names.order):
@@ -30,6 +27,19 @@ def bind(names, text, flags):
         if record.layout:
             _members(record)
             _bases(record)
+
+
+def meant(names, name, text, flags):
+    """The class that a name means for clang, as by a second name of a namespace; None where it means none that is bound."""
+    probe = f"template struct {PROBE}<{name.replace('>>', '> >')}, 0>;\n"
+    return names.record(_pointed(_layouts(text + PROBES + probe, flags)).get(0, ""))
+
+
+def _layouts(text, flags):
+    words = ["clang++", "-x", "c++", "-w", "-fsyntax-only", "-fno-spell-checking", "-ferror-limit=0", "-Xclang", "-fdump-record-layouts",
+             "-Xclang", "-fdump-record-layouts-canonical", *flags, "-"]
+    output, _, _ = clang.call(words, text)
+    return {spelled(name): layout for name, layout in clang.read_layouts(output).items()}
 
 
 # A probe is an explicit instantiation, since that may name what is private (ISO C++03 14.7.2 p8).

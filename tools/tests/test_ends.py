@@ -145,6 +145,26 @@ class Ends(unittest.TestCase):
             self.assertIn("the program is not built; ./tagymelur check < examples/diamond.cpp proves and builds it", done.stderr)
         self.assertFalse(os.path.exists(os.path.join(top, "started")))
 
+    @support.needs("gdb")
+    def test_the_script_of_gdb(self):
+        """It tells in a sentence what is missing, and gdb goes on; the options are those of a session that shows what Python says."""
+        script = os.path.join(support.TOOLS, "gdb", "tagymelur.py")
+        built = os.path.join(self.folder, "built")
+        subprocess.run(["g++", "-g", "-o", built, "-x", "c++", "-"], input="struct A { int x; } a; int main() {}", encoding="utf-8", check=True)
+        given = [(built, ["tagymelur", "tagymelur nosuch a", "tagymelur dump", "tagymelur inspect", "tagymelur vptr", "tagymelur dump (", "tagymelur dump nosuch", "tagymelur vptr 3", "tagymelur dump main"], {}),
+                 (built, ["set tagymelur-source /nowhere.src", "break main", "run", "tagymelur dump a"], {}), (built, [f"set tagymelur-source {self.folder}", "break main", "run", "tagymelur dump a"], {}),
+                 (built, [f"set tagymelur-source {self.write('empty.src', '')}", "break main", "run", "tagymelur dump a"], {}), (built, [f"set tagymelur-source {self.write('letter.src', NO_SOURCE)}", "break main", "run", "tagymelur vptr a"], {}),
+                 (built, ["break main", "run", "tagymelur inspect a"], {"TAGYMELUR": "/nowhere/tagymelur"}), (self.folder, ["tagymelur dump a"], {}), ("/nowhere/built", ["tagymelur dump a"], {}),
+                 (self.write("letter", NO_SOURCE), ["tagymelur vptr a"], {})]
+        for file, commands, environment in given:
+            words = [part for command in ["set python print-stack full", f"source {script}", *commands, "echo went on\\n"] for part in ("-ex", command)]
+            done = subprocess.run(["gdb", "-q", "-batch", "-nx", *words, file], stdin=subprocess.DEVNULL, stdout=subprocess.PIPE, stderr=subprocess.PIPE, encoding="utf-8", env=dict(os.environ, **environment), timeout=120)
+            self.assertNotIn("Traceback", done.stdout + done.stderr, commands)
+            self.assertIn("went on\n", done.stdout, commands)
+            self.assertRegex(done.stderr, r"(?m)^\S.{15,}$", commands)
+            for said in {"TAGYMELUR": ["tagymelur: /nowhere/tagymelur"]}.get(next(iter(environment), ""), []):
+                self.assertIn(said, done.stderr)
+
 
 if __name__ == "__main__":
     unittest.main()

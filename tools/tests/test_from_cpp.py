@@ -190,6 +190,13 @@ class FromCpp(unittest.TestCase):
         self.assertEqual(done.returncode, 1)
         self.assertIn("no class Session is defined here, but net::Session is: give --class 'net::Session'", done.stderr)
 
+    def test_second_names_of_namespaces_and_used_names(self):
+        text = "namespace net_2 { struct Session { int id; }; template<class T> struct Box { T t; }; } namespace net = net_2; namespace own { using net::Session; } net::Box<int> one;"
+        for name in ("net::Session", "own::Session", "net_2::Session"):
+            self.assertIn("struct net_2_Session {\n  int id;\n};", self.said(from_text(text, "--class", name)))
+        self.assertIn("struct net_2_Box_int {\n", self.said(from_text(text, "--class", "net::Box<int>")))
+        self.assertIn("no class net::Nobody is defined here", from_text(text, "--class", "net::Nobody").stderr)
+
     def test_typedefs_and_specialisations_that_are_only_named_are_found(self):
         text = "#include <string>\nnamespace n { template<class T> struct Box { T t; long n; }; typedef Box<short> Small; }\nn::Box<char>* none;\n"
         self.assertIn("class std_basic_string_char {", self.said(from_text(text, "--class", "std::string")))
