@@ -9,7 +9,7 @@ import gdb
 from . import class_tables, class_text, cpp_tree, dumps, layout_text, program, restate, source
 from .clang import RecordLayout
 from .cpp_tree import Base, Member, Method, Record, spelled
-from .problem import Problem
+from .problem import Problem, read_text
 
 METHOD = re.compile(r"(?P<front>(?:virtual |static )*)(?P<result>.*?)(?P<name>operator.*?|~?[A-Za-z_]\w*)\((?P<parameters>[^()]*|.*\(\*\).*)\)(?P<behind>(?: const| volatile)*)(?: \[.*\])?;$")
 CODES = {gdb.TYPE_CODE_STRUCT: "struct", gdb.TYPE_CODE_UNION: "union"}
@@ -385,8 +385,7 @@ class Object:
 
     def said(self, source_file):
         if source_file:
-            with open(source_file, encoding="latin-1") as file:
-                return Classes.of_source(source_file, file.read())
+            return Classes.of_source(source_file, read_text(source_file))
         return Classes.of_type(self.type)
 
     def find_whole(self):
