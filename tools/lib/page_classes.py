@@ -79,17 +79,29 @@ def index(chapter):
 
 
 def section(chapter, name):
-    layout, links = chapter.layouts[name], chapter.links
-    parts = [f'<section class="class" id="{links.class_id(name)}"><h3>{chapter.classes[name].tag} {escape(name)}</h3><div class="body">', facts(chapter, layout), drawing(chapter, name),
-             padding(chapter, layout), functions(chapter, name)]
-    tables = chapter.tables[name]
+    """The heading of a class, and its parts."""
+    return f'<section class="class" id="{chapter.links.class_id(name)}"><h3>{heading(chapter, name)}</h3><div class="body">{body(chapter, name)}</div></section>'
+
+
+def closed_section(chapter, name):
+    """The heading of a class, which page_closed.js opens."""
+    return f'<section class="class" id="{chapter.links.class_id(name)}"><h3><button type="button" aria-expanded="false">{heading(chapter, name)}</button></h3></section>'
+
+
+def heading(chapter, name):
+    return f"{chapter.classes[name].tag} {escape(name)}"
+
+
+def body(chapter, name):
+    layout, links, tables = chapter.layouts[name], chapter.links, chapter.tables[name]
+    parts = [facts(chapter, layout), drawing(chapter, name), padding(chapter, layout), functions(chapter, name)]
     if tables.groups:
         parts.append("<h4>Virtual tables</h4>")
         parts += [group_html(links, group) for group in tables.groups[:1]]
     if tables.vtt:
         parts.append(vtt(links, tables))
         parts += [group_html(links, group) for group in tables.groups[1:]]
-    return "\n".join([*parts, info(links, tables.info), "</div></section>"])
+    return "\n".join([*parts, info(links, tables.info)])
 
 
 def facts(chapter, layout):
@@ -97,7 +109,7 @@ def facts(chapter, layout):
     words = layout.primary.split()
     primary = "none" if words == ["none"] else ("virtual " if len(words) > 1 else "") + links.to_class(words[-1])
     bases = ", ".join(f"{base.access} {'virtual ' if base.virtual else ''}{links.to_class(base.name)}" for base in one.bases) or "none"
-    below = [other.name for other in chapter.classes.values() if any(base.name == layout.name for base in other.bases)]
+    below = chapter.derived[layout.name]
     rows = [("Size", f"{layout.size} bytes"), ("Alignment", layout.align), ("Without tail padding (dsize)", f"{layout.dsize} bytes"),
             ("As a base (nvsize, nvalign)", f"{layout.nvsize} bytes, {layout.nvalign}"), ("Bases", bases), ("Primary base", primary)]
     if below:

@@ -2,10 +2,10 @@
 import os
 from html import escape
 
-from . import class_tables, holes, marked_run, orders, page_classes, page_run, parts, picture, pointers, program, time_line
+from . import class_tables, holes, marked_run, orders, packed, page_classes, page_run, parts, picture, pointers, program, time_line
 
 HERE = os.path.dirname(os.path.abspath(__file__))
-MANY = 100  # classes, from which on the browser draws each when it comes into sight; before that it is not known to a screen reader
+MANY = 100  # classes; on a page of more the parts of a class are made when the reader opens it
 
 
 class Chapter:
@@ -17,6 +17,10 @@ class Chapter:
         self.shown = text.encode("latin-1").decode("utf-8", "replace").rstrip("\n")
         self.objects = parts.Objects(text, words)
         self.classes, self.layouts = self.objects.classes, self.objects.layouts
+        self.derived = {one: [] for one in self.classes}
+        for one in self.classes.values():
+            for base in one.bases:
+                self.derived[base.name].append(one.name)
         self.tables = class_tables.read(program.text_of(["tables"], text))
         self.holes = {one: holes.holes(self.objects, one) for one in self.layouts}
         self.orders = orders.best_of_all(self.objects, list(self.layouts))
@@ -34,13 +38,22 @@ class Chapter:
     def has_main(self):
         return any(body.kind == "main" for body in marked_run.statements.read(self.text).bodies)
 
-    def html(self):
-        sections = "\n".join(page_classes.section(self, name) for name in self.layouts)
+    def sections(self, is_closed):
+        """The classes; closed ones have their parts packed behind them."""
+        if not is_closed:
+            return "\n".join(page_classes.section(self, name) for name in self.layouts)
+        heads = "\n".join(page_classes.closed_section(self, name) for name in self.layouts)
+        return f"""<p class="opener"><button type="button" data-all>Open all classes of {escape(self.name)}</button> A heading opens its class, and so does each link to it. The printed page has all classes open.</p>
+<noscript><p>A script of this page makes the parts of its classes, so that scripts have to be allowed.</p></noscript>
+{heads}
+<script type="application/json" class="packed">{packed.packed(page_classes.body(self, name) for name in self.layouts)}</script>"""
+
+    def html(self, is_closed):
         return f"""<section class="chapter" aria-label="{escape(self.name)}"><h2>Classes of {escape(self.name)}</h2>
 <div class="index-box" tabindex="0" role="region" aria-label="Index of the classes of {escape(self.name)}">{page_classes.index(self)}</div>
 {self.run() if self.has_main() else ""}
 <h2>Each class of {escape(self.name)}</h2>
-{sections}</section>"""
+{self.sections(is_closed)}</section>"""
 
 
 def _file(name):
@@ -60,7 +73,7 @@ def page(chapters):
 <svg width="0" height="0" style="position:absolute" aria-hidden="true" focusable="false">{patterns}</svg>
 <header><h1>{escape(names)}</h1><p>{count} classes: how each is laid out, its virtual tables, and what its objects go through. All numbers are bytes.</p>
 <div class="search"><label for="search">Search classes, bases, members and functions</label><input type="search" id="search" autocomplete="off"><span id="found" aria-live="polite"></span></div></header>
-<main id="main"{' class="many"' if count > MANY else ""}>{"".join(chapter.html() for chapter in chapters)}</main>
+<main id="main"{' class="many"' if count > MANY else ""}>{"".join(chapter.html(count > MANY) for chapter in chapters)}</main>
 <footer><p>Made by <code>tools/page</code> of Tagymelur. docs/PAGE.md says how the pictures and the time line are made.</p></footer>
-<script>{_file("page.js")}</script></body></html>
+<script>{_file("page_closed.js") if count > MANY else ""}{_file("page.js")}</script></body></html>
 """

@@ -264,12 +264,6 @@ class Browser(unittest.TestCase):
         nodes = [one for one in page.call("Accessibility.getFullAXTree")["nodes"] if not one.get("ignored")]
         return [(one["role"]["value"], one.get("name", {}).get("value", "")) for one in nodes]
 
-    def test_the_headings_of_many_classes(self):
-        """They are there before their classes come into sight."""
-        path = self.written("many.html", made(text="".join(f"struct C{n} {{ int x; }};\n" for n in range(101))))
-        with browser.Page(path) as page:
-            self.assertEqual(sum(role == "heading" and name.startswith("struct C") for role, name in self.read_aloud(page)), 101)
-
     def test_the_printed_page_has_all_classes_and_moments(self):
         with browser.Page(self.path) as page:
             page.click("#search")
@@ -282,19 +276,6 @@ class Browser(unittest.TestCase):
             page.printed(path)
             with open(path, "rb") as file:
                 self.assertEqual(file.read(5), b"%PDF-")
-
-    def test_a_thousand_classes_open(self):
-        """Two seconds on a quiet machine; a busy one has five times as long here."""
-        text = "".join(f"struct C{n}{f' : C{n - 1}' if n % 10 else ''} {{ char a; long b; {'virtual ' if n % 3 else ''}void f() {{}} }};\n" for n in range(1000)) + "int main() { C9* p = new C9; }"
-        path = self.written("thousand.html", made(text=text))
-        with browser.Page(path) as page:
-            page.value("new Promise((done) => requestAnimationFrame(() => requestAnimationFrame(done)))")
-            took = page.value("performance.now()")
-            page.click("#search")
-            page.type("c77")
-            self.assertEqual(page.value(SHOWN), "C77 C78 " + " ".join(f"C{n}" for n in range(770, 780)))
-            self.assertEqual(page.told, [])
-        self.assertLess(took, 10_000)
 
 
 if __name__ == "__main__":
