@@ -167,9 +167,14 @@ def without(lines, at):
 
 def programs(count, seed, bit_fields=0, dumps=False):
     """So many programs that run to their end, by a name for each."""
-    maker, made = Maker(seed, bit_fields, dumps), 0
+    return made_by(Maker(seed, bit_fields, dumps), count, 2, 8)
+
+
+def made_by(maker, count, least, end):
+    """So many programs of a maker that run to their end, each of at least so many classes and less than `end`."""
+    made = 0
     while made < count:
-        text = maker.program(maker.random.randrange(2, 8))
+        text = maker.program(maker.random.randrange(least, end))
         if text:
             made += 1
             yield f"p{made}", text

@@ -3,11 +3,12 @@ import os
 import re
 import shutil
 import stat
+import subprocess
 import tempfile
 import unittest
 
 import support
-from lib import program, random_programs
+from lib import program, random_diamonds, random_programs
 
 # Prints the comment in the first line of a source, a word a line; a source that begins otherwise is undefined.
 STAND_IN = """#!/bin/sh
@@ -94,6 +95,8 @@ class CrossRun(unittest.TestCase):
         self.assertEqual((done.returncode, done.stdout), (2, ""))
         self.assertIn("name a source", done.stderr)
         self.assertIn("give --random N", self.compare("--bit-fields", self.write("a.cpp", PROGRAM)).stderr)
+        self.assertIn("give --random N", self.compare("--diamonds", self.write("a.cpp", PROGRAM)).stderr)
+        self.assertIn("without --bit-fields", self.compare("--random", "1", "--diamonds", "--bit-fields").stderr)
         done = self.compare(os.path.join(self.top, "missing.cpp"))
         self.assertEqual((done.returncode, done.stdout.count("\n")), (2, 0))
         self.assertNotIn("Traceback", done.stderr)
@@ -135,6 +138,31 @@ class RandomPrograms(unittest.TestCase):
         self.assertEqual((same + differing + refused, passed, done.stderr), (20, 0, ""), done.stdout)
         self.assertEqual(self.new_differences(done.stdout), [])
         self.assertGreaterEqual(same, 12)
+
+    @support.needs_program
+    @support.needs("g++", "clang++")
+    def test_a_random_program_that_shows_a_mistake_of_clang(self):
+        """The hint -2 of docs/COMPILERS.md: clang++ 14 with libstdc++ answers null, and the library libc++abi the object."""
+        done = support.run("cross-run", "--random", "1", "--diamonds", "--seed", "6")
+        self.assertEqual(self.new_differences(done.stdout), [])
+        self.assertEqual(done.stderr, "")
+        version = subprocess.run(["clang++", "-dumpversion"], stdout=subprocess.PIPE, encoding="utf-8").stdout
+        if not version.startswith("14"):
+            self.skipTest("clang++ 14 is not here")
+        said = re.search(r"^differ  p1: clang\+\+ prints \[", done.stdout, re.M)
+        self.assertTrue(said and done.returncode == 1, done.stdout)
+
+    @support.needs_program
+    def test_programs_of_diamonds(self):
+        """Each class has the bases that it was made with, and the shapes are there: shared and private bases, ways up and casts from there."""
+        maker = random_diamonds.Diamonds(2)
+        lines = [line for _ in range(3) for line in maker.lines(7)]
+        heads = [line for line in lines if line.startswith("struct ")]
+        for shape in (r"virtual private K\d", r"(?<!virtual )private K\d", r"virtual K\d", r": K\d|, K\d"):
+            self.assertTrue([line for line in heads if re.search(shape, line)], shape)
+        self.assertTrue([line for line in lines if re.fullmatch(r"K\d\* v\d+ = \(K\d\*\)v\d+;", line)])
+        self.assertEqual(program.answer(["check"], maker.classes)[1], 0)
+        self.assertEqual([name for name in maker.direct if not re.search(rf"struct {name} (: |{{)", maker.classes)], [])
 
     def new_differences(self, text):
         """What differs by all judges of a library, or by clang++ with libc++abi: docs/COMPILERS.md knows no such mistake."""

@@ -265,14 +265,14 @@ class Sources(unittest.TestCase):
 @support.needs_program
 @support.needs("g++", "clang++")
 class Mistakes(unittest.TestCase):
-    """The five programs of COMPILERS.md, and what the compilers of its versions make of them."""
+    """The six programs of COMPILERS.md, and what the compilers of its versions make of them."""
 
     def test_each_program(self):
         text = page("docs", "COMPILERS.md")
         text = text[text.index("## Mistakes that programs show"):]
         said = [[cell.strip() for cell in line.split("|")[1:-1]] for line in re.findall(r"^\| a .*$", text, re.M)]
         programs = [found for found in blocks(text) if "int main()" in found]
-        self.assertEqual((len(said), len(programs)), (5, 5))
+        self.assertEqual((len(said), len(programs)), (6, 6))
         for (_, right, *_), source in zip(said, programs):
             answer = program.text_of(["run"], source)
             self.assertEqual(re.sub(r"#\d+\+\d+", "#", answer).split(), right.split())
@@ -283,7 +283,7 @@ class Mistakes(unittest.TestCase):
             for number, source in enumerate(programs):
                 with open(os.path.join(folder, f"{number}.cpp"), "w", encoding="utf-8") as file:
                     file.write(source)
-            done = support.run("cross-run", *[os.path.join(folder, f"{number}.cpp") for number in range(5)])
+            done = support.run("cross-run", *[os.path.join(folder, f"{number}.cpp") for number in range(len(programs))])
         judges = done.stdout.rsplit("judges: ", 1)[1].strip().split(", ")
         for judge in judges:
             for number, cells in enumerate(said):
