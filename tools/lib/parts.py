@@ -6,7 +6,7 @@ so it is a mark of size 0. What no other part takes is padding.
 import sys
 from dataclasses import dataclass, field
 
-from . import amounts, layout_text, program, source
+from . import amounts, cpp_names, layout_text, program, source
 from .problem import Problem
 
 DEEPEST = 40_000  # calls inside each other: members inside members, at most 1,024 classes
@@ -77,7 +77,8 @@ class Objects:
         return objects
 
     def named(self, name):
-        """The names of the classes that a tool is asked for: one, or all where there is no name."""
+        """The names of the classes that a tool is asked for: one, which may be named as C++ does, or all where there is no name."""
+        name = name and cpp_names.ours(self.text, name)
         if name and name not in self.layouts:
             raise Problem(f"no class {name} is in the source; it has {', '.join(list(self.layouts)[:8])}{' and others' if len(self.layouts) > 8 else ''}")
         return [name] if name else list(self.layouts)
