@@ -5,12 +5,11 @@ import re
 
 from ..clang import FIRST
 from ..problem import Problem
-from .printing import HOLE
+from .printing import HOLE, WIDTHS
 
 ROW = re.compile(r"^// #1\+(\d+) (?:(abort|exit|assert|aside)\b ?)?(.*)$", re.M)
 MARK = re.compile(r"#1\+(\d+)")
 ENDS = re.compile(r"(?:undefined|out of steps|limit|refused) ?.*")
-WIDTHS = {"hh": 8, "h": 16, "": 32, "l": 64, "ll": 64, "z": 64}
 
 
 class Output:

@@ -11,6 +11,7 @@ from .numbers import CASTS
 from .refusal import CannotSay
 
 HOLE = re.compile(r"%([-+ #0]*)(\d*)(?:\.(\d+))?(hh|h|ll|l|z)?([a-zA-Z%])")
+WIDTHS = {"hh": 8, "h": 16, "": 32, "l": 64, "ll": 64, "z": 64}
 STREAMED = {"bool": "%d", "char": "%c", "signed char": "%c", "unsigned char": "%c"}
 
 
@@ -54,9 +55,9 @@ class Printing:
     def literal(self, node):
         return self.number(("text", self.value_of(node).replace("%", "%%")))
 
-    def template(self, body, row, operands):
-        """Prints a template and what fills its holes."""
-        if row in (("text", "%d\n"), ("text", "%ld\n"), ("text", "%lu\n")) and len(operands) == 1:
+    def template(self, body, row, operands, is_number=False):
+        """Prints a template and what fills its holes; one that is a number as it stands, and a line end, needs no template."""
+        if is_number:
             body.put(f"print({operands[0]});")
             return
         mark = body.temporary(body.program.names.text() + "*")
@@ -75,8 +76,8 @@ class Printing:
         if len(holes) != len(arguments) - 1:
             raise CannotSay(node, "printf", "its format does not fit the number of its arguments")
         operands = [body.steady(self.filled(body, hole, given), given, arguments[at + 2:]) for at, (hole, given) in enumerate(zip(holes, arguments[1:]))]
-        plain = re.sub(r"%(l|ll|h|hh)?[dui]\n$", "%d\n", text) if len(operands) == 1 else text
-        self.template(body, ("text", plain if plain == "%d\n" else text), operands)
+        is_number = len(holes) == 1 and re.fullmatch(r"%(?:hh|h|ll|l|z)?[dui]\n", text) is not None and keeps(holes[0], body.shape(arguments[1]))
+        self.template(body, ("text", text), operands, is_number)
         return ""
 
     def filled(self, body, hole, given):
@@ -137,7 +138,7 @@ class Printing:
 
     def streamed(self, body, text, filled, aside):
         if text:
-            self.template(body, ("aside" if aside else "text", text), filled)
+            self.template(body, ("aside" if aside else "text", text), filled, not aside and text in ("%d\n", "%ld\n", "%lu\n"))
 
     def piece(self, body, link):
         """The template and the operands of one thing that is put into a stream."""
@@ -154,6 +155,12 @@ class Printing:
         if shape.sort != "number" or shape.floating:
             raise CannotSay(link, f"<< of a value of the type {tree.type_of(link)}", "numbers, characters and literals alone can be printed")
         return STREAMED.get(shape.word, "%ld" if shape.signed else "%lu"), [self.typed(body, link, shape)]
+
+
+def keeps(hole, shape):
+    """Whether a conversion of `printf` writes each value of a type as it is: `%u` does not for an int, nor `%d` for a long."""
+    signed, width = hole[5] in "di", WIDTHS[hole[4] or ""]
+    return shape.bits <= width if shape.signed == signed else signed and shape.bits < width
 
 
 def is_calm(node):
