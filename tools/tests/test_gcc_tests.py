@@ -2,9 +2,10 @@
 import os
 import tempfile
 import unittest
+from unittest import mock
 
 import support
-from lib.saying import nested
+from lib.saying import nested, source
 
 PASSES = "// { dg-do run }\nextern \"C\" void abort();\nint n = 3;\nint main() { if (n != 3) abort(); return 0; }\n"
 FAILS = PASSES.replace("n != 3", "n == 3")
@@ -14,6 +15,7 @@ UNDEFINED = "// { dg-do run }\nint main() { int *p = 0; return *p; }\n"
 PRINTS = "// { dg-do run }\n// { dg-output \"one.*two\" }\nextern \"C\" int printf(const char *, ...);\nint main() { printf(\"one\\n\"); printf(\"two\\n\"); }\n"
 OTHER = "// { dg-do run { target ilp32 } }\nint main() { return sizeof(long) != 4; }\n"
 COMPILED = "// { dg-do compile }\nint main() { return 1; }\n"
+AGAIN = "struct K0 {\nvirtual long f0() {\nreturn NUMBER;\n}\n};\nint main() {\nK0* v1 = new K0;\nlong v2 = v1->f0();\nprint(v2);\n}\n"
 
 
 @support.needs_program
@@ -64,7 +66,7 @@ class Nested(unittest.TestCase):
         lines = ["struct K0 {", "virtual long f0() {", "print(typeid(*this));", "return 5;", "}", "};", "int main() {", "K0* v1 = new K0;", "long v2 = v1->f0();", "print(v2);", "K0* v3 = v1;", "bool v3b = v3 != 0;", "if (v3b) {", "print(v3b);", "}", "}"]
         text = nested.Nesting("\n".join(lines)).text()
         self.assertIn('printf("K%d\\n", typeid(*this) == typeid(K0) ? 0 : -1);', text)
-        self.assertIn('printf("%ld\\n", (v1->f0()));', text)
+        self.assertIn('printf("%ld\\n", static_cast<long>(v1->f0()));', text)
         self.assertIn("if ((static_cast<K0 *>(v1) != 0)) {", text)
         self.assertNotIn("v2", text)
 
@@ -74,6 +76,18 @@ class Nested(unittest.TestCase):
         done = support.run("cross-run", "--random", "2", "--seed", "7", "--nested")
         self.assertEqual((done.returncode, done.stderr), (0, ""), done.stdout)
         self.assertEqual(done.stdout, "2 programs agree, 0 differ, 0 that a compiler does not take, 0 passed over; judges: from-cpp --program\n")
+
+    @support.needs_program
+    @support.needs("clang++", "c++filt")
+    def test_programs_without_room_in_one_text_are_said_by_halves(self):
+        programs = [(f"s{number}", AGAIN.replace("NUMBER", number)) for number in "567"]
+        self.assertEqual(nested.each(programs, ["5\n", "6\n", "7\n"]), [("5\n", False), ("6\n", False), ("7\n", False)])
+        self.assertEqual(nested.each(programs, ["5\n", "8\n", "7\n"]), [("5\n", False), ("6\n", False), ("7\n", False)])
+        room = len(source.said(nested.together(programs[:1]), nested.FLAGS).text)
+        with mock.patch.object(source, "LIMIT_BYTES", room):
+            self.assertEqual(nested.each(programs, ["5\n", "6\n", "7\n"]), [("5\n", False), ("6\n", False), ("7\n", False)])
+        with mock.patch.object(source, "LIMIT_BYTES", room - 1):
+            self.assertEqual(nested.each(programs[:1], ["5\n"]), [(f"error: the program needs {room} bytes in the language, and {room - 1} are the most", True)])
 
     @support.needs_program
     @support.needs("clang++", "c++filt")

@@ -1,8 +1,11 @@
 """Writes a random program of our language again as C++ with nested expressions, so that it can be said again."""
 import re
 
+from .. import problem
 from . import runs, source
+from .refusal import CannotSay
 
+AT_ONCE = 20
 FLAGS = ["-std=gnu++98", "-fno-access-control"]
 HEAD = "#include <cstdio>\n#include <typeinfo>\n"
 POINTER = re.compile(r"(K\d+)\* (\w+) = (.*);")
@@ -51,7 +54,7 @@ class Nesting:
             return ""
         if number:
             self.kinds[number[2]] = "%ld" if number[1] == "long" else "%d"
-            self.known[number[2]] = f"({self.inside(number[3])})"
+            self.known[number[2]] = f"static_cast<long>({self.inside(number[3])})" if number[1] == "long" else f"({self.inside(number[3])})"
             return ""
         printed = re.fullmatch(r"print\((.*)\);", line)
         return self.printed(printed[1]) if printed else self.inside(line)
@@ -81,6 +84,28 @@ def printed(programs):
     """What programs print one after the other, written as nested C++, said and run."""
     ran = runs.run(source.said(together(programs), FLAGS))
     return ran.why or ran.output.text
+
+
+def each(programs, wanted):
+    """For each program, by its name and source, what it prints when it is said again, and whether that is why it cannot be said.
+
+    They are said as one program. Where that prints something else than all of what is wanted, or cannot be said, or has no room, each half is tried.
+    """
+    try:
+        text, refused = printed(programs), False
+    except problem.Problem as error:
+        text, refused = told(error), True
+    if text == "".join(wanted) and not refused:
+        return [(one, False) for one in wanted]
+    if len(programs) == 1:
+        return [(text, refused)]
+    half = len(programs) // 2
+    return each(programs[:half], wanted[:half]) + each(programs[half:], wanted[half:])
+
+
+def told(error):
+    """Why a program cannot be said, as compilers tell an error; without its place, which is none of the program's own."""
+    return f"error: {error.construct}: {error.reason}" if isinstance(error, CannotSay) else f"error: {error}"
 
 
 def with_end(text):
