@@ -14,6 +14,7 @@ UNSAID = "// { dg-do run }\nint main() { throw 1; }\n"
 UNDEFINED = "// { dg-do run }\nint main() { int *p = 0; return *p; }\n"
 PRINTS = "// { dg-do run }\n// { dg-output \"one.*two\" }\nextern \"C\" int printf(const char *, ...);\nint main() { printf(\"one\\n\"); printf(\"two\\n\"); }\n"
 OTHER = "// { dg-do run { target ilp32 } }\nint main() { return sizeof(long) != 4; }\n"
+DIALECT = "// { dg-do run }\n// { dg-options \"-funsigned-bitfields\" }\nstruct S { int b : 1; };\nint main() { S s; s.b = 1; return s.b != 1; }\n"
 COMPILED = "// { dg-do compile }\nint main() { return 1; }\n"
 AGAIN = "struct K0 {\nvirtual long f0() {\nreturn NUMBER;\n}\n};\nint main() {\nK0* v1 = new K0;\nlong v2 = v1->f0();\nprint(v2);\n}\n"
 
@@ -29,14 +30,15 @@ class GccTests(unittest.TestCase):
             return support.run("gcc-tests", *words, folder)
 
     def test_what_came_of_each(self):
-        tests = {"a.C": PASSES, "b.C": FAILS, "c.C": STATUS, "d.C": UNSAID, "e.C": UNDEFINED, "f.C": PRINTS, "g.C": PRINTS.replace("one.*two", "three"), "h.C": OTHER, "i.C": COMPILED}
+        tests = {"a.C": PASSES, "b.C": FAILS, "c.C": STATUS, "d.C": UNSAID, "e.C": UNDEFINED, "f.C": PRINTS, "g.C": PRINTS.replace("one.*two", "three"), "h.C": OTHER, "i.C": COMPILED, "j.C": DIALECT}
         done = self.told(tests)
         self.assertEqual(done.returncode, 1, done.stderr)
         words = {line[10:].split(":")[0]: line[:9].strip() for line in done.stdout.splitlines()[:-1]}
-        self.assertEqual(words, {"a.C": "passes", "b.C": "differs", "c.C": "differs", "d.C": "not said", "e.C": "refused", "f.C": "passes", "g.C": "differs", "h.C": "not meant"})
+        self.assertEqual(words, {"a.C": "passes", "b.C": "differs", "c.C": "differs", "d.C": "not said", "e.C": "refused", "f.C": "passes", "g.C": "differs", "h.C": "not meant", "j.C": "not meant"})
+        self.assertIn("j.C: it wants -funsigned-bitfields\n", done.stdout)
         self.assertIn("d.C: throw: the language has no exceptions\n", done.stdout)
         self.assertIn("c.C: it ends with status 7\n", done.stdout)
-        self.assertTrue(done.stdout.splitlines()[-1].startswith("8 tests: "))
+        self.assertTrue(done.stdout.splitlines()[-1].startswith("9 tests: "))
 
     def test_the_table(self):
         with tempfile.TemporaryDirectory() as folder:
@@ -45,6 +47,25 @@ class GccTests(unittest.TestCase):
             self.assertEqual(done.returncode, 0)
             with open(path, encoding="utf-8") as file:
                 self.assertEqual(file.read().splitlines()[2:], ["| passes |  | 1: a |", "| not said | throw: the language has no exceptions | 2: d e |"])
+
+    def test_the_table_has_the_first_error_of_what_is_not_read(self):
+        with tempfile.TemporaryDirectory() as folder:
+            path = os.path.join(folder, "table.md")
+            self.told({"a.C": "// { dg-do run }\n#include <vector>\nint main() {}\n", "b.C": "// { dg-do run }\nint main() { return x; }\n"}, "--table", path)
+            with open(path, encoding="utf-8") as file:
+                rows = sorted(file.read().splitlines()[2:])
+        self.assertEqual(rows, [
+            "| not read | the source is not taken with what is known of the library: error: use of undeclared identifier 'x' | 1: b |",
+            "| not read | the source is not taken with what is known of the library: fatal error: 'vector' file not found | 1: a |",
+        ])
+
+    def test_one_test_by_its_name(self):
+        with tempfile.TemporaryDirectory() as folder:
+            path = os.path.join(folder, "a.C")
+            with open(path, "w", encoding="utf-8") as file:
+                file.write(PASSES)
+            done = support.run("gcc-tests", path)
+        self.assertEqual((done.returncode, done.stdout), (0, "passes    a.C\n1 tests: 1 passes\n"), done.stderr)
 
     def test_bad_words(self):
         for words in ([], ["/nowhere"], [support.TOOLS]):
