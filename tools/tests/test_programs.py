@@ -202,6 +202,9 @@ class Refusals(unittest.TestCase):
     def test_a_program_above_a_limit_is_told_so_before_it_runs(self):
         lines = "".join(f"    a += b * {number};\n" for number in range(12000))
         self.assertIn("262144 are the most", refused(f"int main() {{\n    int a = 0, b = 1;\n{lines}    return a != 0;\n}}\n"))
+        many = "".join(f"struct A{number} {{ int n; }};\nint f{number}() {{ A{number} a; a.n = 0; return a.n; }}\n" for number in range(1025))
+        calls = "".join(f"    s += f{number}();\n" for number in range(1025))
+        self.assertIn("classes in the language, and 1024 are the most", refused(f"{many}int main() {{\n    int s = 0;\n{calls}    return s;\n}}\n"))
 
 
 @support.needs("clang++", "c++filt")

@@ -16,7 +16,7 @@ from .printing import Printing
 from .refusal import CannotSay, place_of
 from .shapes import Shapes
 
-LIMIT_BYTES, LIMIT_CLASSES, LIMIT_LOCALS = 262144, 1024, 256
+LIMIT_BYTES, LIMIT_CLASSES = 262144, 1024
 
 
 @dataclass
