@@ -295,6 +295,20 @@ class RunCpp(unittest.TestCase):
         given = support.run("from-cpp", "--program", path, "--", "-std=gnu++98")
         self.assertRegex(given.stdout, r"\A// read by clang\+\+ \d.* by gnu\+\+98, as the flags say\n")
 
+    @support.needs_program
+    def test_letters_beyond_ascii_are_printed_as_they_stand(self):
+        text = "#include <cstdio>\n#include <iostream>\nint main() { puts(\"gr\u00fcn\"); printf(\"\u20ac %d\\n\", 5); std::cerr << \"\u00e4\" << std::endl; }\n"
+
+        def work(path):
+            said = support.run("from-cpp", "--program", path).stdout
+            with open(path + ".src", "w", encoding="utf-8") as file:
+                file.write(said)
+            printed, _ = program.answer(["run"], said)
+            return support.run("run-cpp", path), support.run("from-cpp", "--print", path + ".src", text=printed)
+
+        for done in with_file(text, work):
+            self.assertEqual((done.returncode, done.stdout, done.stderr), (0, "gr\u00fcn\n\u20ac 5\n", "\u00e4\n"))
+
     def test_output_that_is_of_no_run(self):
         source = '// read by clang++ 14.0.6 by gnu++98, as the flags say\n// #1+0 "sum %d\\n"\nint main() {}\n'
         with tempfile.NamedTemporaryFile("w", suffix=".src") as file:
