@@ -186,6 +186,7 @@ class Refusals(unittest.TestCase):
             ("int main() { switch (1) { case 0: static int n = 1; case 1: return n; } }\n", "1:35", "a variable that is made between the labels of a switch"),
             ("int main() { switch (1) { case 0: do { case 1: return 0; } while (1); } }\n", "1:35", "labels in inner statements"),
             ("struct T { int n; T(int k) : n(k) {} };\nT made() { return T(1); }\nint main() { T a[2] = {T(2), made()}; }\n", "3:30", "what a function gives is an object of its own, and no element"),
+            ("struct A { A() {} };\nstruct B { int n; A a[2][2]; B() : n(1) {} };\nstruct H : B { int m; H() : m(2) {} };\nint main() { H h; return h.m - 2; }\n", "2:30", "an object of the type A[2][2] cannot be said: an array of arrays"),
             ("#include <cstdio>\nint f() { return puts(\"f\"); }\nstruct A { A(int) { puts(\"A\"); } };\nstruct B : A { A a; B() : A(1), a(f()) {} };\nint main() { B b; }\n", "4:", "it would be calculated before"),
         ):
             with self.subTest(word):

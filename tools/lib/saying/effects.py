@@ -116,8 +116,10 @@ class Effects:
         """The effects of a constructor that an expression calls."""
         if node.get("elidable"):
             return NOTHING
-        record, made = self.program.shapes.of(tree.type_of(node)), self.program.constructions
-        record = record.inner.record if record.sort == "array" else record.record
+        shape, made = self.program.shapes.of(tree.type_of(node)), self.program.constructions
+        if shape.sort == "unsayable":
+            raise CannotSay(node, f"an object of the type {tree.type_of(node)}", shape.word)
+        record = shape.inner.record if shape.sort == "array" else shape.record
         constructor = self.constructor(record, node)
         if constructor is not HIDDEN and made.is_plain_copy(constructor, record):
             return NOTHING if self.is_own(tree.parts(node)[0], own, own_object) else frozenset({READS})
