@@ -1,4 +1,4 @@
-"""tools/stack: what is found by halving, and that each command does with 256 kB on the deepest shapes."""
+"""tools/stack: the shapes that it tries, what is found by halving, and that it tells what does not do."""
 import os
 import shutil
 import subprocess
