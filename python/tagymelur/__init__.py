@@ -87,6 +87,15 @@ def _checked(end, lines=()):
         raise Unavailable(f"{end.sentence or 'the program ended'} (status {end.status})")
 
 
+def _given(words, texts):
+    """Looks at what a caller gave: words and texts that are no str, and a word that no program can be given."""
+    for text in [*words, *texts]:
+        if not isinstance(text, str):
+            raise TypeError(f"a str is asked for, and not {type(text).__name__}")
+    if any("\0" in word for word in words):
+        raise ValueError("a word has a byte 0")
+
+
 def _asked(call, *words):
     try:
         return call(*words)
@@ -95,6 +104,7 @@ def _asked(call, *words):
 
 
 def _text(words, source):
+    _given(words, [source])
     text, end = _asked(_answers.ask, words, source)
     _checked(end)
     return text
@@ -128,6 +138,7 @@ def tables(source, name=None):
 
 def run(source, steps=None, trace=False):
     """What `main` prints on the byte machine."""
+    _given([], [source])
     found = _asked(_answers.run, source, "run", steps, trace)
     _checked(found.end, found.lines)
     return found
@@ -135,6 +146,7 @@ def run(source, steps=None, trace=False):
 
 def paths(source, steps=None):
     """What `main` prints on the machine of paths."""
+    _given([], [source])
     found = _asked(_answers.run, source, "paths", steps)
     _checked(found.end, found.lines)
     return found
@@ -152,11 +164,13 @@ def memptr(source, member, of=None):
 
 def inspect(source, dump):
     """What the text of one dump says of each field."""
+    _given([], [source, dump])
     return _asked(_small_texts.dump, _text(["inspect"], _answers.joined(dump, source)))
 
 
 def foreign(source, listing, steps=None):
     """What `main` prints on the byte machine over the layouts of a listing."""
+    _given([], [source, listing])
     found = _asked(_answers.run, _answers.joined(listing, source), "foreign", steps)
     _checked(found.end, found.lines)
     return found

@@ -10,11 +10,15 @@ def checked(restating, chosen):
     while True:
         restated = class_text.write(restating, restating.closure(chosen))
         ours = clang.layouts(restated.text, list(restated.names.values()), ["-std=gnu++98"])
-        wrong, inexact = {}, len(restating.inexact)
+        wrong, behind, inexact = {}, set(), len(restating.inexact)
         for record in restated.records:
             reason = difference(restating, record, ours.get(restated.names[record.name]))
-            if reason and not any(one.name in wrong for one in restating.needs(record)):
+            # what holds a wrong class, however deep, is judged when less is said of that one
+            if any(one.name in behind for one in restating.needs(record)):
+                behind.add(record.name)
+            elif reason:
                 wrong[record.name] = (record, reason)
+                behind.add(record.name)
         if not wrong and inexact == len(restating.inexact):
             return restated
         restating.put_down(wrong.values())

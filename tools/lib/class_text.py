@@ -6,6 +6,8 @@ from .cpp_tree import Member
 from .overriding import safe
 from .restate import MOST_PARAMETERS, POINTED, SAID, result_text, shown
 
+ONE_MEMBER = "a union with one member in C++, whose layout is that of a class with that member"
+
 
 def write(restating, restated):
     """Gives the classes their text."""
@@ -60,7 +62,7 @@ class _Class:
         record = self.record
         tag = record.tag if record.tag in ("struct", "class") else "struct"
         bases = ", ".join(self.base(base) for base in record.bases)
-        lines = [f"{_original(record, self.name)}{tag} {self.name}{' : ' + bases if bases else ''} {{{note_text(self.plan.unlike)}"]
+        lines = [f"{_original(record, self.name)}{tag} {self.name}{' : ' + bases if bases else ''} {{{note_text(self.plan.unlike or (ONE_MEMBER if record.tag == 'union' else ''))}"]
         access = "public" if tag == "struct" else "private"
         for part_access, line in self.parts():
             if part_access != access:

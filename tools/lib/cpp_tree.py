@@ -2,6 +2,7 @@
 import os
 import re
 from dataclasses import dataclass, field
+from functools import lru_cache
 
 from . import clang_tree
 
@@ -109,11 +110,15 @@ BOOL = re.compile(r"\b_Bool\b")
 INLINE = re.compile(r"\b(?:__cxx11|__1|_V2)::")
 
 
+SPACED = re.compile(r"\s*([<>,*&()\[\]])\s*")
+
+
+@lru_cache(1 << 16)
 def spelled(name):
     """One spelling for the several that clang has of one name."""
     name = PLACE.sub("(unnamed at ", BOOL.sub("bool", name))
     name = INLINE.sub("", WORDS.sub("", name)).replace("(void)", "()")
-    return re.sub(r"\s*([<>,*&()\[\]])\s*", r"\1", name).strip()
+    return SPACED.sub(r"\1", name).strip()
 
 
 def read(text, flags):
@@ -189,6 +194,8 @@ class _Walk:
                 self.declarations(child, inner)
             elif kind == "ClassTemplateDecl":
                 self.template(child, around)
+            elif kind == "FriendDecl":
+                self.friend(child)
             elif kind in ("CXXRecordDecl", "ClassTemplateSpecializationDecl"):
                 self.record(child, around)
             elif kind == "EnumDecl":
@@ -208,6 +215,13 @@ class _Walk:
                 self.names.templates.setdefault(spelled(scopes[0] + node.get("name", "")), _place(node).get("file", ""))
         for one in _children(node, "ClassTemplateSpecializationDecl"):
             self.record(one, scopes)
+
+    def friend(self, node):
+        """Reads a template that is declared first as a friend: its specialisations stand there, and it belongs to the namespace around."""
+        for child in _children(node, "ClassTemplateDecl"):
+            around = self.scopes_of.get(child.get("parentDeclContextId"), [""])
+            if around:
+                self.template(child, around)
 
     def pattern(self, node):
         """Marks what is declared in a template itself."""
@@ -231,7 +245,8 @@ class _Walk:
     def rename(self, record, name):
         """Gives a class without a name the name of its typedef; the classes inside of it have it in theirs."""
         old = record.name
-        for one in self.names.order[self.names.order.index(record):]:
+        first = next(number for number in reversed(range(len(self.names.order))) if self.names.order[number] is record)
+        for one in self.names.order[first:]:
             if one is record or one.name.startswith(old + "::"):
                 one.names.insert(0, name + one.name[len(old):])
                 self.names.records[one.name] = one

@@ -94,7 +94,7 @@ def for_zsh(helps):
     return f"""#compdef tagymelur {' '.join(f'tagymelur-{tool}' for tool in helps)}
 # Completion of Tagymelur for zsh.
 case $service in
-    tagymelur) _arguments '--steps[the budget of steps]:number:' '--trace[tell each call, construction and destruction]' '1:command:({' '.join(COMMANDS)})' '*:class:' ;;
+    tagymelur) _arguments '--steps[the budget of steps]:number:' '--trace[tell each call, construction and destruction]' '1:command:({' '.join(COMMANDS)})' '*:class:_files' ;;
 {cases}
 esac
 """

@@ -2,14 +2,20 @@
 // The search: shows the rows of the index that have all words.
 (function () {
   const box = document.getElementById("search"), told = document.getElementById("found");
-  const rows = Array.from(document.querySelectorAll(".index tbody tr"));
+  const bodies = Array.from(document.querySelectorAll(".index tbody"), (body) => ({ body, rows: Array.from(body.rows) }));
+  const rows = bodies.flatMap((one) => one.rows);
   function search() {
     const words = box.value.toLowerCase().split(/\s+/).filter(Boolean);
     let count = 0;
-    for (const row of rows) {
-      const shown = words.every((word) => row.dataset.words.includes(word));
-      row.hidden = !shown;
-      count += shown ? 1 : 0;
+    for (const one of bodies) {
+      let shown = 0;
+      for (const row of one.rows) {
+        row.hidden = !words.every((word) => row.dataset.words.includes(word));
+        shown += row.hidden ? 0 : 1;
+      }
+      one.body.hidden = !shown;
+      one.body.style.setProperty("--count", shown);
+      count += shown;
     }
     told.textContent = words.length ? count + " of " + rows.length + " classes" : rows.length + " classes";
   }
@@ -84,7 +90,8 @@ const timeLines = Array.from(document.querySelectorAll(".run[data-front]")).map(
     const line = document.getElementById(front + "line-" + moment.line);
     if (line) {
       line.setAttribute("aria-current", "true");
-      line.parentElement.scrollTop = line.offsetTop - line.parentElement.offsetTop - 60;
+      const source = line.closest(".source");
+      source.scrollTop += line.getBoundingClientRect().top - source.getBoundingClientRect().top - 60;
     }
   }
 

@@ -5,6 +5,7 @@ from html import escape
 from . import amounts, picture
 
 MOST_PARTS = 400
+AT_ONCE = 50  # rows, headings or lines that a browser lays out together, when they come near to what is seen
 
 
 def count_of(part):
@@ -63,8 +64,8 @@ class Links:
         return escape(front) + " " + link + escape(behind)
 
 
-def index(chapter):
-    """A table of all classes, a row for each."""
+def index(chapter, is_long):
+    """A table of all classes, a row for each; a long one has its rows in several bodies."""
     rows = []
     for name, layout in chapter.layouts.items():
         lost = sum(hole.total for hole in chapter.holes[name])
@@ -74,8 +75,27 @@ def index(chapter):
         saved = layout.size - chapter.orders[name].size
         rows.append(f'<tr data-words="{escape(words.lower())}"><th scope="row">{chapter.links.to_class(name)}</th><td class="number">{layout.size}</td>'
                     f'<td class="number">{layout.align}</td><td class="number">{amounts.plain(lost)}</td><td class="number">{saved or ""}</td><td>{bases}</td></tr>')
-    return (f'<table class="index" aria-label="Classes of {escape(chapter.name)}"><thead><tr><th scope="col">Class</th><th scope="col">Size</th><th scope="col">Alignment</th><th scope="col">Padding</th>'
-            '<th scope="col">Another order saves</th><th scope="col">Bases</th></tr></thead><tbody>\n' + "\n".join(rows) + "\n</tbody></table>")
+    head = "".join(f'<th scope="col">{word}</th>' for word in ("Class", "Size", "Alignment", "Padding", "Another order saves", "Bases"))
+    bodies = in_chunks("tbody", rows) if is_long else "<tbody>\n" + "\n".join(rows) + "\n</tbody>"
+    table = f'<table class="index" aria-label="Classes of {escape(chapter.name)}"><thead><tr>{head}</tr></thead>{bodies}</table>'
+    return with_roles(table) if is_long else table
+
+
+def in_chunks(head, parts):
+    """The parts in elements of so many each. page_late.js has each laid out when its turn comes; page.css takes its height from the count until then."""
+    tag, found = head.split()[0], []
+    for start in range(0, len(parts), AT_ONCE):
+        chunk = parts[start:start + AT_ONCE]
+        found.append(f'<{head.format(first=start + 1)} data-late style="--count:{len(chunk)}">\n' + "\n".join(chunk) + f"\n</{tag}>")
+    return "\n".join(found)
+
+
+ROLES = {"table": "table", "thead": "rowgroup", "tbody": "rowgroup", "tr": "row", "td": "cell", 'th scope="col"': "columnheader", 'th scope="row"': "rowheader"}
+
+
+def with_roles(table):
+    """The rows of a long table are no table to the style of the page; their roles tell it to a screen reader."""
+    return re.sub(f"<({'|'.join(ROLES)})(?=[ >])", lambda found: f'<{found[1]} role="{ROLES[found[1]]}"', table)
 
 
 def section(chapter, name):

@@ -3,23 +3,30 @@
 (function () {
   const main = document.querySelector("main.many");
   if (!main) { return; }
-  const closed = new Map();  // what is packed of a class that was not opened yet
+  const closed = new Map();  // each class that was not opened yet, with its number in its chapter
+  const read = new Map();  // what a chapter has packed, from when it is first asked for
   for (const chapter of main.querySelectorAll("section.chapter")) {
-    const data = JSON.parse(chapter.querySelector(":scope > script.packed").textContent);
-    chapter.querySelectorAll(":scope > section.class").forEach((section, number) => closed.set(section, { pieces: data.pieces, text: data.texts[number] }));
+    chapter.querySelectorAll("section.class").forEach((section, number) => closed.set(section, { chapter, number }));
+  }
+  function packedOf({ chapter, number }) {
+    if (!read.has(chapter)) { read.set(chapter, JSON.parse(chapter.querySelector(":scope > script.packed").textContent)); }
+    const data = read.get(chapter);
+    return { pieces: data.pieces, text: data.texts[number] };
   }
 
   const buttonOf = (section) => section.querySelector("h3 button");
   const isOpen = (section) => buttonOf(section).getAttribute("aria-expanded") === "true";
   const pieceOf = (letter) => { const code = letter.codePointAt(0); return (code < 0xd800 ? code : code - 0x800) - 0x3f; };
 
-  function set(section, open) {
-    const packed = closed.get(section);
-    if (open && packed) {
+  // Opens or closes a class. One of many that are opened at once is laid out later.
+  function set(section, open, later) {
+    if (open && closed.has(section)) {
+      const packed = packedOf(closed.get(section));
       const body = document.createElement("div");
       body.className = "body";
       body.innerHTML = Array.from(packed.text, (letter) => packed.pieces[pieceOf(letter)]).join("");
       section.append(body);
+      if (later) { layLater(body); }
       closed.delete(section);
     }
     const made = section.querySelector(":scope > .body");
@@ -31,7 +38,8 @@
   function owner(id) {
     const found = document.getElementById(id), mark = ' id="' + id + '"', has = new Map();
     if (found) { return found.closest("section.class"); }
-    for (const [section, packed] of closed) {
+    for (const [section, place] of closed) {
+      const packed = packedOf(place);
       if (!has.has(packed.pieces)) { has.set(packed.pieces, new Set(packed.pieces.map((piece, number) => (piece.includes(mark) ? number : -1)).filter((number) => number >= 0))); }
       const wanted = has.get(packed.pieces);
       if (wanted.size && Array.from(packed.text).some((letter) => wanted.has(pieceOf(letter)))) { return section; }
@@ -56,7 +64,7 @@
     const link = event.target.closest('a[href^="#"]'), button = event.target.closest("section.class > h3 button"), all = event.target.closest("button[data-all]");
     if (link) { reveal(link.hash); }
     if (button) { set(button.closest("section.class"), button.getAttribute("aria-expanded") !== "true"); }
-    if (all) { for (const section of all.closest("section.chapter").querySelectorAll(":scope > section.class")) { set(section, true); } }
+    if (all) { for (const section of all.closest("section.chapter").querySelectorAll("section.class")) { set(section, true, true); } }
   });
   addEventListener("hashchange", follow);
 

@@ -42,7 +42,7 @@ class Chapter:
         """The classes; closed ones have their parts packed behind them."""
         if not is_closed:
             return "\n".join(page_classes.section(self, name) for name in self.layouts)
-        heads = "\n".join(page_classes.closed_section(self, name) for name in self.layouts)
+        heads = page_classes.in_chunks('div class="heads"', [page_classes.closed_section(self, name) for name in self.layouts])
         return f"""<p class="opener"><button type="button" data-all>Open all classes of {escape(self.name)}</button> A heading opens its class, and so does each link to it. The printed page has all classes open.</p>
 <noscript><p>A script of this page makes the parts of its classes, so that scripts have to be allowed.</p></noscript>
 {heads}
@@ -50,7 +50,7 @@ class Chapter:
 
     def html(self, is_closed):
         return f"""<section class="chapter" aria-label="{escape(self.name)}"><h2>Classes of {escape(self.name)}</h2>
-<div class="index-box" tabindex="0" role="region" aria-label="Index of the classes of {escape(self.name)}">{page_classes.index(self)}</div>
+<div class="index-box" tabindex="0" role="region" aria-label="Index of the classes of {escape(self.name)}">{page_classes.index(self, is_closed)}</div>
 {self.run() if self.has_main() else ""}
 <h2>Each class of {escape(self.name)}</h2>
 {self.sections(is_closed)}</section>"""
@@ -68,12 +68,12 @@ def page(chapters):
     patterns = picture.PATTERNS
     return f"""<!DOCTYPE html>
 <html lang="en"><head><meta charset="utf-8"><meta name="viewport" content="width=device-width, initial-scale=1"><title>{escape(names)}: layouts, tables and runs</title><link rel="icon" href="data:,">
-<style>{_file("page.css")}</style></head><body>
+<style>{_file("page.css")}</style><script>document.documentElement.className = "late";</script></head><body>
 <a class="skip" href="#main">To the classes</a>
 <svg width="0" height="0" style="position:absolute" aria-hidden="true" focusable="false">{patterns}</svg>
 <header><h1>{escape(names)}</h1><p>{count} classes: how each is laid out, its virtual tables, and what its objects go through. All numbers are bytes.</p>
 <div class="search"><label for="search">Search classes, bases, members and functions</label><input type="search" id="search" autocomplete="off"><span id="found" aria-live="polite"></span></div></header>
 <main id="main"{' class="many"' if count > MANY else ""}>{"".join(chapter.html(count > MANY) for chapter in chapters)}</main>
 <footer><p>Made by <code>tools/page</code> of Tagymelur. docs/PAGE.md says how the pictures and the time line are made.</p></footer>
-<script>{_file("page_closed.js") if count > MANY else ""}{_file("page.js")}</script></body></html>
+<script>{_file("page_late.js")}{_file("page_closed.js") if count > MANY else ""}{_file("page.js")}</script></body></html>
 """

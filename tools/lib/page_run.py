@@ -2,7 +2,7 @@
 import json
 from html import escape
 
-from . import amounts, layout_text
+from . import amounts, layout_text, page_classes
 
 MOST_PARTS = 256
 PHASES = {"raw": "raw", "bases": "bases", "building": "ready, building", "complete": "complete", "ending": "ready, ending", "ending-bases": "ending bases", "ended": "ended"}
@@ -118,7 +118,7 @@ def section(chapter, line):
             "moments": [{"sort": one.sort, "text": one.text, "line": one.line, "object": one.object, "phases": one.phases, "pointers": one.pointers, "places": one.places, "said": said(one)} for one in line.moments],
             "links": {text: anchor for text, anchor in links_of(chapter).items() if text in used}}
     data = json.dumps(data, separators=(",", ":")).replace("<", "\\u003c")
-    lines = "".join(f'<li id="{front}line-{number}"><code>{escape(text) or " "}</code></li>' for number, text in enumerate(chapter.shown.split("\n"), 1))
+    lines = page_classes.in_chunks('ol start="{first}"', [f'<li id="{front}line-{number}"><code>{escape(text) or " "}</code></li>' for number, text in enumerate(chapter.shown.split("\n"), 1)])
     rows = "\n".join(row(front, number, moment) for number, moment in enumerate(line.moments, 1))
     cut = f"<p>These are the first {len(line.moments):,} moments of a longer run.</p>" if line.is_cut else ""
     last = len(line.moments)
@@ -128,8 +128,8 @@ def section(chapter, line):
 <label>Moment <input type="range" min="1" max="{max(1, last)}" value="1"></label> <span class="count">1 of {last}</span></div>
 <p class="now" aria-live="polite"></p>
 <ul class="phases" aria-label="Colours of the phases">{"".join(f'<li class="{phase}">{name}</li>' for phase, name in PHASES.items())}</ul>
-<div class="both"><div class="stages">{stages(chapter, line)}</div><ol class="source" tabindex="0" aria-label="The source">{lines}</ol></div>
-<h3>All moments</h3><div class="wide"><table class="moments" aria-label="All moments"><thead><tr><th scope="col">Moment</th><th scope="col">Line</th><th scope="col">What happens</th><th scope="col">What is read and set</th></tr></thead><tbody>
+<div class="both"><div class="stages">{stages(chapter, line)}</div><div class="source" tabindex="0" role="region" aria-label="The source">{lines}</div></div>
+<h3>All moments</h3><div class="wide all" data-late style="--count:{last}"><table class="moments" aria-label="All moments"><thead><tr><th scope="col">Moment</th><th scope="col">Line</th><th scope="col">What happens</th><th scope="col">What is read and set</th></tr></thead><tbody>
 {rows}
 </tbody></table></div>
 <script type="application/json" class="data">{data}</script></section>"""

@@ -1,7 +1,11 @@
 """What the user can mend: one sentence that says what to do, and a status that is not 0."""
 import argparse
+import errno
 import os
 import sys
+
+
+REFUSED = (errno.EACCES, errno.EPERM, errno.ENOENT, errno.ENOMEM, errno.EMFILE, errno.ENFILE, errno.ENOSYS)  # what writing to a stream never meets
 
 
 class Problem(Exception):
@@ -27,7 +31,8 @@ def run(name, main, words, stopped=None):
     except KeyboardInterrupt:
         status = 130
     except OSError as error:
-        status = _tell(name, f"{error.filename or 'standard output'} cannot be used: {error.strerror}", 2)
+        what = error.filename or ("what the tool needs of the system" if error.errno in REFUSED else "standard output")
+        status = _tell(name, f"{what} cannot be used: {error.strerror}", 2)
     _end(status)
 
 

@@ -128,15 +128,15 @@ def name_of(field):
     return field.split(" :")[0].split()[-1]
 
 
-def settled(lines):
+def settled(lines, answer=program.answer):
     """The text of these lines without those that are refused or undefined; empty where none is left to take out."""
     for _ in range(TRIES):
         text = "".join(line + "\n" for line in lines)
-        answer, status = program.answer(["run"], text)
+        told, status = answer(["run"], text)
         if status == 0:
             return text
-        refused = re.search(r"^refused E\d+ \w+ at (\d+)$", answer, re.M)
-        undefined = re.search(r"^undefined U\d+ \w+ line (\d+)$", answer, re.M)
+        refused = re.search(r"^refused E\d+ \w+ at (\d+)$", told, re.M)
+        undefined = re.search(r"^undefined U\d+ \w+ line (\d+)$", told, re.M)
         at = text.count("\n", 0, int(refused[1])) if refused else int(undefined[1]) - 1 if undefined else None
         if at is None or at >= len(lines):
             return ""

@@ -15,16 +15,16 @@ class Maker:
     def __init__(self, seed, bit_fields=0, plain=False):
         self.random, self.bit_fields, self.plain = random.Random(seed), bit_fields, plain
 
-    def source(self, count):
+    def source(self, count, answer=program.answer):
         """A source of so many classes, or fewer where the program refuses what comes."""
         names = [f"K{number}" for number in range(count)]
         classes = [self.one(name, names[:number]) for number, name in enumerate(names)]
         for _ in range(3 * count):
             text = "".join(classes)
-            answer, status = program.answer(["check"], text)
+            told, status = answer(["check"], text)
             if status == 0:
                 return text
-            refused = re.match(r"refused E\d+ \w+ at (\d+)", answer)
+            refused = re.match(r"refused E\d+ \w+ at (\d+)", told)
             at = text.count("\n", 0, int(refused[1])) if refused else len(classes) - 1
             classes[at] = self.one(names[at], names[:at])
         return ""

@@ -125,7 +125,7 @@ class Restating:
         return (STAND_IN, reason) if reason else (SAID, "")
 
     def own_reason(self, record):
-        if record.tag == "union":
+        if record.tag == "union" and len(record.members) != 1:
             return "it is a union"
         for base in record.bases:
             kind = self.types.inside(record).kind(base.type)

@@ -6,9 +6,11 @@ import os
 import select
 import subprocess
 import tempfile
+import time
 
 WORDS = ["chromium", "--headless", "--no-sandbox", "--disable-gpu", "--no-first-run", "--remote-debugging-pipe"]
 LONGEST = 60  # seconds for one answer of the browser on a busy machine
+PATIENCE = 20  # seconds for a page to do what a key or a new address has it do
 
 
 class Fault(Exception):
@@ -78,6 +80,15 @@ class Page:
         if "exceptionDetails" in found:
             raise Fault(found["exceptionDetails"])
         return found["result"].get("value")
+
+    def until(self, text, wanted):
+        """What a script gives when it gives what is wanted, or what it still gives after a while: a page is told of a new address a little later."""
+        end = time.monotonic() + PATIENCE
+        found = self.value(text)
+        while found != wanted and time.monotonic() < end:
+            time.sleep(0.05)
+            found = self.value(text)
+        return found
 
     def key(self, name):
         """Presses a key and lets it go, as a hand does."""

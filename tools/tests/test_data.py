@@ -203,6 +203,14 @@ class Module(unittest.TestCase):
         with self.assertRaises(ValueError):
             tagymelur.run("int main() {}", steps=0)
 
+    def test_what_is_no_text(self):
+        for call, given in ((tagymelur.check, (b"",)), (tagymelur.layout, (None,)), (tagymelur.layout, ("struct A {};", 7)), (tagymelur.run, (b"int main() {}",)), (tagymelur.paths, (None,)),
+                            (tagymelur.inspect, ("struct A {};", b"")), (tagymelur.foreign, ("struct A {};", None)), (tagymelur.memptr, (b"struct A {};", "A::x"))):
+            with self.assertRaises(TypeError):
+                call(*given)
+        with self.assertRaises(ValueError):
+            tagymelur.layout("struct A {};", "A\0")
+
     def test_no_program(self):
         before = os.environ.get("TAGYMELUR")
         os.environ["TAGYMELUR"] = "/nowhere/program"

@@ -1,4 +1,5 @@
 """Each tool ends clearly: whatever it is given, a sentence and the stated status, and never a traceback."""
+import errno
 import os
 import re
 import shutil
@@ -41,6 +42,15 @@ WRONG = {"cross-check": 2, "cross-run": 2, "gcc-tests": 2, "no-memory": (0, 2), 
 COMPILERS = {"c-library": ["made"], "cross-check": ["{}"], "cross-run": ["{}"], "from-cpp": ["{}"], "fuzz": ["--beside", "--inputs", "1"], "gcc-tests": ["{}"], "listing": ["{}"], "no-memory": ["check"], "run-cpp": ["{}"], "timings": ["--only", "compilers"]}
 OF_CPP = {"from-cpp", "gcc-tests", "listing", "run-cpp"}
 NAMES = sorted(name for name in os.listdir(support.TOOLS) if os.path.isfile(os.path.join(support.TOOLS, name)))
+
+
+class Faults(unittest.TestCase):
+    def test_what_the_system_refuses_is_not_told_as_a_full_disk(self):
+        """As where processes may not share memory: the fault names no file, and no stream has it."""
+        for number, said in ((errno.EACCES, "what the tool needs of the system cannot be used: Permission denied"), (errno.ENOSPC, "standard output cannot be used: No space left on device")):
+            text = f"import sys; sys.path.insert(0, {support.TOOLS!r}); from lib import problem\ndef main(words): raise OSError({number}, {os.strerror(number)!r})\nproblem.run('tool', main, [])"
+            done = subprocess.run([sys.executable, "-c", text], capture_output=True, encoding="utf-8")
+            self.assertEqual((done.returncode, done.stderr), (2, f"tool: {said}\n"))
 
 
 @support.needs_program

@@ -125,6 +125,35 @@ class FromCpp(unittest.TestCase):
         said = self.said(from_text(text, "--class", "B"))
         self.assertEqual(len(re.findall(r"virtual std_basic_string_char\* name\(int p1\)|virtual opaque\* name\(int p1\)", said)), 2, said)
 
+    def test_a_union_with_one_member_is_a_class_with_that_member(self):
+        text = """struct NoPod { int a; char c; NoPod(); }; template<class T> union One { T t; One(); ~One(); }; union Bits { int n : 3; }; struct Empty {}; union OfEmpty { Empty e; };
+            struct Holds { One<NoPod> n; One<long> l; Bits b; char last; }; struct Below : Holds { char behind; }; struct Both : Empty { OfEmpty e; };"""
+        done = from_text(text)
+        for name, theirs in (("One_NoPod", "One<NoPod>"), ("One_long", "One<long>"), ("Bits", "Bits"), ("OfEmpty", "OfEmpty"), ("Holds", "Holds"), ("Below", "Below"), ("Both", "Both")):
+            ours = clang.layouts(done.stdout, [name], ["-std=gnu++98"])[name]
+            self.assertEqual((ours.size, ours.align), numbers_by_clang(text, theirs), name)
+        self.assertIn("struct One_long {  // a union with one member in C++", self.said(done))
+        self.assertIn("  long t;\n", done.stdout)
+        self.assertIn("9 classes said, 0 left out\n", done.stderr)
+
+    def test_a_template_that_a_friend_declares_first(self):
+        text = """namespace n { class User { template<unsigned> friend struct Late; int u; }; template<unsigned count = 1> struct Late { int at[count]; };
+            struct Three : Late<3> { int t; }; struct One : Late<> { long t; }; }"""
+        done = from_text(text)
+        self.assertRegex(self.said(done), r"struct n_Three : public n_Late_3 \{\n  int t;")
+        self.assertIn("5 classes said, 0 left out\n", done.stderr)
+        for name, theirs in (("n_Three", "n::Three"), ("n_One", "n::One")):
+            ours = clang.layouts(done.stdout, [name], ["-std=gnu++98"])[name]
+            self.assertEqual((ours.size, ours.align), numbers_by_clang(text, theirs))
+
+    def test_what_holds_a_stand_in_is_said_however_deep(self):
+        text = """struct alignas(8) Wide {}; template<class T> struct Vec : T { int n[4]; }; struct V : Vec<Wide> {}; struct H1 { V v; }; struct H2 { H1 h; }; struct H3 { H2 h; int k; };"""
+        done = from_text(text)
+        self.assertIn("a stand-in of its size: Vec<Wide>: its size would be 24 in place of 16\n", done.stderr)
+        self.assertIn("4 classes said, 2 by a stand-in of their size, 0 left out\n", done.stderr)
+        ours = clang.layouts(self.said(done), ["H3"], ["-std=gnu++98"])["H3"]
+        self.assertEqual((ours.size, ours.align), numbers_by_clang(text, "H3"))
+
     def test_the_standard_is_the_default_or_the_given_one(self):
         text = "struct Node { int id;\n#if __cplusplus >= 201103L\nlong extra;\n#endif\n};"
         self.assertIn("long extra;", self.said(from_text(text)))

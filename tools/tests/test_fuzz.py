@@ -1,5 +1,6 @@
 """tools/fuzz: small C programs with each fault that it looks for, and the built program on two thousand inputs."""
 import os
+import random
 import re
 import shutil
 import subprocess
@@ -8,10 +9,10 @@ import unittest
 import unittest.mock
 
 import support
-from lib import program, random_programs
-from lib.fuzzing import answers, beside, commands, inputs
+from lib import grammar, program, random_programs
+from lib.fuzzing import answers, beside, changes, commands, inputs, runner
 
-# A program that takes each source: it has the commands of today, and no class. The fault of the number in FAULT comes once words and text are read.
+# A program that takes each source: it has some of the commands, and no class. What stands for FAULT comes once words and text are read.
 TAKING = r"""
 #include <signal.h>
 #include <stdio.h>
@@ -36,9 +37,7 @@ int main(int count, char **words) {
         if (is(words[i], "run") || is(words[i], "paths") || is(words[i], "gen"))
             command = words[i];
     size_t size = is(command, "gen") ? 0 : fread(text, 1, sizeof text, stdin);
-    switch (getenv("FAULT") == NULL ? 0 : atoi(getenv("FAULT"))) {
-    CASES
-    }
+    FAULT;
     if (is(command, "check"))
         return end("0 classes\n", 0);
     if (is(command, "run") || is(command, "paths"))
@@ -70,7 +69,10 @@ FAULTS = {
     "if (is(command, \"layout\")) return end(\"refused E2 Syntax at 0\\n\", 1)": ("layout", "`check` takes the source, and this command answers 'refused E2 Syntax at 0'"),
     "if (is(command, \"check\")) return end(\"limit L4\\n\", 5)": ("tables", "`check` answers 'limit L4', and this command ''"),
     "if (time(NULL)) { struct timespec now; clock_gettime(CLOCK_MONOTONIC, &now); printf(\"%ld \", now.tv_nsec); return end(\"classes\\n\", 0); }": ("words", "the second answer differs from the first"),
-    "for (;;)": ("check", "no answer after 4 seconds"),
+    "char *block = malloc(50000); printf(\"%d \", block[40000]); return end(\"classes\\n\", 0)": ("words", "the second answer differs from the first"),
+    "for (;;)": ("check", "no answer after 1 seconds of a processor"),
+    "for (;;) pause()": ("check", "no answer after 1 seconds of a processor"),
+    "usleep(1500000)": ("check", None),
 }
 
 
@@ -80,36 +82,61 @@ class Faults(unittest.TestCase):
         self.top = tempfile.mkdtemp()
         self.addCleanup(shutil.rmtree, self.top)
 
-    def built(self, *faults):
-        """The program with these faults, which have numbers from 1 on."""
+    def built(self, fault):
+        """The program with this fault."""
         source, built = os.path.join(self.top, "program.c"), os.path.join(self.top, "program")
         with open(source, "w", encoding="utf-8") as file:
-            file.write(TAKING.replace("CASES", "\n".join(f"case {number}: {fault}; break;" for number, fault in enumerate(faults, 1))))
+            file.write(TAKING.replace("FAULT", fault))
         subprocess.run(["gcc", "-std=c11", "-D_GNU_SOURCE", "-w", "-o", built, source], check=True)
         return built
 
     def tried(self, fault, *words):
         """What the tool tells of a program with this fault."""
-        return support.run("fuzz", *words, environment=dict(os.environ, TAGYMELUR=self.built(fault), TMPDIR=self.top, FAULT="1"))
+        return support.run("fuzz", *words, environment=dict(os.environ, TAGYMELUR=self.built(fault), TMPDIR=self.top))
 
+    def told(self, fault, name):
+        """What is told of the answer to one input of a command, or to words alone."""
+        command = next((command for command in commands.COMMANDS if command.name == name), None)
+        given = inputs.Input(command, (b"check" if name == "words" else name.encode(),), b"struct A { int x; };\n", "cases")
+        with unittest.mock.patch.dict(os.environ, TAGYMELUR=self.built(fault)):
+            judge = answers.Judge(1)
+        wrong, _ = judge.fault(given)
+        judge.runner.close()
+        return wrong and wrong.sentence
+
+    @unittest.mock.patch.object(runner, "MOST_IDLE", 3)
     def test_each_fault(self):
-        judge, built = answers.Judge(1), self.built(*FAULTS)
-        self.addCleanup(judge.runner.close)
-        named = {command.name: command for command in commands.COMMANDS}
-        for number, (fault, (name, told)) in enumerate(FAULTS.items(), 1):
-            given = inputs.Input(named.get(name), (b"check" if name == "words" else name.encode(),), b"struct A { int x; };\n", "cases")
-            with unittest.mock.patch.dict(os.environ, TAGYMELUR=built, FAULT=str(number)):
-                wrong, _ = judge.fault(given)
-            self.assertEqual(wrong and wrong.sentence, told, fault)
+        for fault, (name, told) in FAULTS.items():
+            self.assertEqual(self.told(fault, name), told, fault)
 
     def test_a_program_without_a_fault(self):
         done = self.tried("", "--inputs", "150", "--seed", "3")
         self.assertEqual((done.returncode, done.stderr), (0, ""), done.stdout)
         self.assertIn("this build has no `array`, `memptr`, `foreign`, `inspect`\n", done.stdout)
-        self.assertRegex(done.stdout, r"(?m)^150 inputs of seed 3 from number 1 on, in \d+ seconds by .*: 0 faults$")
+        self.assertRegex(done.stdout, r"(?m)^150 inputs of seed 3 from number 1 on, in \d+ seconds, \d+ of a processor, by .*: 0 faults$")
         counted = [int(row.split()[-1]) for row in re.findall(r"(?m)^(?:check|layout|tables|run|paths|gen|words by chance).* \d+$", done.stdout)]
         self.assertEqual(sum(counted), 150)
         self.assertGreaterEqual(len(counted), 6)
+        kinds = [int(row.split()[-1]) for row in re.findall(rf"(?m)^(?:{'|'.join(inputs.SORTS)}) .* \d+$", done.stdout)]
+        self.assertEqual(sum(kinds), 150 + counted[-1])  # `words` is the front of `words by chance`
+
+    def test_an_alarm_after_the_end_of_a_run(self):
+        """It rings when the process has ended, before and after its number is given back: nothing is stopped, and the answer is kept."""
+        with unittest.mock.patch.dict(os.environ, TAGYMELUR=self.built("")):
+            judge = answers.Judge(1)
+        self.addCleanup(judge.runner.close)
+        waitid, wait4 = os.waitid, os.wait4
+
+        def ringing(wait):
+            def waited(*given):
+                result = wait(*given)
+                judge.runner.ring(0, None)
+                return result
+            return waited
+
+        with unittest.mock.patch.object(os, "waitid", ringing(waitid)), unittest.mock.patch.object(os, "wait4", ringing(wait4)):
+            answer = judge.runner.answer([b"check"], b"struct A { int x; };")
+        self.assertEqual((answer.text, answer.status), (b"0 classes\n", 0))
 
     def test_what_is_kept(self):
         fault, folder = "if (memchr(text, '~', size)) raise(SIGSEGV)", os.path.join(self.top, "found")
@@ -131,12 +158,26 @@ class Faults(unittest.TestCase):
 
 class Inputs(unittest.TestCase):
     def test_seed_and_number_decide(self):
-        with unittest.mock.patch.object(inputs, "program_of", lambda name: f"struct A {{ int {name.replace('/', '_')}; }};"):
-            made = lambda seed: [inputs.made(seed, number, commands.COMMANDS) for number in range(150)]
+        with unittest.mock.patch.object(inputs, "program_of", lambda name, answer: f"struct A {{ int x{name.replace('/', '_')}; }};"):
+            made = lambda seed: [inputs.made(seed, number, commands.COMMANDS) for number in range(600)]
             self.assertEqual(made(1), made(1))
             self.assertNotEqual(made(1), made(2))
             self.assertEqual({one.sort for one in made(1)}, set(inputs.SORTS))
             self.assertEqual({one.command for one in made(1)}, {None, *commands.COMMANDS})
+            self.assertLess(sorted(len(one.text) for one in made(1))[480], 2000)
+
+    def test_one_token_is_exchanged(self):
+        text, longest = "struct A { int xy; }; struct B : A { long y; };", max(map(len, ["template", *changes.NUMBERS])) + 2
+        tokens = [token.text for token in grammar.tokens(text)]
+        for seed in range(300):
+            changed = changes.exchange(random.Random(seed), text)
+            same = len(os.path.commonprefix([text, changed])) + len(os.path.commonprefix([text[::-1], changed[::-1]]))
+            self.assertGreaterEqual(same, len(text) - max(map(len, tokens)), changed)
+            self.assertLessEqual(len(changed), len(text) + longest, changed)
+
+    def test_a_token_begins_where_a_word_does(self):
+        found = {changes.near(random.Random(seed), "struct Abc::D->e", changes.TOKEN)[0] for seed in range(200)}
+        self.assertEqual(found, {"struct", "Abc", "::", ":", "D", "->", ">", "e"})
 
     def test_every_form_of_a_worked_case_is_known(self):
         """The forms of lines, and of last lines, take each answer of the worked cases."""
@@ -147,7 +188,7 @@ class Inputs(unittest.TestCase):
             command = named.get("run --trace" if case.words[:1] == ("run",) and "--trace" in case.words else case.words[0] if case.words else "")
             given = inputs.Input(command, tuple(word.encode() for word in case.words), case.source.encode("latin-1"), "cases")
             if command and case.status not in (answers.READ_FAULT, answers.WRITE_FAULT):
-                self.assertIsNone(judge.form(given, answers.Answer(case.text.encode("latin-1"), case.status, b"", 0)), case)
+                self.assertIsNone(judge.form(given, runner.Answer(case.text.encode("latin-1"), case.status, b"", 0)), case)
 
     def test_listings_and_dumps_of_worked_cases(self):
         self.assertGreater(len(inputs.listed()), 20)
@@ -162,6 +203,27 @@ class Beside(unittest.TestCase):
         for compiler in beside.COMPILERS:
             self.assertEqual(beside.refused_by(compiler, b"struct A { virtual void f() {} int x; }; int main() { A* a = new A; print(typeid(*a)); print(a->x); dump(a); print(dynamic_cast<void*>(a)); }"), "")
             self.assertRegex(beside.refused_by(compiler, b"struct A : B {};"), "class|declared")
+
+    def test_the_smallest_source_of_each_row(self):
+        rule, reason = ("E2 Syntax", "g++", ""), ("taken", "clang++", "unknown type name _")
+        self.assertEqual(beside.differing({rule: 1, ("E2 Syntax", "inputs", ""): 1}, b"some"), {rule: b"some"})
+        kept = beside.smallest({rule: b"longer", reason: b"first"}, {rule: b"short"}, {reason: b"later", rule: b"more than that"})
+        self.assertEqual(kept, {rule: b"short", reason: b"first"})
+        self.assertEqual(beside.sources(kept), b"// refused here by E2 Syntax, taken by g++\nshort\n\n// taken here, refused by clang++: unknown type name _\nfirst\n\n")
+
+    @support.needs_program
+    def test_what_is_kept_of_both_compilers(self):
+        """Each kept source is taken, or refused, as its first line says."""
+        with tempfile.TemporaryDirectory() as folder:
+            done = support.run("fuzz", "--beside", "--inputs", "150", "--seed", "31", "--keep", folder)
+            self.assertEqual((done.returncode, done.stderr), (0, ""), done.stdout)
+            with open(os.path.join(folder, "31-beside.txt"), encoding="latin-1") as file:
+                found = re.findall(r"^// (refused here by|taken here)(?: (\w+) \w+)?, (?:taken|refused) by ([gcl+an]+).*\n((?:(?!// ).*\n)*)", file.read(), re.M)
+        self.assertGreater(len(found), 1)
+        for here, rule, compiler, source in found:
+            told, status = program.answer(["check"], source)
+            self.assertEqual((status == 0, beside.refused_by(compiler, source.encode("latin-1")) == ""), (here == "taken here", here != "taken here"), source)
+            self.assertTrue(here == "taken here" or told.startswith(f"refused {rule} "), told)
 
 
 def examples(heading, column):
@@ -183,6 +245,13 @@ class Differences(unittest.TestCase):
             if os.access(program.path(), os.X_OK):
                 self.assertTrue(program.answer(["check"], source)[0].startswith(f"refused {rule} "), source)
 
+    def test_what_clang_alone_takes(self):
+        with open(os.path.join(program.TOP, "docs", "DECISIONS.md"), encoding="utf-8") as file:
+            source, rule = re.search(r"taken by clang\+\+ alone.*?`(struct .*?)` is (E\d+) here", file.read()).groups()
+        self.assertEqual([compiler for compiler in beside.COMPILERS if beside.refused_by(compiler, source.encode())], ["g++"])
+        if os.access(program.path(), os.X_OK):
+            self.assertTrue(program.answer(["check"], source)[0].startswith(f"refused {rule} "), source)
+
     def test_what_compilers_refuse(self):
         found = examples("The other way, what is taken here:", 1)
         self.assertGreater(len(found), 3)
@@ -202,7 +271,8 @@ class Built(unittest.TestCase):
         self.assertEqual(int(re.search(r"(?m)^(\d+) inputs", done.stdout)[1]), 2000)
 
     def test_programs_are_made_of_the_seed(self):
-        self.assertEqual(inputs.program_of.__wrapped__("1/7"), inputs.program_of.__wrapped__("1/7"))
+        for name in ("1/7", "1/8", "1/9", "1/10"):
+            self.assertEqual(inputs.program_of.__wrapped__(name, program.answer), inputs.program_of.__wrapped__(name, program.answer))
         self.assertNotEqual(random_programs.Maker("1/7").lines(3), random_programs.Maker("1/8").lines(3))
 
 

@@ -12,7 +12,7 @@ import support
 from lib import class_tables, dumps, layout_text, program
 
 SCRIPT = os.path.join(support.TOOLS, "gdb", "tagymelur.py")
-PROGRAM = os.path.join(support.TOOLS, "tests", "objects.cc")
+PROGRAM = os.path.join(program.TOP, "examples", "objects.cc")
 COMPLETE = """dump #1 shapes_D 112
 0 vptr shapes_D@0 of shapes_D
 8 02010000 int shapes_B1::b1

@@ -1,5 +1,6 @@
 """tools/no-memory on small C programs: what passes, each way to fail, and what cannot be tried."""
 import os
+import re
 import shutil
 import stat
 import subprocess
@@ -7,7 +8,7 @@ import tempfile
 import unittest
 
 import support
-from lib import run_shapes, shapes, worked
+from lib import limits, program, run_shapes, shape_runs, shapes, worked
 
 # Four allocations, one of each kind; no stream of the C library is used, since it would make more of them.
 CAREFUL = r"""
@@ -131,7 +132,7 @@ class NoMemory(unittest.TestCase):
         done = self.tried(program, "--shapes", "--only", "chain", "--part", "10", "--about", "4")
         self.assertEqual((done.returncode, done.stderr), (0, ""), done.stdout)
         lines = done.stdout.splitlines()
-        self.assertEqual(len(lines), 7 + 4)
+        self.assertEqual(len(lines), 7 + 3)  # it dumps nothing, so that `inspect` has no input
         self.assertRegex(lines[0], r"^chain: check: \d+ of 50 allocations refused: \d+ times want of memory, 0 times the right text, 0 times neither$")
         self.assertIn("chain: run --trace: ", done.stdout)
         done = self.tried(self.compiled(MANY.replace("FAILED", "1")), "--shapes", "--only", "loop", "--about", "4")
@@ -183,6 +184,27 @@ class NoMemory(unittest.TestCase):
         done = support.run("no-memory", "--shapes", "--part", "10", "--about", "4", "--jobs", "2")
         self.assertEqual((done.returncode, done.stderr), (0, ""), done.stdout)
         self.assertRegex(done.stdout, r"[1-9]\d{2,} of the chosen allocations refused: [1-9]\d* times want of memory, \d+ times the right text, 0 times neither\n$")
+
+    @support.needs_program
+    def test_listings_and_dumps_of_shapes_have_room(self):
+        """A listing or a dump of a whole shape may be longer than an input can be: the shape is smaller there, and its listing is sound."""
+        for shape, told in [("writes", r"\d+"), ("chain", "1"), ("empty-tower", "1"), ("parts", "1")]:
+            found = {words[0]: (name, text) for name, words, text in shape_runs.rows(1, shape) if words[0] in ("foreign", "inspect")}
+            self.assertEqual(set(found), {"foreign", "inspect"}, shape)
+            for command, (name, text) in found.items():
+                self.assertRegex(name, rf"^{shape}( --part \d+)?$")
+                self.assertLessEqual(len(text), limits.SOURCE_BYTES, name)
+                answer, status = program.answer([command], text)
+                self.assertEqual(status, 0, (name, command, answer[-80:]))
+                self.assertRegex(answer, r"^object 1 class \w+\n" if command == "inspect" else rf"^{told}\n$", (name, command))
+
+    @support.needs_program
+    def test_allocations_are_refused_behind_the_reading_of_a_listing_and_a_dump(self):
+        done = support.run("no-memory", "--shapes", "--only", "chain", "--about", "8", "--jobs", "2")
+        self.assertEqual((done.returncode, done.stderr), (0, ""), done.stdout)
+        for command in ("foreign", "inspect"):
+            total = re.search(rf"^chain --part \d+: {command}: \d+ of (\d+) allocations refused: \d+ times want of memory, \d+ times the right text, 0 times neither$", done.stdout, re.M)[1]
+            self.assertGreater(int(total), 10_000)  # an input that is too long takes some thirty
 
     @support.needs_program
     def test_large_sources(self):

@@ -69,6 +69,26 @@ class Package(unittest.TestCase):
         self.assertIn("The run of main", self.line("tools/page examples/construction.cpp").stdout)
         self.assertEqual(self.line("ls examples/first.cpp | while read one; do crates/tagymelur/out/tagymelur run < $one; done").stdout, "5\n")
 
+    def test_a_tool_that_begins_with_the_worked_cases(self):
+        done = self.line("tools/fuzz --inputs 20")
+        self.assertEqual((done.returncode, done.stderr), (0, ""))
+        self.assertIn("20 inputs", done.stdout)
+
+    def test_what_python_compiled_goes_with_the_package(self):
+        """The scripts of the package, with commands in place of Debian's that tell how they were called."""
+        folder, told = os.path.join(self.room.name, "scripts"), os.path.join(self.room.name, "told")
+        subprocess.run(["dpkg-deb", "-e", self.package, folder], check=True)
+        os.makedirs(os.path.join(folder, "bin"))
+        for name in ("py3compile", "py3clean"):
+            with open(os.path.join(folder, "bin", name), "w", encoding="utf-8") as file:
+                file.write(f'#!/bin/sh\necho {name} "$@" >> {told}\n')
+            os.chmod(file.name, 0o755)
+        for words in (["postinst", "configure", ""], ["prerm", "remove"], ["postinst", "abort-remove"]):
+            done = call([os.path.join(folder, words[0]), *words[1:]], env={"PATH": f"{folder}/bin:/usr/bin:/bin"})
+            self.assertEqual((done.returncode, done.stdout, done.stderr), (0, "", ""))
+        with open(told, encoding="utf-8") as file:
+            self.assertEqual(file.read().splitlines(), ["py3compile -p tagymelur", "py3compile -p tagymelur /usr/lib/tagymelur", "py3clean -p tagymelur"])
+
     def test_the_launcher(self):
         """At a terminal it lists the commands; it answers by a link from elsewhere, and builds nothing, also where there is a command rt."""
         os.makedirs(os.path.join(self.room.name, "bin"))
@@ -138,6 +158,32 @@ class Package(unittest.TestCase):
         with open(os.path.join(folder, "examples", "diamond.cpp"), encoding="utf-8") as file:
             self.assertEqual(call([os.path.join(folder, "tagymelur"), "check"], stdin=file).stdout, "4 classes\n")
 
+    @support.needs("cc", "ar", "lintian")
+    def test_with_the_library(self):
+        """The lines of docs/DATA.md on a package with a library: here one that answers a word alone, since the kit makes the other."""
+        room = os.path.join(self.room.name, "built")
+        os.mkdir(room)
+        with open(os.path.join(room, "answer.c"), "w", encoding="utf-8") as file:
+            file.write('#include "tagymelur.h"\n#include <string.h>\nuint8_t tagymelur_answer(const uint8_t *words, size_t words_length, const uint8_t *source, size_t source_length,\n'
+                       "    uint8_t *text, size_t text_length, size_t *written) { (void)source; (void)source_length; (void)text_length; *written = words_length - 1; memcpy(text, words, *written); return 3; }\n")
+        header = f"-I{os.path.join(program.TOP, 'library')}"
+        for words in (["cc", "-fPIC", "-c", "answer.c", header], ["ar", "rcs", "libtagymelur.a", "answer.o"], ["cc", "-shared", "-Wl,-soname,libtagymelur.so", "answer.o", "-o", "libtagymelur.so"]):
+            subprocess.run(words, cwd=room, check=True)
+        done = support.run("package", os.path.join(room, "made"), "--library", room)
+        self.assertEqual((done.returncode, done.stderr), (0, ""))
+        package, packed = done.stdout.splitlines()
+        subprocess.run(["dpkg-deb", "-x", package, os.path.join(room, "root")], check=True)
+        subprocess.run(["tar", "-C", room, "-xf", packed], check=True)
+        with open(os.path.join(program.TOP, "docs", "DATA.md"), encoding="utf-8") as file:
+            shown = re.findall(r"^    (cc library/example\.c .*|python3 library/example\.py .*)$", file.read(), re.M)
+        self.assertEqual(len(shown), 2)
+        for folder in (os.path.join(room, "root/usr/lib/tagymelur"), os.path.join(room, "tagymelur-0.1")):
+            for line in shown:
+                done = call(["bash", "-c", line.replace("build/", "library/").replace("-o example", f"-o {room}/example").replace("./example", f"{room}/example")], cwd=folder)
+                self.assertEqual((done.returncode, done.stdout, done.stderr), (3, "layout", ""), line)
+        done = call(["lintian", "--allow-root", "--fail-on", "error", package])
+        self.assertEqual(done.returncode, 0, done.stdout)
+
     @support.needs("lintian")
     def test_lintian(self):
         done = call(["lintian", "--allow-root", "--fail-on", "error", self.package])
@@ -184,7 +230,7 @@ class Words(unittest.TestCase):
                 file.write(manual.for_zsh({name: manual.help_of(name) for name in ("draw", "as-json")}))
             shell = Shell(room)
             shell.write(f"bindkey -e; fpath=({room} $fpath); autoload -U compinit; compinit -u -D; tell() {{ print to''ld $@ }}; cd {room}; print re''ady\n", r"ready")
-            for line, wanted in (("tagymelur lay", "tagymelur layout"), ("tagymelur-draw --tab", "tagymelur-draw --tables"), ("tagymelur-as-json mem", "tagymelur-as-json memptr"),
+            for line, wanted in (("tagymelur lay", "tagymelur layout"), ("tagymelur run --tr", "tagymelur run --trace"), ("tagymelur layout D --st", "tagymelur layout D --steps"), ("tagymelur-draw --tab", "tagymelur-draw --tables"), ("tagymelur-as-json mem", "tagymelur-as-json memptr"),
                                  ("tagymelur-as-json --so", "tagymelur-as-json --source")):
                 shell.write(f"{line}\t\x01tell \n", rf"told {wanted} *\r?\n")
             shell.write("exit\n")

@@ -16,6 +16,7 @@ HERE = os.path.dirname(os.path.abspath(__file__))
 SHOWN = "Array.from(document.querySelectorAll('.index tbody tr')).filter((row) => !row.hidden).map((row) => row.querySelector('a').textContent).join(' ')"
 NOW = "document.querySelector('.now').textContent + ' / ' + document.querySelector('.count').textContent"
 ROWS = "Array.from(document.querySelectorAll('.stage:not([hidden]) tr[data-%s]')).map((row) => row.textContent).join('; ')"
+LAID = "new Promise((done) => { const look = () => (document.querySelector('[data-late]') ? setTimeout(look, 20) : done()); look(); })"  # waits until all is laid out
 NAMELESS = ("button", "link", "slider", "searchbox", "image", "region")
 
 
@@ -67,7 +68,7 @@ class Text(unittest.TestCase):
     def test_a_text_is_no_mark_of_the_page(self):
         page = made(text="struct A { int x; }; int main() { print(1); } // </script><b>& ü\n")
         self.assertIn("// &lt;/script&gt;&lt;b&gt;&amp; ü", page)
-        self.assertEqual(page.count("</script>"), 2)
+        self.assertEqual(page.count("</script>"), 3)
 
     def test_names_that_are_parts_of_words(self):
         """A class may be called as a part of `vbase` or `typeinfo`: the link is on its name."""
@@ -251,6 +252,7 @@ class Browser(unittest.TestCase):
 
     def test_what_a_screen_reader_is_given(self):
         with browser.Page(self.path) as page:
+            page.value(LAID)
             found = self.read_aloud(page)
         self.assertEqual([one for one in found if one[0] in NAMELESS and not one[1]], [])
         roles = [role for role, _ in found]

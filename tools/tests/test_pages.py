@@ -177,10 +177,9 @@ class Pictures(unittest.TestCase):
     @support.needs_program
     @support.needs("sh")
     def test_each_drawing_is_what_its_command_prints(self):
-        made_by = dict(MADE_BY)
-        for name in PAGES:
-            made_by.update({file: command for command, file in re.findall(r"^    (tools/.*) > docs/pictures/(\S+)$", page(name), re.M)})
         drawings = {name for name in os.listdir(self.folder) if name.endswith(".svg")}
+        shown = (found for name in PAGES for found in re.findall(r"^    (tools/draw .*) > (\w+\.svg)$", page(name), re.M))
+        made_by = {file: command for command, file in shown if file in drawings} | MADE_BY
         self.assertEqual(set(made_by), drawings)
         for file, command in made_by.items():
             if ("listing" in command or "from-cpp" in command) and not shutil.which("clang++") or "/FL/" in command and not os.path.exists("/usr/include/FL/Fl_Button.H"):

@@ -16,8 +16,8 @@ ghost use Rattle.abi_judge.specs.invariants.Leaves.{leaf_from};
 use crate::draft::Draft;
 use crate::things::{PlacedLeaf, Thing};
 use cxx_hierarchy::{ClassId, FieldType, Member, Scalar, ValueType};
-use cxx_subobject::{Subobject, class_of, list_subobjects};
-use foundation::NoMemory;
+use cxx_subobject::{Subobject, class_of, list_subobjects, put_subobjects};
+use foundation::{NoMemory, Sequence};
 use std::alloc::Global;
 
 /// The class of a subobject; the first one where there is none.
@@ -55,6 +55,7 @@ fn size_of_value(ty: &ValueType<ClassId>) -> u32
 }
 
 /// Puts the elements of a member that are numbers or pointers behind other things, by the first of them.
+#[inline(never)]
 fn push_leaves(things: &mut Vec<Thing>, first: PlacedLeaf, count: u32) -> Result<(), NoMemory>
     requires size { first.size ≤ 8 }
     requires room { first.place + 2 ^ 52 < 2 ^ 64 }
@@ -86,7 +87,8 @@ impl<'a> Draft<'a> {
         requires room { start + 2 ^ 52 + (b.0 + 1) * 2 ^ 53 < 2 ^ 64 }
         ensures { OnOk result (AddsObjects (setting_of self.now) b start count things.old.items things.new.items) }
     {
-        let bases = list_subobjects(alloc, self.h, b)?;
+        let mut bases = Sequence::new(alloc);
+        put_subobjects(alloc, self.h, b, &mut bases)?;
         let size = self.row(b).size as u64;
         for i in 0..count {
             self.push_object(alloc, things, b, bases.as_slice(), start + i as u64 * size)?;

@@ -117,7 +117,7 @@ pub fn run_plan<M: Memory>(setup: &Setup, running: &mut Running<M>, op: &Op) -> 
             handed.owner_class,
             handed.outer,
             handed.outer_class,
-        );
+        )?;
         return Ok(());
     }
     let this = running.register(0).unwrap();
@@ -131,7 +131,7 @@ pub fn run_plan<M: Memory>(setup: &Setup, running: &mut Running<M>, op: &Op) -> 
         Op::SetPhase { class, phase } => set_phase(setup, running, *class, *phase, this),
         Op::SetView { class, owner } => {
             let owner = owner_of(running.top.handed, *owner, this, *class);
-            running.shadow.set_view(owner.0, owner.1, this, *class);
+            running.shadow.set_view(owner.0, owner.1, this, *class)?;
         }
         _ => unreachable!(),
     }

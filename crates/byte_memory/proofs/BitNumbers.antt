@@ -29,7 +29,7 @@ number_from-word bit at span first bits word fits read = number_from-same bits (
 
 -- the bits after a word with some new bits was written where it stood
 pub with_word-bits : (bit : ℕ → Option Bool) (at span first bits : ℕ) (word new from : Word) → first + bits ≤ 8 * span → 8 * span ≤ 64 →
-    ((place : ℕ) → place < 8 * span → word_bit word place ≡ bit (8 * at + place)) →
+    ((place : ℕ) → place < 8 * span → is_among first bits place ≡ false → word_bit word place ≡ bit (8 * at + place)) →
     ((place : ℕ) → place < 64 → word_bit new place ≡ (if is_among first bits place then word_bit from (place - first) else word_bit word place)) →
     (place : ℕ) → with_word bit at span new place ≡ (if is_among (8 * at + first) bits place then word_bit from (place - (8 * at + first)) else bit place)
 with_word-bits bit at span first bits word new from fits short read made place = by_test (is_among (8 * at) (8 * span) place) refl (is_among (8 * at + first) bits place) refl
@@ -49,13 +49,13 @@ with_word-bits bit at span first bits word new from fits short read made place =
         let there : 8 * at + (place - 8 * at) ≡ place = grind (arith, nat_tests) in
         let is : word_bit new (place - 8 * at) ≡ (if is_among first bits (place - 8 * at) then word_bit from ((place - 8 * at) - first) else word_bit word (place - 8 * at)) = made (place - 8 * at) less in
         let chosen : word_bit new (place - 8 * at) ≡ word_bit word (place - 8 * at) = rw outside at is in
-        rw (t, t') (chosen ∙ (read (place - 8 * at) less' ∙ ap bit there))
+        rw (t, t') (chosen ∙ (read (place - 8 * at) less' outside ∙ ap bit there))
     by_test false t true t' = absurd (grind (arith, nat_tests))
     by_test false t false t' = rw (t, t') refl
 
 -- a store by a word
 pub stored-word : (bit : ℕ → Option Bool) (at span first bits value : ℕ) (word new : Word) → first + bits ≤ 8 * span → 8 * span ≤ 64 →
-    ((place : ℕ) → place < 8 * span → word_bit word place ≡ bit (8 * at + place)) →
+    ((place : ℕ) → place < 8 * span → is_among first bits place ≡ false → word_bit word place ≡ bit (8 * at + place)) →
     ((place : ℕ) → place < 64 → word_bit new place ≡ (if is_among first bits place then masked value 18446744073709551615 (place - first) else word_bit word place)) →
     with_word bit at span new ≡ stored bit (8 * at + first) bits value
 stored-word bit at span first bits value word new fits short read made = λ j place. pointwise place j
@@ -75,7 +75,7 @@ stored-word bit at span first bits value word new fits short read made = λ j pl
 -- a copy by a word
 pub copied-word : (bit : ℕ → Option Bool) (from to span first bits : ℕ) (source word new shifted : Word) → first + bits ≤ 8 * span → 8 * span ≤ 64 →
     ((place : ℕ) → place < 8 * span → word_bit source place ≡ bit (8 * from + place)) →
-    ((place : ℕ) → place < 8 * span → word_bit word place ≡ bit (8 * to + place)) →
+    ((place : ℕ) → place < 8 * span → is_among first bits place ≡ false → word_bit word place ≡ bit (8 * to + place)) →
     ((place : ℕ) → word_bit shifted place ≡ word_bit source (first + place)) →
     ((place : ℕ) → place < 64 → word_bit new place ≡ (if is_among first bits place then word_bit shifted (place - first) else word_bit word place)) →
     with_word bit to span new ≡ copied bit (8 * from + first) (8 * to + first) bits

@@ -39,6 +39,7 @@ impl Page {
 }
 
 /// The word in n bytes of a page, from one on.
+#[inline(always)]
 pub fn read_page(page: &Page, at: usize, n: u8) -> Word
     requires { n ≤ 8 }
     ensures bits { (place : ℕ) → place < 8 * n → word_bit result place ≡ bits_in page.now.cells.items (8 * at + place) }
@@ -56,6 +57,7 @@ pub fn read_page(page: &Page, at: usize, n: u8) -> Word
 }
 
 /// Writes the low n bytes of a word into a page, from a byte on.
+#[inline(always)]
 pub fn write_page(page: &mut Page, at: usize, n: u8, word: Word)
     requires inside { at + n ≤ 4096 }
     requires short { n ≤ 8 }

@@ -9,13 +9,13 @@ use crate::cells::{all_set, from_bit, number_in, with_bits};
 use crate::memory::{Memory, MemoryFault, Region, byte_span};
 use crate::page::{PAGE_BYTES, Page};
 use crate::regions::{check, region_from, shut_region};
-use crate::table::{claim_pages, read_pages, release_pages, write_pages};
+use crate::table::{claim_pages, read_pages, read_rest, release_pages, write_pages};
 use std::alloc::Global;
 
 /// A memory that keeps the pages that meet an open region, and all regions, in the order of their addresses.
 ///
-/// Page k has the 4,096 bytes from the address 4,096 k on. A load or a store finds its region and its page by a binary
-/// search each. Each region that was closed keeps its 24 bytes.
+/// Page k has the 4,096 bytes from the address 4,096 k on. A load or a store finds its region by a binary search, and
+/// its page by its distance from the first page, or else by a binary search. Each region that was closed keeps its 24 bytes.
 #[derive(Drop)]
 pub struct PageMemory {
     alloc: Global,
@@ -124,8 +124,8 @@ impl Memory for PageMemory {
     fn store_bits(&mut self, at: u64, first: u8, bits: u8, value: u64) -> Result<(), MemoryFault> {
         let span = byte_span(first, bits);
         check(&self.regions, at, span as u64)?;
-        let word = read_pages(&self.pages, at, span);
-        let new = with_bits(word, first, bits, all_set(value));
+        let rest = read_rest(&self.pages, at, span, first, bits);
+        let new = with_bits(rest, first, bits, all_set(value));
         write_pages(&mut self.pages, at, span, new);
         Ok(())
     }
@@ -135,8 +135,8 @@ impl Memory for PageMemory {
         check(&self.regions, from, span as u64)?;
         check(&self.regions, to, span as u64)?;
         let source = read_pages(&self.pages, from, span);
-        let word = read_pages(&self.pages, to, span);
-        let new = with_bits(word, first, bits, from_bit(source, first));
+        let rest = read_rest(&self.pages, to, span, first, bits);
+        let new = with_bits(rest, first, bits, from_bit(source, first));
         write_pages(&mut self.pages, to, span, new);
         Ok(())
     }

@@ -1,6 +1,6 @@
 //! Pages in the order of their numbers, and what stands in them.
 
-ghost use Rattle.std.specs.Prelude.{◌≡◌, ℕ, ◌+◌, ◌-◌, ◌*◌, ◌/◌, ◌<◌, ◌≤◌, ◌^◌, length, slice_get, nat_le, nat_eq, if◌then◌else◌, is_some, true, Some, None, IfOk, MatchOption, MatchResult};
+ghost use Rattle.std.specs.Prelude.{◌≡◌, ℕ, ◌+◌, ◌-◌, ◌*◌, ◌/◌, ◌<◌, ◌≤◌, ◌^◌, length, slice_get, nat_le, nat_eq, if◌then◌else◌, is_some, true, false, Some, None, IfOk, IfSome, MatchOption, MatchResult};
 ghost use Rattle.std.specs.List.{find};
 ghost use Rattle.byte_memory.specs.declared.page.Page.{Page};
 ghost use Rattle.byte_memory.specs.Bits.{is_among};
@@ -25,13 +25,43 @@ fn count_up_to(pages: &[Page], number: u64) -> usize
     )
 }
 
-/// Where the page of that number stands.
+/// Whether the page of that number stands there.
+#[inline(always)]
+fn is_at(pages: &[Page], index: usize, number: u64) -> bool
+    requires { IsAscendingBy (λ page. page.number) (λ page. 1) pages.now }
+    ensures { result ≡ true → (index < length pages.now) × (find (numbered number) pages.now ≡ slice_get pages.now index) }
+{
+    index < pages.len() && pages[index].number == number
+}
+
+/// Where the page of that number stands, if all pages between the first one and it are there.
+#[inline(always)]
+fn index_from_first(pages: &[Page], number: u64) -> Option<usize>
+    requires { IsAscendingBy (λ page. page.number) (λ page. 1) pages.now }
+    ensures { IfSome result (λ index. (index < length pages.now) × (find (numbered number) pages.now ≡ slice_get pages.now index)) }
+{
+    if pages.is_empty() || number < pages[0].number {
+        return None;
+    }
+    let index = (number - pages[0].number) as usize;
+    if is_at(pages, index, number) {
+        Some(index)
+    } else {
+        None
+    }
+}
+
+/// Where the page of that number stands: at its distance from the first page, or else by a binary search.
+#[inline(always)]
 pub fn index_of(pages: &[Page], number: u64) -> Option<usize>
     requires { IsAscendingBy (λ page. page.number) (λ page. 1) pages.now }
     ensures { MatchOption result
         (find (numbered number) pages.now ≡ None)
         (λ index. (index < length pages.now) × (find (numbered number) pages.now ≡ slice_get pages.now index)) }
 {
+    if let Some(index) = index_from_first(pages, number) {
+        return Some(index);
+    }
     let count = count_up_to(pages, number);
     if count == 0 {
         return None;
@@ -44,6 +74,7 @@ pub fn index_of(pages: &[Page], number: u64) -> Option<usize>
 }
 
 /// The word in n bytes of one page, from one on, of unset bits where there is no such page.
+#[inline(always)]
 fn read_part(pages: &[Page], number: u64, at: usize, n: u8) -> Word
     requires ascending { IsAscendingBy (λ page. page.number) (λ page. 1) pages.now }
     requires short { n ≤ 8 }
@@ -59,6 +90,7 @@ fn read_part(pages: &[Page], number: u64, at: usize, n: u8) -> Word
 }
 
 /// The word in n bytes from an address on.
+#[inline(always)]
 pub fn read_pages(pages: &[Page], at: u64, n: u8) -> Word
     requires ascending { IsAscendingBy (λ page. page.number) (λ page. 1) pages.now }
     requires short { n ≤ 8 }
@@ -73,6 +105,20 @@ pub fn read_pages(pages: &[Page], at: u64, n: u8) -> Word
     let low = read_part(pages, number, first as usize, here);
     let high = read_part(pages, number + 1, 0, n - here);
     joined(low, high, here)
+}
+
+/// A word with the bits of the n bytes from an address on that stay where so many bits, from one on, are written. Nothing is
+/// read where none stays.
+#[inline(always)]
+pub fn read_rest(pages: &[Page], at: u64, n: u8, first: u8, bits: u8) -> Word
+    requires ascending { IsAscendingBy (λ page. page.number) (λ page. 1) pages.now }
+    requires short { n ≤ 8 }
+    ensures { (place : ℕ) → place < 8 * n → is_among first bits place ≡ false → word_bit result place ≡ bits_of pages.now (8 * at + place) }
+{
+    if first == 0 && bits == 8 * n {
+        return Word { value: 0, set: 0 };
+    }
+    read_pages(pages, at, n)
 }
 
 /// The word of n bytes and the bytes of another word after them.
@@ -91,6 +137,7 @@ fn joined(low: Word, high: Word, n: u8) -> Word
 }
 
 /// Writes the low n bytes of a word into one page, from a byte on.
+#[inline(always)]
 fn write_part(pages: &mut Vec<Page>, number: u64, at: usize, n: u8, word: Word)
     requires ascending { IsAscendingBy (λ page. page.number) (λ page. 1) pages.old.items }
     requires there { is_some (find (numbered number) pages.old.items) ≡ true }
@@ -106,6 +153,7 @@ fn write_part(pages: &mut Vec<Page>, number: u64, at: usize, n: u8, word: Word)
 }
 
 /// Writes the low n bytes of a word from an address on.
+#[inline(always)]
 pub fn write_pages(pages: &mut Vec<Page>, at: u64, n: u8, word: Word)
     requires ascending { IsAscendingBy (λ page. page.number) (λ page. 1) pages.old.items }
     requires short { n ≤ 8 }

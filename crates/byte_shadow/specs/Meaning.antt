@@ -25,12 +25,14 @@ phase_of (Some note) = Some note.phase
 
 abbrev pub owner_of : Option Note → Option (ℕ × ℕ)
 owner_of None = None
-owner_of (Some note) = Some (pair_of note.owner)
+owner_of (Some note) = Some (note.owner, note.owner_class)
 
-abbrev pub view_of : Option Note → Option (ℕ × ℕ)
-view_of None = None
-view_of (Some note) = option_map pair_of note.view
+abbrev pub view_in : Shadow → ℕ → ℕ → Option Place
+view_in shadow at class = get_by (same_place (place at class)) shadow.views
+
+abbrev pub view_of : Option Place → Option (ℕ × ℕ)
+view_of view = option_map pair_of view
 
 -- what the shadow notes, as functions of an address and a class
 unfoldable pub notes_of : Shadow → Notes
-notes_of shadow = record { phase = λ at class. phase_of (note_of shadow at class); owner = λ at class. owner_of (note_of shadow at class); view = λ at class. view_of (note_of shadow at class) }
+notes_of shadow = record { phase = λ at class. phase_of (note_of shadow at class); owner = λ at class. owner_of (note_of shadow at class); view = λ at class. view_of (view_in shadow at class) }

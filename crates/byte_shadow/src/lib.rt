@@ -6,8 +6,8 @@
 //! say what a program may do in which phase). Nothing here knows a declaration or reads a byte.
 //!
 //! The layer above may rely on the contracts of the calls, each one equation over `notes_of`, and on the lemmas of
-//! `proofs/Changed.antt`, which say what a changed function gives at the pair that was changed and at any other. Only `begin`
-//! takes memory.
+//! `proofs/Changed.antt`, which say what a changed function gives at the pair that was changed and at any other. `begin` and
+//! `set_view` take memory.
 #![tactic(auto, unfolding(crate::specs::Meaning::notes_of))]
 
 mod shadow;

@@ -16,12 +16,13 @@ pub struct Place {
     pub class: u32,
 }
 
-/// What is noted of a subobject: its phase, its complete object, and the view of that object, where it is one itself.
+/// What is noted of a subobject: its complete object, by the address and the number of its class, and its phase. A note has 16
+/// bytes, and stays when its object is gone.
 #[derive(Clone, Copy)]
 pub struct Note {
+    pub owner: u64,
+    pub owner_class: u32,
     pub phase: Phase,
-    pub owner: Place,
-    pub view: Option<Place>,
 }
 
 fn pair_of(place: Place) -> (u64, u32)
@@ -41,10 +42,12 @@ fn is_ready_phase(phase: Phase) -> bool
 }
 
 /// What is noted of class subobjects, by their address and the number of their class: the phase of each, the complete object
-/// that it belongs to, and of a complete object its view. Addresses are in bytes.
+/// that it belongs to, and of a complete object its view. Addresses are in bytes. The views stand in a map of their own, since
+/// few subobjects are complete objects.
 #[derive(Drop)]
 pub struct Shadow {
     notes: IndexMap<Place, Note>,
+    views: IndexMap<Place, Place>,
 }
 
 impl Shadow {
@@ -54,6 +57,7 @@ impl Shadow {
     {
         Shadow {
             notes: IndexMap::new(alloc),
+            views: IndexMap::new(alloc),
         }
     }
 
@@ -78,12 +82,9 @@ impl Shadow {
         ensures err { OnErr result (notes_of self.new ≡ notes_of self.old) }
     {
         let note = Note {
+            owner,
+            owner_class,
             phase: Phase::Raw,
-            owner: Place {
-                at: owner,
-                class: owner_class,
-            },
-            view: None,
         };
         self.notes.insert(Place { at, class }, note)?;
         Ok(())
@@ -116,27 +117,37 @@ impl Shadow {
         }
     }
 
-    /// Makes a subobject the view of a complete object that is noted. It takes no memory.
-    pub fn set_view(&mut self, owner: u64, owner_class: u32, at: u64, class: u32)
-        requires { (notes_of self.old).phase owner owner_class ≢ None }
-        ensures { notes_of self.new ≡ viewed (notes_of self.old) owner owner_class at class }
+    /// Makes a subobject the view of a complete object.
+    ///
+    /// Errors: want of memory; then all is as before.
+    pub fn set_view(
+        &mut self,
+        owner: u64,
+        owner_class: u32,
+        at: u64,
+        class: u32,
+    ) -> Result<(), NoMemory>
+        ensures ok { OnOk result (notes_of self.new ≡ viewed (notes_of self.old) owner owner_class at class) }
+        ensures err { OnErr result (notes_of self.new ≡ notes_of self.old) }
     {
         let complete = Place {
             at: owner,
             class: owner_class,
         };
-        let view = Place { at, class };
-        if let Some(note) = self.notes.get_mut(&complete) {
-            note.view = Some(view);
-        }
+        self.views.insert(complete, Place { at, class })?;
+        Ok(())
     }
 
     /// The view of a complete object, as an address and the number of a class, if one was set.
     pub fn view(&self, owner: u64, owner_class: u32) -> Option<(u64, u32)>
         ensures { result ≡ (notes_of self.now).view owner owner_class }
     {
-        let view = self.note(owner, owner_class)?.view?;
-        Some(pair_of(view))
+        let complete = Place {
+            at: owner,
+            class: owner_class,
+        };
+        let view = self.views.get(&complete)?;
+        Some(pair_of(*view))
     }
 
     /// The complete object that a subobject belongs to, as an address and the number of a class, if the subobject is noted.
@@ -144,6 +155,6 @@ impl Shadow {
         ensures { result ≡ (notes_of self.now).owner at class }
     {
         let note = self.note(at, class)?;
-        Some(pair_of(note.owner))
+        Some((note.owner, note.owner_class))
     }
 }

@@ -21,7 +21,7 @@ use code_ops::sites::Site;
 use code_ops::widths::LeafWidth;
 use cxx_hierarchy::{ClassId, FieldType, Member};
 use cxx_program::TypedOperand;
-use cxx_subobject::{Subobject, class_of, list_subobjects};
+use cxx_subobject::{Subobject, class_of, list_subobjects, put_subobjects};
 use foundation::{NoMemory, Sequence};
 
 /// The class of a subobject; the first one where there is none.
@@ -35,6 +35,7 @@ fn class_or_first(base: &Subobject) -> ClassId
 }
 
 /// Copies elements that are numbers or pointers, by how they stand.
+#[inline(never)]
 fn push_values(
     ops: &mut OpList,
     sides: Sides,
@@ -65,7 +66,8 @@ impl<'a, L: SoundLayout> CopySite<'a, L> {
         requires fits { (i : ℕ) → i < elements.count → FitsObject self.now.site.now.h.now (site_places L.rows self.now.site.now) d (elements.start + i * elements.stride) }
         ensures { OnOk result (AddsObjects (site_setup L.rows self.now.site.now) self.now.sides d elements.start elements.stride elements.count ops.old ops.new) }
     {
-        let bases = list_subobjects(self.site.alloc, self.site.h, d)?;
+        let mut bases = Sequence::new(self.site.alloc);
+        put_subobjects(self.site.alloc, self.site.h, d, &mut bases)?;
         for i in 0..elements.count {
             self.push_object(ops, d, bases.as_slice(), elements.place(i))?;
         }

@@ -53,6 +53,16 @@ fn shared_base(alloc: Global, v: ClassId) -> Result<Subobject, NoMemory>
     })
 }
 
+/// Puts a subobject behind the others. It is no part of the walk below, of which each open call takes room on the stack.
+#[inline(never)]
+fn push_again(alloc: Global, s: &Subobject, found: &mut Vec<Subobject>) -> Result<(), NoMemory>
+    ensures { OnOk result (found.new.items ≡ found.old.items ++ s.now ∷ []) }
+{
+    let itself = subobject_below(alloc, s, &[])?;
+    found.push(itself)?;
+    Ok(())
+}
+
 /// Puts a subobject of class `c`, and what its bases give, behind the others, each once. A class is marked where it
 /// was met as a shared base.
 fn visit(
@@ -74,8 +84,7 @@ fn visit(
     ensures marks { OnOk result (AreMarks marks.new found.new.items) }
 {
     h.keeps();
-    let itself = subobject_below(alloc, s, &[])?;
-    found.push(itself)?;
+    push_again(alloc, s, found)?;
     for base in h.class(c).bases.as_slice() {
         let number = base.class.0 as usize;
         if base.is_virtual {
@@ -110,6 +119,25 @@ pub fn list_subobjects(alloc: Global, h: &Hierarchy, c: ClassId) -> Result<Subob
     };
     visit(alloc, h, &whole, c, &mut marks, &mut found)?;
     Ok(Sequence::from_vec(found))
+}
+
+/// Makes a list the inheritance subobjects of a class in preorder, as `list_subobjects` gives them, for a walk that calls itself:
+/// an answer would take more room on the stack in each open call.
+///
+/// Errors: want of memory; then nothing is said of the list.
+#[inline(never)]
+pub fn put_subobjects(
+    alloc: Global,
+    h: &Hierarchy,
+    c: ClassId,
+    list: &mut SubobjectList,
+) -> Result<(), NoMemory>
+    requires { c.0 < length h.now }
+    ensures preorder { OnOk result (list.new ≡ preorder h.now c) }
+    ensures lists { OnOk result (ListsSubobjects h.now c list.new) }
+{
+    *list = list_subobjects(alloc, h, c)?;
+    Ok(())
 }
 
 /// The inheritance subobjects of a class in preorder, each once.

@@ -15,7 +15,7 @@ ghost use Rattle.path_places.specs.invariants.Dumps.{seen, DumpsWhole, DumpsOwn,
 use crate::leaves::class_or_first;
 use crate::locations::shown;
 use cxx_hierarchy::{ClassId, FieldType, Member};
-use cxx_subobject::{Hop, Location, Subobject, list_subobjects, subobject_below};
+use cxx_subobject::{Hop, Location, Subobject, put_subobjects, subobject_below};
 use foundation::{NoMemory, Sequence};
 use path_heap::Heap;
 use path_model::{DumpLeaf, Out};
@@ -61,6 +61,22 @@ fn hops_below(alloc: Global, place: &Place, member: u32, index: u32) -> Result<V
     Ok(hops)
 }
 
+/// Makes a list the hops to an element of a member of a subobject. It is no part of the walk below, of which each open call takes
+/// room on the stack.
+#[inline(never)]
+fn put_hops(
+    alloc: Global,
+    place: &Place,
+    member: u32,
+    index: u32,
+    list: &mut Vec<Hop>,
+) -> Result<(), NoMemory>
+    ensures { OnOk result (list.new.items ≡ place.now.hops.now ++ Inherit place.now.base.now ∷ MemberHop member index ∷ []) }
+{
+    *list = hops_below(alloc, place, member, index)?;
+    Ok(())
+}
+
 /// A leaf, by its number, and its value.
 fn dump_leaf(
     alloc: Global,
@@ -86,6 +102,7 @@ fn dump_leaf(
 }
 
 /// The leaves of a member that is a number or a pointer, whose element 0 has the number k.
+#[inline(never)]
 fn dump_values(
     alloc: Global,
     site: &Site,
@@ -122,7 +139,8 @@ fn dump_elements(
 {
     let size = site.world.numbers.in_full(d);
     for i in 0..count {
-        let hops = hops_below(alloc, place, m, i)?;
+        let mut hops = Vec::new(alloc);
+        put_hops(alloc, place, m, i, &mut hops)?;
         let start = k.wrapping_add(i.wrapping_mul(size));
         dump_whole(alloc, site, &hops, d, start, out)?;
     }
@@ -192,7 +210,8 @@ fn dump_whole(
     ensures { OnOk result (DumpsWhole (seen site.now.world.now.h.now site.now.heap.now site.now.object site.now.class) hops.now c k out.old.items out.new.items) }
 {
     site.world.h.keeps();
-    let bases = list_subobjects(alloc, site.world.h, c)?;
+    let mut bases = Sequence::new(alloc);
+    put_subobjects(alloc, site.world.h, c, &mut bases)?;
     for base in bases.as_slice() {
         let d = class_or_first(base);
         let start = k.wrapping_add(site.world.numbers.number_in(site.world.h, c, base));

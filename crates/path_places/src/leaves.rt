@@ -15,8 +15,8 @@ ghost use Rattle.path_tables.specs.Worlds.{IsWorld};
 ghost use Rattle.path_places.specs.invariants.Leaves.{ListsWhole, ListsOwn, ListsMember, ListsElements};
 
 use cxx_hierarchy::{ClassId, FieldType, Member};
-use cxx_subobject::{Subobject, class_of, list_subobjects};
-use foundation::NoMemory;
+use cxx_subobject::{Subobject, class_of, list_subobjects, put_subobjects};
+use foundation::{NoMemory, Sequence};
 use path_heap::Heap;
 use path_tables::World;
 use std::alloc::Global;
@@ -32,6 +32,7 @@ pub(crate) fn class_or_first(base: &Subobject) -> ClassId
 }
 
 /// Puts so many numbers from k on behind the others.
+#[inline(never)]
 fn push_numbers(k: u32, count: u32, leaves: &mut Vec<u32>) -> Result<(), NoMemory>
     ensures { OnOk result (leaves.new.items ≡ leaves.old.items ++ map (λ i. (k + i) % 2 ^ 32) (upto count)) }
 {
@@ -120,7 +121,8 @@ fn push_whole(
     ensures { OnOk result (ListsWhole world.now.h.now c k leaves.old.items leaves.new.items) }
 {
     world.h.keeps();
-    let bases = list_subobjects(alloc, world.h, c)?;
+    let mut bases = Sequence::new(alloc);
+    put_subobjects(alloc, world.h, c, &mut bases)?;
     for base in bases.as_slice() {
         let d = class_or_first(base);
         let start = k.wrapping_add(world.numbers.number_in(world.h, c, base));

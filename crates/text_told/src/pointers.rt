@@ -219,6 +219,7 @@ fn push_moved(
 }
 
 /// Puts the pointers in the elements of a member behind others, by those in one of them.
+#[inline(never)]
 fn push_elements(
     list: &mut Vec<TablePointer>,
     x: MemberObjects,
@@ -231,6 +232,65 @@ fn push_elements(
 {
     for i in 0..x.count {
         push_moved(list, x.place + i * size, inside)?;
+    }
+    Ok(())
+}
+
+/// Puts the pointers of a complete object itself into an empty list. It is no part of the walk below, of which each open call
+/// takes room on the stack.
+#[inline(never)]
+fn put_own_pointers<L: SoundLayout>(
+    alloc: Global,
+    h: &Hierarchy,
+    layout: &L,
+    c: ClassId,
+    list: &mut Vec<TablePointer>,
+) -> Result<(), NoMemory>
+    requires layout { L.lays_out layout.now h.now }
+    requires known { c.0 < length h.now }
+    ensures { OnOk result (list.new.items ≡ own_pointers h.now (places_of h.now (L.rows layout.now)) c) }
+{
+    *list = own_pointers(alloc, h, layout, c)?;
+    Ok(())
+}
+
+/// Puts the members that are objects into an empty list, likewise.
+#[inline(never)]
+fn put_member_objects<L: SoundLayout>(
+    alloc: Global,
+    h: &Hierarchy,
+    layout: &L,
+    c: ClassId,
+    list: &mut Vec<MemberObjects>,
+) -> Result<(), NoMemory>
+    requires layout { L.lays_out layout.now h.now }
+    requires known { c.0 < length h.now }
+    ensures { OnOk result (list.new.items ≡ member_objects h.now (places_of h.now (L.rows layout.now)) c) }
+{
+    *list = member_objects(alloc, h, layout, c)?;
+    Ok(())
+}
+
+/// Puts the virtual pointers of an object of a class into an empty list.
+fn put_pointers<L: SoundLayout>(
+    alloc: Global,
+    h: &Hierarchy,
+    layout: &L,
+    c: ClassId,
+    list: &mut Vec<TablePointer>,
+) -> Result<(), NoMemory>
+    requires layout { L.lays_out layout.now h.now }
+    requires known { c.0 < length h.now }
+    ensures { OnOk result ((n : ℕ) → c.0 < n → list.new.items ≡ pointers_within h.now (places_of h.now (L.rows layout.now)) n c) }
+{
+    h.keeps();
+    put_own_pointers(alloc, h, layout, c, list)?;
+    let mut objects = Vec::new(alloc);
+    put_member_objects(alloc, h, layout, c, &mut objects)?;
+    for x in objects.as_slice() {
+        let mut inside = Vec::new(alloc);
+        put_pointers(alloc, h, layout, x.class, &mut inside)?;
+        push_elements(list, *x, layout.layout(x.class).size, &inside)?;
     }
     Ok(())
 }
@@ -249,12 +309,7 @@ pub fn pointers_of<L: SoundLayout>(
     requires known { c.0 < length h.now }
     ensures { IfOk result (λ list. (n : ℕ) → c.0 < n → list.items ≡ pointers_within h.now (places_of h.now (L.rows layout.now)) n c) }
 {
-    h.keeps();
-    let mut list = own_pointers(alloc, h, layout, c)?;
-    let objects = member_objects(alloc, h, layout, c)?;
-    for x in objects.as_slice() {
-        let inside = pointers_of(alloc, h, layout, x.class)?;
-        push_elements(&mut list, *x, layout.layout(x.class).size, &inside)?;
-    }
+    let mut list = Vec::new(alloc);
+    put_pointers(alloc, h, layout, c, &mut list)?;
     Ok(list)
 }

@@ -1,88 +1,33 @@
 """Runs the program on an input, and says what is wrong with its answer, if anything is."""
-import os
 import re
-import signal
-import subprocess
-import tempfile
 from collections import namedtuple
 
 from .. import error_pages, problem, program
-from . import commands
+from . import commands, runner
 
 DONE, REFUSED, USAGE, UNDEFINED, OUT_OF_STEPS, LIMIT, READ_FAULT, WRITE_FAULT, NO_MEMORY, NO_WORDS = range(10)
 ENDED = (UNDEFINED, OUT_OF_STEPS, LIMIT)  # a run may have told lines before it ended so
 BUDGET = 1_000_000
 LOOKED_AT = 200  # so many lines at each end of a long text
-PATIENCE = 4  # a run that is not done after so many times its seconds is stopped, also where others have the processors
 
 # the last lines of each status; a rule has a place or a line where its kind has one
-LAST_LINES = {
+LAST_LINES = {status: [re.compile(form) for form in forms] for status, forms in {
     REFUSED: [r"refused (?P<code>E\d+) (?P<name>\w+) at (?P<at>\d+)", r"refused (?P<code>[FI]\d+) (?P<name>\w+) line (?P<line>\d+)", r"refused (?P<code>[AM]\d+) (?P<name>\w+)"],
     USAGE: ["usage"],
     UNDEFINED: [r"undefined (?P<code>U\d+) (?P<name>\w+) line (?P<line>\d+)"],
     OUT_OF_STEPS: [r"out of steps (?P<steps>\d+)"],
     LIMIT: [r"limit (?P<code>L\d+)"],
-}
+}.items()}
 LATER_RULES = "AFIM"  # docs/ERRORS.md may not have them yet; a line behind the text counts for these
 
-Answer = namedtuple("Answer", "text status errors seconds")
 Fault = namedtuple("Fault", "sort sentence")
-
-
-class Slow(Exception):
-    """A run did not end."""
-
-
-class Runner:
-    """Runs the program; its three streams are files, so that no time goes into pipes."""
-
-    def __init__(self, seconds):
-        self.seconds = seconds
-        self.given, self.told, self.errors = (tempfile.TemporaryFile() for _ in range(3))
-
-    def answer(self, words, text):
-        """What the program answers, None where it has to be stopped."""
-        for file, content in ((self.given, text), (self.told, b""), (self.errors, b"")):
-            file.seek(0)
-            file.truncate()
-            file.write(content)
-            file.flush()
-            file.seek(0)
-        process = self.started(words)
-        signal.signal(signal.SIGALRM, self.stop)
-        signal.setitimer(signal.ITIMER_REAL, PATIENCE * self.seconds)
-        try:
-            _, status, used = os.wait4(process.pid, 0)
-        except Slow:
-            process.kill()
-            process.wait()
-            return None
-        finally:
-            signal.setitimer(signal.ITIMER_REAL, 0)
-        process.returncode = os.waitstatus_to_exitcode(status)
-        self.told.seek(0)
-        self.errors.seek(0)
-        return Answer(self.told.read(), process.returncode, self.errors.read(), used.ru_utime + used.ru_stime)
-
-    def started(self, words):
-        try:
-            return subprocess.Popen([program.path().encode(), *words], stdin=self.given, stdout=self.told, stderr=self.errors)
-        except OSError as error:
-            raise program.missing(error) from None
-
-    def stop(self, number, frame):
-        raise Slow
-
-    def close(self):
-        for file in (self.given, self.told, self.errors):
-            file.close()
 
 
 class Judge:
     """Asks the program for its answer to an input, twice, and for what must go with it."""
 
     def __init__(self, seconds=5):
-        self.runner = Runner(seconds)
+        self.runner = runner.Runner(seconds)
         self.names = {entry.code: entry.name for entry in error_pages.entries().values()}
 
     def fault(self, given):
@@ -96,7 +41,7 @@ class Judge:
     def alone(self, given, answer):
         """What is wrong with an answer by itself."""
         if answer is None:
-            return Fault("slow", f"no answer after {PATIENCE * self.runner.seconds} seconds")
+            return Fault("slow", f"no answer after {self.runner.seconds} seconds of a processor")
         if answer.status < 0:
             return Fault("signal", f"ended by signal {-answer.status}")
         if answer.status not in range(10):
@@ -126,7 +71,7 @@ class Judge:
 
     def unlike(self, given, status, line):
         """What is wrong with a last line."""
-        found = next(filter(None, (re.fullmatch(form, line) for form in LAST_LINES[status])), None)
+        found = next(filter(None, (form.fullmatch(line) for form in LAST_LINES[status])), None)
         if not found:
             return f"the last line is {line[:80]!r}"
         said = {name: found.groupdict().get(name) or "" for name in ("code", "name", "at", "line", "steps")}
@@ -146,39 +91,43 @@ class Judge:
         if given.command is None:
             return None
         some = lines if len(lines) <= 2 * LOOKED_AT else lines[:LOOKED_AT] + lines[-LOOKED_AT:]
-        wrong = next((line for line in some if not re.fullmatch(given.command.line, line)), None)
+        wrong = next((line for line in some if not given.command.form.fullmatch(line)), None)
         return wrong if wrong is None else f"no line of {given.command.name} is like {wrong[:80]!r}"
 
     def again(self, given, answer):
-        """Whether a second run answers otherwise."""
-        second = self.runner.answer(given.words, given.text)
+        """Whether a second run answers otherwise, in which the C library fills the memory that it gives."""
+        second = self.runner.answer(given.words, given.text, runner.OTHER_MEMORY)
         if second is None or (second.text, second.status, second.errors) != (answer.text, answer.status, answer.errors):
             return Fault("twice", "the second answer differs from the first")
         return None
 
     def beside(self, given, answer):
-        """What is wrong with an answer beside those of other commands on the same input."""
-        other = {"run": b"paths", "paths": b"run"}.get(given.command.name)
-        if other:
-            words = tuple(other if word in (b"run", b"paths") else word for word in given.words)
-            second = self.runner.answer(words, given.text)
-            if second is None or (second.text, second.status) != (answer.text, answer.status):
-                return Fault("machines", "`run` and `paths` do not answer alike")
-        if given.command.takes == commands.SOURCE and given.command.name != "check":
-            return self.verdict(given, answer)
-        return None
-
-    def verdict(self, given, answer):
-        """Whether a command refuses what `check` refuses, and nothing else."""
+        """What is wrong with an answer beside those of other commands on the same source."""
+        if given.command.takes != commands.SOURCE or given.command.name == "check":
+            return None
         checked = self.runner.answer([b"check"], given.text)
         if checked is None:
             return Fault("slow", "`check` gives no answer")
+        return self.verdict(given, answer, checked) or (self.machines(given, answer) if checked.status == DONE else None)
+
+    def verdict(self, given, answer, checked):
+        """Whether a command refuses what `check` refuses, and nothing else."""
         if checked.status != DONE:
             alike = (checked.text, checked.status) == (answer.text, answer.status)
             return None if alike else Fault("verdict", f"`check` answers {last_line(checked)!r}, and this command {last_line(answer)!r}")
         late = [f"refused E22 UnknownName at {len(given.text)}", "limit L8", "limit L9", "limit L10"]
         if answer.status in (REFUSED, LIMIT) and last_line(answer) not in late and not re.match(f"refused [{LATER_RULES}]", last_line(answer)):
             return Fault("verdict", f"`check` takes the source, and this command answers {last_line(answer)!r}")
+        return None
+
+    def machines(self, given, answer):
+        """Whether the other machine answers otherwise, where a source is run; without a trace, which one of them has alone."""
+        other = {"run": b"paths", "paths": b"run"}.get(given.command.name)
+        if other is None:
+            return None
+        second = self.runner.answer(tuple(other if word in (b"run", b"paths") else word for word in given.words), given.text)
+        if second is None or (second.text, second.status) != (answer.text, answer.status):
+            return Fault("machines", "`run` and `paths` do not answer alike")
         return None
 
 

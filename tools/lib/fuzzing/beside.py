@@ -9,7 +9,7 @@ from . import answers
 
 SORTS = ("mutants", "programs")  # the inputs that are near to C++
 COMPILERS = ("g++", "clang++")
-SECONDS = 20
+SECONDS = 600  # also where others have the processors
 SHOWN = 12  # so many reasons of a compiler are shown
 
 # C++03 without access control, which is no part of the language; the statements `print` and `dump` are functions
@@ -38,6 +38,25 @@ def said(judge, given):
         if rule != "taken" and not reason:
             found[rule, compiler, ""] += 1
     return found
+
+
+def differing(found, text):
+    """The text by each counted item in which a compiler says otherwise than the program."""
+    return {item: text for item in found if item[1] in COMPILERS}
+
+
+def smallest(*texts):
+    """By each item the smallest of its texts, the first one of the smallest."""
+    kept = {}
+    for item, text in (pair for found in texts for pair in found.items()):
+        kept[item] = min(kept.get(item, text), text, key=len)
+    return kept
+
+
+def sources(kept):
+    """The smallest sources as bytes, each behind a line that says who takes it or why it is refused."""
+    said = lambda rule, compiler, reason: f"refused here by {rule}, taken by {compiler}" if rule != "taken" else f"taken here, refused by {compiler}: {reason}"
+    return b"".join(f"// {said(*item)}\n".encode() + kept[item] + b"\n\n" for item in sorted(kept))
 
 
 def refused_by(compiler, text):

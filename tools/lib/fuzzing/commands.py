@@ -5,9 +5,11 @@ A command of the program is one line of `COMMANDS`. One that the tried program d
 import re
 from collections import namedtuple
 
+from . import changes
+
 SOURCE, LISTING, DUMP, NOTHING = "a source", "a listing and a source", "a dump and a source", "nothing"
 
-Command = namedtuple("Command", "name words takes line")
+Command = namedtuple("Command", "name words takes form")
 
 NAME = r"[A-Za-z_]\w{0,254}"
 PATH = rf"\*?{NAME}(?:/{NAME})*"
@@ -32,6 +34,7 @@ ELEMENTS = r"region \d+|cookie \d+|count [0-9a-f]{16}|(?:element|end) \d+ at \d+
 MEMBERS = rf"data \d+|bytes [0-9a-f]{{16}}|function (?:virtual \d+|code {FUNCTION}) adj \d+|calls {FUNCTION} at \d+|pure {FUNCTION}(?: at \d+)?"
 INSPECTED = rf"object \d+ class {NAME}|{PLACE} (?:unset|-?\d+|{POINTER})"
 
+CLASS, MEMBER, WORD = re.compile(rf"\b(?:struct|class) ({NAME})"), re.compile(rf"\b({NAME})[;(\[]"), re.compile(rf"\b{NAME}")
 STEPS = ["1", "2", "3", "10", "37", "200", "1000", "20000"]
 
 
@@ -63,21 +66,22 @@ def of_elements(name):
 def of_member(name):
     """The command, and a member of a class, in that class or in one that is derived."""
     def words(random, text):
-        member = f"{class_in(random, text)}::{name_in(random, text)}"
+        found = changes.near(random, text, MEMBER)
+        member = f"{class_in(random, text)}::{found[1] if found and random.random() < 0.8 else name_in(random, text)}"
         return [name, f"{member}@{class_in(random, text)}" if random.random() < 0.5 else member]
     return words
 
 
 def class_in(random, text):
     """A name that stands where a class is named, if there is one; now and then another name."""
-    names = re.findall(rf"\b(?:struct|class) ({NAME})", text)
-    return random.choice(names) if names and random.random() < 0.9 else name_in(random, text)
+    found = changes.near(random, text, CLASS)
+    return found[1] if found and random.random() < 0.9 else name_in(random, text)
 
 
 def name_in(random, text):
     """A name or word of the text, if it has one."""
-    names = re.findall(NAME, text)
-    return random.choice(names) if names else "A"
+    found = changes.near(random, text, WORD)
+    return found[0] if found else "A"
 
 
 def shuffled(random, *parts):
@@ -87,16 +91,16 @@ def shuffled(random, *parts):
     return [word for part in chosen for word in part]
 
 
-COMMANDS = [
-    Command("check", alone("check"), SOURCE, r"\d+ classes"),
-    Command("layout", of_class("layout"), SOURCE, LAYOUT),
-    Command("tables", of_class("tables"), SOURCE, TABLES),
-    Command("run", with_steps("run"), SOURCE, TOLD),
-    Command("run --trace", with_steps("run", "--trace"), SOURCE, TRACED),
-    Command("paths", with_steps("paths"), SOURCE, TOLD),
-    Command("gen", of_number("gen"), NOTHING, r"(?:classes|steps|lines|last) \d+"),
-    Command("array", of_elements("array"), SOURCE, ELEMENTS),
-    Command("memptr", of_member("memptr"), SOURCE, MEMBERS),
-    Command("foreign", with_steps("foreign"), LISTING, TOLD),
-    Command("inspect", alone("inspect"), DUMP, INSPECTED),
-]
+COMMANDS = [Command(name, words, takes, re.compile(line)) for name, words, takes, line in [
+    ("check", alone("check"), SOURCE, r"\d+ classes"),
+    ("layout", of_class("layout"), SOURCE, LAYOUT),
+    ("tables", of_class("tables"), SOURCE, TABLES),
+    ("run", with_steps("run"), SOURCE, TOLD),
+    ("run --trace", with_steps("run", "--trace"), SOURCE, TRACED),
+    ("paths", with_steps("paths"), SOURCE, TOLD),
+    ("gen", of_number("gen"), NOTHING, r"(?:classes|steps|lines|last) \d+"),
+    ("array", of_elements("array"), SOURCE, ELEMENTS),
+    ("memptr", of_member("memptr"), SOURCE, MEMBERS),
+    ("foreign", with_steps("foreign"), LISTING, TOLD),
+    ("inspect", alone("inspect"), DUMP, INSPECTED),
+]]

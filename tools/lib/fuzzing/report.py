@@ -5,7 +5,7 @@ import shlex
 import tempfile
 
 from .. import problem
-from . import commands, working
+from . import beside, commands, inputs, working
 
 MOST_FAULTS = 10
 
@@ -15,11 +15,13 @@ class Report:
 
     def __init__(self, seed, folder):
         self.seed, self.folder = seed, folder
-        self.counts, self.said, self.faults = collections.Counter(), collections.Counter(), 0
+        self.counts, self.sorts, self.said, self.texts, self.faults = collections.Counter(), collections.Counter(), collections.Counter(), {}, 0
 
     def add(self, batch):
         self.counts.update(batch.counts)
+        self.sorts.update(batch.sorts)
         self.said.update(batch.said)
+        self.texts = beside.smallest(self.texts, batch.texts)
         for one in batch.found:
             if self.faults < MOST_FAULTS:
                 self.tell(one)
@@ -40,15 +42,22 @@ class Report:
         problem.write_bytes(f"{kept}.small.src", one.shrunk)
         print(f"seed {self.seed}, input {one.number}, words '{shown}': {one.fault.sentence}; its text is {kept}.src, a smaller one {kept}.small.src", flush=True)
 
+    def keep_texts(self):
+        """Keeps the smallest sources of which a compiler says otherwise than the program."""
+        if self.folder and self.texts:
+            problem.write_bytes(os.path.join(self.folder, f"{self.seed}-beside.txt"), beside.sources(self.texts))
+
     def table(self):
-        """How many answers there were of each command and status."""
+        """How many answers there were of each status: by commands, then by kinds of inputs."""
         statuses = sorted({status for _, status in self.counts})
         rows = [["status", *statuses, "all"]]
-        for name in [*[command.name for command in commands.COMMANDS], working.BY_CHANCE]:
-            numbers = [self.counts[name, status] for status in statuses]
-            rows += [[name, *map(str, numbers), str(sum(numbers))]] if any(numbers) else []
+        for counted, names in ((self.counts, [*[command.name for command in commands.COMMANDS], working.BY_CHANCE]), (self.sorts, inputs.SORTS)):
+            for name in names:
+                numbers = [counted[name, status] for status in statuses]
+                rows += [[name, *map(str, numbers), str(sum(numbers))]] if any(numbers) else []
+            rows.append(["" for _ in rows[0]])
         widths = [max(len(row[column]) for row in rows) for column in range(len(rows[0]))]
-        return "".join("  ".join(cell.rjust(width) if column else cell.ljust(width) for column, (cell, width) in enumerate(zip(row, widths))) + "\n" for row in rows)
+        return "".join("  ".join(cell.rjust(width) if column else cell.ljust(width) for column, (cell, width) in enumerate(zip(row, widths))).rstrip() + "\n" for row in rows)
 
     def total(self):
         return sum(self.counts.values())

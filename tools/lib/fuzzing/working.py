@@ -7,7 +7,7 @@ from . import answers, beside, commands, inputs, shrink
 
 Task = collections.namedtuple("Task", "seed names seconds is_beside")
 Found = collections.namedtuple("Found", "number words text fault shrunk")
-Batch = collections.namedtuple("Batch", "counts found said")
+Batch = collections.namedtuple("Batch", "counts sorts found said texts")  # the answers by command and status, and by the kind of the input and status
 BY_CHANCE = "words by chance"
 MOST_SMALLER = 3  # so many faults of a batch are made smaller
 
@@ -24,20 +24,24 @@ def judge_of(seconds):
 
 
 def tried(task, numbers):
-    """Tries the inputs of these numbers, and counts the answers by command and status."""
+    """Tries the inputs of these numbers, and counts the answers."""
     judge = judge_of(task.seconds)
     known = [command for command in commands.COMMANDS if command.name in task.names]
-    counts, found, said = collections.Counter(), [], collections.Counter()
+    counts, sorts, found, said, texts = collections.Counter(), collections.Counter(), [], collections.Counter(), {}
     for number in numbers:
-        given = inputs.made(task.seed, number, known)
+        given = inputs.made(task.seed, number, known, judge.runner.plain)
         fault, answer = judge.fault(given)
-        counts[given.command.name if given.command else BY_CHANCE, str(answer.status) if answer else "none"] += 1
+        status = str(answer.status) if answer else "none"
+        counts[given.command.name if given.command else BY_CHANCE, status] += 1
+        sorts[given.sort, status] += 1
         if fault:
             text = smaller(judge, given, fault) if len(found) < MOST_SMALLER else given.text
             found.append(Found(number, given.words, given.text, fault, text))
         elif task.is_beside and given.sort in beside.SORTS:
-            said.update(beside.said(judge, given))
-    return Batch(counts, found, said)
+            new = beside.said(judge, given)
+            said.update(new)
+            texts = beside.smallest(texts, beside.differing(new, given.text))
+    return Batch(counts, sorts, found, said, texts)
 
 
 def smaller(judge, given, fault):

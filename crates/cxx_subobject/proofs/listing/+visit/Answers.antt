@@ -1,6 +1,6 @@
 use Rattle.std.proofs.Common.{◌≡◌, ◌+◌, ◌++◌, ◌∷◌, [], get_or, take, ap, subst, sym, ◌∙◌, arith, true, false, List, set}
 use Rattle.std.specs.List.{flat_map}
-use Rattle.std.proofs.lemmas.List.{append-nil, length-set}
+use Rattle.std.proofs.lemmas.List.{length-set}
 use Rattle.cxx_hierarchy.specs.declared.records.ClassId.{ClassId}
 use Rattle.cxx_hierarchy.specs.declared.records.Base.{Base}
 use Rattle.cxx_hierarchy.specs.Classes.{bases_in}
@@ -17,8 +17,7 @@ no_base = record { class = record { 0 = 0 }; is_virtual = false; is_public = fal
 
 pub loop-base-init : goal.loop-base-init
 loop-base-init t c =
-    let itself : c.in_ok-itself.itself ≡ c.args.s.now = c.in_ok-itself.ensures ∙ ap (λ (p : List ClassId). subobject c.args.s.now.root p) (append-nil c.args.s.now.path) in
-    let pushed : c.push.new.self.items ≡ c.args.found.now.items ++ c.args.s.now ∷ [] = c.in_ok-push.ensures.items ∙ ap (λ (x : Subobject). c.args.found.now.items ++ x ∷ []) itself in
+    let pushed = c.in_ok-push_again.ensures in
     record {
       items = c.as_slice-base-items.ensures ∙ sym (ap bases_in c.class.ensures);
       size = c.requires.size;

@@ -1,7 +1,9 @@
-use Rattle.std.proofs.Common.{◌∙◌, arith}
+use Rattle.std.proofs.Common.{◌∙◌, List, subst, sym, arith}
+use Rattle.std.specs.Prelude.{Contains}
 use Rattle.std.proofs.lemmas.Result.{on_ok_weaker}
 use Rattle.foundation.proofs.Places.{contains_at}
 use Rattle.cxx_hierarchy.specs.Classes.{members_of}
+use Rattle.cxx_subobject.specs.declared.Subobject.{Subobject}
 use Rattle.path_places.proofs.Walked.{member_walked, base_walked}
 use Rattle.path_places.specs.invariants.Dumps.{seen}
 use Rattle.path_places.proofs.Dumping.{values_dumped, objects_dumped, elements_next, members_next, bases_step}
@@ -12,7 +14,7 @@ dump_elements-loop-i-preserved t c =
     let site = c.args.site.now in
     let h = site.world.now.h.now in
     elements_next (seen h site.heap.now site.object site.class) c.args.place.now.hops.now c.args.place.now.base.now c.args.m c.args.d c.args.k c.args.count c.loop-i.i c.in_full-size.result c.loop-i-test.true (c.in_full-size.ensures h c.requires.world.are_numbers)
-    c.in_ok-hops.hops.items c.in_ok-hops.ensures c.args.out.now.items c.loop-i.out.items c.dump_whole.new.out.items c.loop-i.invariant c.deref.result.now c.deref.ensures.value c.in_ok-dump_whole.ensures
+    c.put_hops.new.list.items c.in_ok-put_hops.ensures c.args.out.now.items c.loop-i.out.items c.dump_whole.new.out.items c.loop-i.invariant c.deref.result.now c.deref.ensures.value c.in_ok-dump_whole.ensures
 
 pub dump_member-returns-in-Value : goal.dump_member-returns-in-Value
 dump_member-returns-in-Value t c =
@@ -43,10 +45,15 @@ dump_own-loop-m-preserved t c =
     members_next (seen h site.heap.now site.object site.class) c.args.place.now.hops.now c.args.place.now.base.now c.args.c c.args.k c.loop-m.m x c.member_offset.result at.at (c.member_offset.ensures h c.requires.world.are_numbers at.below)
     c.args.out.now.items c.loop-m.out.items c.dump_member.new.out.items c.loop-m.invariant c.in_ok-dump_member.ensures
 
+pub dump_whole-number_in-requires-clause-subobject : goal.dump_whole-number_in-requires-clause-subobject
+dump_whole-number_in-requires-clause-subobject t c =
+    let base = c.base-item.result in
+    c.in_ok-put_subobjects.ensures.lists.valid base (subst (λ (xs : List Subobject). Contains xs base) c.as_slice-base-items.ensures (c.loop-base.base-index, c.loop-base-test.true, sym c.base-item.is))
+
 pub dump_whole-dump_own-requires : goal.dump_whole-dump_own-requires
 dump_whole-dump_own-requires t c =
     let h = c.args.site.now.world.now.h.now in
-    let is = c.as_slice-base-items.ensures ∙ c.in_ok-bases.ensures.preorder in
+    let is = c.as_slice-base-items.ensures ∙ c.in_ok-put_subobjects.ensures.preorder in
     let low = base_walked h c.requires.world.hierarchy c.args.c c.as_slice-base-items.result.now is c.loop-base.base-index c.base-item.result c.loop-base-test.true c.base-item.is c.class_or_first-d.result c.class_or_first-d.ensures in
     let d = c.decreases in
     let known = c.requires.known in
@@ -56,6 +63,6 @@ pub dump_whole-loop-base-preserved : goal.dump_whole-loop-base-preserved
 dump_whole-loop-base-preserved t c =
     let site = c.args.site.now in
     let h = site.world.now.h.now in
-    let is = c.as_slice-base-items.ensures ∙ c.in_ok-bases.ensures.preorder in
+    let is = c.as_slice-base-items.ensures ∙ c.in_ok-put_subobjects.ensures.preorder in
     bases_step (seen h site.heap.now site.object site.class) c.requires.world.hierarchy c.args.hops.now c.args.c c.args.k c.as_slice-base-items.result.now c.loop-base.base-index c.base-item.result is c.loop-base-test.true c.base-item.is
     c.class_or_first-d.result c.class_or_first-d.ensures c.number_in.result c.number_in.ensures c.args.out.now.items c.loop-base.out.items c.dump_own.new.out.items c.loop-base.invariant c.in_ok-dump_own.ensures

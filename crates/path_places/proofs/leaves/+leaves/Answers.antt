@@ -40,7 +40,7 @@ push_own-loop-m-preserved t c =
 pub push_whole-push_own-requires : goal.push_whole-push_own-requires
 push_whole-push_own-requires t c =
     let h = c.args.world.now.h.now in
-    let is = c.as_slice-base-items.ensures ∙ c.in_ok-bases.ensures.preorder in
+    let is = c.as_slice-base-items.ensures ∙ c.in_ok-put_subobjects.ensures.preorder in
     let low = base_walked h c.requires.world.hierarchy c.args.c c.as_slice-base-items.result.now is c.loop-base.base-index c.base-item.result c.loop-base-test.true c.base-item.is c.class_or_first-d.result c.class_or_first-d.ensures in
     let d = c.decreases in
     let known = c.requires.known in
@@ -49,6 +49,6 @@ push_whole-push_own-requires t c =
 pub push_whole-loop-base-preserved : goal.push_whole-loop-base-preserved
 push_whole-loop-base-preserved t c =
     let h = c.args.world.now.h.now in
-    let is = c.as_slice-base-items.ensures ∙ c.in_ok-bases.ensures.preorder in
+    let is = c.as_slice-base-items.ensures ∙ c.in_ok-put_subobjects.ensures.preorder in
     bases_step h c.requires.world.hierarchy c.args.c c.args.k c.as_slice-base-items.result.now c.loop-base.base-index c.base-item.result is c.loop-base-test.true c.base-item.is c.class_or_first-d.result c.class_or_first-d.ensures
     c.number_in.result c.number_in.ensures c.args.leaves.now.items c.loop-base.leaves.items c.push_own.new.leaves.items c.loop-base.invariant c.in_ok-push_own.ensures

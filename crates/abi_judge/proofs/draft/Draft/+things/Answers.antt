@@ -108,7 +108,7 @@ push_objects-push_object-requires t c =
     let bytes = few_bytes c.loop-i.i c.args.count c.row.result.now.size c.loop-i-test.true few small in
     let room = c.requires.room in
     let falls = c.decreases in
-    (omega (arith, falls), (c.requires.draft, (c.as_slice.ensures ∙ c.in_ok-bases.ensures.preorder, omega (arith, bytes, room))))
+    (omega (arith, falls), (c.requires.draft, (c.as_slice.ensures ∙ c.in_ok-put_subobjects.ensures.preorder, omega (arith, bytes, room))))
 
 pub push_objects-loop-i-preserved : goal.push_objects-loop-i-preserved
 push_objects-loop-i-preserved t c =

@@ -30,5 +30,5 @@ returns c =
     let same : length c.write_word.new.cells ≡ c.args.self.now.cells.len = search rules in
     let written = rw c.deref_mut.ensures.value at c.write_word.ensures in
     let after : bits_in c.write_word.new.cells ≡ copied (bits_in cells) (8 * c.args.from + c.args.first) (8 * c.args.to + c.args.first) c.args.bits =
-    written ∙ copied-word (bits_in cells) c.args.from c.args.to c.byte_span-span.result c.args.first c.args.bits c.read_word-source.result c.read_word-word.result c.with_bits-new.result c.from_bit.result (omega arith) (omega arith) read read' c.from_bit.ensures c.with_bits-new.ensures in
+    written ∙ copied-word (bits_in cells) c.args.from c.args.to c.byte_span-span.result c.args.first c.args.bits c.read_word-source.result c.read_word-word.result c.with_bits-new.result c.from_bit.result (omega arith) (omega arith) read (λ place less out. read' place less) c.from_bit.ensures c.with_bits-new.ensures in
     (inside, rw (with_items_is c.args.self.now.cells c.write_word.new.cells same, after) refl)

@@ -26,5 +26,5 @@ returns c =
     let same : length c.write_word.new.cells ≡ c.args.self.now.cells.len = search rules in
     let written = rw c.deref_mut.ensures.value at c.write_word.ensures in
     let after : bits_in c.write_word.new.cells ≡ stored (bits_in cells) (8 * c.args.at + c.args.first) c.args.bits c.args.value =
-    written ∙ stored-word (bits_in cells) c.args.at c.byte_span-span.result c.args.first c.args.bits c.args.value c.read_word-word.result c.with_bits-new.result (omega arith) (omega arith) read made in
+    written ∙ stored-word (bits_in cells) c.args.at c.byte_span-span.result c.args.first c.args.bits c.args.value c.read_word-word.result c.with_bits-new.result (omega arith) (omega arith) (λ place less out. read place less) made in
     (inside, rw (with_items_is c.args.self.now.cells c.write_word.new.cells same, after) refl)

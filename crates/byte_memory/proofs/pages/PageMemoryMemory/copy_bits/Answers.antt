@@ -40,12 +40,12 @@ returns c =
     let to = ap (fault_at regions c.args.to) (sym span) ∙ reach' in
     let inside : copy_fault regions c.args.from c.args.to (byte_span c.args.first c.args.bits) ≡ None = rw (from, to) refl in
     let read = rw c.deref-3.ensures.value at c.read_pages-source.ensures.bits in
-    let read' = rw c.deref-4.ensures.value at c.read_pages-word.ensures.bits in
+    let read' = rw c.deref-4.ensures.value at c.read_rest-rest.ensures in
     let after : reached_bits regions (bits_of c.write_pages.new.pages.items) ≡ copied bit (8 * c.args.from + c.args.first) (8 * c.args.to + c.args.first) c.args.bits =
     ap (reached_bits regions) c.write_pages.ensures.bits
     ∙ (reached_bits-with_word regions kept c.args.to c.byte_span-span.result c.with_bits-new.result up reach'
-    ∙ copied-word bit c.args.from c.args.to c.byte_span-span.result c.args.first c.args.bits c.read_pages-source.result c.read_pages-word.result c.with_bits-new.result c.from_bit.result (omega arith) (omega arith)
+    ∙ copied-word bit c.args.from c.args.to c.byte_span-span.result c.args.first c.args.bits c.read_pages-source.result c.read_rest-rest.result c.with_bits-new.result c.from_bit.result (omega arith) (omega arith)
     (λ place less. read place less ∙ sym (reached_bits-at regions kept c.args.from c.byte_span-span.result place up reach less))
-    (λ place less. read' place less ∙ sym (reached_bits-at regions kept c.args.to c.byte_span-span.result place up reach' less))
+    (λ place less out. read' place less out ∙ sym (reached_bits-at regions kept c.args.to c.byte_span-span.result place up reach' less))
     c.from_bit.ensures c.with_bits-new.ensures) in
     (inside, rw after refl)

@@ -36,11 +36,11 @@ returns c =
     let span = c.byte_span-span.ensures in
     let reach = rw c.deref.ensures.value at c.in_ok-check.ensures in
     let inside : fault_at regions c.args.at (byte_span c.args.first c.args.bits) ≡ None = ap (fault_at regions c.args.at) (sym span) ∙ reach in
-    let read = rw c.deref-2.ensures.value at c.read_pages-word.ensures.bits in
+    let read = rw c.deref-2.ensures.value at c.read_rest-rest.ensures in
     let made = rw c.all_set.ensures at c.with_bits-new.ensures in
     let after : reached_bits regions (bits_of c.write_pages.new.pages.items) ≡ stored bit (8 * c.args.at + c.args.first) c.args.bits c.args.value =
     ap (reached_bits regions) c.write_pages.ensures.bits
     ∙ (reached_bits-with_word regions kept c.args.at c.byte_span-span.result c.with_bits-new.result up reach
-    ∙ stored-word bit c.args.at c.byte_span-span.result c.args.first c.args.bits c.args.value c.read_pages-word.result c.with_bits-new.result (omega arith) (omega arith)
-    (λ place less. read place less ∙ sym (reached_bits-at regions kept c.args.at c.byte_span-span.result place up reach less)) made) in
+    ∙ stored-word bit c.args.at c.byte_span-span.result c.args.first c.args.bits c.args.value c.read_rest-rest.result c.with_bits-new.result (omega arith) (omega arith)
+    (λ place less out. read place less out ∙ sym (reached_bits-at regions kept c.args.at c.byte_span-span.result place up reach less)) made) in
     (inside, rw after refl)

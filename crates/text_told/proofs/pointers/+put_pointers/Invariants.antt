@@ -2,10 +2,10 @@ use Rattle.std.proofs.Common.{◌≡◌, ◌++◌, ◌≤◌, ℕ, take}
 use Rattle.std.specs.List.{flat_map}
 use Rattle.abi_sound.specs.Places.{places_of}
 use Rattle.text_told.specs.Pointers.{own_pointers, pointers_in, pointers_within}
-use Rattle.text_told.proofs.pointers.+pointers_of.Given as goal
+use Rattle.text_told.proofs.pointers.+put_pointers.Given as goal
 
-abbrev pub decreases-pointers_of : goal.decreases-pointers_of
-decreases-pointers_of g l = l.c.0
+abbrev pub decreases-put_pointers : goal.decreases-put_pointers
+decreases-put_pointers g l = l.c.0
 
 -- for any bound on the numbers of member classes: the own ones, and those in the members so far
 abbrev pub invariant-loop-x : goal.invariant-loop-x

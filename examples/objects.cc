@@ -1,4 +1,4 @@
-// A program for test_gdb.py. It calls `stop` where an object is under construction, complete, with an overwritten pointer, and ended.
+// A program to look at in gdb. It calls `stop` where an object is under construction, complete, with an overwritten pointer, and ended.
 namespace shapes {
 struct V { long v; V() : v(7) {} virtual void f() {} virtual ~V() {} };
 struct B1 : virtual V { int b1; bool on; B1(); virtual void g() {} private: int low : 5; unsigned wide : 20; };
