@@ -22,6 +22,7 @@ fn unless(holds: bool, rule: u8) -> Option<u8>
 }
 
 /// A check that looks at words alone. It answers the rule that refuses, if it does.
+#[inline(always)]
 fn check_words<M: Memory>(_setup: &Setup, running: &Running<M>, check: Check) -> Option<u8>
     requires kind { check_kind check ≡ OfWords }
     requires allowed { CanDo _setup.now (λ f s. checked f check s) running.now }
@@ -51,6 +52,7 @@ fn check_words<M: Memory>(_setup: &Setup, running: &Running<M>, check: Check) ->
 }
 
 /// A check that looks at memory, or at the image.
+#[inline(never)]
 fn check_memory<M: Memory>(setup: &Setup, running: &Running<M>, check: Check) -> Option<u8>
     requires kind { check_kind check ≡ OfMemory }
     requires allowed { CanDo setup.now (λ f s. checked f check s) running.now }
@@ -102,6 +104,7 @@ fn check_memory<M: Memory>(setup: &Setup, running: &Running<M>, check: Check) ->
 }
 
 /// A check that looks at phases.
+#[inline(never)]
 fn check_phases<M: Memory>(_setup: &Setup, running: &Running<M>, check: Check) -> Option<u8>
     requires kind { check_kind check ≡ OfPhases }
     requires allowed { CanDo _setup.now (λ f s. checked f check s) running.now }
@@ -167,6 +170,7 @@ pub fn check_view<M: Memory>(
 }
 
 /// A check that looks at complete objects.
+#[inline(never)]
 fn check_owners<M: Memory>(setup: &Setup, running: &mut Running<M>, check: Check) -> Option<u8>
     requires kind { check_kind check ≡ OfOwners }
     requires allowed { CanDo setup.now (λ f s. checked f check s) running.old }
@@ -206,6 +210,7 @@ fn check_owners<M: Memory>(setup: &Setup, running: &mut Running<M>, check: Check
 }
 
 /// Runs a check. It answers the rule that refuses, if it does.
+#[inline(always)]
 pub fn run_check<M: Memory>(setup: &Setup, running: &mut Running<M>, check: Check) -> Option<u8>
     requires allowed { CanDo setup.now (λ f s. checked f check s) running.old }
     requires room { room running.old.work ≡ setup.now.parts }

@@ -14,6 +14,7 @@ use byte_code::Finish;
 use byte_memory::Memory;
 
 /// Runs an op that may follow a return. It answers the rule that refuses, if one does.
+#[inline(always)]
 pub fn run_finish<M: Memory>(setup: &Setup, running: &mut Running<M>, finish: Finish) -> Option<u8>
     requires allowed { CanDo setup.now (λ f s. finish_effect f finish s) running.old }
     requires room { room running.old.work ≡ setup.now.parts }

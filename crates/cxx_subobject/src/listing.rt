@@ -63,6 +63,29 @@ fn push_again(alloc: Global, s: &Subobject, found: &mut Vec<Subobject>) -> Resul
     Ok(())
 }
 
+/// Makes a subobject the one that a virtual base is.
+#[inline(never)]
+fn put_shared(alloc: Global, v: ClassId, inner: &mut Subobject) -> Result<(), NoMemory>
+    ensures { OnOk result (inner.new ≡ shared_base v) }
+{
+    *inner = shared_base(alloc, v)?;
+    Ok(())
+}
+
+/// Makes a subobject the base of a class that another one has for its own.
+#[inline(never)]
+fn put_below(
+    alloc: Global,
+    s: &Subobject,
+    base: ClassId,
+    inner: &mut Subobject,
+) -> Result<(), NoMemory>
+    ensures { OnOk result (inner.new ≡ subobject s.now.root (s.now.path ++ base ∷ [])) }
+{
+    *inner = subobject_below(alloc, s, &[base])?;
+    Ok(())
+}
+
 /// Puts a subobject of class `c`, and what its bases give, behind the others, each once. A class is marked where it
 /// was met as a shared base.
 fn visit(
@@ -85,16 +108,20 @@ fn visit(
 {
     h.keeps();
     push_again(alloc, s, found)?;
+    let mut inner = Subobject {
+        root: Root::Whole,
+        path: Sequence::new(alloc),
+    };
     for base in h.class(c).bases.as_slice() {
         let number = base.class.0 as usize;
         if base.is_virtual {
             if !marks[number] {
                 marks[number] = true;
-                let inner = shared_base(alloc, base.class)?;
+                put_shared(alloc, base.class, &mut inner)?;
                 visit(alloc, h, &inner, base.class, marks, found)?;
             }
         } else {
-            let inner = subobject_below(alloc, s, &[base.class])?;
+            put_below(alloc, s, base.class, &mut inner)?;
             visit(alloc, h, &inner, base.class, marks, found)?;
         }
     }

@@ -9,7 +9,7 @@ use Rattle.cxx_subobject.specs.Subobjects.{subobject}
 use Rattle.cxx_subobject.specs.invariants.Walks.{IsFresh, AreMarks, IsPlaced, IsClosed}
 use Rattle.cxx_subobject.proofs.TreeLemmas.{base_listed, base_down, base_across}
 use Rattle.cxx_subobject.proofs.WalkLemmas.{below, closed_here, closed_less, placed_down, fresh_next, others_before, marks_down, marks_across, fresh_shared, walk_whole, has_start, next_walked, skip_walked}
-use Rattle.cxx_subobject.proofs.listing.+visit.Goals.{then-base+then-not-marks-number+in_ok-inner+in_ok-visit, then-base+else-not-marks-number, else-base+in_ok-inner-2+in_ok-visit-2}
+use Rattle.cxx_subobject.proofs.listing.+visit.Goals.{then-base+then-not-marks-number+in_ok-put_shared+in_ok-visit, then-base+else-not-marks-number, else-base+in_ok-put_below+in_ok-visit-2}
 use Rattle.cxx_subobject.proofs.listing.+visit.Goals as goal
 
 abbrev no_base : Base ClassId
@@ -55,7 +55,7 @@ visit-requires t c =
     let less = c.keeps.ensures.bases c.args.c base listed in
     let known = c.requires.known in
     let size = c.loop-base.invariant.size in
-    let is = c.in_ok-inner.ensures in
+    let is = c.in_ok-put_shared.ensures in
     let placed = placed_down h c.args.c c.args.s.now base c.requires.place listed in
     let across = base_across c.args.s.now base c.if-base.true in (
       omega arith,
@@ -91,7 +91,7 @@ visit-requires-else-base t c =
     let listed = base_listed h c.args.c bases i no_base c.loop-base.invariant.items c.loop-base-test.true in
     let less = c.keeps.ensures.bases c.args.c base listed in
     let known = c.requires.known in
-    let is = c.in_ok-inner-2.ensures in
+    let is = c.in_ok-put_below.ensures in
     let placed = placed_down h c.args.c s base c.requires.place listed in
     let there = base_down s base c.if-base.false in
     let fresh = fresh_next h c.keeps.ensures c.args.c s base (take i bases) old c.requires.place c.requires.fresh (others_before h c.keeps.ensures c.args.c bases i no_base c.loop-base.invariant.items c.loop-base-test.true) in (
@@ -125,14 +125,14 @@ loop-base-preserved t c =
     let walked = c.loop-base.invariant in
     let lt = c.loop-base-test.true in
     elim c.if-base.branch [
-      | then-base+then-not-marks-number+in_ok-inner+in_ok-visit w ↦ rw (w.marks-is, w.found-is)
-          (next_walked h c.keeps.ensures c.args.c s bases i no_base old c.loop-base.marks w.visit.new.marks c.loop-base.found.items w.visit.new.found.items w.in_ok-inner.inner c.requires.place lt walked
-          (w.in_ok-inner.ensures ∙ sym (base_across s base w.if-base.true)) w.in_ok-visit.ensures.found w.in_ok-visit.ensures.marks w.in_ok-visit.ensures.size)
+      | then-base+then-not-marks-number+in_ok-put_shared+in_ok-visit w ↦ rw (w.marks-is, w.found-is)
+          (next_walked h c.keeps.ensures c.args.c s bases i no_base old c.loop-base.marks w.visit.new.marks c.loop-base.found.items w.visit.new.found.items w.put_shared.new.inner c.requires.place lt walked
+          (w.in_ok-put_shared.ensures ∙ sym (base_across s base w.if-base.true)) w.in_ok-visit.ensures.found w.in_ok-visit.ensures.marks w.in_ok-visit.ensures.size)
       | then-base+else-not-marks-number w ↦ rw (w.marks-is, w.found-is)
           (skip_walked h c.keeps.ensures c.args.c s bases i no_base old c.loop-base.marks c.loop-base.found.items lt walked w.if-base.true w.if-not-marks-number.false)
-      | else-base+in_ok-inner-2+in_ok-visit-2 w ↦ rw (w.marks-is, w.found-is)
-          (next_walked h c.keeps.ensures c.args.c s bases i no_base old c.loop-base.marks w.visit-else-base.new.marks c.loop-base.found.items w.visit-else-base.new.found.items w.in_ok-inner-2.inner c.requires.place lt walked
-          (w.in_ok-inner-2.ensures ∙ sym (base_down s base w.if-base.false)) w.in_ok-visit-2.ensures.found w.in_ok-visit-2.ensures.marks w.in_ok-visit-2.ensures.size)
+      | else-base+in_ok-put_below+in_ok-visit-2 w ↦ rw (w.marks-is, w.found-is)
+          (next_walked h c.keeps.ensures c.args.c s bases i no_base old c.loop-base.marks w.visit-else-base.new.marks c.loop-base.found.items w.visit-else-base.new.found.items w.put_below.new.inner c.requires.place lt walked
+          (w.in_ok-put_below.ensures ∙ sym (base_down s base w.if-base.false)) w.in_ok-visit-2.ensures.found w.in_ok-visit-2.ensures.marks w.in_ok-visit-2.ensures.size)
     ]
 
 pub returns-clause-found : goal.returns-clause-found
