@@ -61,14 +61,16 @@ class Page:
         self.session = self.call("Target.attachToTarget", targetId=target["targetId"], flatten=True)["sessionId"]
         for domain in ("Page", "Runtime", "Log", "Network", "Accessibility"):
             self.call(f"{domain}.enable")
+        self.call("Page.setLifecycleEventsEnabled", enabled=True)
         self.call("Emulation.setDeviceMetricsOverride", width=width, height=height, deviceScaleFactor=1, mobile=width < 600)
         self.media(dark=dark)
 
     def open(self, address):
         """Opens a file, with what stands behind # in its address, and waits until it is loaded; another place in the same file is there at once."""
         self.events.clear()
-        loads = "loaderId" in self.call("Page.navigate", url="file://" + address)
-        while loads and not any(one["method"] == "Page.loadEventFired" for one in self.events):
+        loader = self.call("Page.navigate", url="file://" + address).get("loaderId")
+        loaded = ("load", loader)  # that of the page before may be told a little later
+        while loader and not any(one["method"] == "Page.lifecycleEvent" and (one["params"]["name"], one["params"]["loaderId"]) == loaded for one in self.events):
             self._receive()
 
     def media(self, dark=False, kind="screen"):
