@@ -1,4 +1,3 @@
-pub mod StreamLemmas
 pub mod SourceLemmas
 pub mod OutputLemmas
 pub mod ReplyLemmas

@@ -10,7 +10,7 @@ use Rattle.cxxabi_words.specs.Commands.{Says, IsCommand}
 use Rattle.cxxabi_words.proofs.CommandLaws.{one_command}
 use Rattle.cxxabi_cmd.specs.declared.status.Status.{Status}
 use Rattle.cxxabi_cmd.specs.declared.status.Status.TheVariants.{Usage, Limit, WriteFault}
-use Rattle.cxxabi_cmd.specs.Streams.{IsPartOf}
+use Rattle.cxxabi_streams.specs.Streams.{IsPartOf}
 use Rattle.cxxabi_cmd.specs.Commands.{input_of}
 use Rattle.cxxabi_cmd.specs.Output.{Output, usage, too_long, Answer, line_alone, Answers, BreaksOff, IsAnswered}
 use Rattle.cxxabi_cmd.specs.Handed.{Seen, HandsOut}

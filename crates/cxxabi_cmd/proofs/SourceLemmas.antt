@@ -10,7 +10,7 @@ use Rattle.cxx_text.specs.Bytes.{is_line_end}
 use Rattle.cxxabi_input.specs.Division.{ends_inside, line_count}
 use Rattle.cxxabi_words.specs.declared.command.Command.{Command}
 use Rattle.cxxabi_words.specs.declared.command.Command.TheVariants.{Check, Run, Layout, LayoutOf, Tables, TablesOf, Paths, Gen, Array, MemberPointer, Inspect, Foreign}
-use Rattle.cxxabi_cmd.specs.declared.reading.ReadStop.{ReadStop}
+use Rattle.cxxabi_streams.specs.declared.reading.ReadStop.{ReadStop}
 use Rattle.cxxabi_input.proofs.PartSizes.{parts_within}
 use Rattle.cxxabi_cmd.specs.Commands.{ReadsSource, input_of, parts_of}
 use Rattle.cxxabi_cmd.specs.invariants.Replies.{IsRead}

@@ -38,7 +38,7 @@ use Rattle.cxxabi_input.specs.Division.{line_count}
 pub use Rattle.cxxabi_cmd.specs.Answers.{Answer, line_alone, text_answer, text_limit}
 use Rattle.cxxabi_cmd.specs.Answers.{IsArrayReply, IsMemberReply}
 use Rattle.cxxabi_cmd.specs.Statuses.{last_line}
-use Rattle.cxxabi_cmd.specs.Streams.{IsPartOf}
+use Rattle.cxxabi_streams.specs.Streams.{IsPartOf}
 use Rattle.cxxabi_cmd.specs.Verdict.{Verdict, Stops, Accepts}
 
 -- the bytes of each word

@@ -1,8 +1,8 @@
 //! The whole program as one call: from words and the bytes of a source to a text and a status.
 //!
 //! `run_cxxabi` asks what the words say (`cxxabi_words`), reads the source, and writes the answer. This crate owns
-//! the outside (`Source`, `Sink` and their implementations), the statuses, and the definition `Output`: which text
-//! and status belong to words and bytes. It relies on the crates below by their contracts alone.
+//! the statuses and the definition `Output`: which text and status belong to words and bytes. It hands on the outside
+//! (`Source`, `Sink` and their implementations, of `cxxabi_streams`), and relies on the crates below by their contracts alone.
 //!
 //! Whoever calls it may rely on: the text and the status are those of `Output`; a fault is answered only where
 //! the count of the object that was handed in rose; nothing is written after a fault of reading or without
@@ -14,22 +14,16 @@ mod class_answer;
 mod divided_answer;
 mod list_answer;
 pub mod listing;
-pub mod reading;
 mod reply;
 pub mod run;
 mod run_answer;
-pub mod sink;
-pub mod sinks;
-pub mod source;
-pub mod sources;
 pub mod status;
 pub mod verdict;
-pub mod writing;
 
 pub use crate::run::{one_output, run_cxxabi, some_output};
-pub use crate::sink::{Sink, SinkFailed};
-pub use crate::sinks::{BytesSink, StdoutSink, SteadySink};
-pub use crate::source::{Source, SourceFailed};
-pub use crate::sources::{BytesSource, StdinSource, SteadySource};
 pub use crate::status::{InputRule, Status};
 pub use crate::verdict::{Accepted, judge};
+pub use cxxabi_streams::{
+    BytesSink, BytesSource, Sink, SinkFailed, Source, SourceFailed, StdinSource, StdoutSink,
+    SteadySink, SteadySource,
+};

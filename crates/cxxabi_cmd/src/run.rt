@@ -2,7 +2,7 @@
 
 ghost use Rattle.std.specs.Prelude.{ℕ, ◌≡◌, ◌↔◌, ◌≤◌, ◌<◌, ◌⊎◌, ◌∷◌, ◌++◌, [], List, Some, None, IsTrue, IfSome, IfOk, IfErr, IsSome, MatchOption, OnOk, take, drop, length, string_bytes};
 ghost use Rattle.std.specs.Option.{option_map};
-ghost use Rattle.cxxabi_cmd.specs.Streams.{Rose, IsPartOf};
+ghost use Rattle.cxxabi_streams.specs.Streams.{Rose, IsPartOf};
 ghost use Rattle.cxxabi_words.specs.Commands.{Says, IsCommand};
 ghost use Rattle.cxxabi_cmd.specs.Commands.{ReadsSource, Tells, input_of, parts_of};
 ghost use Rattle.cxxabi_cmd.specs.Divided.{undivided_rule};
@@ -12,13 +12,9 @@ ghost use Rattle.cxxabi_words.specs.invariants.Few.{HasFew};
 ghost use Rattle.cxxabi_cmd.specs.Handed.{HandsOut, seen_of};
 
 use crate::answer::answer;
-use crate::reading::{ReadStop, SOURCE_LIMIT, read_source};
 use crate::reply::{Reply, line_alone, stopped};
-use crate::sink::Sink;
-use crate::source::Source;
 use crate::status::{InputRule, Status};
 use crate::verdict::judge;
-use crate::writing::write_text;
 use abi_cookie::{one_answer, some_answer};
 use abi_foreign::{listing_or_refusal, one_listing, one_refusal};
 use abi_inspect::{one_reading, some_reading};
@@ -29,6 +25,7 @@ use cxx_gen::generate;
 use cxx_hierarchy::LimitNo;
 use cxx_typing::programs_are_typed;
 use cxxabi_input::{Parts, divide, line_count};
+use cxxabi_streams::{ReadStop, SOURCE_LIMIT, Sink, Source, read_source, write_text};
 use cxxabi_words::{Command, command_of};
 use foundation::NoMemory;
 use path_model::runs_are_typed;

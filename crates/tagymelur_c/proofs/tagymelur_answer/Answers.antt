@@ -1,6 +1,6 @@
 use Rattle.std.proofs.Common.{ℕ, ◌≡◌, ◌<◌, take, List, map, string_bytes, String, Global, Some, refl, ap, sym, ◌∙◌, subst}
-use Rattle.cxxabi_cmd.specs.declared.sinks.BytesSink.{BytesSink}
-use Rattle.cxxabi_cmd.specs.BytesStreams.{bytes_taken}
+use Rattle.cxxabi_streams.specs.declared.sinks.BytesSink.{BytesSink}
+use Rattle.cxxabi_streams.specs.BytesStreams.{bytes_taken}
 use Rattle.cxxabi_cmd.specs.Statuses.{code_of}
 use Rattle.tagymelur_c.specs.Words.{words_in}
 use Rattle.tagymelur_c.specs.Answered.{IsWhole, IsFront}

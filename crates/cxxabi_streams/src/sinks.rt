@@ -20,7 +20,7 @@ pub struct BytesSink {
 }
 
 impl BytesSink {
-    ghost use Rattle.cxxabi_cmd.specs.BytesStreams.{failing_writes, writes_made, room_of};
+    ghost use Rattle.cxxabi_streams.specs.BytesStreams.{failing_writes, writes_made, room_of};
 
     /// An empty sink with no room, of which the calls with these numbers fail. It takes no memory.
     pub fn new(alloc: Global, fails: Vec<u64>) -> BytesSink
@@ -63,7 +63,7 @@ impl BytesSink {
 
 impl Sink for BytesSink {
     ghost use Rattle.std.specs.Prelude.{Some};
-    ghost use Rattle.cxxabi_cmd.specs.BytesStreams.{bytes_taken, write_faults, failing_writes, writes_made, room_of, one_more};
+    ghost use Rattle.cxxabi_streams.specs.BytesStreams.{bytes_taken, write_faults, failing_writes, writes_made, room_of, one_more};
 
     ghost contents = { λ s. Some s.buffer.items };
 

@@ -1,7 +1,7 @@
 //! Sources: bytes in memory with or without faults, and standard input.
 
 ghost use Rattle.std.specs.Prelude.{ℕ, ◌≡◌, ◌<◌, ◌≤◌, ◌↔◌, List, Option, Some, None, length, drop, Contains, IfOk, IsErr, IsOk, OnOk, OnErr};
-ghost use Rattle.cxxabi_cmd.specs.Streams.{ReadsNext, Reads};
+ghost use Rattle.cxxabi_streams.specs.Streams.{ReadsNext, Reads};
 
 use crate::source::{Source, SourceFailed};
 use std::io::Read;
@@ -18,7 +18,7 @@ pub struct BytesSource {
 }
 
 impl BytesSource {
-    ghost use Rattle.cxxabi_cmd.specs.BytesStreams.{failing_reads, reads_made};
+    ghost use Rattle.cxxabi_streams.specs.BytesStreams.{failing_reads, reads_made};
 
     /// A source of these bytes, of which the calls with these numbers fail.
     pub fn new(bytes: Vec<u8>, fails: Vec<u64>) -> BytesSource
@@ -52,7 +52,7 @@ fn copy_front(bytes: &[u8], into: &mut [u8]) -> usize
 
 impl Source for BytesSource {
     ghost use Rattle.std.specs.Prelude.{Some, drop};
-    ghost use Rattle.cxxabi_cmd.specs.BytesStreams.{bytes_left, read_faults, failing_reads, reads_made, one_more};
+    ghost use Rattle.cxxabi_streams.specs.BytesStreams.{bytes_left, read_faults, failing_reads, reads_made, one_more};
 
     ghost remaining = { λ s. Some (drop s.at s.bytes.items) };
 
@@ -106,7 +106,7 @@ impl SteadySource {
 
 impl Source for SteadySource {
     ghost use Rattle.std.specs.Prelude.{Some, drop};
-    ghost use Rattle.cxxabi_cmd.specs.BytesStreams.{steady_left};
+    ghost use Rattle.cxxabi_streams.specs.BytesStreams.{steady_left};
 
     ghost remaining = { λ s. Some (drop s.at s.bytes.items) };
 

@@ -4,7 +4,7 @@ use Rattle.std.specs.Prelude.{IfSome}
 use Rattle.std.proofs.Math.Seq.{take-append_seam, drop-append_seam}
 use Rattle.std.proofs.Math.ListN.{drop_of_length-le}
 use Rattle.std.proofs.lemmas.List.{append-nil}
-use Rattle.cxxabi_cmd.specs.Streams.{Reads, IsPartOf}
+use Rattle.cxxabi_streams.specs.Streams.{Reads, IsPartOf}
 
 -- the bytes are those read so far and those that are left
 pub record SoFar (bytes text : List ℕ) (after : Option (List ℕ)) : Type 0 where

@@ -1,6 +1,6 @@
 use Rattle.std.proofs.Common.{◌≤◌, length, IfSome}
-use Rattle.cxxabi_cmd.proofs.StreamLemmas.{IsGiven}
-use Rattle.cxxabi_cmd.proofs.writing.write_text.Given as goal
+use Rattle.cxxabi_streams.proofs.StreamLemmas.{IsGiven}
+use Rattle.cxxabi_streams.proofs.writing.write_text.Given as goal
 
 abbrev pub invariant-loop-rest : goal.invariant-loop-rest
 invariant-loop-rest g l = record {

@@ -1,7 +1,7 @@
 //! Reads a whole source, up to one byte past the limit.
 
 ghost use Rattle.std.specs.Prelude.{ℕ, ◌≡◌, ◌<◌, ◌≤◌, Some, length, take, drop, vec_len, IfOk, IfErr, IfSome};
-ghost use Rattle.cxxabi_cmd.specs.Streams.{Rose};
+ghost use Rattle.cxxabi_streams.specs.Streams.{Rose};
 
 use crate::source::Source;
 use foundation::NoMemory;
@@ -12,13 +12,13 @@ pub const SOURCE_LIMIT: usize = 262_144;
 
 /// Why a source was not read.
 #[derive(Clone, Copy, Debug, PartialEq, Eq)]
-pub(crate) enum ReadStop {
+pub enum ReadStop {
     Fault,
     NoMemory,
 }
 
 impl From<AllocError> for ReadStop {
-    ghost use Rattle.cxxabi_cmd.specs.declared.reading.ReadStop.{ReadStop};
+    ghost use Rattle.cxxabi_streams.specs.declared.reading.ReadStop.{ReadStop};
 
     ghost from_gives = { λ _ stop. stop ≡ ReadStop.NoMemory };
 
@@ -28,7 +28,7 @@ impl From<AllocError> for ReadStop {
 }
 
 impl From<NoMemory> for ReadStop {
-    ghost use Rattle.cxxabi_cmd.specs.declared.reading.ReadStop.{ReadStop};
+    ghost use Rattle.cxxabi_streams.specs.declared.reading.ReadStop.{ReadStop};
 
     ghost from_gives = { λ _ stop. stop ≡ ReadStop.NoMemory };
 
@@ -37,8 +37,10 @@ impl From<NoMemory> for ReadStop {
     }
 }
 
-// The bytes of a source to its end, or its first 262,145 bytes where it has more.
-pub(crate) fn read_source<S: Source>(alloc: Global, source: &mut S) -> Result<Vec<u8>, ReadStop>
+/// The bytes of a source to its end, or its first 262,145 bytes where it has more.
+///
+/// Errors: a fault of the source, exactly as it tells it; want of memory.
+pub fn read_source<S: Source>(alloc: Global, source: &mut S) -> Result<Vec<u8>, ReadStop>
     ensures bytes { IfOk result (λ text. IfSome (S.remaining source.old) (λ bytes. text.items ≡ take 262145 bytes)) }
     ensures rest { IfOk result (λ _. IfSome (S.remaining source.old) (λ bytes. S.remaining source.new ≡ Some (drop 262145 bytes))) }
     ensures size { IfOk result (λ text. vec_len text ≤ 262145) }

@@ -1,6 +1,6 @@
 use Rattle.std.proofs.Common.{◌≤◌, ◌-◌, vec_len, IfSome}
-use Rattle.cxxabi_cmd.proofs.StreamLemmas.{SoFar}
-use Rattle.cxxabi_cmd.proofs.reading.read_source.Given as goal
+use Rattle.cxxabi_streams.proofs.StreamLemmas.{SoFar}
+use Rattle.cxxabi_streams.proofs.reading.read_source.Given as goal
 
 abbrev pub invariant-loop-buffer : goal.invariant-loop-buffer
 invariant-loop-buffer g l = record {

@@ -1,7 +1,7 @@
 //! Where the bytes of a source come from.
 
 ghost use Rattle.std.specs.Prelude.{ℕ, ◌≡◌, ◌<◌, ◌≤◌, List, Option, length, IfOk, OnErr};
-ghost use Rattle.cxxabi_cmd.specs.Streams.{Rose, Reads};
+ghost use Rattle.cxxabi_streams.specs.Streams.{Rose, Reads};
 
 use thiserror::Error;
 

@@ -1,6 +1,6 @@
 use Rattle.std.proofs.Common.{arith}
-use Rattle.cxxabi_cmd.proofs.StreamLemmas.{taken_full, left_full, taken_ended, left_ended}
-use Rattle.cxxabi_cmd.proofs.reading.read_source.Goals as goal
+use Rattle.cxxabi_streams.proofs.StreamLemmas.{taken_full, left_full, taken_ended, left_ended}
+use Rattle.cxxabi_streams.proofs.reading.read_source.Goals as goal
 
 pub returns-then-count-eq0-clause-bytes : goal.returns-then-count-eq0-clause-bytes
 returns-then-count-eq0-clause-bytes g c =

@@ -1,8 +1,8 @@
 -- What is seen of the sources and sinks over bytes: what is left or taken, which of their calls fail, and how many bytes a sink may still take.
 use Rattle.std.specs.Prelude.{ℕ, ◌+◌, ◌-◌, ◌^◌, min, List, drop}
-use Rattle.cxxabi_cmd.specs.declared.sources.BytesSource.{BytesSource}
-use Rattle.cxxabi_cmd.specs.declared.sources.SteadySource.{SteadySource}
-use Rattle.cxxabi_cmd.specs.declared.sinks.BytesSink.{BytesSink}
+use Rattle.cxxabi_streams.specs.declared.sources.BytesSource.{BytesSource}
+use Rattle.cxxabi_streams.specs.declared.sources.SteadySource.{SteadySource}
+use Rattle.cxxabi_streams.specs.declared.sinks.BytesSink.{BytesSink}
 
 -- the bytes that are left
 abbrev pub bytes_left : BytesSource → List ℕ

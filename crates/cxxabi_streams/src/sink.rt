@@ -1,7 +1,7 @@
 //! Where the bytes of an answer go.
 
 ghost use Rattle.std.specs.Prelude.{ℕ, ◌≡◌, ◌<◌, ◌≤◌, List, Option, length, IfOk, OnErr};
-ghost use Rattle.cxxabi_cmd.specs.Streams.{Rose, Writes};
+ghost use Rattle.cxxabi_streams.specs.Streams.{Rose, Writes};
 
 use thiserror::Error;
 

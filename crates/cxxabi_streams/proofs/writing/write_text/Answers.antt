@@ -1,5 +1,5 @@
-use Rattle.cxxabi_cmd.proofs.StreamLemmas.{part_given}
-use Rattle.cxxabi_cmd.proofs.writing.write_text.Goals as goal
+use Rattle.cxxabi_streams.proofs.StreamLemmas.{part_given}
+use Rattle.cxxabi_streams.proofs.writing.write_text.Goals as goal
 
 pub returns-in_default-clause-part : goal.returns-in_default-clause-part
 returns-in_default-clause-part g c =
