@@ -79,6 +79,7 @@ impl<'a> Draft<'a> {
     }
 
     /// The place of a member in the class that declares it, in bytes; 0 where there is none.
+    #[inline(never)]
     pub(crate) fn member_place(&self, d: ClassId, m: u32) -> u64
         requires draft { IsDraft self.now }
         requires known { d.0 < length self.now.h.now }
@@ -140,6 +141,7 @@ impl<'a> Draft<'a> {
     }
 
     /// The place of a subobject in an object of class `c`, in bytes.
+    #[inline(never)]
     pub(crate) fn place(&self, c: ClassId, s: &Subobject) -> u64
         requires draft { IsDraft self.now }
         requires known { c.0 < length self.now.h.now }

@@ -1,15 +1,18 @@
 //! The walk over all that lies in an object.
 
-ghost use Rattle.std.specs.Prelude.{◌≡◌, ◌<◌, ◌≤◌, ◌+◌, ◌*◌, ◌^◌, ◌++◌, OnOk, IfOk, Some, map, length, slice_get};
+ghost use Rattle.std.specs.Prelude.{◌≡◌, ◌<◌, ◌≤◌, ◌+◌, ◌*◌, ◌^◌, [], ◌∷◌, ◌++◌, OnOk, IfOk, Some, map, length, slice_get};
 ghost use Rattle.std.specs.List.{range_with_len};
+ghost use Rattle.cxx_hierarchy.specs.declared.records.FieldType.TheVariants.{Value};
 ghost use Rattle.cxx_hierarchy.specs.Classes.{members_of};
 ghost use Rattle.cxx_hierarchy.specs.Scalars.{size_of};
 ghost use Rattle.cxx_subobject.specs.Preorder.{preorder};
-ghost use Rattle.cxx_subobject.specs.Subobjects.{class_of};
-ghost use Rattle.abi_sound.specs.Places.{size_of_value};
+ghost use Rattle.cxx_subobject.specs.Subobjects.{IsSubobject, class_of};
+ghost use Rattle.abi_sound.specs.Places.{places_of, size_of_value};
+ghost use Rattle.abi_judge.specs.Rules.{AreHeld};
+ghost use Rattle.abi_judge.specs.declared.things.Thing.TheVariants.{Part};
 ghost use Rattle.abi_judge.specs.invariants.Ways.{ways};
-ghost use Rattle.abi_judge.specs.invariants.Things.{setting_of, things_of};
-ghost use Rattle.abi_judge.specs.invariants.Drafts.{IsDraftTo};
+ghost use Rattle.abi_judge.specs.invariants.Things.{part_thing, setting_of, things_of};
+ghost use Rattle.abi_judge.specs.invariants.Drafts.{IsDraft, IsDraftTo};
 ghost use Rattle.abi_judge.specs.invariants.Pushes.{AddsObjects, AddsObject, AddsOwn, AddsMember};
 ghost use Rattle.abi_judge.specs.invariants.Leaves.{leaf_from};
 
@@ -55,7 +58,6 @@ fn size_of_value(ty: &ValueType<ClassId>) -> u32
 }
 
 /// Puts the elements of a member that are numbers or pointers behind other things, by the first of them.
-#[inline(never)]
 fn push_leaves(things: &mut Vec<Thing>, first: PlacedLeaf, count: u32) -> Result<(), NoMemory>
     requires size { first.size ≤ 8 }
     requires room { first.place + 2 ^ 52 < 2 ^ 64 }
@@ -73,6 +75,54 @@ fn push_leaves(things: &mut Vec<Thing>, first: PlacedLeaf, count: u32) -> Result
 }
 
 impl<'a> Draft<'a> {
+    /// Puts a subobject of class `e` behind other things, as a thing at a place; it is of class `d`. It is no part of the walk below,
+    /// of which each open call takes room on the stack.
+    #[inline(never)]
+    fn push_part(
+        &self,
+        things: &mut Vec<Thing>,
+        e: ClassId,
+        s: &Subobject,
+        d: ClassId,
+        place: u64,
+    ) -> Result<(), NoMemory>
+        requires draft { IsDraft self.now }
+        requires known { e.0 < length self.now.h.now }
+        requires held { AreHeld self.now.h.now (places_of self.now.h.now self.now.rows.now) e }
+        requires subobject { IsSubobject self.now.h.now e s.now }
+        requires class { class_of s.now ≡ Some d }
+        ensures { OnOk result (things.new.items ≡ things.old.items ++ Part (part_thing (setting_of self.now) place e s.now d) ∷ []) }
+    {
+        things.push(Thing::Part(self.part(e, s, d, place)))?;
+        Ok(())
+    }
+
+    /// Puts the elements of a member of class `d` that are numbers or pointers, likewise.
+    #[inline(never)]
+    fn push_values(
+        &self,
+        things: &mut Vec<Thing>,
+        d: ClassId,
+        m: u32,
+        ty: &ValueType<ClassId>,
+        member: &Member<ClassId>,
+        at: u64,
+    ) -> Result<(), NoMemory>
+        requires draft { IsDraftTo self.now d }
+        requires there { slice_get (members_of self.now.h.now d) m ≡ Some member.now }
+        requires value { member.now.ty ≡ Value ty.now }
+        requires room { at + 2 ^ 51 + 2 ^ 52 < 2 ^ 64 }
+        ensures { OnOk result (AddsMember (setting_of self.now) d at m things.old.items things.new.items) }
+    {
+        let first = PlacedLeaf {
+            place: at + self.member_place(d, m),
+            first: self.first_bit(d, m),
+            size: size_of_value(ty),
+            width: member.width,
+        };
+        push_leaves(things, first, member.elements())
+    }
+
     /// Puts what lies in so many objects of class `b`, one behind the other from a place on.
     #[cycle(things)]
     fn push_objects(
@@ -114,7 +164,7 @@ impl<'a> Draft<'a> {
         for s in bases {
             let d = class_or_first(s);
             let place = at + self.place(e, s);
-            things.push(Thing::Part(self.part(e, s, d, place)))?;
+            self.push_part(things, e, s, d, place)?;
             self.push_own(alloc, things, d, place)?;
         }
         Ok(())
@@ -156,18 +206,10 @@ impl<'a> Draft<'a> {
         requires room { at + 2 ^ 51 + 2 ^ 52 + d.0 * 2 ^ 53 < 2 ^ 64 }
         ensures { OnOk result (AddsMember (setting_of self.now) d at m things.old.items things.new.items) }
     {
-        let start = at + self.member_place(d, m);
         match &member.ty {
-            FieldType::Value(ty) => {
-                let first = PlacedLeaf {
-                    place: start,
-                    first: self.first_bit(d, m),
-                    size: size_of_value(ty),
-                    width: member.width,
-                };
-                push_leaves(things, first, member.elements())
-            }
+            FieldType::Value(ty) => self.push_values(things, d, m, ty, member, at),
             FieldType::Object(b) => {
+                let start = at + self.member_place(d, m);
                 self.push_objects(alloc, things, *b, start, member.elements())
             }
         }

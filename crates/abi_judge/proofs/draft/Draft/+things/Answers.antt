@@ -1,16 +1,12 @@
-use Rattle.std.proofs.Common.{rules, ◌≡◌, ◌∙◌, ◌+◌, ◌*◌, ◌^◌, ◌<◌, ◌++◌, map, ap, sym, subst, arith}
-use Rattle.std.specs.List.{range_with_len}
+use Rattle.std.proofs.Common.{rules, ◌∙◌, ◌+◌, ◌*◌, ◌^◌, ◌<◌, refl, ap, sym, subst, arith}
 use Rattle.std.proofs.lemmas.Result.{on_ok_weaker}
-use Rattle.cxx_hierarchy.specs.Classes.{width_in}
 use Rattle.cxx_subobject.proofs.PathLemmas.{class_low, class_found}
 use Rattle.cxx_subobject.proofs.TreeLemmas.{valid_at}
 use Rattle.abi_sound.specs.Places.{size_in}
-use Rattle.abi_judge.specs.declared.things.PlacedLeaf.{PlacedLeaf}
-use Rattle.abi_judge.specs.invariants.Things.{setting_of}
-use Rattle.abi_judge.specs.invariants.Leaves.{leaf_from}
+use Rattle.abi_judge.specs.invariants.Things.{part_thing, setting_of}
 use Rattle.abi_judge.specs.invariants.Pushes.{AddsObjects}
 use Rattle.abi_judge.proofs.Known.{draft_lower, row_known, object_before, few_bytes, member_met}
-use Rattle.abi_judge.proofs.Pushed.{objects_next, members_next, bases_next, objects_added, leaves_added}
+use Rattle.abi_judge.proofs.Pushed.{objects_next, members_next, bases_next, objects_added}
 use Rattle.abi_judge.proofs.draft.Draft.+things.Goals as goal
 
 pub push_member-push_objects-requires : goal.push_member-push_objects-requires
@@ -21,17 +17,6 @@ push_member-push_objects-requires t c =
     let falls = c.decreases in
     (omega (arith, before, falls), (draft_lower c.args.self.now c.args.d c.in-Object.b c.requires.draft (omega (arith, before)), omega (arith, before, small, room)))
 
-pub push_member-returns-in-Value : goal.push_member-returns-in-Value
-push_member-returns-in-Value t c =
-    let x = setting_of c.args.self.now in
-    let member = c.args.member.now in
-    let first : PlacedLeaf = record { place = c.args.at + c.member_place.result; first = c.first_bit.result; size = c.size_of_value.result; width = member.width } in
-    let old = c.args.things.now.items in
-    on_ok_weaker c.push_leaves.result
-    (λ (added : c.push_leaves.new.things.items ≡ old ++ map (leaf_from first) (range_with_len 0 c.elements.result)).
-    leaves_added x c.args.d c.args.at c.args.m c.in-Value.ty member first old c.push_leaves.new.things.items c.requires.there c.in-Value.is (ap (λ n. c.args.at + n) c.member_place.ensures.is) c.first_bit.ensures c.size_of_value.ensures.is
-    (sym (ap width_in c.requires.there)) (added ∙ ap (λ n. old ++ map (leaf_from first) (range_with_len 0 n)) c.elements.ensures)) c.push_leaves.ensures
-
 pub push_member-returns-in-Object : goal.push_member-returns-in-Object
 push_member-returns-in-Object t c =
     let x = setting_of c.args.self.now in
@@ -41,21 +26,21 @@ push_member-returns-in-Object t c =
     let new = c.push_objects.new.things.items in
     let before = object_before c.args.self.now.h.now c.requires.draft.is.keeps c.args.d c.in-Object.b c.args.m member c.requires.there c.in-Object.is in
     on_ok_weaker c.push_objects.result
-    (λ (added : AddsObjects x c.in-Object.b start c.elements-in-Object.result old new).
+    (λ (added : AddsObjects x c.in-Object.b start c.elements.result old new).
     objects_added x c.args.d c.in-Object.b c.args.at c.args.m start member old new c.requires.there c.in-Object.is before (ap (λ n. c.args.at + n) c.member_place.ensures.is)
-    (subst (λ n. AddsObjects x c.in-Object.b start n old new) c.elements-in-Object.ensures added)) c.push_objects.ensures
+    (subst (λ n. AddsObjects x c.in-Object.b start n old new) c.elements.ensures added)) c.push_objects.ensures
 
 pub push_object-place-requires-clause-subobject : goal.push_object-place-requires-clause-subobject
 push_object-place-requires-clause-subobject t c = valid_at c.args.self.now.h.now c.args.e c.args.bases.now c.loop-s.s-index c.s-item.result c.requires.listed c.loop-s-test.true c.s-item.is
 
-pub push_object-part-requires-clause-held : goal.push_object-part-requires-clause-held
-push_object-part-requires-clause-held t c = c.requires.draft.held c.args.e (omega arith)
+pub push_object-push_part-requires-clause-held : goal.push_object-push_part-requires-clause-held
+push_object-push_part-requires-clause-held t c = c.requires.draft.held c.args.e (omega arith)
 
-pub push_object-part-requires-clause-subobject : goal.push_object-part-requires-clause-subobject
-push_object-part-requires-clause-subobject t c = valid_at c.args.self.now.h.now c.args.e c.args.bases.now c.loop-s.s-index c.s-item.result c.requires.listed c.loop-s-test.true c.s-item.is
+pub push_object-push_part-requires-clause-subobject : goal.push_object-push_part-requires-clause-subobject
+push_object-push_part-requires-clause-subobject t c = valid_at c.args.self.now.h.now c.args.e c.args.bases.now c.loop-s.s-index c.s-item.result c.requires.listed c.loop-s-test.true c.s-item.is
 
-pub push_object-part-requires-clause-class : goal.push_object-part-requires-clause-class
-push_object-part-requires-clause-class t c =
+pub push_object-push_part-requires-clause-class : goal.push_object-push_part-requires-clause-class
+push_object-push_part-requires-clause-class t c =
     let h = c.args.self.now.h.now in
     let valid = valid_at h c.args.e c.args.bases.now c.loop-s.s-index c.s-item.result c.requires.listed c.loop-s-test.true c.s-item.is in
     class_found h c.args.e c.class_or_first-d.result c.s-item.result valid c.class_or_first-d.ensures
@@ -80,8 +65,10 @@ push_object-loop-s-preserved t c =
     let valid = valid_at h c.args.e c.args.bases.now c.loop-s.s-index s c.requires.listed c.loop-s-test.true c.s-item.is in
     let class = class_found h c.args.e d s valid c.class_or_first-d.ensures in
     let low = class_low h c.requires.draft.is.keeps c.args.e d s valid class in
-    bases_next (setting_of c.args.self.now) c.args.e d s c.args.at (c.args.at + c.place.result) c.args.bases.now c.loop-s.s-index c.part.result c.args.things.now.items c.loop-s.things.items c.push.new.self.items c.push_own.new.things.items
-    c.loop-s-test.true c.s-item.is class low (ap (λ n. c.args.at + n) c.place.ensures.is) c.part.ensures c.loop-s.invariant c.in_ok-push.ensures.items c.in_ok-push_own.ensures
+    let x = setting_of c.args.self.now in
+    let place = c.args.at + c.place.result in
+    bases_next x c.args.e d s c.args.at place c.args.bases.now c.loop-s.s-index (part_thing x place c.args.e s d) c.args.things.now.items c.loop-s.things.items c.push_part.new.things.items c.push_own.new.things.items
+    c.loop-s-test.true c.s-item.is class low (ap (λ n. c.args.at + n) c.place.ensures.is) refl c.loop-s.invariant c.in_ok-push_part.ensures c.in_ok-push_own.ensures
 
 pub push_objects-row-requires : goal.push_objects-row-requires
 push_objects-row-requires t c = row_known c.args.self.now c.requires.draft.is c.args.b c.requires.draft.known
