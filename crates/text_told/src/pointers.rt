@@ -236,8 +236,8 @@ fn push_elements(
     Ok(())
 }
 
-/// Puts the pointers of a complete object itself into an empty list. It is no part of the walk below, of which each open call
-/// takes room on the stack.
+/// Makes a list the pointers of a complete object itself. It is no part of the walk below, of which each open call takes room on
+/// the stack.
 #[inline(never)]
 fn put_own_pointers<L: SoundLayout>(
     alloc: Global,
@@ -254,7 +254,7 @@ fn put_own_pointers<L: SoundLayout>(
     Ok(())
 }
 
-/// Puts the members that are objects into an empty list, likewise.
+/// Makes a list the members that are objects, likewise.
 #[inline(never)]
 fn put_member_objects<L: SoundLayout>(
     alloc: Global,
@@ -271,7 +271,7 @@ fn put_member_objects<L: SoundLayout>(
     Ok(())
 }
 
-/// Puts the virtual pointers of an object of a class into an empty list.
+/// Makes a list the virtual pointers of an object of a class.
 fn put_pointers<L: SoundLayout>(
     alloc: Global,
     h: &Hierarchy,
