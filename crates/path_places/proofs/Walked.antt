@@ -1,5 +1,5 @@
 -- To which members and which subobjects of a class a walk comes.
-use Rattle.std.proofs.Common.{◌≡◌, ℕ, ◌<◌, ◌≤◌, ◌∙◌, Some, List, length, get_or, ap, sym, subst}
+use Rattle.std.proofs.Common.{◌≡◌, ℕ, ◌<◌, ◌≤◌, ◌∙◌, Some, List, length, get_or, refl, ap, sym, subst, arith}
 use Rattle.std.specs.Prelude.{slice_get}
 use Rattle.std.proofs.lemmas.Option.{slice_get-get_or}
 use Rattle.cxx_hierarchy.specs.declared.records.ClassId.{ClassId}
@@ -25,6 +25,12 @@ member_walked h c x list class members place member less is =
       at = ap (λ (l : List (Member ClassId)). slice_get l place) (sym same) ∙ (slice_get-get_or list place member less ∙ ap (λ (y : Member ClassId). Some y) (sym is));
       below = subst (λ (l : List (Member ClassId)). place < length l) same less;
     }
+
+-- so does a member of a number below as many as the class has
+pub member_below : (h : Classes) (c : ClassId) (x : Class) → class_at h c ≡ Some x → (n : ℕ) → n ≡ length x.members → (m : ℕ) → m < n → m < length (members_of h c)
+member_below h c x found n is m less =
+    let same = ap (λ (l : List (Member ClassId)). length l) (members_are h c x x.members found refl) in
+    omega (arith, is, less, same)
 
 -- the class of a subobject of c does not stand behind c
 pub base_walked : (h : Classes) → IsHierarchy h → (c : ClassId) (list : List Subobject) → list ≡ preorder h c → (i : ℕ) (s : Subobject) → i < length list → s ≡ get_or list i s → (d : ClassId) → ((e : ClassId) → class_of s ≡ Some e → d ≡ e) → d.0 ≤ c.0

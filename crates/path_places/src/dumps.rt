@@ -3,8 +3,13 @@
 ghost use Rattle.std.specs.Prelude.{◌≡◌, ◌+◌, ◌<◌, ◌++◌, ◌∷◌, [], Some, IfOk, OnOk, length, slice_get};
 ghost use Rattle.cxx_hierarchy.specs.declared.records.ClassId.{ClassId};
 ghost use Rattle.cxx_hierarchy.specs.declared.records.FieldType.TheVariants.{Object};
+ghost use Rattle.cxx_hierarchy.specs.Classes.{members_of};
 ghost use Rattle.cxx_subobject.specs.declared.locations.Hop.TheVariants.{Inherit, Member as MemberHop};
+ghost use Rattle.cxx_subobject.specs.Subobjects.{IsSubobject};
 ghost use Rattle.path_plan.specs.Places.{ObjectPart};
+ghost use Rattle.path_plan.specs.Plans.{InFull};
+ghost use Rattle.path_numbers.specs.Sizes.{sizes_of, member_offset};
+ghost use Rattle.path_numbers.specs.Numbers.{number_in};
 ghost use Rattle.path_model.specs.Values.{Objects};
 ghost use Rattle.path_model.specs.Effects.{object_out};
 ghost use Rattle.path_heap.specs.Points.{Points};
@@ -14,7 +19,7 @@ ghost use Rattle.path_places.specs.invariants.Dumps.{seen, DumpsWhole, DumpsOwn,
 
 use crate::leaves::class_or_first;
 use crate::locations::shown;
-use cxx_hierarchy::{ClassId, FieldType, Member};
+use cxx_hierarchy::{ClassId, FieldType, Hierarchy, Member};
 use cxx_subobject::{Hop, Location, Subobject, put_subobjects, subobject_below};
 use foundation::{NoMemory, Sequence};
 use path_heap::Heap;
@@ -34,7 +39,7 @@ struct Site<'a> {
 /// A subobject of the complete object to which the hops lead.
 #[derive(Clone, Copy)]
 struct Place<'a> {
-    hops: &'a [Hop],
+    hops: &'a Vec<Hop>,
     base: &'a Subobject,
 }
 
@@ -50,10 +55,10 @@ fn copy_hop(alloc: Global, hop: &Hop) -> Result<Hop, NoMemory>
 
 /// The hops to an element of a member of a subobject.
 fn hops_below(alloc: Global, place: &Place, member: u32, index: u32) -> Result<Vec<Hop>, NoMemory>
-    ensures { IfOk result (λ hops. hops.items ≡ place.now.hops.now ++ Inherit place.now.base.now ∷ MemberHop member index ∷ []) }
+    ensures { IfOk result (λ hops. hops.items ≡ place.now.hops.now.items ++ Inherit place.now.base.now ∷ MemberHop member index ∷ []) }
 {
     let mut hops = Vec::new(alloc);
-    for hop in place.hops {
+    for hop in place.hops.as_slice() {
         hops.push(copy_hop(alloc, hop)?)?;
     }
     hops.push(Hop::Inherit(subobject_below(alloc, place.base, &[])?))?;
@@ -71,7 +76,7 @@ fn put_hops(
     index: u32,
     list: &mut Vec<Hop>,
 ) -> Result<(), NoMemory>
-    ensures { OnOk result (list.new.items ≡ place.now.hops.now ++ Inherit place.now.base.now ∷ MemberHop member index ∷ []) }
+    ensures { OnOk result (list.new.items ≡ place.now.hops.now.items ++ Inherit place.now.base.now ∷ MemberHop member index ∷ []) }
 {
     *list = hops_below(alloc, place, member, index)?;
     Ok(())
@@ -87,7 +92,7 @@ fn dump_leaf(
     k: u32,
 ) -> Result<DumpLeaf, NoMemory>
     requires { IsWorld site.now.world.now }
-    ensures { IfOk result (DumpsLeaf (seen site.now.world.now.h.now site.now.heap.now site.now.object site.now.class) place.now.hops.now place.now.base.now member index k) }
+    ensures { IfOk result (DumpsLeaf (seen site.now.world.now.h.now site.now.heap.now site.now.object site.now.class) place.now.hops.now.items place.now.base.now member index k) }
 {
     let value = shown(alloc, site.world, site.heap, site.heap.leaf(k))?;
     let hops = hops_below(alloc, place, member, index)?;
@@ -113,12 +118,53 @@ fn dump_values(
     out: &mut Vec<DumpLeaf>,
 ) -> Result<(), NoMemory>
     requires { IsWorld site.now.world.now }
-    ensures { OnOk result (DumpsValues (seen site.now.world.now.h.now site.now.heap.now site.now.object site.now.class) place.now.hops.now place.now.base.now m k count count out.old.items out.new.items) }
+    ensures { OnOk result (DumpsValues (seen site.now.world.now.h.now site.now.heap.now site.now.object site.now.class) place.now.hops.now.items place.now.base.now m k count count out.old.items out.new.items) }
 {
     for i in 0..count {
         out.push(dump_leaf(alloc, site, place, m, i, k.wrapping_add(i))?)?;
     }
     Ok(())
+}
+
+/// How many numbers a complete object of a class takes. This and the next three are no part of the walk below either.
+#[inline(never)]
+fn in_full(site: &Site, d: ClassId) -> u32
+    requires world { IsWorld site.now.world.now }
+    requires known { d.0 < length site.now.world.now.h.now }
+    ensures { result ≡ sizes_of site.now.world.now.h.now InFull d }
+{
+    site.world.numbers.in_full(d)
+}
+
+/// How far element 0 of a member stands behind a part.
+#[inline(never)]
+fn member_offset(site: &Site, c: ClassId, m: u32) -> u32
+    requires world { IsWorld site.now.world.now }
+    requires known { c.0 < length site.now.world.now.h.now }
+    ensures { m < length (members_of site.now.world.now.h.now c) → result ≡ member_offset site.now.world.now.h.now (sizes_of site.now.world.now.h.now) c m }
+{
+    site.world.numbers.member_offset(c, m as usize)
+}
+
+/// The member of a number of a class.
+#[inline(never)]
+fn member_of<'a>(h: &'a Hierarchy, c: ClassId, m: u32) -> &'a Member<ClassId>
+    requires known { c.0 < length h.now }
+    requires there { m < length (members_of h.now c) }
+    ensures { slice_get (members_of h.now c) m ≡ Some result.now }
+{
+    &h.class(c).members.as_slice()[m as usize]
+}
+
+/// The number of a subobject within its complete object, which is of class c.
+#[inline(never)]
+fn number_in(site: &Site, c: ClassId, s: &Subobject) -> u32
+    requires world { IsWorld site.now.world.now }
+    requires known { c.0 < length site.now.world.now.h.now }
+    requires subobject { IsSubobject site.now.world.now.h.now c s.now }
+    ensures { result ≡ number_in site.now.world.now.h.now c s.now }
+{
+    site.world.numbers.number_in(site.world.h, c, s)
 }
 
 /// The leaves of a member that is an object of class d.
@@ -135,11 +181,11 @@ fn dump_elements(
 ) -> Result<(), NoMemory>
     requires world { IsWorld site.now.world.now }
     requires known { d.0 < length site.now.world.now.h.now }
-    ensures { OnOk result (DumpsElements (seen site.now.world.now.h.now site.now.heap.now site.now.object site.now.class) place.now.hops.now place.now.base.now m d k count count out.old.items out.new.items) }
+    ensures { OnOk result (DumpsElements (seen site.now.world.now.h.now site.now.heap.now site.now.object site.now.class) place.now.hops.now.items place.now.base.now m d k count count out.old.items out.new.items) }
 {
-    let size = site.world.numbers.in_full(d);
+    let size = in_full(site, d);
+    let mut hops = Vec::new(alloc);
     for i in 0..count {
-        let mut hops = Vec::new(alloc);
         put_hops(alloc, place, m, i, &mut hops)?;
         let start = k.wrapping_add(i.wrapping_mul(size));
         dump_whole(alloc, site, &hops, d, start, out)?;
@@ -162,7 +208,7 @@ fn dump_member(
     requires world { IsWorld site.now.world.now }
     requires known { c.0 < length site.now.world.now.h.now }
     requires below { (d : ClassId) → member.now.ty ≡ Object d → d.0 < c.0 }
-    ensures { OnOk result (DumpsMember (seen site.now.world.now.h.now site.now.heap.now site.now.object site.now.class) place.now.hops.now place.now.base.now c m member.now k out.old.items out.new.items) }
+    ensures { OnOk result (DumpsMember (seen site.now.world.now.h.now site.now.heap.now site.now.object site.now.class) place.now.hops.now.items place.now.base.now c m member.now k out.old.items out.new.items) }
 {
     match &member.ty {
         FieldType::Value(_) => dump_values(alloc, site, place, m, k, member.elements(), out),
@@ -184,13 +230,14 @@ fn dump_own(
 ) -> Result<(), NoMemory>
     requires world { IsWorld site.now.world.now }
     requires known { c.0 < length site.now.world.now.h.now }
-    ensures { OnOk result (DumpsOwn (seen site.now.world.now.h.now site.now.heap.now site.now.object site.now.class) place.now.hops.now place.now.base.now c k out.old.items out.new.items) }
+    ensures { OnOk result (DumpsOwn (seen site.now.world.now.h.now site.now.heap.now site.now.object site.now.class) place.now.hops.now.items place.now.base.now c k out.old.items out.new.items) }
 {
     site.world.h.keeps();
-    let members = site.world.h.class(c).members.as_slice();
-    for (m, member) in members.iter().enumerate() {
-        let start = k.wrapping_add(site.world.numbers.member_offset(c, m));
-        dump_member(alloc, site, place, c, m as u32, member, start, out)?;
+    let count = site.world.h.class(c).members.len() as u32;
+    for m in 0..count {
+        let member = member_of(site.world.h, c, m);
+        let start = k.wrapping_add(member_offset(site, c, m));
+        dump_member(alloc, site, place, c, m, member, start, out)?;
     }
     Ok(())
 }
@@ -200,21 +247,21 @@ fn dump_own(
 fn dump_whole(
     alloc: Global,
     site: &Site,
-    hops: &[Hop],
+    hops: &Vec<Hop>,
     c: ClassId,
     k: u32,
     out: &mut Vec<DumpLeaf>,
 ) -> Result<(), NoMemory>
     requires world { IsWorld site.now.world.now }
     requires known { c.0 < length site.now.world.now.h.now }
-    ensures { OnOk result (DumpsWhole (seen site.now.world.now.h.now site.now.heap.now site.now.object site.now.class) hops.now c k out.old.items out.new.items) }
+    ensures { OnOk result (DumpsWhole (seen site.now.world.now.h.now site.now.heap.now site.now.object site.now.class) hops.now.items c k out.old.items out.new.items) }
 {
     site.world.h.keeps();
     let mut bases = Sequence::new(alloc);
     put_subobjects(alloc, site.world.h, c, &mut bases)?;
     for base in bases.as_slice() {
         let d = class_or_first(base);
-        let start = k.wrapping_add(site.world.numbers.number_in(site.world.h, c, base));
+        let start = k.wrapping_add(number_in(site, c, base));
         let place = Place { hops, base };
         dump_own(alloc, site, &place, d, start, out)?;
     }
@@ -243,6 +290,7 @@ pub fn dump(alloc: Global, world: &World, heap: &Heap, n: u32) -> Result<Out, No
     if class.0 >= world.h.len() {
         return Ok(Out::Dump(object + 1, class, Sequence::from_vec(leaves)));
     }
-    dump_whole(alloc, &site, &[], class, heap.heap_object(n), &mut leaves)?;
+    let hops = Vec::new(alloc);
+    dump_whole(alloc, &site, &hops, class, heap.heap_object(n), &mut leaves)?;
     Ok(Out::Dump(object + 1, class, Sequence::from_vec(leaves)))
 }

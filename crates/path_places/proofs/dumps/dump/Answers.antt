@@ -1,4 +1,4 @@
-use Rattle.std.proofs.Common.{[], refl, arith}
+use Rattle.std.proofs.Common.{arith}
 use Rattle.path_places.proofs.Dumping.{dump_told, dump_past}
 use Rattle.path_places.proofs.dumps.dump.Goals as goal
 
@@ -15,4 +15,4 @@ returns c = λ s p stands q.
     let h = c.args.world.now.h.now in
     let listed = c.object_class-class.ensures h s p stands q in
     dump_told h c.args.heap.now s stands p.object c.object-object.result c.heap_object.result c.object_class-class.result (c.object-object.ensures h s p stands q) listed (c.heap_object.ensures h s p c.object_class-class.result stands q listed)
-    c.new-leaves.result.items c.dump_whole.new.out.items c.new-leaves.ensures.items [] refl c.in_ok-dump_whole.ensures c.from_vec-2.result c.from_vec-2.ensures
+    c.new-leaves.result.items c.dump_whole.new.out.items c.new-leaves.ensures.items c.new-hops.result.items c.new-hops.ensures.items c.in_ok-dump_whole.ensures c.from_vec-2.result c.from_vec-2.ensures
