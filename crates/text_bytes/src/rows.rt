@@ -1,12 +1,12 @@
 //! The leaves of an object.
 
-ghost use Rattle.std.specs.Prelude.{◌≡◌, ◌++◌, ◌+◌, ◌*◌, ◌<◌, ◌^◌, ℕ, Some, Contains, IfOk, OnOk, length, map, slice_get};
+ghost use Rattle.std.specs.Prelude.{◌≡◌, [], ◌++◌, ◌+◌, ◌*◌, ◌<◌, ◌^◌, ℕ, Some, Contains, IfOk, OnOk, length, map, slice_get};
 ghost use Rattle.std.specs.List.{flat_map, range_with_len};
 ghost use Rattle.cxx_hierarchy.specs.Declarations.{elements_of};
 ghost use Rattle.abi_sound.specs.Places.{places_of};
 ghost use Rattle.cxx_hierarchy.specs.Classes.{members_of};
 ghost use Rattle.text_bytes.specs.declared.rows.LeafRow.{LeafRow};
-ghost use Rattle.text_bytes.specs.LeafRows.{element_name, element_rows, inner_row, rows_within, value_row};
+ghost use Rattle.text_bytes.specs.LeafRows.{element_name, element_rows, inner_row, placed_members, rows_within, value_row};
 
 use crate::members::{PlacedMember, placed_members};
 use abi_print::text::append;
@@ -65,6 +65,7 @@ fn value_row(
 }
 
 /// Puts the elements of a member that are numbers or pointers, of so many bytes, behind other leaves.
+#[inline(never)]
 fn push_values(
     alloc: Global,
     rows: &mut Vec<LeafRow>,
@@ -119,6 +120,7 @@ fn push_inner(
 
 /// Puts the leaves of the elements of a member that are objects of so many bytes behind others, by those of an object of their
 /// class.
+#[inline(never)]
 fn push_elements(
     alloc: Global,
     rows: &mut Vec<LeafRow>,
@@ -147,6 +149,54 @@ fn member_of<'a>(h: &'a Hierarchy, x: &PlacedMember) -> &'a Member<ClassId>
     &h.class(x.class).members.as_slice()[x.number as usize]
 }
 
+/// Makes a list the members of all subobjects of an object. It is no part of the walk below, of which each open call takes room on
+/// the stack.
+#[inline(never)]
+fn put_members<L: SoundLayout>(
+    alloc: Global,
+    h: &Hierarchy,
+    layout: &L,
+    c: ClassId,
+    list: &mut Vec<PlacedMember>,
+) -> Result<(), NoMemory>
+    requires layout { L.lays_out layout.now h.now }
+    requires known { c.0 < length h.now }
+    ensures { OnOk result (list.new.items ≡ placed_members h.now (places_of h.now (L.rows layout.now)) c) }
+{
+    *list = placed_members(alloc, h, layout, c)?;
+    Ok(())
+}
+
+/// Puts the leaves of an object of a class into an empty list.
+fn put_rows<L: SoundLayout>(
+    alloc: Global,
+    h: &Hierarchy,
+    layout: &L,
+    c: ClassId,
+    rows: &mut Vec<LeafRow>,
+) -> Result<(), NoMemory>
+    requires layout { L.lays_out layout.now h.now }
+    requires known { c.0 < length h.now }
+    requires none { rows.old.items ≡ [] }
+    ensures { OnOk result ((n : ℕ) → c.0 < n → rows.new.items ≡ rows_within h.now (places_of h.now (L.rows layout.now)) n c) }
+{
+    h.keeps();
+    let mut members = Vec::new(alloc);
+    put_members(alloc, h, layout, c, &mut members)?;
+    for x in members.as_slice() {
+        let member = member_of(h, x);
+        match &member.ty {
+            FieldType::Value(ty) => push_values(alloc, rows, x, member, size_of_value(ty))?,
+            FieldType::Object(d) => {
+                let mut inside = Vec::new(alloc);
+                put_rows(alloc, h, layout, *d, &mut inside)?;
+                push_elements(alloc, rows, x, member, layout.layout(*d).size, &inside)?;
+            }
+        }
+    }
+    Ok(())
+}
+
 /// The leaves of an object of a class: the numbers and pointers among the members of its subobjects, at any depth. Those of an
 /// object are found once for all elements of an array.
 ///
@@ -161,18 +211,7 @@ pub fn leaf_rows<L: SoundLayout>(
     requires known { c.0 < length h.now }
     ensures { IfOk result (λ rows. (n : ℕ) → c.0 < n → rows.items ≡ rows_within h.now (places_of h.now (L.rows layout.now)) n c) }
 {
-    h.keeps();
     let mut rows = Vec::new(alloc);
-    let members = placed_members(alloc, h, layout, c)?;
-    for x in members.as_slice() {
-        let member = member_of(h, x);
-        match &member.ty {
-            FieldType::Value(ty) => push_values(alloc, &mut rows, x, member, size_of_value(ty))?,
-            FieldType::Object(d) => {
-                let inside = leaf_rows(alloc, h, layout, *d)?;
-                push_elements(alloc, &mut rows, x, member, layout.layout(*d).size, &inside)?;
-            }
-        }
-    }
+    put_rows(alloc, h, layout, c, &mut rows)?;
     Ok(rows)
 }
