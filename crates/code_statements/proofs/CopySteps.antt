@@ -1,13 +1,22 @@
 -- One object and one subobject more is copied, and all of them.
-use Rattle.std.proofs.Common.{◌≡◌, ℕ, zero, suc, ◌+◌, ◌<◌, ◌≤◌, Option, Some, append_assoc, List, [], ◌++◌, length, take, get_or, ap, sym, ◌∙◌, arith}
+use Rattle.std.proofs.Common.{◌≡◌, ℕ, zero, suc, ◌+◌, ◌*◌, ◌<◌, ◌≤◌, Option, Some, append_assoc, List, [], ◌++◌, map, length, take, get_or, ap, sym, ◌∙◌, arith}
 use Rattle.std.specs.List.{flat_map}
 use Rattle.cxx_hierarchy.specs.declared.records.ClassId.{ClassId}
+use Rattle.cxx_hierarchy.specs.declared.records.Member.{Member}
+use Rattle.cxx_hierarchy.specs.declared.records.FieldType.{FieldType}
+use Rattle.cxx_hierarchy.specs.declared.records.FieldType.TheVariants.{Value}
+use Rattle.cxx_hierarchy.specs.declared.records.ValueType.{ValueType}
+use Rattle.cxx_hierarchy.specs.Declarations.{elements_of}
 use Rattle.cxx_hierarchy.specs.Hierarchies.{IsHierarchy}
 use Rattle.cxx_subobject.specs.declared.Subobject.{Subobject}
 use Rattle.cxx_subobject.specs.Subobjects.{IsSubobject, class_of}
 use Rattle.cxx_subobject.specs.Preorder.{preorder}
 use Rattle.cxx_subobject.proofs.PathLemmas.{class_low}
 use Rattle.byte_code.specs.declared.op.Op.{Op}
+use Rattle.path_plan.specs.Plans.{upto}
+use Rattle.abi_sound.specs.Locations.{size_of_type}
+use Rattle.code_ops.specs.declared.widths.LeafWidth.{LeafWidth}
+use Rattle.code_ops.specs.Leaves.{copy_op}
 use Rattle.code_ops.specs.Setups.{Setup, places}
 use Rattle.code_statements.specs.declared.distances.Sides.{Sides}
 use Rattle.std.proofs.lemmas.List.{map-append, take_all}
@@ -16,14 +25,23 @@ use Rattle.byte_code.specs.declared.op.Finish.{Finish}
 use Rattle.byte_code.specs.declared.op.Op.TheVariants.{Does}
 use Rattle.code_ops.specs.Operands.{operand_register, base_ops, ops_of}
 use Rattle.code_ops.specs.Arguments.{Block, free}
-use Rattle.code_statements.specs.CopyOps.{copy_ops, subobject_copies, own_copies, object_copies}
-use Rattle.code_statements.specs.invariants.Pushes.{AddsOwn, AddsBases, AddsObject}
+use Rattle.code_statements.specs.CopyOps.{copy_ops, subobject_copies, own_copies, object_copies, typed_copies}
+use Rattle.code_statements.specs.invariants.Pushes.{AddsOwn, AddsBases, AddsMember, AddsObject}
 use Rattle.code_statements.proofs.Pushed.{items_flat}
 
 -- the leaves of an object of class d, as the definition counts classes
 pub object_copied : (x : Setup) (sides : Sides) (d : ClassId) (at : ℕ) (mid new : List Op) → AddsObject x sides d at mid new → (n : ℕ) → d.0 < n → new ≡ mid ++ object_copies x sides n d at
 object_copied x sides d at mid new more zero low = absurd (omega arith)
 object_copied x sides d at mid new more (suc n) low = more.adds n (omega arith)
+
+-- the elements of a member that are numbers or pointers
+pub values_whole : (x : Setup) (sides : Sides) (b : ClassId) (leaf : LeafWidth) (type : ValueType ClassId) (member : Member ClassId) (start : ℕ) (old new : List Op) → member.ty ≡ Value type → new ≡ old ++ map (λ i. copy_op leaf sides.to sides.from (start + i * size_of_type (places x) member.ty)) (upto (elements_of member.count))
+    → AddsMember x sides b leaf member start old new
+values_whole x sides b leaf type member start old new is added = record {
+  adds = λ n low.
+      let at : ℕ → ℕ = λ i. start + i * size_of_type (places x) member.ty in
+      added ∙ ap (λ (u : FieldType ClassId). old ++ typed_copies (object_copies x sides n) sides leaf at (upto (elements_of member.count)) u) (sym is);
+}
 
 pub bases_next : (x : Setup) → IsHierarchy x.h → (sides : Sides) (d b : ClassId) (offset start : ℕ) (list : List Subobject) (j : ℕ) (s : Subobject) (old mid new : List Op) → j < length list → s ≡ get_or list j s → IsSubobject x.h d s → class_of s ≡ Some b → start ≡ offset + (places x).place d s
     → AddsBases x sides d offset (take j list) old mid → AddsOwn x sides b start mid new → AddsBases x sides d offset (take (j + 1) list) old new

@@ -2,10 +2,13 @@
 
 ghost use Rattle.std.specs.Prelude.{◌≡◌, ◌<◌, ◌+◌, ◌*◌, ◌^◌, ◌++◌, ℕ, OnOk, length, map, Some};
 ghost use Rattle.cxx_hierarchy.specs.declared.records.ClassId.{ClassId};
-ghost use Rattle.cxx_subobject.specs.Subobjects.{class_of};
+ghost use Rattle.cxx_subobject.specs.Subobjects.{IsSubobject, class_of};
 ghost use Rattle.cxx_subobject.specs.Preorder.{preorder};
+ghost use Rattle.cxx_hierarchy.specs.Declarations.{elements_of};
+ghost use Rattle.cxx_hierarchy.specs.declared.records.FieldType.TheVariants.{Object};
+ghost use Rattle.abi_sound.specs.Locations.{size_of_type};
 ghost use Rattle.path_plan.specs.Plans.{upto};
-ghost use Rattle.code_ops.specs.Leaves.{copy_op};
+ghost use Rattle.code_ops.specs.Leaves.{copy_op, leaf_width};
 ghost use Rattle.code_ops.specs.invariants.Fits.{FitsBase, FitsOperand};
 ghost use Rattle.code_ops.specs.invariants.Sites.{site_setup, site_places, site_block, IsLaidSite};
 ghost use Rattle.code_statements.specs.CopyOps.{subobject_copies, copy_ops};
@@ -35,7 +38,6 @@ fn class_or_first(base: &Subobject) -> ClassId
 }
 
 /// Copies elements that are numbers or pointers, by how they stand.
-#[inline(never)]
 fn push_values(
     ops: &mut OpList,
     sides: Sides,
@@ -59,6 +61,53 @@ struct CopySite<'a, L> {
 }
 
 impl<'a, L: SoundLayout> CopySite<'a, L> {
+    /// Where a subobject lies in a complete object of class d, in bytes. This and the next two are no part of the walk, of which each
+    /// open call takes room on the stack.
+    #[inline(never)]
+    fn place(&self, d: ClassId, base: &Subobject) -> u32
+        requires laid { IsLaidSite L.lays_out L.rows self.now.site.now }
+        requires known { d.0 < length self.now.site.now.h.now }
+        requires subobject { IsSubobject self.now.site.now.h.now d base.now }
+        ensures { result ≡ (site_places L.rows self.now.site.now).place d base.now }
+    {
+        self.site.layout.place(self.site.h, d, base)
+    }
+
+    /// Where the first element of a member lies in a subobject of class b, in bytes.
+    #[inline(never)]
+    fn member_place(&self, b: ClassId, m: u32) -> u32
+        requires laid { IsLaidSite L.lays_out L.rows self.now.site.now }
+        requires known { b.0 < length self.now.site.now.h.now }
+        ensures { result ≡ (site_places L.rows self.now.site.now).member b m }
+    {
+        member_place(self.site.layout, b, m)
+    }
+
+    /// Copies the elements of member number m of class b, which are numbers or pointers, and of which the first lies so many bytes
+    /// behind the registers.
+    #[inline(never)]
+    fn push_leaves(
+        &self,
+        ops: &mut OpList,
+        b: ClassId,
+        m: u32,
+        member: &Member<ClassId>,
+        start: u32,
+    ) -> Result<(), NoMemory>
+        requires laid { IsLaidSite L.lays_out L.rows self.now.site.now }
+        requires known { (d : ClassId) → member.now.ty ≡ Object d → d.0 < length (L.rows self.now.site.now.layout.now) }
+        requires fits { (i : ℕ) → i < elements_of member.now.count → start + i * size_of_type (site_places L.rows self.now.site.now) member.now.ty < 2 ^ 21 }
+        ensures { OnOk result (ops.new ≡ ops.old ++ map (λ i. copy_op (leaf_width (site_setup L.rows self.now.site.now) b m) self.now.sides.to self.now.sides.from (start + i * size_of_type (site_places L.rows self.now.site.now) member.now.ty)) (upto (elements_of member.now.count))) }
+    {
+        let elements = Elements {
+            start,
+            stride: type_bytes(self.site, &member.ty),
+            count: member.elements(),
+        };
+        let leaf = member_leaf(self.site, b, m);
+        push_values(ops, self.sides, elements, leaf)
+    }
+
     /// Copies the leaves of elements that are objects of class d.
     #[cycle(copies)]
     fn push_objects(&self, ops: &mut OpList, d: ClassId, elements: Elements) -> Result<(), NoMemory>
@@ -74,29 +123,30 @@ impl<'a, L: SoundLayout> CopySite<'a, L> {
         Ok(())
     }
 
-    /// Copies the leaves of a member of class b, whose values stand so, and of which the first element lies so many bytes behind the
-    /// registers.
+    /// Copies the leaves of member number m of class b, of which the first element lies so many bytes behind the registers.
     #[cycle(copies)]
     fn push_member(
         &self,
         ops: &mut OpList,
         b: ClassId,
-        leaf: LeafWidth,
+        m: u32,
         member: &Member<ClassId>,
         start: u32,
     ) -> Result<(), NoMemory>
         requires site { IsSiteOf L.lays_out L.rows self.now.site.now b }
         requires fits { FitsMember self.now.site.now.h.now (site_places L.rows self.now.site.now) b member.now start }
-        ensures { OnOk result (AddsMember (site_setup L.rows self.now.site.now) self.now.sides b leaf member.now start ops.old ops.new) }
+        ensures { OnOk result (AddsMember (site_setup L.rows self.now.site.now) self.now.sides b (leaf_width (site_setup L.rows self.now.site.now) b m) member.now start ops.old ops.new) }
     {
-        let elements = Elements {
-            start,
-            stride: type_bytes(self.site, &member.ty),
-            count: member.elements(),
-        };
         match &member.ty {
-            FieldType::Value(_) => push_values(ops, self.sides, elements, leaf),
-            FieldType::Object(d) => self.push_objects(ops, *d, elements),
+            FieldType::Value(_) => self.push_leaves(ops, b, m, member, start),
+            FieldType::Object(d) => {
+                let elements = Elements {
+                    start,
+                    stride: type_bytes(self.site, &member.ty),
+                    count: member.elements(),
+                };
+                self.push_objects(ops, *d, elements)
+            }
         }
     }
 
@@ -109,9 +159,8 @@ impl<'a, L: SoundLayout> CopySite<'a, L> {
     {
         let members = self.site.h.class(b).members.as_slice();
         for (m, member) in members.iter().enumerate() {
-            let start = offset + member_place(self.site.layout, b, m as u32);
-            let leaf = member_leaf(self.site, b, m as u32);
-            self.push_member(ops, b, leaf, member, start)?;
+            let start = offset + self.member_place(b, m as u32);
+            self.push_member(ops, b, m as u32, member, start)?;
         }
         Ok(())
     }
@@ -131,7 +180,7 @@ impl<'a, L: SoundLayout> CopySite<'a, L> {
         ensures { OnOk result (AddsObject (site_setup L.rows self.now.site.now) self.now.sides d offset ops.old ops.new) }
     {
         for base in bases {
-            let start = offset + self.site.layout.place(self.site.h, d, base);
+            let start = offset + self.place(d, base);
             self.push_own(ops, class_or_first(base), start)?;
         }
         Ok(())

@@ -1,18 +1,32 @@
-use Rattle.std.proofs.Common.{ℕ, ◌+◌, ◌*◌, refl, ap, sym, subst, arith}
+use Rattle.std.proofs.Common.{◌≡◌, ℕ, ◌+◌, ◌*◌, ◌++◌, map, refl, ap, sym, subst, arith}
 use Rattle.std.proofs.lemmas.Result.{on_ok_weaker}
 use Rattle.cxx_subobject.proofs.PathLemmas.{class_low, class_found}
 use Rattle.cxx_subobject.proofs.TreeLemmas.{valid_at}
 use Rattle.cxx_hierarchy.specs.Declarations.{elements_of}
 use Rattle.path_plan.specs.Plans.{upto}
-use Rattle.code_ops.specs.declared.widths.LeafWidth.{LeafWidth}
-use Rattle.code_statements.specs.CopyOps.{typed_copies, object_copies}
+use Rattle.abi_sound.specs.Locations.{size_of_type}
+use Rattle.code_ops.specs.Setups.{places}
+use Rattle.code_ops.specs.Leaves.{leaf_width, copy_op}
 use Rattle.code_statements.specs.invariants.CopyFits.{FitsOwn}
 use Rattle.code_statements.specs.invariants.Pushes.{AddsObjects}
 use Rattle.code_statements.proofs.Near.{base_low, object_low, own_fits, near_member}
 use Rattle.code_statements.proofs.MemberSteps.{object_more, objects_whole, member_more}
-use Rattle.code_statements.proofs.CopySteps.{object_copied, bases_next}
+use Rattle.code_statements.proofs.CopySteps.{object_copied, bases_next, values_whole}
 use Rattle.code_statements.proofs.copies.CopySite.+copies.Goals as goal
 use Rattle.code_ops.specs.invariants.Sites.{site_setup, site_places}
+
+pub push_member-returns-in-Value : goal.push_member-returns-in-Value
+push_member-returns-in-Value g t c =
+    let x = site_setup g.L.SoundLayout.rows c.args.self.now.site.now in
+    let sides = c.args.self.now.sides in
+    let member = c.args.member.now in
+    let leaf = leaf_width x c.args.b c.args.m in
+    let at : ℕ → ℕ = λ i. c.args.start + i * size_of_type (places x) member.ty in
+    let old = c.args.ops.now in
+    let new = c.push_leaves.new.ops in
+    on_ok_weaker c.push_leaves.result
+    (λ (added : new ≡ old ++ map (λ i. copy_op leaf sides.to sides.from (at i)) (upto (elements_of member.count))).
+    values_whole x sides c.args.b leaf c.in-Value.field-0 member c.args.start old new c.in-Value.is added) c.push_leaves.ensures
 
 pub push_member-returns-in-Object : goal.push_member-returns-in-Object
 push_member-returns-in-Object g t c =
@@ -86,7 +100,6 @@ pub push_own-loop-m-preserved : goal.push_own-loop-m-preserved
 push_own-loop-m-preserved g t c =
     let h = c.args.self.now.site.now.h.now in
     let x = site_setup g.L.SoundLayout.rows c.args.self.now.site.now in
-    let sides = c.args.self.now.sides in
     let near = near_member h c.requires.site.laid.site.keeps (site_places g.L.SoundLayout.rows c.args.self.now.site.now) c.loop-m.m c.requires.fits c.class.ensures c.as_slice-members.ensures c.loop-m-test.true c.index-members-m.is c.member_place.ensures in
     member_more _ _ x c.args.b c.args.offset (c.args.offset + c.member_place.result) c.loop-m.m c.index-members-m.result c.args.ops.now c.loop-m.ops c.push_member.new.ops near.there near.lies c.loop-m.invariant c.in_ok-push_member.ensures
-    (λ n at. ap (λ (l : LeafWidth). typed_copies (object_copies x sides n) sides l at (upto (elements_of c.index-members-m.result.count)) c.index-members-m.result.ty) c.member_leaf-leaf.ensures)
+    (λ n at. refl)
