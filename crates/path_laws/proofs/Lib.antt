@@ -1,0 +1,5 @@
+pub mod Steps
+pub mod Ways
+pub mod Lists
+pub mod Copies
+pub mod VirtualFunctions
