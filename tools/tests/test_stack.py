@@ -56,5 +56,13 @@ class Halving(unittest.TestCase):
         self.assertTrue(done.stdout.endswith(f"{len(deep.rows())} runs with 256 kB of stack, {len(deep.rows())} of them do not do\n"))
 
 
+@support.needs_program
+class Depth(unittest.TestCase):
+    def test_each_command_does_with_256_kb(self):
+        """A run that needs more is ended by a signal."""
+        ended = [f"{row.name()}, {row.what}" for row in deep.rows() if stack.answer(row.words, row.source, 256).status < 0]
+        self.assertEqual(ended, [])
+
+
 if __name__ == "__main__":
     unittest.main()
