@@ -1,4 +1,5 @@
 """./tagymelur with a stand-in for the command `rt`: what it tells, that it builds once, and what it says where a proof fails."""
+import functools
 import os
 import pty
 import shutil
@@ -150,22 +151,23 @@ class Build(unittest.TestCase):
         for number in (signal.SIGTERM, signal.SIGINT, signal.SIGHUP):
             sleeper = os.path.join(self.top, f"sleeper{number}")
             environment = self.environment(RT_SLEEPS=sleeper)
-            script = subprocess.Popen([os.path.join(self.top, "tagymelur"), "check"], stdin=subprocess.DEVNULL, stdout=subprocess.PIPE, stderr=subprocess.PIPE, env=environment, encoding="utf-8")
+            script = subprocess.Popen([os.path.join(self.top, "tagymelur"), "check"], stdin=subprocess.DEVNULL, stdout=subprocess.PIPE, stderr=subprocess.PIPE, env=environment, encoding="utf-8",
+                                      preexec_fn=functools.partial(signal.signal, number, signal.SIG_DFL))  # else what runs the tests may have it ignored
             self.wait_for(lambda: os.path.exists(sleeper) and os.path.getsize(sleeper) > 0)
             with open(sleeper, encoding="utf-8") as file:
                 started = int(file.read())
             script.send_signal(number)
-            text, told = script.communicate(timeout=20)
+            text, told = script.communicate(timeout=60)
             self.assertEqual((script.returncode, text), (128 + number, ""))
             self.assertIn("the build was stopped", told)
             self.wait_for(lambda: not is_running(started))
 
     def wait_for(self, holds):
-        for _ in range(200):
+        for _ in range(1200):
             if holds():
                 return
             time.sleep(0.05)
-        self.fail("it did not come to it in ten seconds")
+        self.fail("it did not come to it in a minute")
 
     def test_a_failed_proof(self):
         done = self.run_script("check", status="1")
