@@ -33,6 +33,15 @@ pub(crate) fn shared_base(alloc: Global, v: ClassId) -> Result<Subobject, NoMemo
     })
 }
 
+/// Makes a subobject the one that a virtual base is. It is no part of the walk below, of which each open call takes room on the stack.
+#[inline(never)]
+fn put_shared(alloc: Global, v: ClassId, inner: &mut Subobject) -> Result<(), NoMemory>
+    ensures { OnOk result (inner.new ≡ shared_base v) }
+{
+    *inner = shared_base(alloc, v)?;
+    Ok(())
+}
+
 /// The place of a direct non-virtual base in its class.
 pub(crate) fn base_place(h: &Hierarchy, rows: &[ClassLayout], d: ClassId, b: ClassId) -> u32
     requires class { d.0 < length h.now }
@@ -88,7 +97,11 @@ fn bring_virtual(
 {
     match held_base(scene, s, d) {
         Some(v) => {
-            let inner = shared_base(alloc, v)?;
+            let mut inner = Subobject {
+                root: Root::Whole,
+                path: Sequence::new(alloc),
+            };
+            put_shared(alloc, v, &mut inner)?;
             bring(alloc, scene, &inner, v, at, parts)?;
             Ok(())
         }

@@ -11,7 +11,7 @@ SOURCE, LISTING, DUMP, NOTHING = "a source", "a listing and a source", "a dump a
 
 Command = namedtuple("Command", "name words takes form")
 
-NAME = r"[A-Za-z_]\w{0,254}"
+NAME = r"[A-Za-z_][A-Za-z0-9_]{0,254}"
 PATH = rf"\*?{NAME}(?:/{NAME})*"
 TYPE = rf"(?:{NAME} )*{NAME}\*?(?:\[\d+\])?"
 ELEMENT = rf"(?:{PATH}::)?{NAME}(?:\[\d+\])?"
