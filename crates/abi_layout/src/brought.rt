@@ -2,7 +2,7 @@
 
 ghost use Rattle.std.specs.Prelude.{◌≡◌, ◌+◌, ◌<◌, ◌≤◌, ◌++◌, ◌∷◌, [], false, Contains, IfOk, OnOk, map, length, slice_get};
 ghost use Rattle.cxx_hierarchy.specs.Classes.{bases_of};
-ghost use Rattle.cxx_subobject.specs.Subobjects.{shared_base};
+ghost use Rattle.cxx_subobject.specs.Subobjects.{shared_base, subobject};
 ghost use Rattle.abi_emptybase.specs.Table.{moved};
 ghost use Rattle.abi_sound.specs.Places.{base_place};
 ghost use Rattle.abi_layout.specs.Placements.{nvsize_in};
@@ -42,6 +42,20 @@ fn put_shared(alloc: Global, v: ClassId, inner: &mut Subobject) -> Result<(), No
     Ok(())
 }
 
+/// Makes a subobject the base of a class that another one has for its own, likewise.
+#[inline(never)]
+fn put_below(
+    alloc: Global,
+    s: &Subobject,
+    base: ClassId,
+    inner: &mut Subobject,
+) -> Result<(), NoMemory>
+    ensures { OnOk result (inner.new ≡ subobject s.now.root (s.now.path ++ base ∷ [])) }
+{
+    *inner = subobject_below(alloc, s, &[base])?;
+    Ok(())
+}
+
 /// The place of a direct non-virtual base in its class.
 pub(crate) fn base_place(h: &Hierarchy, rows: &[ClassLayout], d: ClassId, b: ClassId) -> u32
     requires class { d.0 < length h.now }
@@ -73,7 +87,11 @@ fn bring_base(
     if base.is_virtual {
         return Ok(());
     }
-    let inner = subobject_below(alloc, s, &[base.class])?;
+    let mut inner = Subobject {
+        root: Root::Whole,
+        path: Sequence::new(alloc),
+    };
+    put_below(alloc, s, base.class, &mut inner)?;
     let place = base_place(scene.h, scene.rows, d, base.class);
     bring(alloc, scene, &inner, base.class, at + place, parts)?;
     Ok(())

@@ -46,8 +46,8 @@ bring_base-bring-requires t c =
 pub bring_base-returns : goal.bring_base-returns
 bring_base-returns t c =
     let x = c.args.scene.now in
-    base_brought x.h.now x.rows.now (brought_by x.h.now x.rows.now x.primaries.now (parts_in x.known.now) x.c) c.args.s.now c.in_ok-inner.inner c.args.d c.args.base.now c.args.at c.base_place-place.result c.args.parts.now c.bring.new.parts
-    c.if-base.false c.in_ok-inner.ensures c.base_place-place.ensures c.in_ok-bring.ensures
+    base_brought x.h.now x.rows.now (brought_by x.h.now x.rows.now x.primaries.now (parts_in x.known.now) x.c) c.args.s.now c.put_below.new.inner c.args.d c.args.base.now c.args.at c.base_place-place.result c.args.parts.now c.bring.new.parts
+    c.if-base.false c.in_ok-put_below.ensures c.base_place-place.ensures c.in_ok-bring.ensures
 
 pub bring-returns : goal.bring-returns
 bring-returns t c =
