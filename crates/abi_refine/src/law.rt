@@ -20,6 +20,7 @@ use foundation::NoMemory;
 ///
 /// It agrees with the program's next step, and is a turn of the machine's own meaning. After NoMemory `outs` is as before, and the
 /// machine answers NoMemory from then on.
+#[inline(always)]
 pub fn turn<M: Memory, L: SoundLayout>(
     _h: &Hierarchy,
     _layout: &L,

@@ -71,6 +71,7 @@ fn append_one<M: Memory, L: SoundLayout>(
 /// The lines of what a turn told, with those of a trace or without, read on the machine that it left.
 ///
 /// Errors: want of memory.
+#[inline(always)]
 fn lines_of<M: Memory, L: SoundLayout>(
     alloc: Global,
     h: &Hierarchy,
@@ -89,6 +90,18 @@ fn lines_of<M: Memory, L: SoundLayout>(
         append_one(alloc, h, layout, called, machine, &mut text, trace, *out)?;
     }
     Ok(text)
+}
+
+/// Puts lines at the end of a text; most turns tell nothing. Errors: want of memory.
+#[inline(always)]
+fn append_lines(text: &mut Vec<u8>, lines: &[u8]) -> Result<(), NoMemory>
+    ensures { OnOk result (text.new.items ≡ text.old.items ++ lines.now) }
+{
+    if lines.is_empty() {
+        return Ok(());
+    }
+    text.extend_from_slice(lines)?;
+    Ok(())
 }
 
 /// Turns a machine, over whatever memory, that stands for the start of a program until an answer ends the run, or its text passes
@@ -138,7 +151,7 @@ pub fn run_machine<M: Memory, L: SoundLayout>(
                 end: End::Limit(LimitNo::L9),
             });
         }
-        text.extend_from_slice(&lines)?;
+        append_lines(&mut text, &lines)?;
         steps += 1;
     }
 }

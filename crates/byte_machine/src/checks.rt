@@ -5,13 +5,14 @@ ghost use Rattle.abi_dyncast.specs.Casts.{room};
 ghost use Rattle.byte_machine.specs.Running.{Goes};
 ghost use Rattle.byte_machine.specs.Checks.{checked, view_checked};
 ghost use Rattle.byte_machine.specs.invariants.States.{running_of, CanDo, DidAs, Keeps, refusal};
-ghost use Rattle.byte_machine.specs.invariants.CheckKinds.{check_kind, OfWords, OfMemory, OfPhases, OfOwners};
+ghost use Rattle.byte_machine.specs.invariants.CheckKinds.{check_kind, OfMemory, OfPhases, OfOwners};
+ghost use Rattle.byte_code.specs.declared.op.Check.TheVariants.{Fits};
 
 use crate::numbers::fits;
 use crate::running::{Running, Setup};
 use crate::words::{moved, table_word};
 use abi_dyncast::is_within;
-use byte_code::{Check, Phase};
+use byte_code::{ArithKind, Check, Phase, Width};
 use byte_memory::Memory;
 
 /// The rule that refuses, where its test does not hold.
@@ -21,45 +22,38 @@ fn unless(holds: bool, rule: u8) -> Option<u8>
     if holds { None } else { Some(rule) }
 }
 
-/// A check that looks at words alone. It answers the rule that refuses, if it does.
+/// Whether the result of a calculation is a number of the width, where both words are set. It answers the rule that refuses, if it
+/// does.
 #[inline(always)]
-fn check_words<M: Memory>(_setup: &Setup, running: &Running<M>, check: Check) -> Option<u8>
-    requires kind { check_kind check ≡ OfWords }
-    requires allowed { CanDo _setup.now (λ f s. checked f check s) running.now }
-    ensures { DidAs _setup.now (λ f s. checked f check s) running.now running.now (refusal running.now.line result) }
+fn check_fits<M: Memory>(
+    _setup: &Setup,
+    running: &Running<M>,
+    kind: ArithKind,
+    width: Width,
+    left: u32,
+    right: u32,
+) -> Option<u8>
+    requires allowed { CanDo _setup.now (λ f s. checked f (Fits kind width left right) s) running.now }
+    ensures { DidAs _setup.now (λ f s. checked f (Fits kind width left right) s) running.now running.now (refusal running.now.line result) }
 {
-    match check {
-        Check::NotNull { register } => match running.register(register) {
-            Some(0) => Some(1),
-            _ => None,
-        },
-        Check::SetRegister { register } => unless(running.register(register).is_some(), 5),
-        Check::Never => Some(11),
-        Check::Fits {
-            kind,
-            width,
-            left,
-            right,
-        } => match running.register(left) {
+    match running.register(left) {
+        None => None,
+        Some(left) => match running.register(right) {
             None => None,
-            Some(left) => match running.register(right) {
-                None => None,
-                Some(right) => unless(fits(kind, width, left, right), 12),
-            },
+            Some(right) => unless(fits(kind, width, left, right), 12),
         },
-        _ => unreachable!(),
     }
 }
 
 /// A check that looks at memory, or at the image.
 #[inline(never)]
-fn check_memory<M: Memory>(setup: &Setup, running: &Running<M>, check: Check) -> Option<u8>
-    requires kind { check_kind check ≡ OfMemory }
-    requires allowed { CanDo setup.now (λ f s. checked f check s) running.now }
-    ensures { DidAs setup.now (λ f s. checked f check s) running.now running.now (refusal running.now.line result) }
+fn check_memory<M: Memory>(setup: &Setup, running: &Running<M>, check: &Check) -> Option<u8>
+    requires kind { check_kind check.now ≡ OfMemory }
+    requires allowed { CanDo setup.now (λ f s. checked f check.now s) running.now }
+    ensures { DidAs setup.now (λ f s. checked f check.now s) running.now running.now (refusal running.now.line result) }
 {
     match check {
-        Check::Open { register } => match running.register(register) {
+        Check::Open { register } => match running.register(*register) {
             None | Some(0) => None,
             Some(at) => unless(running.heap.fault(at).is_none(), 2),
         },
@@ -67,12 +61,12 @@ fn check_memory<M: Memory>(setup: &Setup, running: &Running<M>, check: Check) ->
             base,
             offset,
             width,
-        } => match running.register(base) {
+        } => match running.register(*base) {
             None | Some(0) => None,
             Some(at) => unless(
                 running
                     .heap
-                    .load(moved(at, offset as u64), width.bytes)
+                    .load(moved(at, *offset as u64), width.bytes)
                     .is_ok(),
                 5,
             ),
@@ -82,20 +76,20 @@ fn check_memory<M: Memory>(setup: &Setup, running: &Running<M>, check: Check) ->
             offset,
             first,
             width,
-        } => match running.register(base) {
+        } => match running.register(*base) {
             None | Some(0) => None,
             Some(at) => unless(
                 running
                     .heap
-                    .load_bits(moved(at, offset as u64), first, width.bits)
+                    .load_bits(moved(at, *offset as u64), *first, width.bits)
                     .is_ok(),
                 5,
             ),
         },
-        Check::HasCode { register, entry } => match running.register(register) {
+        Check::HasCode { register, entry } => match running.register(*register) {
             None | Some(0) => None,
             Some(at) => {
-                let record = table_word(&setup.image, &running.heap, at, 8 * entry as u64);
+                let record = table_word(&setup.image, &running.heap, at, 8 * *entry as u64);
                 unless(record != Some(0), 6)
             }
         },
@@ -105,29 +99,29 @@ fn check_memory<M: Memory>(setup: &Setup, running: &Running<M>, check: Check) ->
 
 /// A check that looks at phases.
 #[inline(never)]
-fn check_phases<M: Memory>(_setup: &Setup, running: &Running<M>, check: Check) -> Option<u8>
-    requires kind { check_kind check ≡ OfPhases }
-    requires allowed { CanDo _setup.now (λ f s. checked f check s) running.now }
-    ensures { DidAs _setup.now (λ f s. checked f check s) running.now running.now (refusal running.now.line result) }
+fn check_phases<M: Memory>(_setup: &Setup, running: &Running<M>, check: &Check) -> Option<u8>
+    requires kind { check_kind check.now ≡ OfPhases }
+    requires allowed { CanDo _setup.now (λ f s. checked f check.now s) running.now }
+    ensures { DidAs _setup.now (λ f s. checked f check.now s) running.now running.now (refusal running.now.line result) }
 {
     match check {
         Check::Ready {
             register,
             offset,
             class,
-        } => match running.register(register) {
+        } => match running.register(*register) {
             None | Some(0) => None,
-            Some(at) => unless(running.shadow.is_ready(moved(at, offset), class), 3),
+            Some(at) => unless(running.shadow.is_ready(moved(at, *offset), *class), 3),
         },
         Check::Derived {
             register,
             offset,
             class,
-        } => match running.register(register) {
+        } => match running.register(*register) {
             None | Some(0) => None,
-            Some(at) => unless(running.shadow.phase(moved(at, offset), class).is_some(), 7),
+            Some(at) => unless(running.shadow.phase(moved(at, *offset), *class).is_some(), 7),
         },
-        Check::Complete { register } => match running.register(register) {
+        Check::Complete { register } => match running.register(*register) {
             None | Some(0) => None,
             Some(at) => {
                 let object = running.heap.opened(at).unwrap();
@@ -171,11 +165,11 @@ pub fn check_view<M: Memory>(
 
 /// A check that looks at complete objects.
 #[inline(never)]
-fn check_owners<M: Memory>(setup: &Setup, running: &mut Running<M>, check: Check) -> Option<u8>
-    requires kind { check_kind check ≡ OfOwners }
-    requires allowed { CanDo setup.now (λ f s. checked f check s) running.old }
+fn check_owners<M: Memory>(setup: &Setup, running: &mut Running<M>, check: &Check) -> Option<u8>
+    requires kind { check_kind check.now ≡ OfOwners }
+    requires allowed { CanDo setup.now (λ f s. checked f check.now s) running.old }
     requires room { room running.old.work ≡ setup.now.parts }
-    ensures did { DidAs setup.now (λ f s. checked f check s) running.old running.new (refusal running.old.line result) }
+    ensures did { DidAs setup.now (λ f s. checked f check.now s) running.old running.new (refusal running.old.line result) }
     ensures kept { Keeps running.old running.new }
 {
     match check {
@@ -183,24 +177,24 @@ fn check_owners<M: Memory>(setup: &Setup, running: &mut Running<M>, check: Check
             register,
             offset,
             class,
-        } => match running.register(register) {
+        } => match running.register(*register) {
             None | Some(0) => None,
             Some(at) => {
-                let rule = check_view(setup, running, moved(at, offset), class);
+                let rule = check_view(setup, running, moved(at, *offset), *class);
                 rule
             }
         },
-        Check::Whole { register, class } => match running.register(register) {
+        Check::Whole { register, class } => match running.register(*register) {
             None | Some(0) => None,
             Some(at) => {
-                let owner = running.shadow.owner(at, class).unwrap();
-                unless(owner.0 == at && owner.1 == class, 8)
+                let owner = running.shadow.owner(at, *class).unwrap();
+                unless(owner.0 == at && owner.1 == *class, 8)
             }
         },
-        Check::HeapObject { register, class } => match running.register(register) {
+        Check::HeapObject { register, class } => match running.register(*register) {
             None | Some(0) => None,
             Some(at) => {
-                let owner = running.shadow.owner(at, class).unwrap();
+                let owner = running.shadow.owner(at, *class).unwrap();
                 let object = running.heap.opened(at).unwrap();
                 unless(owner.0 == object.start && owner.1 == object.class, 9)
             }
@@ -211,16 +205,25 @@ fn check_owners<M: Memory>(setup: &Setup, running: &mut Running<M>, check: Check
 
 /// Runs a check. It answers the rule that refuses, if it does.
 #[inline(always)]
-pub fn run_check<M: Memory>(setup: &Setup, running: &mut Running<M>, check: Check) -> Option<u8>
-    requires allowed { CanDo setup.now (λ f s. checked f check s) running.old }
+pub fn run_check<M: Memory>(setup: &Setup, running: &mut Running<M>, check: &Check) -> Option<u8>
+    requires allowed { CanDo setup.now (λ f s. checked f check.now s) running.old }
     requires room { room running.old.work ≡ setup.now.parts }
-    ensures did { DidAs setup.now (λ f s. checked f check s) running.old running.new (refusal running.old.line result) }
+    ensures did { DidAs setup.now (λ f s. checked f check.now s) running.old running.new (refusal running.old.line result) }
     ensures kept { Keeps running.old running.new }
 {
     match check {
-        Check::NotNull { .. } | Check::SetRegister { .. } | Check::Never | Check::Fits { .. } => {
-            check_words(setup, running, check)
-        }
+        Check::SetRegister { register } => unless(running.register(*register).is_some(), 5),
+        Check::Fits {
+            kind,
+            width,
+            left,
+            right,
+        } => check_fits(setup, running, *kind, *width, *left, *right),
+        Check::NotNull { register } => match running.register(*register) {
+            Some(0) => Some(1),
+            _ => None,
+        },
+        Check::Never => Some(11),
         Check::Open { .. }
         | Check::SetLeaf { .. }
         | Check::SetBits { .. }

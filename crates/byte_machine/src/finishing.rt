@@ -15,10 +15,10 @@ use byte_memory::Memory;
 
 /// Runs an op that may follow a return. It answers the rule that refuses, if one does.
 #[inline(always)]
-pub fn run_finish<M: Memory>(setup: &Setup, running: &mut Running<M>, finish: Finish) -> Option<u8>
-    requires allowed { CanDo setup.now (λ f s. finish_effect f finish s) running.old }
+pub fn run_finish<M: Memory>(setup: &Setup, running: &mut Running<M>, finish: &Finish) -> Option<u8>
+    requires allowed { CanDo setup.now (λ f s. finish_effect f finish.now s) running.old }
     requires room { room running.old.work ≡ setup.now.parts }
-    ensures did { DidAs setup.now (λ f s. finish_effect f finish s) running.old running.new (refusal running.old.line result) }
+    ensures did { DidAs setup.now (λ f s. finish_effect f finish.now s) running.old running.new (refusal running.old.line result) }
     ensures kept { Keeps running.old running.new }
 {
     match finish {
@@ -27,33 +27,33 @@ pub fn run_finish<M: Memory>(setup: &Setup, running: &mut Running<M>, finish: Fi
             rule
         }
         Finish::Add { to, base, offset } => {
-            let word = match running.register(base) {
+            let word = match running.register(*base) {
                 None => None,
                 Some(0) => Some(0),
-                Some(at) => Some(moved(at, offset)),
+                Some(at) => Some(moved(at, *offset)),
             };
-            running.put(to, word);
+            running.put(*to, word);
             None
         }
         Finish::AddVbase { to, base, word } => {
-            add_word(setup, running, to, base, word_bytes(word));
+            add_word(setup, running, *to, *base, word_bytes(*word));
             None
         }
         Finish::Convert { to, from, kind } => {
-            let word = match running.register(from) {
+            let word = match running.register(*from) {
                 None => None,
-                Some(word) => Some(convert(kind, word)),
+                Some(word) => Some(convert(*kind, word)),
             };
-            running.put(to, word);
+            running.put(*to, word);
             None
         }
         Finish::Move { to, from } => {
-            let word = running.register(from);
-            running.put(to, word);
+            let word = running.register(*from);
+            running.put(*to, word);
             None
         }
         Finish::WriteGlobal { global, from } => {
-            running.globals[global as usize] = running.register(from);
+            running.globals[*global as usize] = running.register(*from);
             None
         }
     }

@@ -121,6 +121,7 @@ impl<M: Memory> Machine<M> {
     /// One turn, whose outs are put at the end of `outs`.
     ///
     /// After NoMemory `outs` has its old items, and each later step answers NoMemory too.
+    #[inline(always)]
     pub fn step(&mut self, outs: &mut RawOutList) -> Result<MachineTurn, NoMemory>
         requires { has_failed self.old ≡ false → HasTurn (fixed_in self.old) (code_of self.old) (state_of self.old) outs.old }
         ensures turn { IfOk result (λ turn.

@@ -90,6 +90,7 @@ fn run_plain<M: Memory>(setup: &Setup, running: &mut Running<M>, op: &Op) -> Res
 }
 
 /// Runs one op. It answers what stops the block, if it does. Errors: want of memory.
+#[inline(always)]
 pub fn run_op<M: Memory>(
     setup: &Setup,
     running: &mut Running<M>,
@@ -102,7 +103,7 @@ pub fn run_op<M: Memory>(
 {
     match op {
         Op::Does(finish) => {
-            let rule = run_finish(setup, running, *finish);
+            let rule = run_finish(setup, running, finish);
             Ok(refused(rule, running.line))
         }
         Op::CallEntry { .. } | Op::CallCode { .. } | Op::New { .. } => {

@@ -13,6 +13,7 @@ use byte_memory::Memory;
 use foundation::NoMemory;
 
 /// The frames that a block opened go over the one that opened them. Errors: want of memory.
+#[inline(always)]
 fn settle<M: Memory>(running: &mut Running<M>) -> Result<(), NoMemory>
     ensures settles { IfOk result (λ _. running_of running.new ≡ settled (running_of running.old)) }
     ensures opened { IfOk result (λ _. length running.new.opened.items ≡ 0) }
@@ -28,6 +29,7 @@ fn settle<M: Memory>(running: &mut Running<M>) -> Result<(), NoMemory>
 }
 
 /// Runs the next block. Errors: want of memory.
+#[inline(always)]
 fn run_next<M: Memory>(
     setup: &Setup,
     code: &Code,
@@ -53,6 +55,7 @@ fn run_next<M: Memory>(
 /// Runs the next block, and puts what it tells at the end of `outs`.
 ///
 /// Errors: want of memory; then `outs` has its old items.
+#[inline(always)]
 pub fn run_step<M: Memory>(
     setup: &Setup,
     code: &Code,

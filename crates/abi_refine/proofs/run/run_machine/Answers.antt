@@ -78,10 +78,10 @@ loop-outs-preserved g c =
         image_is = c.in_ok-answer.ensures.image ∙ c.loop-outs.invariant.at_turn.image_is;
         code_is = c.in_ok-answer.ensures.code ∙ c.loop-outs.invariant.at_turn.code_is;
         parts_are = c.in_ok-answer.ensures.parts ∙ c.loop-outs.invariant.at_turn.parts_are;
-        going = goes_on given c.in-None.ensures c.in_ok-lines.lines.items c.extend_from_slice.new.self.items
+        going = goes_on given c.in-None.ensures c.in_ok-lines.lines.items c.append_lines.new.text.items
             (lines_are (setup c.args.h.now (g.L.SoundLayout.rows c.args.layout.now) c.args.program.now) c.args.numbers.now c.in_ok-called.called (image_of c.args.machine.now) (image_of c.turn.new.machine) c.args.trace (state_of c.turn.new.machine) c.in_ok-lines.lines.items c.as_slice.result.now c.turn.new.outs (c.in_ok-called.ensures ∙ c.rows.ensures) (c.in_ok-answer.ensures.image ∙ c.loop-outs.invariant.at_turn.image_is) c.as_slice.ensures c.in_ok-lines.ensures)
             (omega (arith, c.if-len-gt-TEXT_LIMIT.false, c.len.ensures, c.len-in-loop-outs.ensures))
-            (c.in_ok-extend_from_slice.ensures.items ∙ ap (λ (t : List ℕ). c.loop-outs.text.items ++ t) c.deref.ensures.value);
+            (c.in_ok-append_lines.ensures ∙ ap (λ (t : List ℕ). c.loop-outs.text.items ++ t) c.deref.ensures.value);
       };
       ready = c.in_ok-answer.ensures.ready;
       steps = ap (λ n. n + 1) c.loop-outs.invariant.steps ∙ sym (more_taken given c.in-None.ensures);

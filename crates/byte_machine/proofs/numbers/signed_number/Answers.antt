@@ -1,17 +1,13 @@
-use Rattle.std.proofs.Common.{SFits, w64, sym, subst, arith}
-use Rattle.std.specs.Int.{w128}
-use Rattle.std.proofs.lemmas.Int.{ints, to_z-of_z}
-use Rattle.byte_machine.proofs.Ranges.{number_fits}
+use Rattle.std.proofs.Common.{◌≡◌, ◌∙◌, ap, sym, w64, of_z, to_z}
+use Rattle.std.proofs.lemmas.Int.{to_z-of_z}
+use Rattle.byte_code.specs.Numbers.{number_of, extended}
+use Rattle.byte_machine.proofs.Ranges.{number_fits, word_is}
 use Rattle.byte_machine.proofs.numbers.signed_number.Goals as goal
-
-pub overflow_cast-result : goal.overflow_cast-result
-overflow_cast-result c =
-    let fits : SFits w64 c.number.result = subst (SFits w64) (sym c.number.ensures) (number_fits c.args.width c.args.word c.requires.bytes c.requires.signed) in
-    let wide : SFits w128 c.number.result = omega (arith, ints) in
-    rw (to_z-of_z w128 c.number.result wide) fits
 
 pub returns : goal.returns
 returns c =
-    let fits : SFits w64 c.number.result = subst (SFits w64) (sym c.number.ensures) (number_fits c.args.width c.args.word c.requires.bytes c.requires.signed) in
-    let wide : SFits w128 c.number.result = omega (arith, ints) in
-    rw (to_z-of_z w128 c.number.result wide, to_z-of_z w64 c.number.result fits) c.number.ensures
+    let z = number_of c.args.width c.args.word in
+    let fits = number_fits c.args.width c.args.word c.requires.bytes c.requires.signed in
+    let word : c.extend.result ≡ of_z w64 z = c.extend.ensures ∙ ap (extended c.args.width) c.low.ensures.value ∙ sym (word_is z fits) in
+    let is : c.cast_signed.result ≡ z = c.cast_signed.ensures ∙ ap (to_z w64) word ∙ to_z-of_z w64 z fits in
+    ap (λ number. to_z w64 (of_z w64 number)) is ∙ to_z-of_z w64 z fits
