@@ -2,3 +2,4 @@ pub mod Rule
 pub mod Graph
 pub mod Casts
 pub mod invariants
+pub mod ReadLaws

@@ -1,8 +1,9 @@
 //! Laws of the answers. The functions do nothing: their contracts are what they say.
 
-ghost use Rattle.std.specs.Prelude.{◌≡◌, ◌↔◌, ℕ, Bool, Option};
-ghost use Rattle.byte_memory.specs.Store.{Store, load_of};
-ghost use Rattle.abi_dyncast.specs.Casts.{CanCast, CastsTo, TellsWithin, KeepsReads};
+ghost use Rattle.std.specs.Prelude.{◌≡◌, ℕ, Bool, Option};
+ghost use Rattle.byte_memory.specs.Store.{Store};
+ghost use Rattle.abi_dyncast.specs.Casts.{CastsTo, TellsWithin};
+ghost use Rattle.abi_dyncast.specs.ReadLaws.{ReadsDecideCasts};
 
 /// A cast has one answer, and so has a test of containment.
 pub fn one_answer()
@@ -13,5 +14,5 @@ pub fn one_answer()
 /// A cast depends on no virtual pointer but that of its source and those of the parts below the view, and on no word that does not
 /// stand in the image.
 pub fn cast_reads()
-    ensures { (image other : ℕ → Option ℕ) (memory next : Store) (parts at : ℕ) → (can : CanCast image memory parts at) → load_of next at 8 ≡ load_of memory at 8 → KeepsReads image other memory next can.walk.parts → CanCast other next parts at × ((class target : ℕ) (result : Option ℕ) → CastsTo image memory at class target result ↔ CastsTo other next at class target result) }
+    ensures { (image other : ℕ → Option ℕ) (memory next : Store) → ReadsDecideCasts image other memory next }
 {}

@@ -9,8 +9,8 @@ ghost use Rattle.abi_layout.specs.invariants.Scenes.{IsScene};
 ghost use Rattle.abi_layout.specs.PlacedBases.{IsPossible};
 ghost use Rattle.abi_layout.specs.Layouts.{primary_of};
 ghost use Rattle.abi_layout.specs.invariants.Arrangements.{row_from};
-ghost use Rattle.abi_layout.specs.invariants.Settled.{held_at, HasRoom, CanSettle, free_table, AreVirtualPlaces};
-ghost use Rattle.abi_layout.specs.invariants.ClassRows.{AreSmaller, IsOneOrOther, IsRefusedBy, filled_row, IsRowAdded};
+ghost use Rattle.abi_layout.specs.invariants.Settled.{held_at, HasRoom, CanSettle, free_table};
+ghost use Rattle.abi_layout.specs.invariants.ClassRows.{AreSmaller, AreVirtualPlacesIn, FillsRow, IsOneOrOther, IsRefusedBy, filled_row, IsRowAdded};
 ghost use Rattle.abi_sound.specs.declared.class_layout.ClassLayout.{ClassLayout};
 
 use crate::arrangement::Arrangement;
@@ -153,7 +153,7 @@ fn place_virtuals(
     requires row { length rows.old.items ≡ scene.now.c.0 + 1 }
     requires can { CanSettle scene.now.h.now rows.old.items scene.now.list.now scene.now.holders.now }
     requires room { HasRoom rows.old.items (free_table scene.now.c.0 scene.now.free.now scene.now.free_places.now) }
-    ensures { OnOk result ((places : List ℕ) × AreVirtualPlaces scene.now.h.now rows.old.items scene.now.list.now scene.now.holders.now (free_table scene.now.c.0 scene.now.free.now scene.now.free_places.now) virtuals.items places × ((row : ClassLayout) → slice_get rows.old.items scene.now.c.0 ≡ Some row → rows.new.items ≡ slice_set rows.old.items scene.now.c.0 (filled_row row virtuals.items places (map (λ (v : ClassId). held_at scene.now.list.now (get_or scene.now.holders.now v.0 None)) virtuals.items)))) }
+    ensures { OnOk result ((places : List ℕ) × AreVirtualPlacesIn scene.now rows.old.items virtuals.items places × FillsRow scene.now virtuals.items places rows.old.items rows.new.items) }
 {
     let places = virtual_places(alloc, scene, rows, &virtuals)?;
     let held = holder_list(alloc, scene.list, scene.holders, &virtuals)?;

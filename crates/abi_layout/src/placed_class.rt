@@ -7,14 +7,13 @@ ghost use Rattle.abi_layout.specs.invariants.Alignments.{AreFit};
 ghost use Rattle.abi_layout.specs.invariants.Known.{AreAllSized, members_by, empties_in, pods_in};
 ghost use Rattle.abi_layout.specs.invariants.Scenes.{IsScene};
 ghost use Rattle.abi_layout.specs.PlacedBases.{class_of_placed, front_bases, free_bases, IsPossible};
-ghost use Rattle.abi_layout.specs.Layouts.{start_stage};
 ghost use Rattle.abi_layout.specs.Kinds.{empty_kind, pod_kind};
 ghost use Rattle.abi_layout.specs.Placements.{parts_at};
 ghost use Rattle.cxx_subobject.specs.VirtualBases.{virtual_bases};
 ghost use Rattle.abi_layout.specs.invariants.OwnPlaces.{own_places};
 ghost use Rattle.abi_layout.specs.Repeats.{SomeRepeats};
-ghost use Rattle.abi_layout.specs.invariants.Arrangements.{IsArranged, IsWithinLimit, components_by};
-ghost use Rattle.abi_layout.specs.invariants.ClassRows.{IsRefusedWith};
+ghost use Rattle.abi_layout.specs.invariants.Arrangements.{IsWithinLimit, components_by};
+ghost use Rattle.abi_layout.specs.invariants.ClassRows.{IsArrangedIn, IsRefusedIn, frees_in};
 
 use crate::arrangement::{Arrangement, arrange};
 use crate::base_places::own_places;
@@ -76,12 +75,12 @@ pub(crate) fn arrange_class(
     requires class { class_at scene.now.h.now scene.now.c ≡ Some class.now }
     requires fronts { All (λ base. (class_of_placed base).0 < scene.now.c.0) front.now }
     requires frees { All (λ base. (class_of_placed base).0 < scene.now.c.0) free.now }
-    ensures arranged { IfOk result (λ a. IsArranged (start_stage scene.now.c has_pointer) (components_by scene.now.h.now scene.now.rows.now scene.now.known.now scene.now.primaries.now scene.now.c front.now) (members_by scene.now.rows.now scene.now.known.now class.now) (components_by scene.now.h.now scene.now.rows.now scene.now.known.now scene.now.primaries.now scene.now.c free.now) is_pod a) }
+    ensures arranged { IfOk result (λ a. IsArrangedIn scene.now class.now has_pointer front.now free.now is_pod a) }
     ensures members { IfOk result (λ a. a.member_parts ≡ parts_at (members_by scene.now.rows.now scene.now.known.now class.now) a.member_places) }
     ensures within { IfOk result IsWithinLimit }
     ensures fronts_apart { OnOk result (SomeRepeats (components_by scene.now.h.now scene.now.rows.now scene.now.known.now scene.now.primaries.now scene.now.c front.now) → ⊥) }
     ensures frees_apart { OnOk result (SomeRepeats (components_by scene.now.h.now scene.now.rows.now scene.now.known.now scene.now.primaries.now scene.now.c free.now) → ⊥) }
-    ensures refused { IfErr result (IsRefusedWith scene.now.h.now scene.now.c scene.now.rows.now scene.now.known.now scene.now.primaries.now class.now front.now free.now has_pointer is_pod) }
+    ensures refused { IfErr result (IsRefusedIn scene.now class.now has_pointer front.now free.now is_pod) }
 {
     scene.h.keeps();
     let bases = placed_components(alloc, scene, front)?;
@@ -129,7 +128,7 @@ pub(crate) fn place_class(
     requires class { class_at scene.now.h.now scene.now.c ≡ Some class.now }
     requires primary { IsPossible scene.now.h.now scene.now.c primary }
     requires virtuals { virtuals.now ≡ virtual_bases scene.now.h.now scene.now.c }
-    ensures arranged { IfOk result (λ o. IsArranged (start_stage scene.now.c has_pointer) (components_by scene.now.h.now scene.now.rows.now scene.now.known.now scene.now.primaries.now scene.now.c (front_bases primary class.now.bases)) (members_by scene.now.rows.now scene.now.known.now class.now) (components_by scene.now.h.now scene.now.rows.now scene.now.known.now scene.now.primaries.now scene.now.c (free_bases scene.now.h.now scene.now.primaries.now scene.now.c)) (pod_kind (pods_in scene.now.known.now) class.now) o.arrangement) }
+    ensures arranged { IfOk result (λ o. IsArrangedIn scene.now class.now has_pointer (front_bases primary class.now.bases) (frees_in scene.now) (pod_kind (pods_in scene.now.known.now) class.now) o.arrangement) }
     ensures members { IfOk result (λ o. o.arrangement.member_parts ≡ parts_at (members_by scene.now.rows.now scene.now.known.now class.now) o.arrangement.member_places) }
     ensures within { IfOk result (λ o. IsWithinLimit o.arrangement) }
     ensures base_places { IfOk result (λ o. o.base_places ≡ own_places (front_bases primary class.now.bases) o.arrangement.front_places class.now.bases) }
@@ -138,7 +137,7 @@ pub(crate) fn place_class(
     ensures is_pod { IfOk result (λ o. o.is_pod ≡ pod_kind (pods_in scene.now.known.now) class.now) }
     ensures fronts_apart { OnOk result (SomeRepeats (components_by scene.now.h.now scene.now.rows.now scene.now.known.now scene.now.primaries.now scene.now.c (front_bases primary class.now.bases)) → ⊥) }
     ensures frees_apart { OnOk result (SomeRepeats (components_by scene.now.h.now scene.now.rows.now scene.now.known.now scene.now.primaries.now scene.now.c (free_bases scene.now.h.now scene.now.primaries.now scene.now.c)) → ⊥) }
-    ensures refused { IfErr result (IsRefusedWith scene.now.h.now scene.now.c scene.now.rows.now scene.now.known.now scene.now.primaries.now class.now (front_bases primary class.now.bases) (free_bases scene.now.h.now scene.now.primaries.now scene.now.c) has_pointer (pod_kind (pods_in scene.now.known.now) class.now)) }
+    ensures refused { IfErr result (IsRefusedIn scene.now class.now has_pointer (front_bases primary class.now.bases) (frees_in scene.now) (pod_kind (pods_in scene.now.known.now) class.now)) }
 {
     scene.h.keeps();
     let is_empty = is_empty_class(scene.known, class);

@@ -1,17 +1,16 @@
 //! The blocks of the own events of plans.
 
-ghost use Rattle.std.specs.Prelude.{◌≡◌, ◌<◌, ◌+◌, ◌++◌, ◌∷◌, [], ◌^◌, ◌⊎◌, List, IfOk, OnOk, if◌then◌else◌, option_to_list};
+ghost use Rattle.std.specs.Prelude.{◌≡◌, ◌<◌, ◌+◌, ◌++◌, ◌∷◌, [], ◌^◌, ◌⊎◌, List, IfOk, OnOk, if◌then◌else◌};
 ghost use Rattle.std.specs.List.{count_by};
 ghost use Rattle.code_blocks.specs.Blocks.{behind_body, closing_ops, event_block, items};
 ghost use Rattle.code_blocks.specs.Items.{Item as ItemOf};
-ghost use Rattle.code_blocks.specs.Lowered.{own_block};
 ghost use Rattle.code_blocks.specs.invariants.ItemCodes.{form_of, item_code, item_codes};
 ghost use Rattle.code_plans.specs.PlanSites.{plan_setup};
 ghost use Rattle.code_plans.specs.Settings.{ArePointers};
 ghost use Rattle.code_plans.specs.Tails.{IsLeftOf};
 ghost use Rattle.abi_lower.specs.invariants.Numbers.{number_of};
 ghost use Rattle.abi_lower.specs.invariants.Codes.{is_own_code, is_body_code, own_kind, is_body_next as is_body_next_code};
-ghost use Rattle.abi_lower.specs.invariants.Runs.{event_blocks};
+ghost use Rattle.abi_lower.specs.invariants.Runs.{event_blocks, item_blocks};
 ghost use Rattle.abi_lower.specs.invariants.Lowerings.{IsRunAt, plan_code, plan_items};
 
 use crate::counts::{count_own, is_body, is_body_next};
@@ -93,7 +92,7 @@ fn push_item<L: SoundLayout>(
     requires run { IsRunAt L.lays_out L.rows site.now run }
     requires left { IsLeftOf L.rows site.now run.plan left.now }
     requires done { done + count_by (is_own_code run.has_body) (item ∷ left.now) ≡ run.own }
-    ensures blocks { OnOk result ((i : ItemOf) (plan : List ItemOf) → item ≡ item_code i → left.now ≡ item_codes plan → blocks.new ≡ blocks.old ++ option_to_list (own_block (plan_setup L.rows site.now) (number_of (plan_setup L.rows site.now)) run.plan.course (form_of run.plan.form) run.plan.class (i ∷ plan))) }
+    ensures blocks { OnOk result ((i : ItemOf) (plan : List ItemOf) → item ≡ item_code i → left.now ≡ item_codes plan → blocks.new ≡ blocks.old ++ item_blocks (plan_setup L.rows site.now) run.plan (i ∷ plan)) }
     ensures done { IfOk result (λ n. n + count_by (is_own_code run.has_body) left.now ≡ run.own) }
 {
     match own_kind(run.has_body, item) {

@@ -12,7 +12,7 @@ ghost use Rattle.code_ops.specs.Routines.{IsRoutine};
 ghost use Rattle.code_blocks.specs.Blocks.{closing_ops};
 ghost use Rattle.abi_lower.specs.invariants.Numbers.{plain_routines, number_of};
 ghost use Rattle.abi_lower.specs.invariants.Codes.{routine_from, routines_from, is_plain};
-ghost use Rattle.abi_lower.specs.invariants.Runs.{statement_blocks, run as run_of, all_blocks};
+ghost use Rattle.abi_lower.specs.invariants.Runs.{run_of_body, run as run_of, all_blocks};
 ghost use Rattle.abi_lower.specs.invariants.Lowerings.{IsBlockSite, IsBodySite, RunsAt, block_setup};
 
 use crate::block_sites::BlockSite;
@@ -79,7 +79,7 @@ impl<'a, L: SoundLayout> BlockSite<'a, L> {
         requires site { IsBlockSite L.lays_out L.rows self.now }
         requires body { IsBodySite (block_setup L.rows self.now) self.now.lowering.now.slots.now self.now.lowering.now.overriders.now body.now }
         requires room { base + length body.now.statements < 2 ^ 32 }
-        ensures { OnOk result ((r : RoutineOf) → RunsAt (block_setup L.rows self.now) self.now.numbers.now body.now base r → end ≡ closing_ops (block_setup L.rows self.now) (number_of (block_setup L.rows self.now)) r → blocks.new ≡ blocks.old ++ statement_blocks (block_setup L.rows self.now) (number_of (block_setup L.rows self.now)) r body.now 0 body.now.statements) }
+        ensures { OnOk result ((r : RoutineOf) → RunsAt (block_setup L.rows self.now) self.now.numbers.now body.now base r → end ≡ closing_ops (block_setup L.rows self.now) (number_of (block_setup L.rows self.now)) r → blocks.new ≡ blocks.old ++ run_of_body (block_setup L.rows self.now) r body.now) }
     {
         let site = Site {
             alloc: self.lowering.alloc,

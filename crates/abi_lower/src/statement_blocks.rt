@@ -5,8 +5,7 @@ ghost use Rattle.byte_code.specs.declared.code.Block.{Block};
 ghost use Rattle.cxx_overrider.specs.Overriders.{AreOverriders};
 ghost use Rattle.code_ops.specs.Setups.{Routine};
 ghost use Rattle.code_statements.specs.invariants.Fits.{FitsKind};
-ghost use Rattle.abi_lower.specs.invariants.Numbers.{number_of};
-ghost use Rattle.abi_lower.specs.invariants.Runs.{made_ops, end_block, statement_blocks};
+ghost use Rattle.abi_lower.specs.invariants.Runs.{made_ops, last_block, run_of_body};
 ghost use Rattle.abi_lower.specs.invariants.Lowerings.{RunsAt, IsBodySite};
 ghost use Rattle.code_ops.specs.invariants.Sites.{IsLaidSite, site_scope, site_setup, site_start};
 
@@ -64,7 +63,7 @@ pub fn push_statements<L: SoundLayout>(
     requires layout { L.lays_out site.now.layout.now site.now.h.now }
     requires site { IsBodySite (site_setup L.rows site.now) site.now.slots.now site.now.overriders.now site.now.body.now }
     requires room { base + length site.now.body.now.statements < 2 ^ 32 }
-    ensures { OnOk result ((r : Routine) → RunsAt (site_setup L.rows site.now) site.now.numbers.now site.now.body.now base r → blocks.new ++ end_block (site_setup L.rows site.now) (number_of (site_setup L.rows site.now)) r site.now.body.now ∷ [] ≡ blocks.old ++ statement_blocks (site_setup L.rows site.now) (number_of (site_setup L.rows site.now)) r site.now.body.now 0 site.now.body.now.statements) }
+    ensures { OnOk result ((r : Routine) → RunsAt (site_setup L.rows site.now) site.now.numbers.now site.now.body.now base r → blocks.new ++ last_block (site_setup L.rows site.now) r site.now.body.now ∷ [] ≡ blocks.old ++ run_of_body (site_setup L.rows site.now) r site.now.body.now) }
 {
     for (n, statement) in site.body.statements.as_slice().iter().enumerate() {
         let block = statement_block(site, base, n, statement)?;

@@ -3,3 +3,4 @@ pub mod PointerBytes
 pub mod PointerCalls
 pub mod Answers
 pub mod invariants
+pub mod DataLaws

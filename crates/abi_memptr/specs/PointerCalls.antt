@@ -1,5 +1,5 @@
 -- What a call through a pointer to a function runs (Itanium C++ ABI 2.3; ISO C++03 5.5 p4, 10.3).
-use Rattle.std.specs.Prelude.{◌≡◌, ℕ, ◌+◌, ◌<◌, ◌^◌, true, false, Option, Some, None, List, length}
+use Rattle.std.specs.Prelude.{◌≡◌, ℕ, ◌+◌, ◌<◌, ◌^◌, true, false, Option, Some, None, List, length, ℤ, pos}
 use Rattle.cxx_hierarchy.specs.declared.records.ClassId.{ClassId}
 use Rattle.cxx_hierarchy.specs.Classes.{Classes}
 use Rattle.cxx_hierarchy.specs.Hierarchies.{IsHierarchy}
@@ -22,6 +22,9 @@ use Rattle.byte_memory.specs.Store.{Store}
 use Rattle.byte_code.specs.declared.code.ImageBytes.{ImageBytes}
 use Rattle.agree_dispatch.specs.Standing.{IsViewAt}
 use Rattle.abi_memptr.specs.declared.calls.Applied.{Applied}
+use Rattle.abi_memptr.specs.declared.pointers.MemberPointer.TheVariants.{Function}
+use Rattle.abi_memptr.specs.Pointers.{IsFunctionIn}
+use Rattle.abi_memptr.specs.PointerBytes.{HasCode, function_word}
 
 -- the whole of an object of class d, as a view
 abbrev pub whole_view : ClassId → View
@@ -52,3 +55,10 @@ pub data Applies (h : Classes) (l : Places) (codes : List CodeRow) (d : ClassId)
   runs_overrider : (o : Overrider) (code : ℕ) → IsVirtual h f → IsFinalOverrider h d s f o → is_pure h o.function ≡ false → code_of codes o.function Plain ≡ Some code → Applies h l codes d at f s (applied l d at o.at code)
   runs_nothing : (o : Overrider) → IsVirtual h f → IsFinalOverrider h d s f o → is_pure h o.function ≡ true → Applies h l codes d at f s None
   runs_itself : (code : ℕ) → (IsVirtual h f → ⊥) → code_of codes f Plain ≡ Some code → Applies h l codes d at f s (applied l d at s code)
+
+-- the two words of a pointer to a function f of the subobject s, applied to a complete object of class d that stands at an address, give
+-- what a call of f in s runs
+abbrev pub AppliesWords : ImageBytes → Store → ℕ → (ptr adj : ℤ) → Option Applied → Type 0
+AppliesWords image memory at ptr adj result = (h : Classes) (rows : List ClassLayout) (codes : List CodeRow) (d : ClassId) (f : FunctionId) (s : Subobject) →
+    IsCompleteAt h rows image codes memory d at → IsFunctionIn h d f s → HasCode h codes (Function f s) →
+    ptr ≡ pos (function_word h (places_of h rows) codes f) → adj ≡ pos ((places_of h rows).place d s) → Applies h (places_of h rows) codes d at f s result

@@ -1,19 +1,10 @@
 //! Calls through pointers to functions, by bytes alone.
 
-ghost use Rattle.std.specs.Prelude.{◌≡◌, ℕ, ◌-◌, ◌%◌, ◌<◌, ◌^◌, Some, List, pos};
-ghost use Rattle.cxx_hierarchy.specs.declared.records.ClassId.{ClassId};
-ghost use Rattle.cxx_hierarchy.specs.Classes.{Classes};
-ghost use Rattle.cxx_subobject.specs.declared.Subobject.{Subobject};
-ghost use Rattle.cxx_overrider.specs.declared.FunctionId.{FunctionId};
-ghost use Rattle.abi_sound.specs.declared.class_layout.ClassLayout.{ClassLayout};
-ghost use Rattle.abi_sound.specs.Places.{places_of};
-ghost use Rattle.abi_slots.specs.declared.code_numbers.CodeRow.{CodeRow};
+ghost use Rattle.std.specs.Prelude.{◌≡◌, ℕ, ◌-◌, ◌%◌, ◌<◌, ◌^◌, Some, pos};
 ghost use Rattle.byte_machine.specs.Running.{moved, table_word};
 ghost use Rattle.byte_machine.specs.Calls.{moved_by_word};
-ghost use Rattle.abi_memptr.specs.declared.pointers.MemberPointer.TheVariants.{Function};
-ghost use Rattle.abi_memptr.specs.Pointers.{IsFunctionIn};
-ghost use Rattle.abi_memptr.specs.PointerBytes.{HasCode, code_word, function_word};
-ghost use Rattle.abi_memptr.specs.PointerCalls.{Applies, IsCompleteAt};
+ghost use Rattle.abi_memptr.specs.PointerBytes.{code_word};
+ghost use Rattle.abi_memptr.specs.PointerCalls.{AppliesWords};
 ghost use Rattle.abi_memptr.specs.invariants.Targets.{entry_target, thunk_this};
 
 use byte_code::ImageBytes;
@@ -133,7 +124,7 @@ pub fn apply<M: Memory>(
     ptr: i64,
     adj: i64,
 ) -> Option<Applied>
-    ensures { (h : Classes) (rows : List ClassLayout) (codes : List CodeRow) (d : ClassId) (f : FunctionId) (s : Subobject) → IsCompleteAt h rows image.now codes (M.meaning memory.now) d at → IsFunctionIn h d f s → HasCode h codes (Function f s) → ptr ≡ pos (function_word h (places_of h rows) codes f) → adj ≡ pos ((places_of h rows).place d s) → Applies h (places_of h rows) codes d at f s result }
+    ensures { AppliesWords image.now (M.meaning memory.now) at ptr adj result }
 {
     let word = unsigned(ptr);
     let add = unsigned(adj);

@@ -46,3 +46,7 @@ Agreed x code numbers f move b b' told turn = AgreesBy (nat_eq b.left 0) x code 
 -- where the run of a program moves after n steps
 abbrev pub move_after : Setup → ℕ → Move
 move_after x n = move x.h (places x).size x.program (state_after x n)
+
+-- a turn from b agrees with the move that is next after the steps that b has taken
+abbrev pub AgreedNext : Setup → Code → List CodeRow → Fixed → Bytes → Bytes → List RawOut → MachineTurn → Type 0
+AgreedNext x code numbers f b b' told turn = Agreed x code numbers f (move_after x b.taken) b b' told turn

@@ -6,7 +6,7 @@ ghost use Rattle.code_ops.specs.Setups.{setup, places};
 ghost use Rattle.byte_machine.specs.Turn.{Turns};
 ghost use Rattle.byte_machine.specs.MachineState.{code_of, image_of, parts_of, fixed_in, state_of, has_failed};
 ghost use Rattle.abi_refine.specs.Standing.{StandsIn, state_after};
-ghost use Rattle.abi_refine.specs.Agreed.{Agreed, move_after};
+ghost use Rattle.abi_refine.specs.Agreed.{AgreedNext};
 
 use abi_slots::CodeNumbers;
 use abi_sound::SoundLayout;
@@ -32,8 +32,7 @@ pub fn turn<M: Memory, L: SoundLayout>(
     requires stands { StandsIn (setup _h.now (L.rows _layout.now) _program.now) (code_of machine.old) _numbers.now (fixed_in machine.old) (state_after (setup _h.now (L.rows _layout.now) _program.now) (state_of machine.old).taken) (state_of machine.old) }
     requires ready { has_failed machine.old ≡ false }
     requires none { outs.old ≡ [] }
-    ensures agreed { IfOk result (λ turn.
-        Agreed (setup _h.now (L.rows _layout.now) _program.now) (code_of machine.old) _numbers.now (fixed_in machine.old) (move_after (setup _h.now (L.rows _layout.now) _program.now) (state_of machine.old).taken) (state_of machine.old) (state_of machine.new) outs.new turn) }
+    ensures agreed { IfOk result (λ turn. AgreedNext (setup _h.now (L.rows _layout.now) _program.now) (code_of machine.old) _numbers.now (fixed_in machine.old) (state_of machine.old) (state_of machine.new) outs.new turn) }
     ensures turned { IfOk result (λ turn. Turns (fixed_in machine.old) (code_of machine.old) (state_of machine.old) [] (state_of machine.new) outs.new turn) }
     ensures code { code_of machine.new ≡ code_of machine.old }
     ensures image { image_of machine.new ≡ image_of machine.old }

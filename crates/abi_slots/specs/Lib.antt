@@ -9,3 +9,4 @@ pub mod CodeRows
 pub mod Images
 pub mod Seen
 pub mod invariants
+pub mod GroupLaws

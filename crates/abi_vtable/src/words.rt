@@ -12,12 +12,12 @@ ghost use Rattle.abi_sound.specs.Places.{Places, places_of};
 ghost use Rattle.abi_slots.specs.declared.words.EntryKey.{EntryKey};
 ghost use Rattle.abi_slots.specs.declared.words.Offset.{Offset};
 ghost use Rattle.abi_slots.specs.Slots.{AreSlots};
-ghost use Rattle.abi_slots.specs.Views.{place, next, first_in};
-ghost use Rattle.abi_slots.specs.Groups.{GoAlong, named_in, vcall_for, code_word, declares_at, IsOffsetWord, IsEntryWord};
+ghost use Rattle.abi_slots.specs.Views.{place};
+ghost use Rattle.abi_slots.specs.Groups.{GoAlong, named_in, vcall_for, code_word, IsOffsetWord, IsEntryWord};
 ghost use Rattle.abi_vtable.specs.invariants.Parts.{IsNumberOf, IsPartOf, IsViewParts, IsSomeView, view_in};
 ghost use Rattle.abi_vtable.specs.invariants.Returns.{AreKnown};
 ghost use Rattle.abi_vtable.specs.invariants.Sites.{IsTableSite};
-ghost use Rattle.abi_vtable.specs.invariants.Words.{IsNamed, IsOver, HasVcall, AreAlong, IsDeclaredBy, runs_at};
+ghost use Rattle.abi_vtable.specs.invariants.Words.{IsNamed, IsOver, HasVcall, AreAlong, runs_at, IsFirstDeclarer};
 
 use crate::returns::{KnownReturn, return_for};
 use crate::table_sites::TableSite;
@@ -142,7 +142,7 @@ fn declarer_below(
 ) -> Option<Declarer>
     requires view { IsSomeView h.now x.now }
     requires number { IfSome at (λ i. i < length x.now.parts) }
-    ensures { (l : Places) (k : EntryKey) (s : Option Subobject) → IsViewParts h.now l x.now → AreSlots h.now l slots.now → IsNumberOf (preorder h.now x.now.class) at s → AreAlong h.now l (view_in x.now) k n s → IsDeclaredBy h.now l (view_in x.now) x.now.parts k (first_in (declares_at h.now l k) (next l (view_in x.now)) steps s) result }
+    ensures { (l : Places) (k : EntryKey) (s : Option Subobject) → IsViewParts h.now l x.now → AreSlots h.now l slots.now → IsNumberOf (preorder h.now x.now.class) at s → AreAlong h.now l (view_in x.now) k n s → IsFirstDeclarer h.now l x.now k steps s result }
 {
     h.keeps();
     if steps == 0 {

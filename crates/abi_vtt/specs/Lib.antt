@@ -2,3 +2,4 @@ pub mod Vtts
 pub mod Blocks
 pub mod VttImages
 pub mod invariants
+pub mod VttLaws

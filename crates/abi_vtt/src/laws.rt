@@ -9,19 +9,16 @@ ghost use Rattle.cxx_subobject.specs.declared.Subobject.{Subobject};
 ghost use Rattle.cxx_subobject.specs.Subobjects.{IsSubobject, whole_of, shared_base, class_of};
 ghost use Rattle.abi_primary.specs.Kinds.{IsDynamic};
 ghost use Rattle.abi_sound.specs.declared.class_layout.ClassLayout.{ClassLayout};
-ghost use Rattle.abi_sound.specs.Places.{Places, places_of};
-ghost use Rattle.abi_sound.specs.Sound.{IsSoundLayout};
-ghost use Rattle.abi_slots.specs.declared.code_numbers.CodeRow.{CodeRow};
-ghost use Rattle.abi_slots.specs.declared.words.TypeInfo.{TypeInfo};
-ghost use Rattle.abi_slots.specs.declared.words.VttWord.{VttWord};
+ghost use Rattle.abi_sound.specs.Places.{Places};
 ghost use Rattle.abi_slots.specs.declared.words.Group.{Group};
 ghost use Rattle.abi_slots.specs.Views.{View, next, heads, Serves};
-ghost use Rattle.abi_slots.specs.Groups.{view_of, IsGroup};
-ghost use Rattle.abi_slots.specs.Images.{Image, Addresses, HasTables, point_words};
-ghost use Rattle.abi_slots.specs.Seen.{PlacedTables, IsPointOf};
-ghost use Rattle.abi_vtt.specs.Vtts.{Item, item, needs_word, below, ends_in_primary, items, IsVtt};
+ghost use Rattle.abi_slots.specs.Groups.{IsGroup};
+ghost use Rattle.abi_slots.specs.Images.{point_words};
+ghost use Rattle.abi_slots.specs.Seen.{PlacedTables};
+ghost use Rattle.abi_vtt.specs.Vtts.{Item, item, needs_word, below, ends_in_primary, items};
 ghost use Rattle.abi_vtt.specs.Blocks.{block, StandsIn, block_distance, shared_distance, item_number, run, run_distance, IsFirstRun, IsFound};
 ghost use Rattle.abi_vtt.specs.VttImages.{PlacedGroups, HasBlock};
+ghost use Rattle.abi_vtt.specs.VttLaws.{FirstRunsHavePoints, WholeVttsStand, SharedVttsStand};
 
 /// The law on which construction rests, in any hierarchy and for any places. In the VTT of a class its own sub-VTT stands
 /// first (`whole`). Wherever the sub-VTT of a view stands, that of a direct non-virtual base with virtual bases stands a
@@ -45,7 +42,7 @@ pub fn first_run()
     ensures tables { (h : Classes) (l : Places) (x : View) → IsHierarchy h → IsFirstRun (heads h l x) (run h l x.class) }
     ensures itself { (h : Classes) (l : Places) (d : ClassId) → IsHierarchy h → IsDynamic h d → slice_get (run h l d) 0 ≡ Some (whole_of d) }
     ensures distance { (h : Classes) (l : Places) (group : Group) (n : ℕ) (t : Subobject) → IsHierarchy h → (of : IsGroup h l group) → slice_get (run h l of.class) n ≡ Some t → point_words group.tables n ≡ point_words group.tables 0 + run_distance h l of.class n }
-    ensures points { (h : Classes) (rows : List ClassLayout) (group : Group) (placed : PlacedTables) (n : ℕ) (s : Subobject) (first : ℕ) → IsHierarchy h → IsSoundLayout h rows → (of : IsGroup h (places_of h rows) group) → placed.tables ≡ group.tables → IsPointOf h (places_of h rows) (view_of group of.class) placed (whole_of of.class) first → slice_get (run h (places_of h rows) of.class) n ≡ Some s → IsPointOf h (places_of h rows) (view_of group of.class) placed s (first + 8 * run_distance h (places_of h rows) of.class n) }
+    ensures points { (h : Classes) (rows : List ClassLayout) (group : Group) (placed : PlacedTables) → FirstRunsHavePoints h rows group placed }
 {}
 
 /// Each table of a view is found by the class of the view alone: the table of a dynamic subobject is one of the first run or
@@ -63,7 +60,7 @@ pub fn each_found()
 /// address of the VTT, that of a virtual base with virtual bases (`shared`). Each word there is the address point of the
 /// table that serves its subobject in the group of its view (`HasItem`).
 pub fn vtt_in_image()
-    ensures whole { (h : Classes) (l : Places) (codes : List CodeRow) (groups : List Group) (vtts : List (List VttWord)) (infos : List TypeInfo) (a : Addresses) (base : ℕ) (image : Image) (c : ClassId) (words : List VttWord) → HasTables codes groups vtts infos a base image → slice_get vtts c.0 ≡ Some words → IsVtt h l c words → HasBlock h l (record { image = image; codes = codes; groups = groups; addresses = a }) c (whole_of c) c (a.vtt c) }
+    ensures whole { (h : Classes) (l : Places) → WholeVttsStand h l }
     ensures base { (h : Classes) (l : Places) (placed : PlacedGroups) (c : ClassId) (x : Subobject) (d b v : ClassId) (at : ℕ) → IsHierarchy h → IsDirectBase h d false b → HasVirtualBase h b v → HasBlock h l placed c x d at → HasBlock h l placed c (below x b) b (at + 8 * block_distance h l d b) }
-    ensures shared { (h : Classes) (l : Places) (codes : List CodeRow) (groups : List Group) (vtts : List (List VttWord)) (infos : List TypeInfo) (a : Addresses) (base : ℕ) (image : Image) (c v w : ClassId) (words : List VttWord) → HasTables codes groups vtts infos a base image → slice_get vtts c.0 ≡ Some words → IsVtt h l c words → IsHierarchy h → HasVirtualBase h c v → HasVirtualBase h v w → HasBlock h l (record { image = image; codes = codes; groups = groups; addresses = a }) c (shared_base v) v (a.vtt c + 8 * shared_distance h l c v) }
+    ensures shared { (h : Classes) (l : Places) → SharedVttsStand h l }
 {}

@@ -7,9 +7,13 @@ use Rattle.cxx_subobject.specs.Subobjects.{IsSubobject, class_of}
 use Rattle.cxx_overrider.specs.declared.FunctionId.{FunctionId}
 use Rattle.cxx_overrider.specs.Covariance.{Overrides}
 use Rattle.cxx_overrider.specs.Functions.{return_of}
+use Rattle.abi_sound.specs.Places.{Places}
+use Rattle.abi_slots.specs.Groups.{return_for}
+use Rattle.abi_slots.specs.Images.{return_constant, return_vbase}
 use Rattle.abi_slots.specs.Listing.{pointee}
 use Rattle.byte_memory.specs.Store.{Store}
 use Rattle.byte_code.specs.declared.code.ImageBytes.{ImageBytes}
+use Rattle.byte_code.specs.Numbers.{word_of}
 use Rattle.byte_machine.specs.Running.{moved}
 use Rattle.byte_machine.specs.Calls.{moved_by_word}
 
@@ -31,3 +35,7 @@ pub record IsMoved (image : ImageBytes) (memory : Store) (from vbase add to : �
   pub base : ℕ
   pub by_word : moved_by_word image memory from vbase ≡ Some base
   pub by_constant : moved base add ≡ to
+
+-- the result of g is moved from one address to another where f was called, by the two words of that
+abbrev pub MovesReturned : Classes → Places → ImageBytes → Store → FunctionId → FunctionId → ℕ → ℕ → Type 0
+MovesReturned h l image memory g f from to = IsMoved image memory from (word_of (return_vbase (return_for h l g f))) (word_of (return_constant (return_for h l g f))) to

@@ -1,46 +1,35 @@
 //! The laws. The functions do nothing: their contracts are what they say.
 
-ghost use Rattle.std.specs.Prelude.{◌≡◌, ℕ, ◌+◌, ◌<◌, ◌^◌, Option, Some, None, List, [], Contains, length};
+ghost use Rattle.std.specs.Prelude.{◌≡◌, ℕ, ◌<◌, Option, Some, None, List, [], Contains, length};
 ghost use Rattle.cxx_hierarchy.specs.declared.records.ClassId.{ClassId};
 ghost use Rattle.cxx_hierarchy.specs.declared.records.ValueType.{ValueType};
 ghost use Rattle.cxx_hierarchy.specs.Classes.{Classes};
 ghost use Rattle.cxx_hierarchy.specs.Hierarchies.{IsHierarchy};
-ghost use Rattle.cxx_hierarchy.specs.VirtualBases.{HasVirtualBase};
-ghost use Rattle.cxx_subobject.specs.declared.Root.TheVariants.{Whole, Shared};
 ghost use Rattle.cxx_subobject.specs.declared.Subobject.{Subobject};
-ghost use Rattle.cxx_subobject.specs.Subobjects.{IsSubobject, class_of, join, shared_base, whole_of};
+ghost use Rattle.cxx_subobject.specs.Subobjects.{IsSubobject, class_of, whole_of};
 ghost use Rattle.cxx_subobject.specs.VirtualBases.{virtual_bases};
 ghost use Rattle.cxx_overrider.specs.declared.FunctionId.{FunctionId};
 ghost use Rattle.cxx_overrider.specs.declared.Overrider.{Overrider};
 ghost use Rattle.cxx_overrider.specs.Functions.{named, signature_of, return_of};
 ghost use Rattle.cxx_overrider.specs.Overriding.{IsVirtual};
-ghost use Rattle.cxx_overrider.specs.Faults.{HasNoFault};
 ghost use Rattle.cxx_search.specs.Searches.{final_in, destructor_of};
-ghost use Rattle.abi_primary.specs.Kinds.{IsDynamic};
 ghost use Rattle.abi_sound.specs.declared.class_layout.ClassLayout.{ClassLayout};
 ghost use Rattle.abi_sound.specs.Places.{places_of};
-ghost use Rattle.abi_sound.specs.Sound.{IsSoundLayout};
 ghost use Rattle.abi_slots.specs.declared.code_numbers.CodeRow.{CodeRow};
 ghost use Rattle.abi_slots.specs.declared.code_numbers.BlockKind.TheVariants.{Plain};
 ghost use Rattle.abi_slots.specs.declared.words.CodeKind.TheVariants.{Deleting};
-ghost use Rattle.abi_slots.specs.declared.words.EntryKey.{EntryKey};
 ghost use Rattle.abi_slots.specs.declared.words.Group.{Group};
-ghost use Rattle.abi_slots.specs.declared.words.TypeInfo.{TypeInfo};
 ghost use Rattle.abi_slots.specs.CodeRows.{block_kind};
-ghost use Rattle.abi_slots.specs.Groups.{IsGroup, return_for};
-ghost use Rattle.abi_slots.specs.Images.{HasInfo, StandsAt, return_constant, return_vbase};
-ghost use Rattle.abi_slots.specs.Listing.{key, listing, own_keys, pointee, vbase_number};
-ghost use Rattle.abi_slots.specs.Slots.{first_key, word_number};
+ghost use Rattle.abi_slots.specs.Groups.{return_for};
+ghost use Rattle.abi_slots.specs.Listing.{key, own_keys, pointee};
+ghost use Rattle.abi_slots.specs.Slots.{first_key};
 ghost use Rattle.abi_slots.specs.Views.{View};
-ghost use Rattle.abi_slots.specs.Seen.{IsSeen, PlacedTables};
+ghost use Rattle.abi_slots.specs.Seen.{PlacedTables};
 ghost use Rattle.byte_memory.specs.Store.{Store};
 ghost use Rattle.byte_code.specs.declared.code.ImageBytes.{ImageBytes};
-ghost use Rattle.byte_code.specs.Numbers.{word_of};
-ghost use Rattle.byte_machine.specs.Effects.{bytes_before};
-ghost use Rattle.byte_machine.specs.Plans.{word_bytes};
-ghost use Rattle.agree_dispatch.specs.Standing.{ArePointed, IsViewAt, LieAlike, part_at};
-ghost use Rattle.agree_dispatch.specs.Words.{HasEntryWord, MovesTo, NamesClass};
-ghost use Rattle.agree_dispatch.specs.Results.{IsMoved, Returns, RunsFor};
+ghost use Rattle.agree_dispatch.specs.Standing.{ArePointed, IsViewAt, LieAlike};
+ghost use Rattle.agree_dispatch.specs.Results.{RunsFor};
+ghost use Rattle.agree_dispatch.specs.StandingLaws.{IsSeenOfGroup, WordsLeadToBases, WordsLeadToWholes, WordsTellTypes, EntriesRunOverriders, ListingReturnsAlike, PlainResultWords, SharedResultWords, PlainResultsMove, SharedResultsMove};
 
 /// When a view stands (`IsViewAt`). The parts of a view of an object lie where that view has them (`itself`); so do those of the
 /// whole of an object of its class alone, where that has no virtual base (`alone`). And what an image gives for the view of a
@@ -48,15 +37,15 @@ ghost use Rattle.agree_dispatch.specs.Results.{IsMoved, Returns, RunsFor};
 pub fn views_stand()
     ensures itself { (h : Classes) (rows : List ClassLayout) (d c : ClassId) (at : ℕ) (y : Subobject) → LieAlike h (places_of h rows) d at y (record { complete = d; at_sub = y; class = c }) }
     ensures alone { (h : Classes) (rows : List ClassLayout) (d c : ClassId) (at : ℕ) (y : Subobject) → IsHierarchy h → IsSubobject h d y → class_of y ≡ Some c → virtual_bases h c ≡ [] → LieAlike h (places_of h rows) d at y (record { complete = c; at_sub = whole_of c; class = c }) }
-    ensures seen { (h : Classes) (rows : List ClassLayout) (group : Group) (x : View) (placed : PlacedTables) → IsHierarchy h → HasNoFault h → IsSoundLayout h rows → IsGroup h (places_of h rows) group → group.name.complete ≡ x.complete → group.name.view ≡ x.at_sub → class_of x.at_sub ≡ Some x.class → placed.tables ≡ group.tables → StandsAt placed.image placed.codes placed.info group placed.at → IsSeen h (places_of h rows) x placed }
+    ensures seen { (h : Classes) (rows : List ClassLayout) (group : Group) (x : View) (placed : PlacedTables) → IsSeenOfGroup h rows group x placed }
 {}
 
 /// From a dynamic subobject of a view that stands, words of its table lead to each virtual base of its class (`vbase`), to the
 /// whole of the view (`top`), and to the number of the view's class (`type_of`).
 pub fn words()
-    ensures vbase { (h : Classes) (rows : List ClassLayout) (image : ImageBytes) (memory : Store) (d : ClassId) (at : ℕ) (y : Subobject) (x : View) (placed : PlacedTables) (s : Subobject) (c v : ClassId) → IsViewAt h rows image memory d at y x placed → IsSubobject h x.class s → class_of s ≡ Some c → HasVirtualBase h c v → MovesTo image memory (part_at (places_of h rows) d at y s) (word_bytes (word_number (vbase_number h (places_of h rows) c v))) (at + (places_of h rows).place d (shared_base v)) }
-    ensures top { (h : Classes) (rows : List ClassLayout) (image : ImageBytes) (memory : Store) (d : ClassId) (at : ℕ) (y : Subobject) (x : View) (placed : PlacedTables) (s : Subobject) (c : ClassId) → IsViewAt h rows image memory d at y x placed → IsSubobject h x.class s → class_of s ≡ Some c → IsDynamic h c → MovesTo image memory (part_at (places_of h rows) d at y s) (bytes_before 16) (at + (places_of h rows).place d y) }
-    ensures type_of { (h : Classes) (rows : List ClassLayout) (image : ImageBytes) (memory : Store) (d : ClassId) (at : ℕ) (y : Subobject) (x : View) (placed : PlacedTables) (s : Subobject) (c : ClassId) (type_info : TypeInfo) → IsViewAt h rows image memory d at y x placed → IsSubobject h x.class s → class_of s ≡ Some c → IsDynamic h c → HasInfo placed.image placed.info x.class type_info (placed.info x.class) → NamesClass image memory (part_at (places_of h rows) d at y s) x.class.0 }
+    ensures vbase { (h : Classes) (rows : List ClassLayout) (image : ImageBytes) (memory : Store) → WordsLeadToBases h rows image memory }
+    ensures top { (h : Classes) (rows : List ClassLayout) (image : ImageBytes) (memory : Store) → WordsLeadToWholes h rows image memory }
+    ensures type_of { (h : Classes) (rows : List ClassLayout) (image : ImageBytes) (memory : Store) → WordsTellTypes h rows image memory }
 {}
 
 /// Which keys the virtual functions of a class have: one that is plain, or of a destructor the deleting one beside another.
@@ -70,28 +59,28 @@ pub fn keys()
 /// where the final overrider in the view is pure; else it runs the overrider, `this` is moved to its subobject, and the result as
 /// the function says that was found (`runs`). The overrider is the function itself, or overrides it (`overrides`).
 pub fn entries()
-    ensures runs { (h : Classes) (rows : List ClassLayout) (image : ImageBytes) (memory : Store) (d : ClassId) (at : ℕ) (y : Subobject) (x : View) (placed : PlacedTables) (s : Subobject) (k : EntryKey) (o : Overrider) → IsViewAt h rows image memory d at y x placed → IsSubobject h x.class s → class_of s ≡ Some k.function.class → Contains (own_keys h k.function.class) k → final_in h y (join y s) k.function ≡ Some o → HasEntryWord h (places_of h rows) image placed.codes memory k o (part_at (places_of h rows) d at y s) (at + (places_of h rows).place d o.at) }
+    ensures runs { (h : Classes) (rows : List ClassLayout) (image : ImageBytes) (memory : Store) → EntriesRunOverriders h rows image memory }
     ensures overrides { (h : Classes) (d : ClassId) (y s : Subobject) (f : FunctionId) (o : Overrider) → IsHierarchy h → IsSubobject h d y → class_of s ≡ Some f.class → IsVirtual h f → final_in h y s f ≡ Some o → RunsFor h o.function f }
 {}
 
 /// An entry may be listed for a function of a class of the primary chain. The result is moved from the overrider's class to that of
 /// the listed one, which is the same as to that of the function that was found.
 pub fn same_returning()
-    ensures { (h : Classes) (rows : List ClassLayout) (g : FunctionId) (k : EntryKey) → IsHierarchy h → HasNoFault h → IsSoundLayout h rows → Contains (own_keys h k.function.class) k → RunsFor h g k.function → return_for h (places_of h rows) g (listing h (places_of h rows) k).function ≡ return_for h (places_of h rows) g k.function }
+    ensures { (h : Classes) (rows : List ClassLayout) → ListingReturnsAlike h rows }
 {}
 
 /// The two words by which a result is moved: none is named, and the constant is the place in the class, where the path lies in no
 /// virtual base (`plain`); the number of the base's word, which is not 0, and how far it is from there, where it does (`shared`). A
 /// result that is no pointer, or is of a destructor, stays (`none`).
 pub fn result_words()
-    ensures plain { (h : Classes) (rows : List ClassLayout) (g f : FunctionId) (e : ClassId) (i : Subobject) → IsHierarchy h → HasNoFault h → IsSoundLayout h rows → Returns h g f e i → i.root ≡ Whole → (word_of (return_vbase (return_for h (places_of h rows) g f)) ≡ 0) × (word_of (return_constant (return_for h (places_of h rows) g f)) ≡ (places_of h rows).place e i) }
-    ensures shared { (h : Classes) (rows : List ClassLayout) (g f : FunctionId) (e v : ClassId) (i : Subobject) → IsHierarchy h → HasNoFault h → IsSoundLayout h rows → Returns h g f e i → i.root ≡ Shared v → (word_of (return_vbase (return_for h (places_of h rows) g f)) ≡ word_bytes (word_number (vbase_number h (places_of h rows) e v))) × (0 < word_of (return_vbase (return_for h (places_of h rows) g f))) }
+    ensures plain { (h : Classes) (rows : List ClassLayout) → PlainResultWords h rows }
+    ensures shared { (h : Classes) (rows : List ClassLayout) → SharedResultWords h rows }
     ensures none { (h : Classes) (rows : List ClassLayout) (g f : FunctionId) → pointee (return_of h f) ≡ None → return_for h (places_of h rows) g f ≡ None }
 {}
 
 /// A moved result points to the subobject of the class that the found function returns: of any part, where the path lies in no
 /// virtual base (`plain`); else of a subobject of a view that stands (`shared`).
 pub fn results()
-    ensures plain { (h : Classes) (rows : List ClassLayout) (image : ImageBytes) (memory : Store) (d : ClassId) (at : ℕ) (p : Subobject) (g f : FunctionId) (e : ClassId) (i : Subobject) → IsHierarchy h → HasNoFault h → IsSoundLayout h rows → d.0 < length h → at + (places_of h rows).size d < 2 ^ 63 → IsSubobject h d p → class_of p ≡ Some e → Returns h g f e i → i.root ≡ Whole → IsMoved image memory (at + (places_of h rows).place d p) (word_of (return_vbase (return_for h (places_of h rows) g f))) (word_of (return_constant (return_for h (places_of h rows) g f))) (part_at (places_of h rows) d at p i) }
-    ensures shared { (h : Classes) (rows : List ClassLayout) (image : ImageBytes) (memory : Store) (d : ClassId) (at : ℕ) (y : Subobject) (x : View) (placed : PlacedTables) (s : Subobject) (g f : FunctionId) (e v : ClassId) (i : Subobject) → IsViewAt h rows image memory d at y x placed → IsSubobject h x.class s → class_of s ≡ Some e → Returns h g f e i → i.root ≡ Shared v → IsMoved image memory (part_at (places_of h rows) d at y s) (word_of (return_vbase (return_for h (places_of h rows) g f))) (word_of (return_constant (return_for h (places_of h rows) g f))) (part_at (places_of h rows) d at y (join s i)) }
+    ensures plain { (h : Classes) (rows : List ClassLayout) (image : ImageBytes) (memory : Store) → PlainResultsMove h rows image memory }
+    ensures shared { (h : Classes) (rows : List ClassLayout) (image : ImageBytes) (memory : Store) → SharedResultsMove h rows image memory }
 {}

@@ -1,1 +1,2 @@
 pub mod SeenDumps
+pub mod DumpLaws

@@ -1,50 +1,34 @@
 //! The laws of events of plans. The functions do nothing: their contracts are what they say.
 
-ghost use Rattle.std.specs.Prelude.{◌≡◌, ℕ, true, false, Option, Some, None, List, [], ◌∷◌, ◌++◌, ◌<◌, length, slice_get};
+ghost use Rattle.std.specs.Prelude.{◌≡◌, ℕ, false, Option, None, List, [], ◌∷◌, ◌++◌, length};
 ghost use Rattle.cxx_hierarchy.specs.declared.records.ClassId.{ClassId};
 ghost use Rattle.cxx_hierarchy.specs.Hierarchies.{IsHierarchy};
-ghost use Rattle.cxx_subobject.specs.Locations.{Step, ObjectPart};
-ghost use Rattle.cxx_program.specs.declared.program.Owner.TheVariants.{Constructor, Destructor};
-ghost use Rattle.path_plan.specs.Phases.{Event, Phases, after, part_of};
+ghost use Rattle.cxx_subobject.specs.Locations.{ObjectPart};
+ghost use Rattle.path_plan.specs.Phases.{Phases, after};
 ghost use Rattle.path_plan.specs.Plans.{Form, InFull};
-ghost use Rattle.path_plan.specs.Views.{Fits};
 ghost use Rattle.path_plan.specs.Whole.{whole_part, construction, destruction, IsNew, IsSameBut};
-ghost use Rattle.path_model.specs.Values.{Objects};
-ghost use Rattle.path_model.specs.declared.outs.Out.{Out};
-ghost use Rattle.path_model.specs.States.{State, Running as PathRunning, Planned, Frame as PathFrame, InBody, InPlan, bodies_of, with_frames};
-ghost use Rattle.path_model.specs.Effects.{Goes};
-ghost use Rattle.path_model.specs.Runs.{Moves};
-ghost use Rattle.path_model.specs.Steps.{objects_after, event_outs, event_step};
-ghost use Rattle.code_blocks.specs.Blocks.{AtEvent, items, behind_body, event_then, event_block, closing_ops};
+ghost use Rattle.path_model.specs.States.{bodies_of};
+ghost use Rattle.code_blocks.specs.Blocks.{items, behind_body};
 ghost use Rattle.code_blocks.specs.Items.{Item, Does, event_of};
-ghost use Rattle.code_blocks.specs.Lowered.{IsEnd, is_own};
+ghost use Rattle.code_blocks.specs.Lowered.{IsEnd};
 ghost use Rattle.code_blocks.specs.declared.items.Kind.{Kind};
 ghost use Rattle.code_blocks.specs.declared.items.Kind.TheVariants.{AtBody, AtDone};
-ghost use Rattle.code_ops.specs.Routines.{IsCourse, has_body};
-ghost use Rattle.code_ops.specs.Setups.{Setup, PlanCode, plan_owner, body_in};
+ghost use Rattle.code_ops.specs.Setups.{Setup};
 ghost use Rattle.code_ops.specs.declared.routines.Course.{Course};
 ghost use Rattle.code_ops.specs.declared.routines.Course.TheVariants.{Constructs, Destroys, Deletes};
 ghost use Rattle.byte_memory.specs.Store.{Store};
 ghost use Rattle.byte_shadow.specs.Shadows.{Notes};
 ghost use Rattle.byte_machine.specs.declared.turn.RawOut.{RawOut};
-ghost use Rattle.byte_machine.specs.Running.{Running};
-ghost use Rattle.byte_machine.specs.Leads.{Leads, LeadsBlock};
-ghost use Rattle.agree_relation.specs.Worlds.{World, IsWorld, classes_in, fixed};
-ghost use Rattle.agree_relation.specs.Words.{heap_of};
-ghost use Rattle.agree_relation.specs.Columns.{ColumnsStand};
+ghost use Rattle.agree_relation.specs.Worlds.{World, classes_in};
 ghost use Rattle.agree_relation.specs.Goings.{Going, going, at_left, opened, inner_of, events_of, events_left, ArePlanned};
 ghost use Rattle.agree_relation.specs.Frames.{Numbers, awaits_body, Behind, StandOver};
-ghost use Rattle.agree_relation.specs.Agrees.{Agrees};
 ghost use Rattle.agree_relation.specs.Stands.{Stands};
-ghost use Rattle.agree_events.specs.Events.{IsEvent, complete_of, Runs, HasHappened};
-ghost use Rattle.agree_statements.specs.Statements.{BeginsAt};
-ghost use Rattle.agree_events.specs.Turns.{IsPlanTurn, IsPlanBlock, InPlanBody};
+ghost use Rattle.agree_events.specs.EventLaws.{PartsGoOn, NewObjectsStand, EventsKeepColumns, PlanBlocksAgree, PlanBlocksStand, BodiesRunInPlans, ConstructorBodiesClose, DestructorBodiesClose};
 
 /// Where the part on top is at an own event that fits, the parts that are then opened stand for the phases and stacks after it
 /// (`event`); and so after its body, which changes none (`body`).
 pub fn parts_go_on()
-    ensures event { (w : World) → IsHierarchy (classes_in w) → (classes : List ClassId) (s : Phases) (f : Going) (k : Kind) (left : List Item) (below : List Going) → ArePlanned w classes s (at_left f (Does k ∷ left) ∷ below) → Fits (classes_in w) s (event_of k f.part)
-        → ArePlanned w classes (after s (event_of k f.part)) (opened w f left below) }
+    ensures event { (w : World) → PartsGoOn w }
     ensures body { (w : World) → IsHierarchy (classes_in w) → (classes : List ClassId) (s : Phases) (f : Going) (left : List Item) (below : List Going) → ArePlanned w classes s (at_left f (Does AtBody ∷ left) ∷ below) → ArePlanned w classes s (opened w f left below) }
 {}
 
@@ -61,8 +45,7 @@ pub fn left_parts_are_the_plan()
 /// A heap object whose stacks are empty stands on top of any parts, at the start of its plan (`object`); and one object more keeps
 /// what stands, where its phases and stacks are new and all others as they were (`more`).
 pub fn first_parts_stand()
-    ensures object { (w : World) → IsHierarchy (classes_in w) → (classes : List ClassId) (s : Phases) (course : Course) (k : ℕ) (c : ClassId) (fs : List Going) → IsCourse course InFull → slice_get classes k ≡ Some c → ((o : List Step) → s.running k o ≡ []) → ArePlanned w classes s fs
-        → ArePlanned w classes s (going w course InFull c (whole_part k c) ∷ fs) }
+    ensures object { (w : World) → NewObjectsStand w }
     ensures more { (w : World) → (classes : List ClassId) (s s' : Phases) (c : ClassId) (fs : List Going) → IsSameBut (length classes) s s' → IsNew (length classes) s' → ArePlanned w classes s fs → ArePlanned w (classes ++ c ∷ []) s' fs }
 {}
 
@@ -79,9 +62,7 @@ pub fn bodies_run_between()
 /// for the objects of a state, they lead to what stands for the objects after the event, with what it tells told; every heap object
 /// lies where it lay, and the registers that the rest of the plan reads are as before.
 pub fn events_keep_the_columns()
-    ensures { (w : World) (at : Numbers) → IsWorld w → (s : Objects) (f : Going) (k : Kind) (left : List Item) (below : List Going) → (event : IsEvent w s.classes s.phases f k left below) → (r : Running) → s.is_closed f.part.object ≡ false
-        → Runs w (heap_of s.classes r.memory.regions) f below (complete_of event) r.top → ColumnsStand w s r.memory r.objects r.heap r.notes
-        → Leads (fixed w) (event_then w.setup f.course f.form f.class k []) r (HasHappened w at f (objects_after w.setup.program s (event_of k f.part)) r (event_outs s (event_of k f.part))) }
+    ensures { (w : World) (at : Numbers) → EventsKeepColumns w at }
 {}
 
 /// Where a plan is on top of a state, and a block begins in a byte state that stands for it, the frame on top is at the block of
@@ -89,20 +70,15 @@ pub fn events_keep_the_columns()
 /// state after it, be the next event of the same plan, or a body. Where the plan of the heap object ends, its return to who waits
 /// for the object is left open (`Leaves`). The block stands in the code, unless a body has it (`there`).
 pub fn plans_agree()
-    ensures block { (w : World) (at : Numbers) → IsWorld w → (s : State) (p : Planned) (path : List PathFrame) → s.frames ≡ InPlan p ∷ path → (r : Running) (begins : BeginsAt w at s r)
-        → (e : Event) (es : List Event) → p.events ≡ e ∷ es → Fits (classes_in w) s.objects.phases e → s.objects.is_closed (part_of e).object ≡ false → (s' : State) (told : List Out) → event_step w.setup.program s p path (e ∷ es) ≡ Goes s' told → IsPlanBlock w at s p path r begins s' told }
-    ensures there { (w : World) → (world : IsWorld w) → (course : Course) (form : Form) (c : ClassId) (k : Kind) (left : List Item) → c.0 < length (classes_in w) → IsCourse course form → IsEnd w.setup course form c (Does k ∷ left) → is_own (has_body (body_in w.setup (PlanCode course form c))) k ≡ true
-        → slice_get w.code.blocks (world.lowered.at (AtEvent course form c (Does k ∷ left))) ≡ Some (record { ops = event_block w.setup world.lowered.at course form c k left; line = 0 }) }
+    ensures block { (w : World) (at : Numbers) → PlanBlocksAgree w at }
+    ensures there { (w : World) → PlanBlocksStand w }
 {}
 
 /// Where a body of a plan is on top, the frame on top runs the plan of a part (`body`). The block at the end of a constructor's
 /// body is that of its last event, and agrees with the step (`constructor`); the block at the end of a destructor's body opens
 /// the parts that follow (`destructor`).
 pub fn bodies_of_plans_close()
-    ensures body { (w : World) (at : Numbers) → IsWorld w → (s : State) (fb : PathRunning) (p : Planned) (path : List PathFrame) → s.frames ≡ InBody fb ∷ InPlan p ∷ path → (course : Course) (c : ClassId) → fb.owner ≡ plan_owner course c → (r : Running) (begins : BeginsAt w at s r) → InPlanBody w at s fb p path r begins }
-    ensures constructor { (w : World) (at : Numbers) → IsWorld w → (s : State) (fb : PathRunning) (p : Planned) (path : List PathFrame) → s.frames ≡ InBody fb ∷ InPlan p ∷ path → (c : ClassId) → fb.owner ≡ Constructor c → (r : Running) (begins : BeginsAt w at s r)
-        → (inside : InPlanBody w at s fb p path r begins) → (e : Event) (es : List Event) → p.events ≡ e ∷ es → Fits (classes_in w) s.objects.phases e → s.objects.is_closed (part_of e).object ≡ false
-        → (s' : State) (told : List Out) → event_step w.setup.program s p path p.events ≡ Goes s' told → (inside.f.course ≡ Constructs) × IsPlanTurn w at s p path inside.f AtDone [] inside.others inside.lower r s' told }
-    ensures destructor { (w : World) (at : Numbers) → IsWorld w → (s : State) (fb : PathRunning) (p : Planned) (path : List PathFrame) → s.frames ≡ InBody fb ∷ InPlan p ∷ path → (c : ClassId) → fb.owner ≡ Destructor c → (r : Running) (begins : BeginsAt w at s r) → (inside : InPlanBody w at s fb p path r begins)
-        → LeadsBlock (fixed w) (closing_ops w.setup at (PlanCode inside.f.course inside.f.form inside.f.class)) r (Agrees w at (Moves (with_frames s (InPlan p ∷ path)) [])) }
+    ensures body { (w : World) (at : Numbers) → BodiesRunInPlans w at }
+    ensures constructor { (w : World) (at : Numbers) → ConstructorBodiesClose w at }
+    ensures destructor { (w : World) (at : Numbers) → DestructorBodiesClose w at }
 {}

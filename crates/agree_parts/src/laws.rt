@@ -1,6 +1,6 @@
 //! The laws of addresses. The functions do nothing: their contracts are what they say.
 
-ghost use Rattle.std.specs.Prelude.{◌≡◌, ℕ, ◌+◌, ◌*◌, ◌<◌, ◌≤◌, ◌^◌, ◌⊎◌, true, false, Some, None, List, [], ◌∷◌, ◌++◌, Contains, length, map, nat_eq, slice_get};
+ghost use Rattle.std.specs.Prelude.{◌≡◌, ℕ, ◌+◌, ◌<◌, ◌≤◌, ◌^◌, ◌⊎◌, true, false, Some, None, List, [], ◌++◌, Contains, length, map, nat_eq, slice_get};
 ghost use Rattle.std.specs.List.{find};
 ghost use Rattle.cxx_hierarchy.specs.declared.records.Base.{Base};
 ghost use Rattle.cxx_hierarchy.specs.declared.records.ClassId.{ClassId};
@@ -11,7 +11,7 @@ ghost use Rattle.cxx_hierarchy.specs.Hierarchies.{IsHierarchy};
 ghost use Rattle.cxx_hierarchy.specs.VirtualBases.{HasVirtualBase};
 ghost use Rattle.cxx_subobject.specs.declared.Root.TheVariants.{Whole};
 ghost use Rattle.cxx_subobject.specs.declared.Subobject.{Subobject};
-ghost use Rattle.cxx_subobject.specs.Subobjects.{IsSubobject, subobject, whole_of, shared_base, class_of, join};
+ghost use Rattle.cxx_subobject.specs.Subobjects.{IsSubobject, subobject, whole_of, class_of};
 ghost use Rattle.cxx_subobject.specs.Locations.{IsElement, ObjectPart};
 ghost use Rattle.path_plan.specs.Places.{part, base_part, shared_part, element, same_part};
 ghost use Rattle.path_model.specs.Values.{Leaf, inner_part};
@@ -20,16 +20,16 @@ ghost use Rattle.path_model.specs.TypedStates.{IsPartMade, IsLeafMade};
 ghost use Rattle.abi_primary.specs.Kinds.{IsDynamic};
 ghost use Rattle.abi_sound.specs.declared.class_layout.ClassLayout.{ClassLayout};
 ghost use Rattle.abi_sound.specs.Places.{Places, places_of, size_of_value};
-ghost use Rattle.abi_sound.specs.Locations.{AreDisjoint, bits_of_value, pointer_span};
-ghost use Rattle.abi_sound.specs.Chains.{IsInChain};
+ghost use Rattle.abi_sound.specs.Locations.{AreDisjoint, bits_of_value};
 ghost use Rattle.byte_memory.specs.declared.memory.Region.{Region};
 ghost use Rattle.byte_memory.specs.declared.memory.MemoryFault.TheVariants.{Closed};
-ghost use Rattle.byte_memory.specs.Regions.{fault_at, close_fault, holds, shut, starts};
-ghost use Rattle.byte_memory.specs.Store.{Store, IsRoom, byte_span, open_of};
+ghost use Rattle.byte_memory.specs.Regions.{fault_at, holds, shut, starts};
+ghost use Rattle.byte_memory.specs.Store.{Store, IsRoom, open_of};
 ghost use Rattle.agree_parts.specs.Heaps.{Heap, no_objects, grown};
-ghost use Rattle.agree_parts.specs.Addresses.{address, leaf_address, span, leaf_bits, AreApart};
+ghost use Rattle.agree_parts.specs.Addresses.{address, leaf_bits};
 ghost use Rattle.agree_parts.specs.Placed.{IsObject, IsPlaced, IsLaid, LieIn, BitsLieIn, IsFree};
 ghost use Rattle.agree_parts.specs.Regions.{AreRegions};
+ghost use Rattle.agree_parts.specs.PartLaws.{LeafBytesLieInside, PartsLieInWholes, PartsOfViewsLieInWholes, BasesLieInParts, ElementsLieInParts, LeavesLieInParts, LeafBitsLieInParts, VirtualBasesLieInWholes, LeavesMissPointers, PointersOfOthersLieApart, PointersOfOneLieApart, ChainsShareAnAddress, OpenObjectsClose, LeafBitsLieNear};
 
 /// A part of an object belongs to a complete object of some class, of which it is a subobject (`owner`): where it is the whole
 /// of a class, of that class (`whole`), and an element of a member is one itself (`element`). That class and the part's are known
@@ -61,8 +61,7 @@ pub fn parts_lie_inside()
     ensures positive { (h : Classes) (rows : List ClassLayout) (g : Heap) (p : ObjectPart) (c : ClassId) → IsLaid h rows g → IsPartMade h g.classes p c → 0 < address h (places_of h rows) g p }
     ensures limit { (h : Classes) (rows : List ClassLayout) (g : Heap) (p : ObjectPart) (c : ClassId) → IsLaid h rows g → IsPartMade h g.classes p c → address h (places_of h rows) g p < 2 ^ 41 }
     ensures leaf { (h : Classes) (rows : List ClassLayout) (g : Heap) (a : Leaf) (t : ValueType ClassId) → IsLaid h rows g → IsLeafMade h g.classes a t → BitsLieIn (places_of h rows) g a.part.object (leaf_bits h (places_of h rows) g a) }
-    ensures bytes { (h : Classes) (rows : List ClassLayout) (g : Heap) (a : Leaf) (c : ClassId) (t : ValueType ClassId) → IsLaid h rows g → IsPartMade h g.classes a.part c → IsElement h c a.member a.index (Value t) →
-        LieIn (places_of h rows) g a.part.object (leaf_address h (places_of h rows) g a) (byte_span ((places_of h rows).first c a.member) (bits_of_value (width_of_member h c a.member) t)) }
+    ensures bytes { (h : Classes) (rows : List ClassLayout) (g : Heap) → LeafBytesLieInside h rows g }
     ensures pointer { (h : Classes) (rows : List ClassLayout) (g : Heap) (p : ObjectPart) (c : ClassId) → IsLaid h rows g → IsPartMade h g.classes p c → IsDynamic h c → LieIn (places_of h rows) g p.object (address h (places_of h rows) g p) 8 }
 {}
 
@@ -77,24 +76,17 @@ pub fn one_place_is_one_part()
 /// leaf it is told by the part's class alone (`base`, `element`, `leaf`), and so are the bits of that (`bits`); so it is to any subobject of the part that lies in no
 /// virtual base (`inner`), and from the whole of a complete object to every subobject (`whole`), as to a virtual base (`shared`).
 pub fn places_are_sums()
-    ensures complete { (h : Classes) (rows : List ClassLayout) (g : Heap) (p : ObjectPart) (c d : ClassId) → IsPartMade h g.classes p c → owner_class h g.classes p.object p.owner ≡ Some d →
-        address h (places_of h rows) g p ≡ address h (places_of h rows) g (part p.object p.owner (whole_of d)) + (places_of h rows).place d p.at }
-    ensures view { (h : Classes) (rows : List ClassLayout) (g : Heap) (p : ObjectPart) (c d : ClassId) (s : Subobject) → IsPartMade h g.classes p c → owner_class h g.classes p.object p.owner ≡ Some d → IsSubobject h c s →
-        address h (places_of h rows) g (inner_part p s) ≡ address h (places_of h rows) g (part p.object p.owner (whole_of d)) + (places_of h rows).place d (join p.at s) }
-    ensures base { (h : Classes) (rows : List ClassLayout) (g : Heap) (p : ObjectPart) (c : ClassId) (b : Base ClassId) → IsPartMade h g.classes p c → Contains (bases_of h c) b → b.is_virtual ≡ false →
-        address h (places_of h rows) g (base_part p b) ≡ address h (places_of h rows) g p + (places_of h rows).place c (subobject Whole (c ∷ b.class ∷ [])) }
-    ensures element { (h : Classes) (rows : List ClassLayout) (g : Heap) (p : ObjectPart) (c d : ClassId) (m i : ℕ) → IsPartMade h g.classes p c → IsElement h c m i (Object d) →
-        address h (places_of h rows) g (element p m i d) ≡ address h (places_of h rows) g p + ((places_of h rows).member c m + i * (places_of h rows).size d) }
-    ensures leaf { (h : Classes) (rows : List ClassLayout) (g : Heap) (a : Leaf) (c : ClassId) (t : ValueType ClassId) → IsPartMade h g.classes a.part c → IsElement h c a.member a.index (Value t) →
-        leaf_address h (places_of h rows) g a ≡ address h (places_of h rows) g a.part + ((places_of h rows).member c a.member + a.index * size_of_value t) }
-    ensures bits { (h : Classes) (rows : List ClassLayout) (g : Heap) (a : Leaf) (c : ClassId) (t : ValueType ClassId) → IsPartMade h g.classes a.part c → IsElement h c a.member a.index (Value t) →
-        leaf_bits h (places_of h rows) g a ≡ span (8 * leaf_address h (places_of h rows) g a + (places_of h rows).first c a.member) (bits_of_value (width_of_member h c a.member) t) }
+    ensures complete { (h : Classes) (rows : List ClassLayout) (g : Heap) → PartsLieInWholes h rows g }
+    ensures view { (h : Classes) (rows : List ClassLayout) (g : Heap) → PartsOfViewsLieInWholes h rows g }
+    ensures base { (h : Classes) (rows : List ClassLayout) (g : Heap) → BasesLieInParts h rows g }
+    ensures element { (h : Classes) (rows : List ClassLayout) (g : Heap) → ElementsLieInParts h rows g }
+    ensures leaf { (h : Classes) (rows : List ClassLayout) (g : Heap) → LeavesLieInParts h rows g }
+    ensures bits { (h : Classes) (rows : List ClassLayout) (g : Heap) → LeafBitsLieInParts h rows g }
     ensures inner { (h : Classes) (rows : List ClassLayout) (g : Heap) (p : ObjectPart) (c : ClassId) (s : Subobject) → IsPartMade h g.classes p c → IsSubobject h c s → s.root ≡ Whole →
         address h (places_of h rows) g (inner_part p s) ≡ address h (places_of h rows) g p + (places_of h rows).place c s }
     ensures whole { (h : Classes) (rows : List ClassLayout) (g : Heap) (p : ObjectPart) (c : ClassId) (s : Subobject) → IsPartMade h g.classes p c → IsSubobject h c s → p.at ≡ whole_of c →
         address h (places_of h rows) g (inner_part p s) ≡ address h (places_of h rows) g p + (places_of h rows).place c s }
-    ensures shared { (h : Classes) (rows : List ClassLayout) (g : Heap) (p : ObjectPart) (c v : ClassId) → IsPartMade h g.classes p c → p.at ≡ whole_of c → HasVirtualBase h c v →
-        address h (places_of h rows) g (shared_part p v) ≡ address h (places_of h rows) g p + (places_of h rows).place c (shared_base v) }
+    ensures shared { (h : Classes) (rows : List ClassLayout) (g : Heap) → VirtualBasesLieInWholes h rows g }
 {}
 
 /// Two leaves have no bit in common (`leaves`), nor have a leaf and a virtual pointer (`leaf_and_pointer`). The virtual pointers
@@ -103,15 +95,10 @@ pub fn places_are_sums()
 pub fn leaves_and_pointers_lie_apart()
     ensures leaves { (h : Classes) (rows : List ClassLayout) (g : Heap) (a b : Leaf) (t u : ValueType ClassId) → IsLaid h rows g → IsLeafMade h g.classes a t → IsLeafMade h g.classes b u → (a ≡ b → ⊥) →
         AreDisjoint (leaf_bits h (places_of h rows) g a) (leaf_bits h (places_of h rows) g b) }
-    ensures leaf_and_pointer { (h : Classes) (rows : List ClassLayout) (g : Heap) (a : Leaf) (t : ValueType ClassId) (p : ObjectPart) (c : ClassId) → IsLaid h rows g → IsLeafMade h g.classes a t → IsPartMade h g.classes p c → IsDynamic h c →
-        AreDisjoint (leaf_bits h (places_of h rows) g a) (pointer_span (address h (places_of h rows) g p)) }
-    ensures of_others { (h : Classes) (rows : List ClassLayout) (g : Heap) (p q : ObjectPart) (c d : ClassId) → IsLaid h rows g → IsPartMade h g.classes p c → IsPartMade h g.classes q d → IsDynamic h c → IsDynamic h d →
-        ((p.object ≡ q.object) × (p.owner ≡ q.owner) → ⊥) → AreApart (address h (places_of h rows) g p) 8 (address h (places_of h rows) g q) 8 }
-    ensures of_one { (h : Classes) (rows : List ClassLayout) (g : Heap) (p q : ObjectPart) (c d e : ClassId) → IsLaid h rows g → IsPartMade h g.classes p c → IsPartMade h g.classes q d → IsDynamic h c → IsDynamic h d →
-        p.object ≡ q.object → p.owner ≡ q.owner → owner_class h g.classes p.object p.owner ≡ Some e →
-        IsInChain (places_of h rows) e p.at q.at ⊎ (IsInChain (places_of h rows) e q.at p.at ⊎ AreApart (address h (places_of h rows) g p) 8 (address h (places_of h rows) g q) 8) }
-    ensures chain { (h : Classes) (rows : List ClassLayout) (g : Heap) (p : ObjectPart) (c e : ClassId) (s : Subobject) → IsLaid h rows g → IsPartMade h g.classes p c → owner_class h g.classes p.object p.owner ≡ Some e → IsInChain (places_of h rows) e p.at s →
-        address h (places_of h rows) g (part p.object p.owner s) ≡ address h (places_of h rows) g p }
+    ensures leaf_and_pointer { (h : Classes) (rows : List ClassLayout) (g : Heap) → LeavesMissPointers h rows g }
+    ensures of_others { (h : Classes) (rows : List ClassLayout) (g : Heap) → PointersOfOthersLieApart h rows g }
+    ensures of_one { (h : Classes) (rows : List ClassLayout) (g : Heap) → PointersOfOneLieApart h rows g }
+    ensures chain { (h : Classes) (rows : List ClassLayout) (g : Heap) → ChainsShareAnAddress h rows g }
 {}
 
 /// Objects lie apart where there is none (`none`), and after one more was made behind the others (`placed`). It has the next
@@ -140,7 +127,7 @@ pub fn regions_are_objects()
     ensures region { (l : Places) (g : Heap) (regions : List Region) (k : ℕ) (c : ClassId) (start : ℕ) → AreRegions l g regions → IsObject g k c start → (r : Region) × (slice_get regions k ≡ Some r) × (r.start ≡ start) × (r.size ≡ l.size c) }
     ensures opened { (h : Classes) (l : Places) (g : Heap) (regions : List Region) (r : Region) (k at n : ℕ) → IsPlaced h l g → AreRegions l g regions → 0 < n → LieIn l g k at n → slice_get regions k ≡ Some r → r.is_open ≡ true → fault_at regions at n ≡ None }
     ensures closed { (h : Classes) (l : Places) (g : Heap) (regions : List Region) (r : Region) (k at n : ℕ) → IsPlaced h l g → AreRegions l g regions → 0 < n → LieIn l g k at n → slice_get regions k ≡ Some r → r.is_open ≡ false → fault_at regions at n ≡ Some (Closed at) }
-    ensures closes { (h : Classes) (rows : List ClassLayout) (g : Heap) (regions : List Region) (r : Region) (k : ℕ) (c : ClassId) (start : ℕ) → IsLaid h rows g → AreRegions (places_of h rows) g regions → IsObject g k c start → slice_get regions k ≡ Some r → r.is_open ≡ true → close_fault regions start ≡ None }
+    ensures closes { (h : Classes) (rows : List ClassLayout) (g : Heap) → OpenObjectsClose h rows g }
 {}
 
 /// Regions stay those of the objects: without any (`none`), after one more was opened for one more object (`grown`), for which a
@@ -158,8 +145,7 @@ pub fn values_are_narrow()
     ensures some { (t : ValueType ClassId) → 0 < size_of_value t }
     ensures word { (t : ValueType ClassId) → size_of_value t ≤ 8 }
     ensures bits { (h : Classes) (c : ClassId) (m i : ℕ) (t : ValueType ClassId) → IsHierarchy h → IsElement h c m i (Value t) → (0 < bits_of_value (width_of_member h c m) t) × (bits_of_value (width_of_member h c m) t ≤ 64) }
-    ensures near { (h : Classes) (rows : List ClassLayout) (g : Heap) (a : Leaf) (c : ClassId) (t : ValueType ClassId) → IsLaid h rows g → IsPartMade h g.classes a.part c → IsElement h c a.member a.index (Value t) →
-        ((places_of h rows).first c a.member < 8) × ((places_of h rows).first c a.member + bits_of_value (width_of_member h c a.member) t ≤ 64) }
+    ensures near { (h : Classes) (rows : List ClassLayout) (g : Heap) → LeafBitsLieNear h rows g }
     ensures whole { (h : Classes) (rows : List ClassLayout) (g : Heap) (a : Leaf) (c : ClassId) (t : ValueType ClassId) → IsLaid h rows g → IsPartMade h g.classes a.part c → IsElement h c a.member a.index (Value t) →
         width_of_member h c a.member ≡ None → (places_of h rows).first c a.member ≡ 0 }
 {}

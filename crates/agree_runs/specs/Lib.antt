@@ -1,3 +1,4 @@
 pub mod Accepted
 pub mod NextSteps
 pub mod Dumps
+pub mod EndLaws

@@ -1,11 +1,10 @@
 //! Laws of the states that runs reach. Each function is a law: its contract holds of every state of every run of an accepted
 //! program, for all sizes of classes.
 
-ghost use Rattle.std.specs.Prelude.{◌≡◌, ℕ, Some, None, List, [], ◌∷◌, Contains, slice_get};
+ghost use Rattle.std.specs.Prelude.{◌≡◌, ℕ, Some, List, [], ◌∷◌, Contains};
 ghost use Rattle.cxx_hierarchy.specs.declared.records.ClassId.{ClassId};
 ghost use Rattle.cxx_hierarchy.specs.Classes.{Classes};
 ghost use Rattle.cxx_hierarchy.specs.Hierarchies.{IsHierarchy};
-ghost use Rattle.cxx_program.specs.declared.program.Owner.TheVariants.{Constructor, Destructor};
 ghost use Rattle.cxx_program.specs.declared.program.TypedBody.{TypedBody};
 ghost use Rattle.cxx_program.specs.declared.program.TypedProgram.{TypedProgram};
 ghost use Rattle.path_model.specs.declared.outs.DumpLeaf.{DumpLeaf};
@@ -17,7 +16,8 @@ ghost use Rattle.agree_relation.specs.Worlds.{World, IsWorld, classes_in};
 ghost use Rattle.agree_statements.specs.Statements.{AreSeen};
 ghost use Rattle.agree_runs.specs.Accepted.{IsAccepted};
 ghost use Rattle.agree_runs.specs.Dumps.{IsDumped};
-ghost use Rattle.agree_runs.specs.NextSteps.{HappensNext, EndsConstructor, EndsDestructor, IsAhead};
+ghost use Rattle.agree_runs.specs.NextSteps.{HappensNext, IsAhead};
+ghost use Rattle.agree_runs.specs.EndLaws.{ConstructorEndsHappen, DestructorEndsHappen};
 
 /// Where a body is on top, the complete object of each ready part has a view, and what a ready part is a base of, by a path through
 /// no virtual base, has begun (ISO C++03 12.7).
@@ -37,10 +37,8 @@ pub fn runs_have_a_next_step()
 /// its end (`constructor`); the plan below the body of a destructor goes on there (`destructor`).
 pub fn events_happen()
     ensures next { (h : Classes) (sizes : ClassId → ℕ) (program : TypedProgram) (n : ℕ) (p : Planned) (path : List Frame) → IsAccepted h program → (state_at h sizes program n).frames ≡ InPlan p ∷ path → HappensNext h sizes program (state_at h sizes program n) p path }
-    ensures constructor { (h : Classes) (sizes : ClassId → ℕ) (program : TypedProgram) (n : ℕ) (f : Running) (below : List Frame) (body : TypedBody) (c : ClassId) → IsAccepted h program → (state_at h sizes program n).frames ≡ InBody f ∷ below → body_of program f.owner ≡ Some body → slice_get body.statements f.next ≡ None → f.owner ≡ Constructor c
-        → EndsConstructor h sizes program (state_at h sizes program n) c below }
-    ensures destructor { (h : Classes) (sizes : ClassId → ℕ) (program : TypedProgram) (n : ℕ) (f : Running) (below : List Frame) (body : TypedBody) (c : ClassId) → IsAccepted h program → (state_at h sizes program n).frames ≡ InBody f ∷ below → body_of program f.owner ≡ Some body → slice_get body.statements f.next ≡ None → f.owner ≡ Destructor c
-        → EndsDestructor h sizes program (state_at h sizes program n) below }
+    ensures constructor { (h : Classes) (sizes : ClassId → ℕ) (program : TypedProgram) → ConstructorEndsHappen h sizes program }
+    ensures destructor { (h : Classes) (sizes : ClassId → ℕ) (program : TypedProgram) → DestructorEndsHappen h sizes program }
 {}
 
 /// What a step tells as a dump are the leaves of an open and complete heap object in the state behind the step, and nothing else is

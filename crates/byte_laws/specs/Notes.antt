@@ -30,6 +30,10 @@ is_refusal (Refused rule line) = true
 is_refusal OutOfSteps = false
 is_refusal (Limit number) = false
 
+-- unless a check refused one of them, two turns came to the same but for notes: their states, what they told, and their answers
+abbrev pub AgreeUnlessRefused : (b c : State) → (told told' : List RawOut) → (turn turn' : MachineTurn) → Type 0
+AgreeUnlessRefused b c told told' turn turn' = is_refusal turn ≡ false → is_refusal turn' ≡ false → IsSameButNotes b c × (told ≡ told') × (turn ≡ turn')
+
 -- so it did, as the answer that ended a run
 abbrev pub is_refused : Option MachineTurn → Bool
 is_refused None = false

@@ -1,6 +1,6 @@
 //! The heap objects of a run, over a memory.
 
-ghost use Rattle.std.specs.Prelude.{◌≡◌, ℕ, ◌+◌, ◌*◌, ◌<◌, ◌≤◌, ◌^◌, length, nat_le};
+ghost use Rattle.std.specs.Prelude.{◌≡◌, ◌+◌, ◌*◌, ◌<◌, ◌≤◌, ◌^◌, length, nat_le};
 ghost use Rattle.byte_memory.specs.Regions.{rounded, IsCount};
 ghost use Rattle.byte_machine.specs.Heap.{IsInOrder, LiesIn, has_address, object_at};
 
@@ -37,9 +37,9 @@ fn round_up(size: u32) -> u64
 }
 
 impl<M: Memory> Heap<M> {
-    ghost use Rattle.std.specs.Prelude.{[], IfOk, MatchResult, Some, None, nat_lt};
+    ghost use Rattle.std.specs.Prelude.{[], IfOk, MatchResult, Some, nat_lt};
     ghost use Rattle.byte_memory.specs.Bits.{AreOneOrApart};
-    ghost use Rattle.byte_memory.specs.Store.{IsRoom, byte_span, open_of, store_of, store_bits_of, load_of, load_bits_of, copy_of, copy_bits_of, Closes};
+    ghost use Rattle.byte_memory.specs.Store.{IsRoom, byte_span, open_of, store_of, store_bits_of, load_of, load_bits_of, copy_of, copy_bits_of, Closes, IsChanged};
     ghost use Rattle.byte_memory.specs.Regions.{total_of, fault_at, copy_fault, close_fault};
     ghost use Rattle.byte_machine.specs.Heap.{made, heap_limit};
 
@@ -135,11 +135,8 @@ impl<M: Memory> Heap<M> {
     pub fn store(&mut self, at: u64, bytes: u8, value: u64) -> Result<(), MemoryFault>
         requires some { 0 < bytes }
         requires word { bytes ≤ 8 }
-        ensures result { MatchResult result
-            (λ _. (fault_at (M.meaning self.old.memory).regions at bytes ≡ None)
-            × (M.meaning self.new.memory ≡ store_of (M.meaning self.old.memory) at bytes value))
-            (λ fault. (fault_at (M.meaning self.old.memory).regions at bytes ≡ Some fault)
-            × (M.meaning self.new.memory ≡ M.meaning self.old.memory)) }
+        ensures result { IsChanged result (fault_at (M.meaning self.old.memory).regions at bytes)
+            (M.meaning self.old.memory) (M.meaning self.new.memory) (store_of (M.meaning self.old.memory) at bytes value) }
         ensures objects { self.new.objects.items ≡ self.old.objects.items }
         ensures total { self.new.total ≡ self.old.total }
     {
@@ -151,11 +148,8 @@ impl<M: Memory> Heap<M> {
         requires some { 0 < bytes }
         requires word { bytes ≤ 8 }
         requires apart { AreOneOrApart from to bytes }
-        ensures result { MatchResult result
-            (λ _. (copy_fault (M.meaning self.old.memory).regions from to bytes ≡ None)
-            × (M.meaning self.new.memory ≡ copy_of (M.meaning self.old.memory) from to bytes))
-            (λ fault. (copy_fault (M.meaning self.old.memory).regions from to bytes ≡ Some fault)
-            × (M.meaning self.new.memory ≡ M.meaning self.old.memory)) }
+        ensures result { IsChanged result (copy_fault (M.meaning self.old.memory).regions from to bytes)
+            (M.meaning self.old.memory) (M.meaning self.new.memory) (copy_of (M.meaning self.old.memory) from to bytes) }
         ensures objects { self.new.objects.items ≡ self.old.objects.items }
         ensures total { self.new.total ≡ self.old.total }
     {
@@ -184,11 +178,8 @@ impl<M: Memory> Heap<M> {
         requires inside { first < 8 }
         requires some { 0 < bits }
         requires word { first + bits ≤ 64 }
-        ensures result { MatchResult result
-            (λ _. (fault_at (M.meaning self.old.memory).regions at (byte_span first bits) ≡ None)
-            × (M.meaning self.new.memory ≡ store_bits_of (M.meaning self.old.memory) at first bits value))
-            (λ fault. (fault_at (M.meaning self.old.memory).regions at (byte_span first bits) ≡ Some fault)
-            × (M.meaning self.new.memory ≡ M.meaning self.old.memory)) }
+        ensures result { IsChanged result (fault_at (M.meaning self.old.memory).regions at (byte_span first bits))
+            (M.meaning self.old.memory) (M.meaning self.new.memory) (store_bits_of (M.meaning self.old.memory) at first bits value) }
         ensures objects { self.new.objects.items ≡ self.old.objects.items }
         ensures total { self.new.total ≡ self.old.total }
     {
@@ -201,11 +192,8 @@ impl<M: Memory> Heap<M> {
         requires some { 0 < bits }
         requires word { first + bits ≤ 64 }
         requires apart { AreOneOrApart (8 * from) (8 * to) bits }
-        ensures result { MatchResult result
-            (λ _. (copy_fault (M.meaning self.old.memory).regions from to (byte_span first bits) ≡ None)
-            × (M.meaning self.new.memory ≡ copy_bits_of (M.meaning self.old.memory) from to first bits))
-            (λ fault. (copy_fault (M.meaning self.old.memory).regions from to (byte_span first bits) ≡ Some fault)
-            × (M.meaning self.new.memory ≡ M.meaning self.old.memory)) }
+        ensures result { IsChanged result (copy_fault (M.meaning self.old.memory).regions from to (byte_span first bits))
+            (M.meaning self.old.memory) (M.meaning self.new.memory) (copy_bits_of (M.meaning self.old.memory) from to first bits) }
         ensures objects { self.new.objects.items ≡ self.old.objects.items }
         ensures total { self.new.total ≡ self.old.total }
     {

@@ -1,4 +1,4 @@
-use Rattle.std.specs.Prelude.{◌≡◌, ℕ, ◌+◌, ◌*◌, ◌/◌, ◌%◌, ◌<◌, ◌≤◌, ◌^◌, Bool, true, false, Option, Some, None, Result, Ok, Err, List, [], ◌∷◌, ◌++◌, All, map}
+use Rattle.std.specs.Prelude.{◌≡◌, ℕ, ◌+◌, ◌*◌, ◌/◌, ◌%◌, ◌<◌, ◌≤◌, ◌^◌, Bool, true, false, Option, Some, None, Result, Ok, Err, List, [], ◌∷◌, ◌++◌, All, map, MatchResult}
 use Rattle.std.specs.List.{find}
 use Rattle.byte_memory.specs.declared.memory.Region.{Region}
 use Rattle.byte_memory.specs.declared.memory.MemoryFault.{MemoryFault}
@@ -83,3 +83,7 @@ pub record Closes (old new : Store) (at : ℕ) : Type 0 where
   pub there : find (starts at) old.regions ≡ Some region
   pub is_open : region.is_open ≡ true
   pub new_is : new ≡ close_of old at region.size
+
+-- a call that changes a memory answers why its bytes can't be reached, and leaves all as it was; where they can, it leaves the changed memory
+abbrev pub IsChanged : {X : Type 0} → Result X MemoryFault → (fault : Option MemoryFault) → (old new changed : Store) → Type 0
+IsChanged result found old new changed = MatchResult result (λ _. (found ≡ None) × (new ≡ changed)) (λ fault. (found ≡ Some fault) × (new ≡ old))

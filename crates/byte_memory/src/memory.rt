@@ -4,7 +4,7 @@ ghost use Rattle.std.specs.Prelude.{◌≡◌, ◌+◌, ◌*◌, ◌/◌, ◌<�
 ghost use Rattle.byte_memory.specs.Bits.{AreOneOrApart};
 ghost use Rattle.byte_memory.specs.Regions.{fault_at, close_fault, copy_fault, total_of, rounded, IsAscending};
 ghost use Rattle.byte_memory.specs.Store.{Store, IsRoom, open_of, byte_at, byte_span, set_of};
-ghost use Rattle.byte_memory.specs.Store.{load_of, load_bits_of, store_of, store_bits_of, copy_of, copy_bits_of, Closes};
+ghost use Rattle.byte_memory.specs.Store.{load_of, load_bits_of, store_of, store_bits_of, copy_of, copy_bits_of, Closes, IsChanged};
 
 use thiserror::Error;
 
@@ -97,11 +97,8 @@ pub trait Memory {
         requires inside { first < 8 }
         requires some { 0 < bits }
         requires word { first + bits ≤ 64 }
-        ensures { MatchResult result
-            (λ _. (fault_at (meaning self.old).regions at (byte_span first bits) ≡ None)
-            × (meaning self.new ≡ store_bits_of (meaning self.old) at first bits value))
-            (λ fault. (fault_at (meaning self.old).regions at (byte_span first bits) ≡ Some fault)
-            × (meaning self.new ≡ meaning self.old)) };
+        ensures { IsChanged result (fault_at (meaning self.old).regions at (byte_span first bits))
+            (meaning self.old) (meaning self.new) (store_bits_of (meaning self.old) at first bits value) };
 
     /// Gives the bits from the bit `first` of the byte at `to` on the values of those of the byte at `from`, and unsets
     /// each whose bit at `from` is unset; it changes no other bit, and takes no memory. The two ranges are equal or have
@@ -113,11 +110,8 @@ pub trait Memory {
         requires some { 0 < bits }
         requires word { first + bits ≤ 64 }
         requires apart { AreOneOrApart (8 * from) (8 * to) bits }
-        ensures { MatchResult result
-            (λ _. (copy_fault (meaning self.old).regions from to (byte_span first bits) ≡ None)
-            × (meaning self.new ≡ copy_bits_of (meaning self.old) from to first bits))
-            (λ fault. (copy_fault (meaning self.old).regions from to (byte_span first bits) ≡ Some fault)
-            × (meaning self.new ≡ meaning self.old)) };
+        ensures { IsChanged result (copy_fault (meaning self.old).regions from to (byte_span first bits))
+            (meaning self.old) (meaning self.new) (copy_bits_of (meaning self.old) from to first bits) };
 
     /// Whether the bit was stored. Range where no region holds its byte, else Closed where that is closed.
     fn bit_set(&self, at: u64, bit: u8) -> Result<bool, MemoryFault>
@@ -157,11 +151,8 @@ pub trait Memory {
     fn store(&mut self, at: u64, bytes: u8, value: u64) -> Result<(), MemoryFault>
         requires some { 0 < bytes }
         requires word { bytes ≤ 8 }
-        ensures { MatchResult result
-            (λ _. (fault_at (meaning self.old).regions at bytes ≡ None)
-            × (meaning self.new ≡ store_of (meaning self.old) at bytes value))
-            (λ fault. (fault_at (meaning self.old).regions at bytes ≡ Some fault)
-            × (meaning self.new ≡ meaning self.old)) }
+        ensures { IsChanged result (fault_at (meaning self.old).regions at bytes)
+            (meaning self.old) (meaning self.new) (store_of (meaning self.old) at bytes value) }
     {
         self.store_bits(at, 0, 8 * bytes, value)
     }
@@ -174,11 +165,8 @@ pub trait Memory {
         requires some { 0 < bytes }
         requires word { bytes ≤ 8 }
         requires apart { AreOneOrApart from to bytes }
-        ensures { MatchResult result
-            (λ _. (copy_fault (meaning self.old).regions from to bytes ≡ None)
-            × (meaning self.new ≡ copy_of (meaning self.old) from to bytes))
-            (λ fault. (copy_fault (meaning self.old).regions from to bytes ≡ Some fault)
-            × (meaning self.new ≡ meaning self.old)) }
+        ensures { IsChanged result (copy_fault (meaning self.old).regions from to bytes)
+            (meaning self.old) (meaning self.new) (copy_of (meaning self.old) from to bytes) }
     {
         self.copy_bits(from, to, 0, 8 * bytes)
     }

@@ -15,7 +15,7 @@ ghost use Rattle.cxxabi_words.specs.declared.command.Command.TheVariants.{Foreig
 ghost use Rattle.cxxabi_cmd.specs.Divided.{IsDumpReply, IsListingReply, listing_rule};
 ghost use Rattle.cxxabi_cmd.specs.Output.{Yields, source_limit};
 ghost use Rattle.cxxabi_cmd.specs.invariants.Listings.{IsReady};
-ghost use Rattle.cxxabi_cmd.specs.invariants.Replies.{answer_of, machine_of, HandsBy};
+ghost use Rattle.cxxabi_cmd.specs.invariants.Replies.{answer_of, machine_of, HandsBy, YieldsForeign};
 
 use crate::reply::{Reply, limited, line_alone, stopped};
 use crate::run_answer::run_by_bytes;
@@ -90,7 +90,7 @@ fn run_over(
     requires main { is_body accepted.now.program.main ≡ true }
     requires few { steps ≤ most_steps }
     ensures yields { IfOk result (λ reply. (listing : List ℕ) (size : ℕ) (tree : BodyTree) → IsForeign accepted.now.hierarchy listing layout.now → accepted.now.source.main ≡ Some tree →
-        Yields listing size accepted.now.source accepted.now.hierarchy accepted.now.program (Foreign steps) (answer_of reply)) }
+        YieldsForeign accepted.now listing size steps reply) }
     ensures machine { IfOk result (λ reply. (listing : List ℕ) (tree : BodyTree) → IsForeign accepted.now.hierarchy listing layout.now → accepted.now.source.main ≡ Some tree →
         HandsBy (Foreign steps) listing accepted.now.source accepted.now.hierarchy accepted.now.program (machine_of reply)) }
 {

@@ -1,2 +1,3 @@
+pub mod ClearSights
 pub mod Ends
 pub mod invariants

@@ -1,3 +1,4 @@
 pub mod Results
 pub mod Arguments
 pub mod Begun
+pub mod SideValues

@@ -1,17 +1,8 @@
 //! The values of arguments.
 
-ghost use Rattle.std.specs.Prelude.{◌≡◌, ℕ, Option, None, IfOk, map};
-ghost use Rattle.std.specs.List.{AllZip, flat_map};
-ghost use Rattle.cxx_hierarchy.specs.declared.records.ValueType.{ValueType};
-ghost use Rattle.cxx_hierarchy.specs.declared.records.ClassId.{ClassId};
-ghost use Rattle.cxx_program.specs.Typed.{Types, Scope, IsArgument, IsKept};
-ghost use Rattle.path_model.specs.Values.{Sight, argument_value};
-ghost use Rattle.path_model.specs.Uses.{argument_uses};
-ghost use Rattle.path_model.specs.Rules.{refused};
-ghost use Rattle.path_heap.specs.Stands.{Means};
+ghost use Rattle.std.specs.Prelude.{IfOk};
 ghost use Rattle.path_tables.specs.Worlds.{IsWorld};
-ghost use Rattle.path_values.specs.Scenes.{SceneStands};
-ghost use Rattle.path_values.specs.Given.{IsSeen};
+ghost use Rattle.path_effects.specs.ClearSights.{IsArgumentValue, AreArgumentValues};
 
 use cxx_program::Argument;
 use foundation::NoMemory;
@@ -23,7 +14,7 @@ use std::alloc::Global;
 /// The value of an operand, converted to what a leaf, a parameter or a result keeps (ISO C++03 4, 9.6).
 pub fn argument_value(world: &World, heap: &Heap, scene: &Scene, a: &Argument) -> Value
     requires world { IsWorld world.now }
-    ensures { (e : Scope) (s : Sight) (width : Option ℕ) (t : ValueType ClassId) → SceneStands world.now.h.now heap.now scene.now s → IsSeen world.now.h.now e s → IsKept world.now.h.now e width a.now t → refused world.now.h.now s.objects (argument_uses s a.now) ≡ None → Means world.now.h.now s.objects.classes result (argument_value s a.now) }
+    ensures { IsArgumentValue world.now.h.now heap.now scene.now a.now result }
 {
     convert(world, heap, value(scene, &a.operand), &a.conversion)
 }
@@ -39,7 +30,7 @@ pub fn argument_values(
     list: &[Argument],
 ) -> Result<Vec<Value>, NoMemory>
     requires world { IsWorld world.now }
-    ensures { IfOk result (λ values. (e : Scope) (s : Sight) (types : Types) → SceneStands world.now.h.now heap.now scene.now s → IsSeen world.now.h.now e s → AllZip (IsArgument world.now.h.now e) list.now types → refused world.now.h.now s.objects (flat_map (argument_uses s) list.now) ≡ None → AllZip (Means world.now.h.now s.objects.classes) values.items (map (argument_value s) list.now)) }
+    ensures { IfOk result (λ values. AreArgumentValues world.now.h.now heap.now scene.now list.now values.items) }
 {
     let mut values = Vec::new(alloc);
     for a in list {

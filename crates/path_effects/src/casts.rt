@@ -1,18 +1,13 @@
 //! Casts of pointers (ISO C++03 5.2.7, 5.2.9, 5.4).
 
-ghost use Rattle.std.specs.Prelude.{◌≡◌, None, IfOk};
-ghost use Rattle.cxx_hierarchy.specs.declared.records.ClassId.{ClassId};
-ghost use Rattle.cxx_hierarchy.specs.declared.records.ValueType.TheVariants.{Pointer as PointerType};
-ghost use Rattle.cxx_program.specs.Typed.{Scope, HasType, Casts};
-ghost use Rattle.path_model.specs.Values.{Value as ValueOf, Objects, Sight, value};
-ghost use Rattle.path_model.specs.Uses.{cast_value, cast_uses, down_value, dynamic_value};
-ghost use Rattle.path_model.specs.Rules.{refused};
+ghost use Rattle.std.specs.Prelude.{IfOk};
+ghost use Rattle.path_model.specs.Values.{Value as ValueOf, Objects, value};
+ghost use Rattle.path_model.specs.Uses.{down_value, dynamic_value};
 ghost use Rattle.path_tables.specs.Asked.{AreAnswers};
 ghost use Rattle.path_heap.specs.Stands.{HeapStands, Means};
 ghost use Rattle.path_tables.specs.Worlds.{IsWorld};
-ghost use Rattle.path_values.specs.Scenes.{SceneStands};
-ghost use Rattle.path_values.specs.Given.{IsSeen};
 ghost use Rattle.path_effects.specs.invariants.Begun.{IsBegun};
+ghost use Rattle.path_effects.specs.invariants.SideValues.{IsCastValue};
 
 use cxx_hierarchy::ClassId;
 use cxx_program::{TypedCast, TypedOperand};
@@ -82,7 +77,7 @@ pub(crate) fn cast_value(
     requires world { IsWorld world.now }
     requires answers { AreAnswers world.now.h.now answers.old }
     ensures answers { AreAnswers world.now.h.now answers.new }
-    ensures is { IfOk result (λ v. (e : Scope) (s : Sight) (c d : ClassId) → SceneStands world.now.h.now heap.now scene.now s → IsSeen world.now.h.now e s → HasType e x.now (PointerType c) → Casts world.now.h.now c cast.now d → refused world.now.h.now s.objects (cast_uses cast.now (value s x.now)) ≡ None → Means world.now.h.now s.objects.classes v (cast_value world.now.h.now s.objects cast.now (value s x.now))) }
+    ensures is { IfOk result (IsCastValue world.now.h.now heap.now scene.now cast.now x.now) }
 {
     let v = value(scene, x);
     match cast {

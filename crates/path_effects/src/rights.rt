@@ -1,20 +1,10 @@
 //! The values of right sides (ISO C++03 5).
 
-ghost use Rattle.std.specs.Prelude.{◌≡◌, None, IfOk, ◌++◌, if◌then◌else◌, not};
-ghost use Rattle.cxx_hierarchy.specs.declared.records.ClassId.{ClassId};
-ghost use Rattle.cxx_hierarchy.specs.declared.records.ValueType.{ValueType};
-ghost use Rattle.cxx_hierarchy.specs.declared.records.ValueType.TheVariants.{Pointer as PointerType};
-ghost use Rattle.cxx_program.specs.declared.operand.Conversion.{Conversion};
-ghost use Rattle.cxx_program.specs.Typed.{Scope, IsArgument, HasRight, IsConverted};
-ghost use Rattle.path_model.specs.Values.{Sight, converted, argument_value};
-ghost use Rattle.path_model.specs.Uses.{argument_uses, right_uses};
-ghost use Rattle.path_model.specs.Rules.{refused, is_clear};
-ghost use Rattle.path_model.specs.Effects.{truth, is_same_pointer, right_value};
+ghost use Rattle.std.specs.Prelude.{◌≡◌, IfOk, if◌then◌else◌, not};
 ghost use Rattle.path_tables.specs.Asked.{AreAnswers};
-ghost use Rattle.path_heap.specs.Stands.{Means};
 ghost use Rattle.path_tables.specs.Worlds.{IsWorld};
-ghost use Rattle.path_values.specs.Scenes.{SceneStands};
-ghost use Rattle.path_values.specs.Given.{IsSeen};
+ghost use Rattle.path_effects.specs.ClearSights.{IsRightValue};
+ghost use Rattle.path_effects.specs.invariants.SideValues.{IsPointerComparison, IsSideValue};
 
 use crate::arguments::argument_value;
 use crate::casts::cast_value;
@@ -44,8 +34,7 @@ fn compared(
     b: &Argument,
 ) -> Value
     requires world { IsWorld world.now }
-    ensures { (e : Scope) (s : Sight) (c : ClassId) → SceneStands world.now.h.now heap.now scene.now s → IsSeen world.now.h.now e s → IsArgument world.now.h.now e a.now (PointerType c) → IsArgument world.now.h.now e b.now (PointerType c) → refused world.now.h.now s.objects (argument_uses s a.now ++ argument_uses s b.now) ≡ None
-        → Means world.now.h.now s.objects.classes result (truth (if differ then not (is_same_pointer (argument_value s a.now) (argument_value s b.now)) else is_same_pointer (argument_value s a.now) (argument_value s b.now))) }
+    ensures { IsPointerComparison world.now.h.now heap.now scene.now differ a.now b.now result }
 {
     let one = argument_value(world, heap, scene, a);
     let other = argument_value(world, heap, scene, b);
@@ -64,7 +53,7 @@ fn side_value(
     requires world { IsWorld world.now }
     requires answers { AreAnswers world.now.h.now answers.old }
     ensures answers { AreAnswers world.now.h.now answers.new }
-    ensures is { IfOk result (λ v. (e : Scope) (s : Sight) (t : ValueType ClassId) (c : Conversion) → SceneStands world.now.h.now heap.now scene.now s → IsSeen world.now.h.now e s → HasRight world.now.h.now e right.now t → refused world.now.h.now s.objects (right_uses world.now.h.now (is_clear world.now.h.now s.objects) s right.now c) ≡ None → Means world.now.h.now s.objects.classes v (right_value world.now.h.now s right.now)) }
+    ensures is { IfOk result (IsSideValue world.now.h.now heap.now scene.now right.now) }
 {
     match right {
         TypedRight::Operand(x) => Ok(value(scene, x)),
@@ -96,7 +85,7 @@ pub fn right_value(
     requires world { IsWorld world.now }
     requires answers { AreAnswers world.now.h.now answers.old }
     ensures answers { AreAnswers world.now.h.now answers.new }
-    ensures is { IfOk result (λ v. (e : Scope) (s : Sight) (t : ValueType ClassId) → SceneStands world.now.h.now heap.now scene.now s → IsSeen world.now.h.now e s → IsConverted world.now.h.now e x.now t → refused world.now.h.now s.objects (right_uses world.now.h.now (is_clear world.now.h.now s.objects) s x.now.right x.now.conversion) ≡ None → Means world.now.h.now s.objects.classes v (converted (right_value world.now.h.now s x.now.right) x.now.conversion)) }
+    ensures is { IfOk result (IsRightValue world.now.h.now heap.now scene.now x.now) }
 {
     let v = side_value(alloc, world, heap, answers, scene, &x.right)?;
     Ok(convert(world, heap, v, &x.conversion))

@@ -1,11 +1,11 @@
 -- When a plan of the code stands for a list of events.
-use Rattle.std.specs.Prelude.{◌≡◌, ℕ, Bool, true, false, Option, Some, None, List, [], ◌∷◌, reverse}
+use Rattle.std.specs.Prelude.{◌≡◌, ℕ, Bool, true, false, Option, Some, None, List, [], ◌∷◌, reverse, ◌≤◌, ◌^◌, slice_get, if◌then◌else◌}
 use Rattle.cxx_hierarchy.specs.declared.records.ClassId.{ClassId}
 use Rattle.cxx_hierarchy.specs.Classes.{Classes}
 use Rattle.cxx_program.specs.declared.program.TypedProgram.{TypedProgram}
 use Rattle.path_plan.specs.Places.{ObjectPart}
 use Rattle.path_plan.specs.Phases.{Event, Begin, Ready, Init, Body, Done, Ending, Bases, End}
-use Rattle.path_plan.specs.Plans.{Bodies, Inner, plan, unplan}
+use Rattle.path_plan.specs.Plans.{Bodies, Inner, plan, unplan, InFull}
 use Rattle.path_plan.specs.Pieces.{Pending, rest_of_plan}
 use Rattle.path_model.specs.States.{bodies_of, init_of, is_init}
 use Rattle.path_heap.specs.declared.state.Part.{Part}
@@ -15,6 +15,8 @@ use Rattle.path_events.specs.declared.plan.PlanEvent.TheVariants.{Begin as Begin
 use Rattle.path_events.specs.declared.frame.Pending.{Pending as Frame}
 use Rattle.path_events.specs.declared.plan.Plan.{Plan}
 use Rattle.path_events.specs.Frames.{form_of, StandsAs, left_of}
+use Rattle.path_plan.specs.Whole.{whole_part, construction, destruction}
+use Rattle.path_numbers.specs.Sizes.{sizes_of, total}
 
 -- an event of the code is this one of the model; a member that is set has an initializer
 pub data IsEvent (h : Classes) (program : TypedProgram) (classes : List ClassId) : PlanEvent → Event → Type 0 where
@@ -62,3 +64,9 @@ pub record PlanStands (h : Classes) (program : TypedProgram) (classes : List Cla
   pub stand : FramesStand h (bodies_of program) code.is_building classes (reverse code.stack.items) frames
   pub first : MeansNext h program classes code.upcoming events
   pub rest : rest_events events ≡ rest_of_plan (inner_of h (bodies_of program) code.is_building) frames
+
+-- the plan has all events of the construction of this whole heap object, or else of its destruction
+abbrev pub IsWholePlan : Classes → (whole : Part) → (is_building : Bool) → Plan → Type 0
+IsWholePlan h whole is_building code = (program : TypedProgram) (classes : List ClassId) (k : ℕ) →
+    slice_get classes k ≡ Some whole.class → IsPart h classes whole (whole_part k whole.class) → total (sizes_of h InFull) classes ≤ 2 ^ 32 →
+    PlanStands h program classes code (if is_building then construction h (bodies_of program) k whole.class else destruction h (bodies_of program) k whole.class)

@@ -1,18 +1,13 @@
 //! A plan: its upcoming event, and the parts that are open.
 
-ghost use Rattle.std.specs.Prelude.{◌≡◌, ◌∷◌, ◌≤◌, ◌^◌, ℕ, List, Some, OnOk, IfOk, reverse, slice_get, if◌then◌else◌};
+ghost use Rattle.std.specs.Prelude.{◌≡◌, ◌∷◌, List, Some, OnOk, IfOk, reverse};
 ghost use Rattle.cxx_hierarchy.specs.declared.records.ClassId.{ClassId};
 ghost use Rattle.cxx_hierarchy.specs.Classes.{Classes};
 ghost use Rattle.cxx_program.specs.declared.program.TypedProgram.{TypedProgram};
 ghost use Rattle.path_plan.specs.Phases.{Event};
-ghost use Rattle.path_plan.specs.Plans.{InFull};
-ghost use Rattle.path_plan.specs.Whole.{whole_part, construction, destruction};
-ghost use Rattle.path_model.specs.States.{bodies_of};
-ghost use Rattle.path_numbers.specs.Sizes.{sizes_of, total};
 ghost use Rattle.path_numbers.specs.Numbers.{AreNumbers};
-ghost use Rattle.path_heap.specs.Points.{IsPart};
 ghost use Rattle.path_bodies.specs.Places.{IsIndexOf};
-ghost use Rattle.path_events.specs.Plans.{MeansNext, PlanStands};
+ghost use Rattle.path_events.specs.Plans.{MeansNext, PlanStands, IsWholePlan};
 ghost use Rattle.path_events.specs.invariants.Steps.{GivesNext, first_event, first_stage, at_stage, event_in, stack_behind};
 
 use crate::built::built_step;
@@ -110,8 +105,7 @@ impl Plan {
         whole: Part,
         is_building: bool,
     ) -> Result<Plan, NoMemory>
-        ensures { IfOk result (λ plan. (program : TypedProgram) (classes : List ClassId) (k : ℕ) → slice_get classes k ≡ Some whole.class → IsPart h.now classes whole (whole_part k whole.class) → total (sizes_of h.now InFull) classes ≤ 2 ^ 32 →
-            PlanStands h.now program classes plan (if is_building then construction h.now (bodies_of program) k whole.class else destruction h.now (bodies_of program) k whole.class)) }
+        ensures { IfOk result (IsWholePlan h.now whole is_building) }
     {
         h.keeps();
         let mut stack = Vec::new(alloc);

@@ -1,19 +1,18 @@
 //! The machine, and what changes one part of it.
 
-ghost use Rattle.std.specs.Prelude.{◌≡◌, ◌≤◌, ◌<◌, ◌+◌, ◌∷◌, ℕ, false, nat_lt, IfOk, length};
+ghost use Rattle.std.specs.Prelude.{◌≡◌, ◌≤◌, ◌<◌, ◌+◌, ℕ, false, nat_lt, IfOk, length};
 ghost use Rattle.cxx_hierarchy.specs.declared.records.ClassId.{ClassId};
 ghost use Rattle.cxx_hierarchy.specs.Classes.{Classes};
 ghost use Rattle.cxx_program.specs.declared.program.TypedProgram.{TypedProgram};
 ghost use Rattle.path_model.specs.Values.{Value as ValueOf};
-ghost use Rattle.path_model.specs.States.{State, Frame as FrameOf, assigned, with_frames, with_objects, with_local_in};
+ghost use Rattle.path_model.specs.States.{State, assigned, with_frames, with_objects, with_local_in};
 ghost use Rattle.path_plan.specs.Whole.{whole_part};
 ghost use Rattle.path_numbers.specs.Numbers.{AreNumbers};
 ghost use Rattle.path_model.specs.Effects.{made};
 ghost use Rattle.path_model.specs.Runs.{open_count, rounded, heap_total, most_heap_bytes};
 ghost use Rattle.path_heap.specs.Points.{Points};
 ghost use Rattle.path_heap.specs.Stands.{Means};
-ghost use Rattle.path_frames.specs.Frames.{FrameStands, depth_in};
-ghost use Rattle.path_frames.specs.Machines.{MachineStands};
+ghost use Rattle.path_frames.specs.Machines.{MachineStands, PushesFrame};
 ghost use Rattle.path_frames.specs.invariants.Changes.{Pops};
 
 use crate::frames::Frame;
@@ -55,7 +54,7 @@ impl Machine {
     ///
     /// Errors: want of memory. The machine is then of no use.
     pub fn push(&mut self, frame: Frame) -> Result<(), NoMemory>
-        ensures { IfOk result (λ _. (h : Classes) (sizes : ClassId → ℕ) (program : TypedProgram) (s : State) (f : FrameOf) → MachineStands h sizes program self.old s → FrameStands h program s.objects.classes frame f → depth_in frame ≡ open_count (f ∷ s.frames) → MachineStands h sizes program self.new (with_frames s (f ∷ s.frames))) }
+        ensures { IfOk result (λ _. PushesFrame self.old self.new frame) }
     {
         if let Some(top) = self.top.replace(frame) {
             self.below.push(top)?;

@@ -1,27 +1,26 @@
 //! The steps of bodies: the next statement, or the end of a body.
 
-ghost use Rattle.std.specs.Prelude.{◌≡◌, ◌+◌, ◌<◌, ◌^◌, ◌∷◌, ℕ, List, None, IfOk, IfSome, option_copied, slice_get};
+ghost use Rattle.std.specs.Prelude.{◌≡◌, ◌+◌, ◌<◌, ◌^◌, ℕ, List, IfOk, IfSome, option_copied, slice_get};
 ghost use Rattle.cxx_hierarchy.specs.declared.records.ClassId.{ClassId};
 ghost use Rattle.cxx_hierarchy.specs.Classes.{Classes};
 ghost use Rattle.cxx_overrider.specs.Functions.{return_of};
 ghost use Rattle.cxx_program.specs.declared.program.TypedProgram.{TypedProgram};
 ghost use Rattle.cxx_program.specs.Typed.{Scope};
 ghost use Rattle.path_machine.specs.declared.telling.Telling.{Telling};
-ghost use Rattle.path_model.specs.Values.{value};
 ghost use Rattle.path_model.specs.Rules.{returns_value, refusal};
-ghost use Rattle.path_model.specs.States.{Running, Frame as FrameOf, InBody, State, sight, wanted, body_of, target_conversion, with_frames};
-ghost use Rattle.path_model.specs.Effects.{effect, branched, block_at, declared};
-ghost use Rattle.path_model.specs.Steps.{before_kind, body_step, closed, constructor_closed, function_closed, statement_step};
-ghost use Rattle.path_model.specs.Runs.{move_by, demand_of, converted_demand, body_limit};
+ghost use Rattle.path_model.specs.States.{Running, Frame as FrameOf, State, sight, wanted, target_conversion, with_frames};
+ghost use Rattle.path_model.specs.Effects.{block_at};
+ghost use Rattle.path_model.specs.Steps.{before_kind, closed, constructor_closed, function_closed};
 ghost use Rattle.path_values.specs.Given.{IsGiven};
 ghost use Rattle.path_tables.specs.Asked.{AreAnswers};
 ghost use Rattle.path_frames.specs.declared.machine.Machine.{Machine as MachineOf};
 ghost use Rattle.path_frames.specs.Frames.{target_of};
 ghost use Rattle.path_frames.specs.Machines.{MachineStands};
 ghost use Rattle.cxx_program.specs.declared.operand.Conversion.TheVariants.{Same as ToSame};
-ghost use Rattle.path_machine.specs.invariants.Steps.{size_in, IsTaken, IsClear, StepAgrees, gone_on, limit_met, IsTakenIn, MoveAgreesIn};
+ghost use Rattle.path_machine.specs.invariants.Steps.{IsTaken, StepAgrees, IsTakenIn};
 ghost use Rattle.path_machine.specs.invariants.Plans.{plan_in};
-ghost use Rattle.path_machine.specs.invariants.Setups.{IsSetup, IsDeclaring, IsBelowNext, IsBodyNext};
+ghost use Rattle.path_machine.specs.invariants.Setups.{IsSetup};
+ghost use Rattle.path_machine.specs.invariants.StatementSteps.{ChoosesBetween, DeclaresLocal, DoesEffect, DoesStatement, ClosesBy, StepsBody};
 
 use crate::calls::{call_body, delete_object};
 use crate::effects::{branch, go_on};
@@ -65,7 +64,7 @@ fn choose(
     other: usize,
     behind: usize,
 ) -> Result<Next, NoMemory>
-    ensures { IfOk result (λ done. (h : Classes) (sizes : ClassId → ℕ) (program : TypedProgram) (s : State) (f : Running) (below : List FrameOf) (outs : Telling) → IsTaken h sizes program machine.old frame s f below → StepAgrees h sizes program (branched (gone_on s f next below) (value (sight s f) x.now) (block_at after other next) (block_at other behind next)) machine.new outs outs done) }
+    ensures { IfOk result (ChoosesBetween machine.old machine.new frame next x.now (block_at after other next) (block_at other behind next)) }
 {
     let v = operand(machine, &frame, x);
     let yes = block_at(after, other, next);
@@ -84,7 +83,7 @@ fn repeat(
     behind: usize,
     n: usize,
 ) -> Result<Next, NoMemory>
-    ensures { IfOk result (λ done. (h : Classes) (sizes : ClassId → ℕ) (program : TypedProgram) (s : State) (f : Running) (below : List FrameOf) (outs : Telling) → IsTaken h sizes program machine.old frame s f below → StepAgrees h sizes program (branched (gone_on s f next below) (value (sight s f) x.now) (block_at after behind n) next) machine.new outs outs done) }
+    ensures { IfOk result (ChoosesBetween machine.old machine.new frame next x.now (block_at after behind n) next) }
 {
     let v = operand(machine, &frame, x);
     let yes = block_at(after, behind, n);
@@ -106,9 +105,7 @@ fn declare(
     requires setup { IsSetup run.now }
     requires answers { AreAnswers run.now.world.h.now answers.old }
     ensures answers { AreAnswers run.now.world.h.now answers.new }
-    ensures agrees { IfOk result (λ done. (e : Scope) (s : State) (f : Running) (below : List FrameOf) →
-        IsTakenIn run.now machine.old frame s f below → IsDeclaring run.now.world.h.now e (sight s f) x.now →
-        MoveAgreesIn run.now (move_by (declared run.now.world.h.now run.now.program.now (sight s f) (gone_on s f next below) n x.now) (limit_met run.now s f below (converted_demand x.now))) machine.new outs.old outs.new done) }
+    ensures agrees { IfOk result (DeclaresLocal run.now machine.old machine.new frame next n x.now outs.old outs.new) }
 {
     match x {
         None => {
@@ -144,9 +141,7 @@ fn effect(
     requires setup { IsSetup run.now }
     requires answers { AreAnswers run.now.world.h.now answers.old }
     ensures answers { AreAnswers run.now.world.h.now answers.new }
-    ensures agrees { IfOk result (λ done. (e : Scope) (s : State) (f : Running) (below : List FrameOf) →
-        IsTakenIn run.now machine.old frame s f below → IsClear run.now.world.h.now e s f statement.now.kind → after ≡ f.next + 1 →
-        MoveAgreesIn run.now (move_by (effect run.now.world.h.now run.now.program.now (with_frames s (InBody f ∷ below)) f below f.next statement.now) (limit_met run.now s f below (demand_of (sight s f) statement.now.kind))) machine.new outs.old outs.new done) }
+    ensures agrees { IfOk result (DoesEffect run.now machine.old machine.new frame after statement.now outs.old outs.new) }
 {
     let next = statement.next;
     let n = frame.next;
@@ -270,9 +265,7 @@ fn statement_step(
     requires setup { IsSetup run.now }
     requires answers { AreAnswers run.now.world.h.now answers.old }
     ensures answers { AreAnswers run.now.world.h.now answers.new }
-    ensures agrees { IfOk result (λ done. (e : Scope) (s : State) (f : Running) (below : List FrameOf) →
-        IsTakenIn run.now machine.old frame s f below → IsGiven run.now.world.h.now e (sight s f) (wanted f) statement.now.kind → after ≡ f.next + 1 →
-        MoveAgreesIn run.now (move_by (statement_step run.now.world.h.now run.now.program.now s f below f.next statement.now) (limit_met run.now s f below (demand_of (sight s f) statement.now.kind))) machine.new outs.old outs.new done) }
+    ensures agrees { IfOk result (DoesStatement run.now machine.old machine.new frame after statement.now outs.old outs.new) }
 {
     match refused(run, machine, answers, &frame, &statement.kind)? {
         Some(rule) => Ok(Next::Refuses(rule, statement.line)),
@@ -328,10 +321,7 @@ fn plan_in(frame: Option<Frame>) -> Option<PlanFrame>
 /// The closing step of a constructor's body is the event behind it.
 fn close_constructor(run: &Run, machine: &mut Machine, outs: &mut Telling) -> Result<Next, NoMemory>
     requires setup { IsSetup run.now }
-    ensures { IfOk result (λ done. (sizes : ClassId → ℕ) (s : State) (below : List FrameOf) →
-        let h = run.now.world.h.now in
-        let program = run.now.program.now in
-        MachineStands h sizes program machine.old (with_frames s below) → IsBelowNext h s below → StepAgrees h sizes program (constructor_closed program s below) machine.new outs.old outs.new done) }
+    ensures { IfOk result (ClosesBy run.now machine.old machine.new (constructor_closed run.now.program.now) outs.old outs.new) }
 {
     let top = machine.pop();
     match plan_in(top) {
@@ -352,10 +342,7 @@ fn close(
     line: u32,
 ) -> Result<Next, NoMemory>
     requires setup { IsSetup run.now }
-    ensures { IfOk result (λ done. (sizes : ClassId → ℕ) (s : State) (below : List FrameOf) →
-        let h = run.now.world.h.now in
-        let program = run.now.program.now in
-        MachineStands h sizes program machine.old (with_frames s below) → IsBelowNext h s below → StepAgrees h sizes program (closed h program s owner line below) machine.new outs.old outs.new done) }
+    ensures { IfOk result (ClosesBy run.now machine.old machine.new (λ s. closed run.now.world.h.now run.now.program.now s owner line) outs.old outs.new) }
 {
     match owner {
         Owner::Main => Ok(Next::Ends),
@@ -389,10 +376,7 @@ pub(crate) fn body_step(
     requires setup { IsSetup run.now }
     requires answers { AreAnswers run.now.world.h.now answers.old }
     ensures answers { AreAnswers run.now.world.h.now answers.new }
-    ensures agrees { IfOk result (λ done. (s : State) (f : Running) (below : List FrameOf) →
-        let program = run.now.program.now in
-        IsTakenIn run.now machine.old frame s f below → s.frames ≡ InBody f ∷ below → IsBodyNext run.now.world.h.now program s f below →
-        MoveAgreesIn run.now (move_by (body_step run.now.world.h.now program s f below (body_of program f.owner)) (body_limit (size_in run.now.sizes.now) s f (body_of program f.owner))) machine.new outs.old outs.new done) }
+    ensures agrees { IfOk result (StepsBody run.now machine.old machine.new frame outs.old outs.new) }
 {
     match run.index.body(run.program, frame.owner) {
         None => Ok(Next::Wrong),

@@ -1,21 +1,11 @@
 //! Calls, `new` and `delete`: what opens a frame.
 
-ghost use Rattle.std.specs.Prelude.{◌≡◌, ◌<◌, ◌∷◌, ℕ, Some, List, IfOk, length, slice_get};
-ghost use Rattle.path_machine.specs.declared.telling.Telling.{Telling};
-ghost use Rattle.cxx_hierarchy.specs.declared.records.ClassId.{ClassId};
-ghost use Rattle.cxx_program.specs.Typed.{Scope};
-ghost use Rattle.path_model.specs.Values.{value};
-ghost use Rattle.path_model.specs.States.{Running, Frame as FrameOf, InBody, State, sight, with_frames};
-ghost use Rattle.path_model.specs.Effects.{called, new_made, deleted, object_ended};
-ghost use Rattle.path_model.specs.Runs.{move_by, call_limit, open_count, delete_demand, asks_call, asks_object};
-ghost use Rattle.path_plan.specs.Whole.{whole_part};
-ghost use Rattle.path_heap.specs.Points.{IsPart};
+ghost use Rattle.std.specs.Prelude.{◌≡◌, IfOk};
 ghost use Rattle.path_tables.specs.Asked.{AreAnswers};
 ghost use Rattle.path_frames.specs.Frames.{target_of};
-ghost use Rattle.path_frames.specs.Machines.{MachineStands};
-ghost use Rattle.path_machine.specs.invariants.Steps.{size_in, IsTaken, MoveAgrees, gone_on, limit_met, IsTakenIn, MoveAgreesIn};
-ghost use Rattle.path_machine.specs.invariants.Setups.{IsSetup, IsCalling, IsDeleting};
-ghost use Rattle.path_machine.specs.invariants.Openings.{planned};
+ghost use Rattle.path_machine.specs.invariants.Steps.{size_in};
+ghost use Rattle.path_machine.specs.invariants.Setups.{IsSetup};
+ghost use Rattle.path_machine.specs.invariants.Openings.{OpensBody, OpensNew, OpensDelete, EndsWhole, BeginsPlan};
 
 use crate::effects::go_on;
 use crate::next::Next;
@@ -61,9 +51,7 @@ pub(crate) fn call_body(
     requires setup { IsSetup run.now }
     requires answers { AreAnswers run.now.world.h.now answers.old }
     ensures answers { AreAnswers run.now.world.h.now answers.new }
-    ensures agrees { IfOk result (λ taken. (e : Scope) (s : State) (f : Running) (below : List FrameOf) →
-        IsTakenIn run.now machine.old frame s f below → IsCalling run.now.world.h.now e (sight s f) call.now →
-        MoveAgreesIn run.now (move_by (called run.now.world.h.now run.now.program.now (sight s f) (gone_on s f next below) call.now (target_of target)) (limit_met run.now s f below asks_call)) machine.new outs.old outs.new taken) }
+    ensures agrees { IfOk result (OpensBody run.now machine.old machine.new frame next call.now (target_of target) outs.old outs.new) }
 {
     if frame.depth >= MOST_OPEN {
         return Ok(Next::Limited(LimitNo::L10));
@@ -101,9 +89,7 @@ pub(crate) fn new_object(
     target: Option<Target>,
 ) -> Result<Next, NoMemory>
     requires setup { IsSetup run.now }
-    ensures { IfOk result (λ taken. (s : State) (f : Running) (below : List FrameOf) (outs : Telling) →
-        IsTakenIn run.now machine.old frame s f below → class.0 < length run.now.world.h.now →
-        MoveAgreesIn run.now (move_by (new_made run.now.world.h.now run.now.program.now (gone_on s f next below) class (target_of target)) (limit_met run.now s f below (asks_object class))) machine.new outs outs taken) }
+    ensures { IfOk result (OpensNew run.now machine.old machine.new frame next class (target_of target)) }
 {
     if class.0 >= run.world.h.len() {
         return Ok(Next::Wrong);
@@ -133,9 +119,7 @@ pub(crate) fn delete_object(
     pointer: &TypedOperand,
 ) -> Result<Next, NoMemory>
     requires setup { IsSetup run.now }
-    ensures { IfOk result (λ taken. (e : Scope) (c : ClassId) (s : State) (f : Running) (below : List FrameOf) (outs : Telling) →
-        IsTakenIn run.now machine.old frame s f below → IsDeleting run.now.world.h.now e (sight s f) pointer.now c →
-        MoveAgreesIn run.now (move_by (deleted run.now.world.h.now run.now.program.now (gone_on s f next below) (value (sight s f) pointer.now)) (limit_met run.now s f below (delete_demand (value (sight s f) pointer.now)))) machine.new outs outs taken) }
+    ensures { IfOk result (OpensDelete run.now machine.old machine.new frame next pointer.now) }
 {
     let scene = scene_of(machine, &frame);
     match deleted(&machine.heap, &scene, pointer) {
@@ -158,11 +142,7 @@ fn end_object(
     whole: Part,
 ) -> Result<Next, NoMemory>
     requires setup { IsSetup run.now }
-    ensures { IfOk result (λ taken. (sizes : ClassId → ℕ) (s : State) (f : Running) (below : List FrameOf) (outs : Telling) (k : ℕ) (c : ClassId) →
-        let h = run.now.world.h.now in
-        let program = run.now.program.now in
-        IsTaken h sizes program machine.old frame s f below → slice_get s.objects.classes k ≡ Some c → IsPart h s.objects.classes whole (whole_part k c) →
-        MoveAgrees h sizes program (move_by (object_ended h program (gone_on s f next below) k (Some c)) (call_limit (with_frames s (InBody f ∷ below)))) machine.new outs outs taken) }
+    ensures { IfOk result (EndsWhole run.now machine.old machine.new frame next whole) }
 {
     if frame.depth >= MOST_OPEN {
         return Ok(Next::Limited(LimitNo::L10));
@@ -185,12 +165,7 @@ fn begin_plan(
     depth: u32,
 ) -> Result<(), NoMemory>
     requires setup { IsSetup run.now }
-    ensures { IfOk result (λ _. (sizes : ClassId → ℕ) (s : State) (k : ℕ) (c : ClassId) →
-        let h = run.now.world.h.now in
-        let program = run.now.program.now in
-        let plan = planned h program k is_building c (target_of target) in
-        MachineStands h sizes program machine.old s → slice_get s.objects.classes k ≡ Some c → IsPart h s.objects.classes whole (whole_part k c) → depth ≡ open_count (plan ∷ s.frames) →
-        MachineStands h sizes program machine.new (with_frames s (plan ∷ s.frames))) }
+    ensures { IfOk result (λ _. BeginsPlan run.now machine.old machine.new whole is_building (target_of target) depth) }
 {
     let plan = Plan::new(run.alloc, run.world.h, whole, is_building)?;
     machine.push(Frame::Plan(PlanFrame {

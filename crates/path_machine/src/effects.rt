@@ -1,16 +1,13 @@
 //! What a statement that no rule refuses does to the machine.
 
-ghost use Rattle.std.specs.Prelude.{ℕ, List, Option, Some, IfOk};
+ghost use Rattle.std.specs.Prelude.{ℕ, List, IfOk};
 ghost use Rattle.cxx_hierarchy.specs.declared.records.ClassId.{ClassId};
 ghost use Rattle.cxx_hierarchy.specs.Classes.{Classes};
 ghost use Rattle.cxx_program.specs.declared.program.TypedProgram.{TypedProgram};
-ghost use Rattle.path_machine.specs.declared.telling.Telling.{Telling};
-ghost use Rattle.path_model.specs.Values.{Value as ValueOf};
 ghost use Rattle.path_model.specs.States.{Running, Frame as FrameOf, State};
-ghost use Rattle.path_model.specs.Effects.{branched, telling};
-ghost use Rattle.path_heap.specs.Stands.{Means};
 ghost use Rattle.path_frames.specs.Machines.{MachineStands};
-ghost use Rattle.path_machine.specs.invariants.Steps.{IsTaken, StepAgrees, gone_on};
+ghost use Rattle.path_machine.specs.invariants.Steps.{IsTaken, gone_on};
+ghost use Rattle.path_machine.specs.invariants.StatementSteps.{BranchesOn, TellsOut};
 
 use crate::next::Next;
 use crate::telling::Telling;
@@ -38,7 +35,7 @@ pub(crate) fn branch(
     yes: usize,
     no: usize,
 ) -> Result<Next, NoMemory>
-    ensures { IfOk result (λ next. (h : Classes) (sizes : ClassId → ℕ) (program : TypedProgram) (s : State) (f : Running) (below : List FrameOf) (n : ℕ) (v : ValueOf) (outs : Telling) → IsTaken h sizes program machine.old frame s f below → Means h s.objects.classes condition v → StepAgrees h sizes program (branched (gone_on s f n below) v yes no) machine.new outs outs next) }
+    ensures { IfOk result (BranchesOn machine.old machine.new frame condition yes no) }
 {
     let at = if is_zero(condition) { no } else { yes };
     go_on(machine, frame, at)?;
@@ -53,7 +50,7 @@ pub(crate) fn tell(
     next: usize,
     out: Option<Out>,
 ) -> Result<Next, NoMemory>
-    ensures { IfOk result (λ taken. (h : Classes) (sizes : ClassId → ℕ) (program : TypedProgram) (s : State) (f : Running) (below : List FrameOf) → IsTaken h sizes program machine.old frame s f below → StepAgrees h sizes program (telling (gone_on s f next below) out) machine.new outs.old outs.new taken) }
+    ensures { IfOk result (TellsOut machine.old machine.new frame next out outs.old outs.new) }
 {
     match out {
         Some(out) => {

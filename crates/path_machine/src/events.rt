@@ -1,16 +1,15 @@
 //! The events of plans.
 
-ghost use Rattle.std.specs.Prelude.{◌≡◌, ℕ, List, IfOk, replicate, length};
+ghost use Rattle.std.specs.Prelude.{◌≡◌, ℕ, IfOk, replicate, length};
 ghost use Rattle.cxx_hierarchy.specs.declared.records.ClassId.{ClassId};
-ghost use Rattle.path_model.specs.States.{Planned, Frame as FrameOf, State, init_of};
-ghost use Rattle.path_model.specs.Steps.{init_value, body_owner, event_step};
+ghost use Rattle.path_model.specs.States.{State, init_of};
+ghost use Rattle.path_model.specs.Steps.{init_value, body_owner};
 ghost use Rattle.path_heap.specs.declared.state.Value.TheVariants.{Unset};
 ghost use Rattle.path_heap.specs.Stands.{Means};
 ghost use Rattle.path_events.specs.declared.plan.PlanEvent.TheVariants.{Init as InitCode};
 ghost use Rattle.path_frames.specs.Machines.{MachineStands};
-ghost use Rattle.path_machine.specs.invariants.Steps.{StepAgrees};
-ghost use Rattle.path_machine.specs.invariants.Setups.{IsSetup, IsPlanTaken, IsPlanNext};
-ghost use Rattle.path_machine.specs.invariants.Events.{body_part, Happens, Tells, Resumes, Enters};
+ghost use Rattle.path_machine.specs.invariants.Setups.{IsSetup};
+ghost use Rattle.path_machine.specs.invariants.Events.{body_part, Happens, Tells, Resumes, Enters, StepsPlan};
 
 use crate::giving::give;
 use crate::next::Next;
@@ -222,7 +221,7 @@ pub(crate) fn event_step(
     frame: PlanFrame,
 ) -> Result<Next, NoMemory>
     requires setup { IsSetup run.now }
-    ensures { IfOk result (λ next. (sizes : ClassId → ℕ) (s : State) (f : Planned) (below : List FrameOf) → IsPlanTaken run.now.world.h.now sizes run.now.program.now machine.old frame s f below → IsPlanNext run.now.world.h.now s f frame.whole.class → StepAgrees run.now.world.h.now sizes run.now.program.now (event_step run.now.program.now s f below f.events) machine.new outs.old outs.new next) }
+    ensures { IfOk result (StepsPlan run.now.world.h.now run.now.program.now machine.old machine.new frame outs.old outs.new) }
 {
     let mut frame = frame;
     match frame.plan.upcoming() {

@@ -1,12 +1,9 @@
 //! Where the machine goes: the step of the frame on top.
 
 ghost use Rattle.std.specs.Prelude.{IfOk};
-ghost use Rattle.path_model.specs.States.{State};
-ghost use Rattle.path_model.specs.Runs.{move};
 ghost use Rattle.path_tables.specs.Asked.{AreAnswers};
-ghost use Rattle.path_frames.specs.Machines.{MachineStands};
-ghost use Rattle.path_machine.specs.invariants.Steps.{size_in, MoveAgreesIn};
-ghost use Rattle.path_machine.specs.invariants.Setups.{IsSetup, IsStateNext};
+ghost use Rattle.path_machine.specs.invariants.Setups.{IsSetup};
+ghost use Rattle.path_machine.specs.invariants.StatementSteps.{MovesOn};
 
 use crate::bodies::body_step;
 use crate::events::event_step;
@@ -29,11 +26,7 @@ pub(crate) fn move_on(
     requires setup { IsSetup run.now }
     requires answers { AreAnswers run.now.world.h.now answers.old }
     ensures answers { AreAnswers run.now.world.h.now answers.new }
-    ensures agrees { IfOk result (λ next. (s : State) →
-        let h = run.now.world.h.now in
-        let program = run.now.program.now in
-        let sizes = size_in run.now.sizes.now in
-        MachineStands h sizes program machine.old s → IsStateNext h program s → MoveAgreesIn run.now (move h sizes program s) machine.new outs.old outs.new next) }
+    ensures agrees { IfOk result (MovesOn run.now machine.old machine.new outs.old outs.new) }
 {
     let top = machine.pop();
     match top {

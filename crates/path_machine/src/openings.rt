@@ -1,24 +1,19 @@
 //! The frame that a call opens.
 
-ghost use Rattle.std.specs.Prelude.{◌≡◌, ◌∷◌, [], ◌++◌, ◌-◌, List, IfOk, IfSome, length, map, replicate};
-ghost use Rattle.std.specs.List.{AllZip};
-ghost use Rattle.cxx_program.specs.Typed.{Scope};
+ghost use Rattle.std.specs.Prelude.{◌≡◌, ◌∷◌, [], ◌++◌, ◌-◌, IfOk, IfSome, length, replicate};
 ghost use Rattle.cxx_subobject.specs.Locations.{ObjectPart};
 ghost use Rattle.path_model.specs.declared.outs.Out.TheVariants.{Call};
 ghost use Rattle.path_model.specs.Outs.{location_of};
-ghost use Rattle.path_model.specs.Values.{Objects, Sight, Unset, argument_value};
-ghost use Rattle.path_model.specs.States.{Running, Frame as FrameOf, State, sight, with_frames};
-ghost use Rattle.path_model.specs.Effects.{called};
+ghost use Rattle.path_model.specs.Values.{Objects};
 ghost use Rattle.path_heap.specs.declared.state.Value.TheVariants.{Unset as UnsetCode};
 ghost use Rattle.path_heap.specs.Points.{Points};
-ghost use Rattle.path_heap.specs.Stands.{HeapStands, Means};
+ghost use Rattle.path_heap.specs.Stands.{HeapStands};
 ghost use Rattle.path_tables.specs.Asked.{AreAnswers};
 ghost use Rattle.path_tables.specs.Worlds.{IsWorld};
-ghost use Rattle.path_values.specs.Scenes.{SceneStands};
 ghost use Rattle.path_frames.specs.Frames.{target_of};
-ghost use Rattle.path_machine.specs.invariants.Setups.{IsSetup, IsCalling};
+ghost use Rattle.path_machine.specs.invariants.Setups.{IsSetup};
 ghost use Rattle.path_machine.specs.Tellings.{TellsMore};
-ghost use Rattle.path_machine.specs.invariants.Openings.{Opens};
+ghost use Rattle.path_machine.specs.invariants.Openings.{AreCalledLocals, OpensCalled};
 
 use crate::run::Run;
 use crate::telling::Telling;
@@ -52,7 +47,7 @@ fn called_locals(
     count: usize,
 ) -> Result<Vec<Value>, NoMemory>
     requires world { IsWorld run.now.world }
-    ensures { IfOk result (λ locals. (e : Scope) (s : Sight) → SceneStands run.now.world.h.now heap.now scene.now s → IsCalling run.now.world.h.now e s call.now → AllZip (Means run.now.world.h.now s.objects.classes) locals.items (map (argument_value s) call.now.arguments ++ replicate (count - length (map (argument_value s) call.now.arguments)) Unset)) }
+    ensures { IfOk result (λ locals. AreCalledLocals run.now.world.h.now heap.now scene.now call.now count locals.items) }
 {
     let values = argument_values(
         run.alloc,
@@ -96,8 +91,7 @@ pub(crate) fn open_call(
     requires answers { AreAnswers run.now.world.h.now answers.old }
     ensures answers { AreAnswers run.now.world.h.now answers.new }
     ensures depth { IfOk result (λ opened. IfSome opened (λ frame. frame.depth ≡ depth)) }
-    ensures opens { IfOk result (λ opened. (e : Scope) (s : State) (f : Running) (frames : List FrameOf) → SceneStands run.now.world.h.now heap.now scene.now (sight s f) → IsCalling run.now.world.h.now e (sight s f) call.now
-        → Opens run.now.world.h.now s frames outs.old outs.new opened (called run.now.world.h.now run.now.program.now (sight s f) (with_frames s frames) call.now (target_of target))) }
+    ensures opens { IfOk result (OpensCalled run.now heap.now scene.now call.now (target_of target) outs.old outs.new) }
 {
     let Some(found) = path_effects::call(run.alloc, &run.world, heap, answers, scene, call)? else {
         return Ok(None);

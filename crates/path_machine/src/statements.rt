@@ -1,22 +1,16 @@
 //! Statements that no rule refuses, kind by kind.
 
-ghost use Rattle.std.specs.Prelude.{◌≡◌, ℕ, Some, List, IfOk};
+ghost use Rattle.std.specs.Prelude.{ℕ, List, IfOk};
 ghost use Rattle.cxx_hierarchy.specs.declared.records.ClassId.{ClassId};
-ghost use Rattle.cxx_hierarchy.specs.declared.records.ValueType.{ValueType};
-ghost use Rattle.cxx_hierarchy.specs.declared.records.ReturnType.TheVariants.{Value as ValueReturn};
 ghost use Rattle.cxx_hierarchy.specs.Classes.{Classes};
 ghost use Rattle.cxx_program.specs.declared.program.TypedProgram.{TypedProgram};
-ghost use Rattle.cxx_program.specs.declared.statement.TypedKind.TheVariants.{Write, Copy, Return, PrintType, PrintView};
-ghost use Rattle.cxx_program.specs.Typed.{Scope, IsArgument};
-ghost use Rattle.path_machine.specs.declared.telling.Telling.{Telling};
-ghost use Rattle.path_model.specs.Values.{value, argument_value};
-ghost use Rattle.path_model.specs.States.{Running, Frame as FrameOf, State, sight, with_frames};
-ghost use Rattle.path_model.specs.Effects.{written, copied_at, returned, returned_value, result_given, telling, value_out, type_out, view_out, dump_out};
+ghost use Rattle.path_model.specs.Values.{value};
+ghost use Rattle.path_model.specs.States.{Running, Frame as FrameOf, State, sight};
+ghost use Rattle.path_model.specs.Effects.{telling, value_out, dump_out};
 ghost use Rattle.path_heap.specs.Stands.{Means};
-ghost use Rattle.path_frames.specs.Machines.{MachineStands};
-ghost use Rattle.path_machine.specs.invariants.Steps.{size_in, IsTaken, IsClear, gone_on, IsTakenIn, StepAgreesIn};
+ghost use Rattle.path_machine.specs.invariants.Steps.{IsTaken, gone_on, IsTakenIn, StepAgreesIn};
 ghost use Rattle.path_machine.specs.invariants.Setups.{IsSetup};
-ghost use Rattle.path_machine.specs.declared.next.Next.TheVariants.{Goes as GoesCode};
+ghost use Rattle.path_machine.specs.invariants.StatementSteps.{WritesPlace, CopiesObject, GivesResult, LeavesBody, LeavesFunction, PrintsType, PrintsView};
 
 use crate::effects::{go_on, tell};
 use crate::giving::give;
@@ -44,9 +38,7 @@ pub(crate) fn write_place(
     x: &Argument,
 ) -> Result<Next, NoMemory>
     requires setup { IsSetup run.now }
-    ensures { IfOk result (λ done. (e : Scope) (s : State) (f : Running) (below : List FrameOf) (outs : Telling) →
-        IsTakenIn run.now machine.old frame s f below → IsClear run.now.world.h.now e s f (Write place.now x.now) →
-        StepAgreesIn run.now (written (gone_on s f next below) place.now (argument_value (sight s f) x.now) (value (sight s f) place.now.pointer)) machine.new outs outs done) }
+    ensures { IfOk result (WritesPlace run.now machine.old machine.new frame next place.now x.now) }
 {
     let scene = Scene {
         globals: machine.globals.as_slice(),
@@ -71,9 +63,7 @@ pub(crate) fn copy_object(
     class: ClassId,
 ) -> Result<Next, NoMemory>
     requires setup { IsSetup run.now }
-    ensures { IfOk result (λ done. (e : Scope) (s : State) (f : Running) (below : List FrameOf) (outs : Telling) →
-        IsTakenIn run.now machine.old frame s f below → IsClear run.now.world.h.now e s f (Copy to.now from.now class) →
-        StepAgreesIn run.now (copied_at run.now.world.h.now (gone_on s f next below) class (value (sight s f) to.now) (value (sight s f) from.now)) machine.new outs outs done) }
+    ensures { IfOk result (CopiesObject run.now machine.old machine.new frame next to.now from.now class) }
 {
     let scene = Scene {
         globals: machine.globals.as_slice(),
@@ -96,10 +86,7 @@ pub(crate) fn copy_object(
 /// A result comes to the variable that waits for it.
 fn give_result(run: &Run, machine: &mut Machine, frame: &BodyFrame, a: &Argument)
     requires setup { IsSetup run.now }
-    ensures { (e : Scope) (s : State) (f : Running) (below : List FrameOf) (t : ValueType ClassId) →
-        let h = run.now.world.h.now in
-        IsTakenIn run.now machine.old frame.now s f below → IsClear h e s f (Return (Some a.now)) → e.returns ≡ Some (ValueReturn t) → IsArgument h e a.now t →
-        MachineStands h (size_in run.now.sizes.now) run.now.program.now machine.new (result_given (with_frames s below) f.found f.target (Some (argument_value (sight s f) a.now))) }
+    ensures { GivesResult run.now machine.old machine.new frame.now a.now }
 {
     let scene = scene_of(machine, frame);
     let result = argument_value(&run.world, &machine.heap, &scene, a);
@@ -115,9 +102,7 @@ pub(crate) fn leave(
     x: &Option<Argument>,
 ) -> Next
     requires setup { IsSetup run.now }
-    ensures { (e : Scope) (s : State) (f : Running) (below : List FrameOf) (n : ℕ) (outs : Telling) →
-        IsTakenIn run.now machine.old frame s f below → IsClear run.now.world.h.now e s f (Return x.now) →
-        StepAgreesIn run.now (returned (gone_on s f n below) f below (returned_value (sight s f) x.now)) machine.new outs outs result }
+    ensures { LeavesBody run.now machine.old machine.new frame x.now result }
 {
     match frame.owner {
         Owner::Main => Next::Ends,
@@ -129,9 +114,7 @@ pub(crate) fn leave(
 /// A `return` of a function: the frame below takes the result, if there is one.
 fn leave_function(run: &Run, machine: &mut Machine, frame: &BodyFrame, x: &Option<Argument>) -> Next
     requires setup { IsSetup run.now }
-    ensures { (e : Scope) (s : State) (f : Running) (below : List FrameOf) →
-        IsTakenIn run.now machine.old frame.now s f below → IsClear run.now.world.h.now e s f (Return x.now) →
-        (result ≡ GoesCode) × MachineStands run.now.world.h.now (size_in run.now.sizes.now) run.now.program.now machine.new (result_given (with_frames s below) f.found f.target (returned_value (sight s f) x.now)) }
+    ensures { LeavesFunction run.now machine.old machine.new frame.now x.now result }
 {
     match x {
         Some(a) => give_result(run, machine, frame, a),
@@ -181,9 +164,7 @@ pub(crate) fn print_type(
     x: &TypedOperand,
 ) -> Result<Next, NoMemory>
     requires setup { IsSetup run.now }
-    ensures { IfOk result (λ done. (e : Scope) (c : ClassId) (s : State) (f : Running) (below : List FrameOf) →
-        IsTakenIn run.now machine.old frame s f below → IsClear run.now.world.h.now e s f (PrintType x.now c) →
-        StepAgreesIn run.now (telling (gone_on s f next below) (type_out run.now.world.h.now s.objects (value (sight s f) x.now))) machine.new outs.old outs.new done) }
+    ensures { IfOk result (PrintsType run.now machine.old machine.new frame next x.now outs.old outs.new) }
 {
     let v = operand(machine, &frame, x);
     let out = type_told(&machine.heap, v);
@@ -202,9 +183,7 @@ pub(crate) fn print_view(
     x: &TypedOperand,
 ) -> Result<Next, NoMemory>
     requires setup { IsSetup run.now }
-    ensures { IfOk result (λ done. (e : Scope) (c : ClassId) (s : State) (f : Running) (below : List FrameOf) →
-        IsTakenIn run.now machine.old frame s f below → IsClear run.now.world.h.now e s f (PrintView x.now c) →
-        StepAgreesIn run.now (telling (gone_on s f next below) (view_out run.now.world.h.now s.objects (value (sight s f) x.now))) machine.new outs.old outs.new done) }
+    ensures { IfOk result (PrintsView run.now machine.old machine.new frame next x.now outs.old outs.new) }
 {
     let v = operand(machine, &frame, x);
     let out = view_told(run.alloc, &run.world, &machine.heap, v)?;

@@ -1,16 +1,11 @@
 //! A variable that takes a right side.
 
-ghost use Rattle.std.specs.Prelude.{◌≡◌, [], true, List, IfOk};
-ghost use Rattle.cxx_program.specs.Typed.{Scope};
-ghost use Rattle.path_machine.specs.declared.telling.Telling.{Telling};
-ghost use Rattle.path_model.specs.Values.{converted};
-ghost use Rattle.path_model.specs.States.{Running, Frame as FrameOf, State, assigned, sight};
-ghost use Rattle.path_model.specs.Effects.{Goes, right_value, taken, taker};
-ghost use Rattle.path_model.specs.Runs.{move_by, right_demand};
+ghost use Rattle.std.specs.Prelude.{◌≡◌, IfOk};
+ghost use Rattle.path_model.specs.Effects.{taker};
 ghost use Rattle.path_tables.specs.Asked.{AreAnswers};
 ghost use Rattle.path_frames.specs.Frames.{target_of};
-ghost use Rattle.path_machine.specs.invariants.Steps.{gone_on, limit_met, IsTakenIn, StepAgreesIn, MoveAgreesIn};
-ghost use Rattle.path_machine.specs.invariants.Setups.{IsSetup, IsTaking, is_plain};
+ghost use Rattle.path_machine.specs.invariants.Setups.{IsSetup};
+ghost use Rattle.path_machine.specs.invariants.StatementSteps.{TakesPlain, TakesSide};
 
 use crate::calls::{call_body, new_object};
 use crate::effects::go_on;
@@ -64,9 +59,7 @@ fn take_value(
     requires setup { IsSetup run.now }
     requires answers { AreAnswers run.now.world.h.now answers.old }
     ensures answers { AreAnswers run.now.world.h.now answers.new }
-    ensures agrees { IfOk result (λ taken. (e : Scope) (s : State) (f : Running) (below : List FrameOf) (outs : Telling) →
-        IsTakenIn run.now machine.old frame s f below → IsTaking run.now.world.h.now e (sight s f) x.now → is_plain x.now.right ≡ true →
-        StepAgreesIn run.now (Goes (assigned (gone_on s f next below) variable (converted (right_value run.now.world.h.now (sight s f) x.now.right) x.now.conversion)) []) machine.new outs outs taken) }
+    ensures agrees { IfOk result (TakesPlain run.now machine.old machine.new frame next variable x.now) }
 {
     let scene = scene_of(machine, &frame);
     let value = right_value(run.alloc, &run.world, &machine.heap, answers, &scene, x)?;
@@ -91,9 +84,7 @@ pub(crate) fn take(
     requires setup { IsSetup run.now }
     requires answers { AreAnswers run.now.world.h.now answers.old }
     ensures answers { AreAnswers run.now.world.h.now answers.new }
-    ensures agrees { IfOk result (λ done. (e : Scope) (s : State) (f : Running) (below : List FrameOf) →
-        IsTakenIn run.now machine.old frame s f below → IsTaking run.now.world.h.now e (sight s f) x.now →
-        MoveAgreesIn run.now (move_by (taken run.now.world.h.now run.now.program.now (sight s f) (gone_on s f next below) variable x.now.right x.now.conversion) (limit_met run.now s f below (right_demand x.now.right))) machine.new outs.old outs.new done) }
+    ensures agrees { IfOk result (TakesSide run.now machine.old machine.new frame next variable x.now outs.old outs.new) }
 {
     match &x.right {
         TypedRight::Call(call) => {

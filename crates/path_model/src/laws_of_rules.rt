@@ -1,7 +1,7 @@
 //! What the rules that refuse a step mean, in the terms of subobjects, overriders and numbers in place of searches and tests.
 //! Each function is a law: its contract holds of all hierarchies and states.
 
-ghost use Rattle.std.specs.Prelude.{◌≡◌, ◌↔◌, ℕ, ℤ, ◌+ℤ◌, ◌-ℤ◌, ◌*ℤ◌, Bool, true, false, Some, [], slice_get};
+ghost use Rattle.std.specs.Prelude.{◌≡◌, ◌↔◌, ℤ, ◌+ℤ◌, ◌-ℤ◌, ◌*ℤ◌, Bool, true, false, Some, [], slice_get};
 ghost use Rattle.cxx_hierarchy.specs.declared.records.ClassId.{ClassId};
 ghost use Rattle.cxx_hierarchy.specs.declared.records.Scalar.{Scalar};
 ghost use Rattle.cxx_hierarchy.specs.Scalars.{is_signed, IsInRange};
@@ -12,9 +12,6 @@ ghost use Rattle.cxx_subobject.specs.Subobjects.{IsSubobject, class_of, join, wh
 ghost use Rattle.cxx_subobject.specs.Inside.{IsInside};
 ghost use Rattle.cxx_subobject.specs.Locations.{ObjectPart};
 ghost use Rattle.cxx_overrider.specs.declared.FunctionId.{FunctionId};
-ghost use Rattle.cxx_overrider.specs.declared.Overrider.{Overrider};
-ghost use Rattle.cxx_overrider.specs.Functions.{is_pure};
-ghost use Rattle.cxx_overrider.specs.Overriding.{IsFinalIn};
 ghost use Rattle.cxx_program.specs.declared.statement.Arithmetic.TheVariants.{Add, Subtract, Multiply};
 ghost use Rattle.path_rules.specs.declared.Undefined.TheVariants.{OutsideView, PureCall, BadDowncast, NonVirtualDelete, NotHeapObject, NotComplete, Overflow};
 ghost use Rattle.path_plan.specs.Places.{part};
@@ -22,12 +19,13 @@ ghost use Rattle.path_plan.specs.Phases.{Complete};
 ghost use Rattle.path_model.specs.Values.{Objects, Number, Pointer};
 ghost use Rattle.path_model.specs.Uses.{Views, Takes, Downs, Deletes, Dumps, Overflows, class_of_owner, view_of};
 ghost use Rattle.path_model.specs.Rules.{breaks};
+ghost use Rattle.path_model.specs.LawTerms.{IsFinalPure};
 
 /// A use that needs the view is right where its subobject is the view or a base of it; a dispatched call is refused where the
 /// final overrider in the view is pure (ISO C++03 10.3, 10.4 p6, 12.7).
 pub fn views_decide()
     ensures within { (h : Classes) (s : Objects) (p : ObjectPart) (x : Subobject) → IsHierarchy h → view_of h s p ≡ Some x → ((breaks h s OutsideView (Views (Pointer p)) ≡ false) ↔ IsInside h x p.at) }
-    ensures pure_call { (h : Classes) (c : ClassId) (s : Objects) (p : ObjectPart) (x : Subobject) (f : FunctionId) → IsHierarchy h → view_of h s p ≡ Some x → IsSubobject h c x → ((breaks h s PureCall (Takes (Pointer p) f) ≡ true) ↔ ((o : Overrider) × IsFinalIn h c x p.at f o × (is_pure h o.function ≡ true))) }
+    ensures pure_call { (h : Classes) (c : ClassId) (s : Objects) (p : ObjectPart) (x : Subobject) (f : FunctionId) → IsHierarchy h → view_of h s p ≡ Some x → IsSubobject h c x → ((breaks h s PureCall (Takes (Pointer p) f) ≡ true) ↔ IsFinalPure h c x p.at f) }
 {}
 
 /// A static downcast is right where the subobject is that base of some subobject of the target class (ISO C++03 5.2.9 p8).

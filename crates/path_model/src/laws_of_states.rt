@@ -6,53 +6,52 @@ ghost use Rattle.std.specs.Prelude.{◌≡◌, ℕ, true, false, Some, List, [],
 ghost use Rattle.cxx_hierarchy.specs.declared.records.ClassId.{ClassId};
 ghost use Rattle.cxx_hierarchy.specs.Classes.{Classes};
 ghost use Rattle.cxx_hierarchy.specs.Hierarchies.{IsHierarchy};
-ghost use Rattle.cxx_program.specs.declared.program.Owner.TheVariants.{Main, Constructor, Destructor};
-ghost use Rattle.cxx_program.specs.declared.program.TypedBody.{TypedBody};
+ghost use Rattle.cxx_program.specs.declared.program.Owner.TheVariants.{Constructor, Destructor};
 ghost use Rattle.cxx_program.specs.declared.program.TypedProgram.{TypedProgram};
 ghost use Rattle.path_plan.specs.Places.{ObjectPart, IsIn};
-ghost use Rattle.path_plan.specs.Phases.{Ended, Event, Body, Done, part_of};
-ghost use Rattle.path_plan.specs.Views.{Fits};
+ghost use Rattle.path_plan.specs.Phases.{Ended, Event, Body, part_of};
 ghost use Rattle.path_plan.specs.Whole.{IsStanding, IsGone, whole_part};
-ghost use Rattle.path_model.specs.States.{Running, Planned, Frame, InBody, InPlan, body_of, is_body};
+ghost use Rattle.path_model.specs.States.{Running, Planned, Frame, InPlan, body_of, is_body};
 ghost use Rattle.path_model.specs.Typed.{AllSettled};
 ghost use Rattle.path_model.specs.Steps.{body_owner, class_of_part};
 ghost use Rattle.path_model.specs.Runs.{state_at};
+ghost use Rattle.path_model.specs.LawTerms.{WasMade, IsPlanAtWork, IsFreeOfPlans, IsBodyOnTop, FitsAfter, MainIsMain, StandsOnConstruction, StandsOnDestruction, IsStillOpen, WasClosed};
 
 /// The next event of the plan on top fits, and so does that of a plan whose body is on top. The events of a plan are
 /// those of parts of its frame's heap object, which was made.
 pub fn plans_fit()
-    ensures next { (h : Classes) (sizes : ClassId → ℕ) (program : TypedProgram) (n : ℕ) (f : Planned) (e : Event) (es : List Event) (below : List Frame) → IsHierarchy h → (state_at h sizes program n).frames ≡ InPlan f ∷ below → f.events ≡ e ∷ es → Fits h (state_at h sizes program n).objects.phases e }
-    ensures behind_body { (h : Classes) (sizes : ClassId → ℕ) (program : TypedProgram) (n : ℕ) (g : Running) (f : Planned) (e : Event) (es : List Event) (below : List Frame) → IsHierarchy h → (state_at h sizes program n).frames ≡ InBody g ∷ (InPlan f ∷ below) → f.events ≡ e ∷ es → Fits h (state_at h sizes program n).objects.phases e }
-    ensures made { (h : Classes) (sizes : ClassId → ℕ) (program : TypedProgram) (n : ℕ) (f : Planned) → IsHierarchy h → Contains (state_at h sizes program n).frames (InPlan f) → (c : ClassId) × (slice_get (state_at h sizes program n).objects.classes f.object ≡ Some c) }
-    ensures inside { (h : Classes) (sizes : ClassId → ℕ) (program : TypedProgram) (n : ℕ) (f : Planned) (e : Event) → IsHierarchy h → Contains (state_at h sizes program n).frames (InPlan f) → Contains f.events e → (c : ClassId) × (slice_get (state_at h sizes program n).objects.classes f.object ≡ Some c) × IsIn h (part_of e) (whole_part f.object c) }
+    ensures next { (h : Classes) (sizes : ClassId → ℕ) (program : TypedProgram) (n : ℕ) (f : Planned) (e : Event) (es : List Event) (below : List Frame) → IsHierarchy h → (state_at h sizes program n).frames ≡ InPlan f ∷ below → f.events ≡ e ∷ es → FitsAfter h sizes program n e }
+    ensures behind_body { (h : Classes) (sizes : ClassId → ℕ) (program : TypedProgram) (n : ℕ) (g : Running) (f : Planned) (e : Event) (es : List Event) (below : List Frame) → IsHierarchy h → IsBodyOnTop h sizes program n g (InPlan f ∷ below) → f.events ≡ e ∷ es → FitsAfter h sizes program n e }
+    ensures made { (h : Classes) (sizes : ClassId → ℕ) (program : TypedProgram) (n : ℕ) (f : Planned) → IsHierarchy h → IsPlanAtWork h sizes program n f → (c : ClassId) × WasMade h sizes program n f.object c }
+    ensures inside { (h : Classes) (sizes : ClassId → ℕ) (program : TypedProgram) (n : ℕ) (f : Planned) (e : Event) → IsHierarchy h → IsPlanAtWork h sizes program n f → Contains f.events e → (c : ClassId) × WasMade h sizes program n f.object c × IsIn h (part_of e) (whole_part f.object c) }
 {}
 
 /// Where a body is on top, every heap object that was made is settled.
 pub fn statements_are_settled()
-    ensures { (h : Classes) (sizes : ClassId → ℕ) (program : TypedProgram) (n : ℕ) (f : Running) (below : List Frame) → IsHierarchy h → (state_at h sizes program n).frames ≡ InBody f ∷ below → AllSettled h (state_at h sizes program n).objects }
+    ensures { (h : Classes) (sizes : ClassId → ℕ) (program : TypedProgram) (n : ℕ) (f : Running) (below : List Frame) → IsHierarchy h → IsBodyOnTop h sizes program n f below → AllSettled h (state_at h sizes program n).objects }
 {}
 
 /// A closed object is gone: all its parts have ended. An open one stands, complete in all its parts, unless a plan is at
 /// work on it. An object with a plan is open, and one whose whole has ended is closed.
 pub fn objects_stand_or_are_gone()
-    ensures gone { (h : Classes) (sizes : ClassId → ℕ) (program : TypedProgram) (n : ℕ) (k : ℕ) (c : ClassId) → IsHierarchy h → slice_get (state_at h sizes program n).objects.classes k ≡ Some c → (state_at h sizes program n).objects.is_closed k ≡ true → IsGone h k c (state_at h sizes program n).objects.phases }
-    ensures stands { (h : Classes) (sizes : ClassId → ℕ) (program : TypedProgram) (n : ℕ) (k : ℕ) (c : ClassId) → IsHierarchy h → slice_get (state_at h sizes program n).objects.classes k ≡ Some c → (state_at h sizes program n).objects.is_closed k ≡ false → ((f : Planned) → Contains (state_at h sizes program n).frames (InPlan f) → f.object ≡ k → ⊥) → IsStanding h k c (state_at h sizes program n).objects.phases }
-    ensures at_work { (h : Classes) (sizes : ClassId → ℕ) (program : TypedProgram) (n : ℕ) (f : Planned) → IsHierarchy h → Contains (state_at h sizes program n).frames (InPlan f) → (state_at h sizes program n).objects.is_closed f.object ≡ false }
-    ensures ended { (h : Classes) (sizes : ClassId → ℕ) (program : TypedProgram) (n : ℕ) (k : ℕ) (c : ClassId) → IsHierarchy h → slice_get (state_at h sizes program n).objects.classes k ≡ Some c → (state_at h sizes program n).objects.phases.phase (whole_part k c) ≡ Ended → (state_at h sizes program n).objects.is_closed k ≡ true }
+    ensures gone { (h : Classes) (sizes : ClassId → ℕ) (program : TypedProgram) (n : ℕ) (k : ℕ) (c : ClassId) → IsHierarchy h → WasMade h sizes program n k c → WasClosed h sizes program n k → IsGone h k c (state_at h sizes program n).objects.phases }
+    ensures stands { (h : Classes) (sizes : ClassId → ℕ) (program : TypedProgram) (n : ℕ) (k : ℕ) (c : ClassId) → IsHierarchy h → WasMade h sizes program n k c → IsStillOpen h sizes program n k → IsFreeOfPlans h sizes program n k → IsStanding h k c (state_at h sizes program n).objects.phases }
+    ensures at_work { (h : Classes) (sizes : ClassId → ℕ) (program : TypedProgram) (n : ℕ) (f : Planned) → IsHierarchy h → IsPlanAtWork h sizes program n f → IsStillOpen h sizes program n f.object }
+    ensures ended { (h : Classes) (sizes : ClassId → ℕ) (program : TypedProgram) (n : ℕ) (k : ℕ) (c : ClassId) → IsHierarchy h → WasMade h sizes program n k c → (state_at h sizes program n).objects.phases.phase (whole_part k c) ≡ Ended → WasClosed h sizes program n k }
 {}
 
 /// No plan makes a run go wrong: a plan always has an event to come, and first one that is no body; each body that it
 /// will open is declared; and an object has one plan at most.
 pub fn plans_go_on()
-    ensures some_event { (h : Classes) (sizes : ClassId → ℕ) (program : TypedProgram) (n : ℕ) (f : Planned) → Contains (state_at h sizes program n).frames (InPlan f) → f.events ≡ [] → ⊥ }
-    ensures no_body_first { (h : Classes) (sizes : ClassId → ℕ) (program : TypedProgram) (n : ℕ) (f : Planned) (p : ObjectPart) (es : List Event) → Contains (state_at h sizes program n).frames (InPlan f) → f.events ≡ Body p ∷ es → ⊥ }
-    ensures body_there { (h : Classes) (sizes : ClassId → ℕ) (program : TypedProgram) (n : ℕ) (f : Planned) (p : ObjectPart) → Contains (state_at h sizes program n).frames (InPlan f) → Contains f.events (Body p) → is_body (body_of program (body_owner f.is_building (class_of_part p))) ≡ true }
+    ensures some_event { (h : Classes) (sizes : ClassId → ℕ) (program : TypedProgram) (n : ℕ) (f : Planned) → IsPlanAtWork h sizes program n f → f.events ≡ [] → ⊥ }
+    ensures no_body_first { (h : Classes) (sizes : ClassId → ℕ) (program : TypedProgram) (n : ℕ) (f : Planned) (p : ObjectPart) (es : List Event) → IsPlanAtWork h sizes program n f → f.events ≡ Body p ∷ es → ⊥ }
+    ensures body_there { (h : Classes) (sizes : ClassId → ℕ) (program : TypedProgram) (n : ℕ) (f : Planned) (p : ObjectPart) → IsPlanAtWork h sizes program n f → Contains f.events (Body p) → is_body (body_of program (body_owner f.is_building (class_of_part p))) ≡ true }
     ensures once { (h : Classes) (sizes : ClassId → ℕ) (program : TypedProgram) (n : ℕ) (i j : ℕ) (f g : Planned) → IsHierarchy h → slice_get (state_at h sizes program n).frames i ≡ Some (InPlan f) → slice_get (state_at h sizes program n).frames j ≡ Some (InPlan g) → f.object ≡ g.object → i ≡ j }
 {}
 
 /// The body of a constructor on top stands on the plan of its object, whose next event says that the part is done; the
 /// body of a destructor stands on the plan of a destruction. `main` is to have the body of `main`.
 pub fn bodies_stand_on_plans()
-    ensures constructor { (h : Classes) (sizes : ClassId → ℕ) (program : TypedProgram) (n : ℕ) (g : Running) (c : ClassId) (below : List Frame) → ((body : TypedBody) → program.main ≡ Some body → body.owner ≡ Main) → (state_at h sizes program n).frames ≡ InBody g ∷ below → g.owner ≡ Constructor c → (f : Planned) × (rest : List Frame) × (p : ObjectPart) × (es : List Event) × (below ≡ InPlan f ∷ rest) × (f.is_building ≡ true) × (f.events ≡ Done p ∷ es) × (class_of_part p ≡ c) }
-    ensures destructor { (h : Classes) (sizes : ClassId → ℕ) (program : TypedProgram) (n : ℕ) (g : Running) (c : ClassId) (below : List Frame) → ((body : TypedBody) → program.main ≡ Some body → body.owner ≡ Main) → (state_at h sizes program n).frames ≡ InBody g ∷ below → g.owner ≡ Destructor c → (f : Planned) × (rest : List Frame) × (below ≡ InPlan f ∷ rest) × (f.is_building ≡ false) }
+    ensures constructor { (h : Classes) (sizes : ClassId → ℕ) (program : TypedProgram) (n : ℕ) (g : Running) (c : ClassId) (below : List Frame) → MainIsMain program → IsBodyOnTop h sizes program n g below → g.owner ≡ Constructor c → StandsOnConstruction below c }
+    ensures destructor { (h : Classes) (sizes : ClassId → ℕ) (program : TypedProgram) (n : ℕ) (g : Running) (c : ClassId) (below : List Frame) → MainIsMain program → IsBodyOnTop h sizes program n g below → g.owner ≡ Destructor c → StandsOnDestruction below }
 {}

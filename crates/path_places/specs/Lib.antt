@@ -1,1 +1,2 @@
+pub mod PartCopies
 pub mod invariants

@@ -1,14 +1,9 @@
 //! The copy of a part.
 
-ghost use Rattle.std.specs.Prelude.{◌≡◌, Some, IfOk, OnOk};
-ghost use Rattle.cxx_subobject.specs.Subobjects.{class_of};
-ghost use Rattle.path_plan.specs.Places.{ObjectPart};
-ghost use Rattle.path_model.specs.Values.{Objects};
-ghost use Rattle.path_model.specs.Effects.{copied};
-ghost use Rattle.path_heap.specs.Points.{Points};
-ghost use Rattle.path_heap.specs.Stands.{HeapStands, HasBegun};
+ghost use Rattle.std.specs.Prelude.{IfOk, OnOk};
 ghost use Rattle.path_tables.specs.Worlds.{IsWorld};
 ghost use Rattle.path_places.specs.invariants.Stores.{ReadsAll, StoresAll};
+ghost use Rattle.path_places.specs.PartCopies.{CopiesPart};
 
 use crate::leaves::leaf_numbers;
 use cxx_hierarchy::ClassId;
@@ -54,7 +49,7 @@ pub fn copy(
     from: u32,
 ) -> Result<(), NoMemory>
     requires { IsWorld world.now }
-    ensures { OnOk result ((s : Objects) (p q : ObjectPart) → HeapStands world.now.h.now heap.old s → Points world.now.h.now s.classes to p → Points world.now.h.now s.classes from q → HasBegun s p → HasBegun s q → class_of p.at ≡ Some c → class_of q.at ≡ Some c → HeapStands world.now.h.now heap.new (copied world.now.h.now c p q s)) }
+    ensures { OnOk result (CopiesPart world.now.h.now heap.old heap.new c to from) }
 {
     let leaves = leaf_numbers(alloc, world, heap, to, c)?;
     let sources = leaf_numbers(alloc, world, heap, from, c)?;

@@ -77,6 +77,10 @@ pub record Pending : Type 0 where
 abbrev pub pending : ObjectPart → List Piece → Pending
 pending p left = record { part = p; left = left }
 
+-- the frame of p, whose own event e is next, on the frames below
+abbrev pub own_next : ObjectPart → Event → List Piece → (below : List Pending) → List Pending
+own_next p e left below = pending p (Own e ∷ left) ∷ below
+
 -- what is left of the plan
 abbrev pub rest_of_plan : Inner → List Pending → List Event
 rest_of_plan inner frames = flat_map (λ f. flat_map (expand inner) f.left) frames

@@ -1,6 +1,6 @@
 //! Laws of plans, phases and views: of all hierarchies, objects and runs (ISO C++03 12.6.2 p5, 12.4 p6, 12.7).
 
-ghost use Rattle.std.specs.Prelude.{◌≡◌, ◌⊎◌, ℕ, true, Some, List, [], ◌∷◌, ◌++◌};
+ghost use Rattle.std.specs.Prelude.{◌≡◌, ◌⊎◌, ℕ, true, Some, List, ◌∷◌, ◌++◌};
 ghost use Rattle.cxx_hierarchy.specs.declared.records.ClassId.{ClassId};
 ghost use Rattle.cxx_hierarchy.specs.Classes.{Classes};
 ghost use Rattle.cxx_hierarchy.specs.Hierarchies.{IsHierarchy};
@@ -14,7 +14,7 @@ ghost use Rattle.path_plan.specs.Mirrors.{exchanged, mirrored};
 ghost use Rattle.path_plan.specs.Views.{Settled, view};
 ghost use Rattle.path_plan.specs.Whole.{IsNew, IsStanding, IsBuilt, IsUnbuilt, construction, destruction, whole_part};
 ghost use Rattle.path_plan.specs.Runs.{Run, Reached, SettledAt, FitsAt};
-ghost use Rattle.path_plan.specs.Pieces.{Piece, Own, Pending, pending, AreWaiting, IsStackOf, built_pieces, ended_pieces, opened, rest_of_plan};
+ghost use Rattle.path_plan.specs.Pieces.{Piece, Pending, pending, own_next, AreWaiting, IsStackOf, built_pieces, ended_pieces, opened, rest_of_plan};
 ghost use Rattle.path_plan.specs.Worked.{declared_in_three, diamond, diamond_built, diamond_ended, holder, holder_built, holder_ended, nth_class};
 
 /// The plans of a heap object are coherent and settled, and do what they are for: a construction completes all parts of
@@ -61,21 +61,21 @@ pub fn complete_or_view()
 /// event are opened; and the frames that run are the parts whose constructors run, the innermost first.
 pub fn constructions_by_frames()
     ensures plan { (h : Classes) (bodies : Bodies) (form : Form) (c : ClassId) (p : ObjectPart) (below : List Pending) → IsHierarchy h → rest_of_plan (plan h bodies) (pending p (built_pieces h bodies form c p) ∷ below) ≡ plan h bodies form c p ++ rest_of_plan (plan h bodies) below }
-    ensures event { (h : Classes) (bodies : Bodies) (p : ObjectPart) (e : Event) (left : List Piece) (below : List Pending) → IsHierarchy h → rest_of_plan (plan h bodies) (pending p (Own e ∷ left) ∷ below) ≡ e ∷ rest_of_plan (plan h bodies) (opened (built_pieces h bodies) p left below) }
+    ensures event { (h : Classes) (bodies : Bodies) (p : ObjectPart) (e : Event) (left : List Piece) (below : List Pending) → IsHierarchy h → rest_of_plan (plan h bodies) (own_next p e left below) ≡ e ∷ rest_of_plan (plan h bodies) (opened (built_pieces h bodies) p left below) }
     ensures first { (h : Classes) (bodies : Bodies) (form : Form) (c : ClassId) (p : ObjectPart) (below : List Pending) → AreWaiting below → AreWaiting (pending p (built_pieces h bodies form c p) ∷ below) }
-    ensures waiting { (h : Classes) (bodies : Bodies) (p : ObjectPart) (e : Event) (left : List Piece) (below : List Pending) → AreWaiting (pending p (Own e ∷ left) ∷ below) → AreWaiting (opened (built_pieces h bodies) p left below) }
+    ensures waiting { (h : Classes) (bodies : Bodies) (p : ObjectPart) (e : Event) (left : List Piece) (below : List Pending) → AreWaiting (own_next p e left below) → AreWaiting (opened (built_pieces h bodies) p left below) }
     ensures idle { (h : Classes) (bodies : Bodies) (form : Form) (c : ClassId) (p : ObjectPart) (below : List Pending) (s : Phases) → IsStackOf below s → IsStackOf (pending p (built_pieces h bodies form c p) ∷ below) s }
-    ensures stack { (h : Classes) (bodies : Bodies) (p : ObjectPart) (e : Event) (left : List Piece) (below : List Pending) (s : Phases) → AreWaiting (pending p (Own e ∷ left) ∷ below) → IsStackOf (pending p (Own e ∷ left) ∷ below) s → IsStackOf (opened (built_pieces h bodies) p left below) (after s e) }
+    ensures stack { (h : Classes) (bodies : Bodies) (p : ObjectPart) (e : Event) (left : List Piece) (below : List Pending) (s : Phases) → AreWaiting (own_next p e left below) → IsStackOf (own_next p e left below) s → IsStackOf (opened (built_pieces h bodies) p left below) (after s e) }
 {}
 
 /// The same of a destruction.
 pub fn destructions_by_frames()
     ensures plan { (h : Classes) (bodies : Bodies) (form : Form) (c : ClassId) (p : ObjectPart) (below : List Pending) → IsHierarchy h → rest_of_plan (unplan h bodies) (pending p (ended_pieces h bodies form c p) ∷ below) ≡ unplan h bodies form c p ++ rest_of_plan (unplan h bodies) below }
-    ensures event { (h : Classes) (bodies : Bodies) (p : ObjectPart) (e : Event) (left : List Piece) (below : List Pending) → IsHierarchy h → rest_of_plan (unplan h bodies) (pending p (Own e ∷ left) ∷ below) ≡ e ∷ rest_of_plan (unplan h bodies) (opened (ended_pieces h bodies) p left below) }
+    ensures event { (h : Classes) (bodies : Bodies) (p : ObjectPart) (e : Event) (left : List Piece) (below : List Pending) → IsHierarchy h → rest_of_plan (unplan h bodies) (own_next p e left below) ≡ e ∷ rest_of_plan (unplan h bodies) (opened (ended_pieces h bodies) p left below) }
     ensures first { (h : Classes) (bodies : Bodies) (form : Form) (c : ClassId) (p : ObjectPart) (below : List Pending) → AreWaiting below → AreWaiting (pending p (ended_pieces h bodies form c p) ∷ below) }
-    ensures waiting { (h : Classes) (bodies : Bodies) (p : ObjectPart) (e : Event) (left : List Piece) (below : List Pending) → AreWaiting (pending p (Own e ∷ left) ∷ below) → AreWaiting (opened (ended_pieces h bodies) p left below) }
+    ensures waiting { (h : Classes) (bodies : Bodies) (p : ObjectPart) (e : Event) (left : List Piece) (below : List Pending) → AreWaiting (own_next p e left below) → AreWaiting (opened (ended_pieces h bodies) p left below) }
     ensures idle { (h : Classes) (bodies : Bodies) (form : Form) (c : ClassId) (p : ObjectPart) (below : List Pending) (s : Phases) → IsStackOf below s → IsStackOf (pending p (ended_pieces h bodies form c p) ∷ below) s }
-    ensures stack { (h : Classes) (bodies : Bodies) (p : ObjectPart) (e : Event) (left : List Piece) (below : List Pending) (s : Phases) → AreWaiting (pending p (Own e ∷ left) ∷ below) → IsStackOf (pending p (Own e ∷ left) ∷ below) s → IsStackOf (opened (ended_pieces h bodies) p left below) (after s e) }
+    ensures stack { (h : Classes) (bodies : Bodies) (p : ObjectPart) (e : Event) (left : List Piece) (below : List Pending) (s : Phases) → AreWaiting (own_next p e left below) → IsStackOf (own_next p e left below) s → IsStackOf (opened (ended_pieces h bodies) p left below) (after s e) }
 {}
 
 /// Two worked objects: a diamond, and an array of a class with a virtual base. Virtual bases come first and once in each

@@ -1,19 +1,20 @@
 //! What is asked of a call: its pointer, the way to the function, the view that dispatches, and its arguments.
 
-ghost use Rattle.std.specs.Prelude.{◌≡◌, [], ◌∷◌, ◌++◌, ◌||◌, false, IfOk};
+ghost use Rattle.std.specs.Prelude.{◌≡◌, [], ◌∷◌, ◌||◌, IfOk};
 ghost use Rattle.cxx_hierarchy.specs.declared.records.ClassId.{ClassId};
 ghost use Rattle.cxx_subobject.specs.Locations.{ObjectPart};
 ghost use Rattle.cxx_hierarchy.specs.declared.records.Function.{Function};
-ghost use Rattle.cxx_program.specs.Typed.{Scope, IsWay, IsCall};
+ghost use Rattle.cxx_program.specs.Typed.{Scope, IsCall};
 ghost use Rattle.path_model.specs.Values.{Value as ValueOf, Objects, Sight, Pointer};
-ghost use Rattle.path_model.specs.Uses.{Takes, takes, arrow, call_uses, is_shared_way};
-ghost use Rattle.path_model.specs.Rules.{refused, names, is_unready};
+ghost use Rattle.path_model.specs.Uses.{Takes, takes, call_uses, is_shared_way};
+ghost use Rattle.path_model.specs.Rules.{refused};
 ghost use Rattle.path_heap.specs.Points.{Points};
 ghost use Rattle.path_heap.specs.Stands.{HeapStands, HasBegun, Means};
 ghost use Rattle.path_tables.specs.Asked.{AreAnswers};
 ghost use Rattle.path_tables.specs.Worlds.{IsWorld};
 ghost use Rattle.path_views.specs.Views.{IsCallable};
-ghost use Rattle.path_refusals.specs.invariants.Pieces.{Stands, IsValueOf, IsFound, CanTake, way_asked, found_asked};
+ghost use Rattle.path_refusals.specs.invariants.Pieces.{Stands, CanTake};
+ghost use Rattle.path_refusals.specs.invariants.SideRules.{FoundRefuses, WayRefuses, CallPointerRefuses};
 
 use crate::moment::{Moment, Refusal};
 use crate::operands::arguments;
@@ -98,7 +99,7 @@ fn found(moment: &Moment, answers: &mut Answers, v: Value, call: &TypedCall) -> 
     requires world { IsWorld moment.now.world }
     requires answers { AreAnswers moment.now.world.h.now answers.old }
     ensures answers { AreAnswers moment.now.world.h.now answers.new }
-    ensures is { IfOk result (λ rule. (s : Objects) (x : ValueOf) (through : ClassId) → IsValueOf moment.now.world.h.now moment.now.heap.now s v x through → names (is_unready s) x ≡ false → IsFound moment.now.world.h.now through call.now → rule ≡ refused moment.now.world.h.now s (found_asked call.now x)) }
+    ensures is { IfOk result (FoundRefuses moment.now.world.h.now moment.now.heap.now v call.now) }
 {
     match view_of(moment, answers, v, is_shared(&call.base))? {
         Some(rule) => Ok(Some(rule)),
@@ -116,7 +117,7 @@ fn way(moment: &Moment, answers: &mut Answers, v: Value, call: &TypedCall) -> Re
     requires world { IsWorld moment.now.world }
     requires answers { AreAnswers moment.now.world.h.now answers.old }
     ensures answers { AreAnswers moment.now.world.h.now answers.new }
-    ensures is { IfOk result (λ rule. (s : Objects) (x : ValueOf) (through : ClassId) → IsValueOf moment.now.world.h.now moment.now.heap.now s v x call.now.class → names (is_unready s) x ≡ false → IsWay moment.now.world.h.now call.now.class call.now.qualifier through → IsFound moment.now.world.h.now through call.now → rule ≡ refused moment.now.world.h.now s (way_asked call.now x)) }
+    ensures is { IfOk result (WayRefuses moment.now.world.h.now moment.now.heap.now v call.now) }
 {
     match view_of(moment, answers, v, is_view_needed(call))? {
         Some(rule) => Ok(Some(rule)),
@@ -134,7 +135,7 @@ fn pointer(moment: &Moment, answers: &mut Answers, v: Value, call: &TypedCall) -
     requires world { IsWorld moment.now.world }
     requires answers { AreAnswers moment.now.world.h.now answers.old }
     ensures answers { AreAnswers moment.now.world.h.now answers.new }
-    ensures is { IfOk result (λ rule. (s : Objects) (x : ValueOf) (through : ClassId) → IsValueOf moment.now.world.h.now moment.now.heap.now s v x call.now.class → IsWay moment.now.world.h.now call.now.class call.now.qualifier through → IsFound moment.now.world.h.now through call.now → rule ≡ refused moment.now.world.h.now s (arrow x ++ way_asked call.now x)) }
+    ensures is { IfOk result (CallPointerRefuses moment.now.world.h.now moment.now.heap.now v call.now) }
 {
     match arrow(moment.heap, v) {
         Some(rule) => Ok(Some(rule)),

@@ -1,16 +1,16 @@
 //! What is asked of casts, and of the conversion of what they give.
 
-ghost use Rattle.std.specs.Prelude.{◌≡◌, [], ◌∷◌, IfOk};
+ghost use Rattle.std.specs.Prelude.{[], ◌∷◌, IfOk};
 ghost use Rattle.cxx_hierarchy.specs.declared.records.ClassId.{ClassId};
 ghost use Rattle.cxx_subobject.specs.Locations.{ObjectPart};
 ghost use Rattle.cxx_program.specs.Typed.{Casts};
 ghost use Rattle.path_model.specs.Values.{Objects, Pointer};
-ghost use Rattle.path_model.specs.Uses.{Reads, Guards, Downs, convert, cast_uses, cast_value};
-ghost use Rattle.path_model.specs.Rules.{refused};
+ghost use Rattle.path_model.specs.Uses.{Reads, Guards, Downs, cast_uses, cast_value};
 ghost use Rattle.path_heap.specs.Stands.{Means};
 ghost use Rattle.path_tables.specs.Asked.{AreAnswers};
 ghost use Rattle.path_tables.specs.Worlds.{IsWorld};
 ghost use Rattle.path_refusals.specs.invariants.Pieces.{Refuses, SteadyRefuses, ReadyRefuses, IsReadyPart, CastRefuses};
+ghost use Rattle.path_refusals.specs.invariants.SideRules.{PartCastRefuses};
 
 use crate::moment::{Moment, Refusal};
 use crate::pointers::guarded;
@@ -173,7 +173,7 @@ fn part_cast_converted(
     requires world { IsWorld moment.now.world }
     requires answers { AreAnswers moment.now.world.h.now answers.old }
     ensures answers { AreAnswers moment.now.world.h.now answers.new }
-    ensures is { IfOk result (λ rule. (s : Objects) (p : ObjectPart) (from to : ClassId) → IsReadyPart moment.now.world.h.now moment.now.heap.now s n p from → Casts moment.now.world.h.now from how.now to → rule ≡ refused moment.now.world.h.now s (convert (cast_value moment.now.world.h.now s how.now (Pointer p)) c.now)) }
+    ensures is { IfOk result (PartCastRefuses moment.now.world.h.now moment.now.heap.now n how.now c.now) }
 {
     match c {
         Conversion::Number(_) => Ok(None),

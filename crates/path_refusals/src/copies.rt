@@ -1,21 +1,16 @@
 //! What is asked of a copy: both pointers, the class members that it covers, and the views where the class has a virtual base.
 
-ghost use Rattle.std.specs.Prelude.{◌≡◌, ◌<◌, ◌≤◌, ◌∷◌, ◌++◌, ℕ, false, Some, IfOk, length, slice_get};
-ghost use Rattle.cxx_hierarchy.specs.declared.records.ClassId.{ClassId};
+ghost use Rattle.std.specs.Prelude.{◌≡◌, ◌<◌, ◌≤◌, ◌++◌, ℕ, Some, IfOk, length, slice_get};
 ghost use Rattle.cxx_hierarchy.specs.Classes.{members_of};
-ghost use Rattle.cxx_subobject.specs.Subobjects.{class_of};
 ghost use Rattle.cxx_subobject.specs.Locations.{ObjectPart};
 ghost use Rattle.cxx_search.specs.Searches.{has_virtual_base};
-ghost use Rattle.path_plan.specs.Views.{Settled};
-ghost use Rattle.path_model.specs.Values.{Value, Objects, Pointer};
-ghost use Rattle.path_model.specs.Uses.{Passes, arrow, views, member_uses};
-ghost use Rattle.path_model.specs.Rules.{is_unready};
+ghost use Rattle.path_model.specs.Values.{Objects};
+ghost use Rattle.path_model.specs.Uses.{arrow, views, member_uses};
 ghost use Rattle.path_model.specs.Order.{asked_covers, asked_covered};
-ghost use Rattle.path_heap.specs.Points.{Points};
-ghost use Rattle.path_heap.specs.Stands.{HeapStands};
 ghost use Rattle.path_tables.specs.Asked.{AreAnswers};
 ghost use Rattle.path_tables.specs.Worlds.{IsWorld};
 ghost use Rattle.path_refusals.specs.invariants.Pieces.{TypedRefuses, OpenRefuses, IsReadyPart, Covers};
+ghost use Rattle.path_refusals.specs.invariants.SideRules.{IsElementCovered};
 
 use crate::deletes::is_complete;
 use crate::moment::{Moment, Refusal};
@@ -50,7 +45,7 @@ fn member_at(members: &[Member<ClassId>], i: usize) -> &Member<ClassId>
 #[cycle(covers)]
 fn is_element_covered(moment: &Moment, e: u32, d: ClassId) -> bool
     requires world { IsWorld moment.now.world }
-    ensures { (s : Objects) (p : ObjectPart) (k : ℕ) → HeapStands moment.now.world.h.now moment.now.heap.now s → Points moment.now.world.h.now s.classes e p → Settled moment.now.world.h.now p.object s.phases → class_of p.at ≡ Some d → d.0 < k → Covers moment.now.world.h.now s result (Passes p ∷ asked_covers moment.now.world.h.now k d p) }
+    ensures { IsElementCovered moment.now.world.h.now moment.now.heap.now e d result }
 {
     if is_unready(moment.heap, e) {
         return false;

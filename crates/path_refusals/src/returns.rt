@@ -1,13 +1,9 @@
 //! What is asked of a `return`: its result, converted three times.
 
-ghost use Rattle.std.specs.Prelude.{◌≡◌, Some, IfOk};
-ghost use Rattle.path_model.specs.Values.{Sight};
-ghost use Rattle.path_model.specs.Uses.{Wanted, return_uses};
-ghost use Rattle.path_model.specs.Rules.{refused};
-ghost use Rattle.path_model.specs.Typed.{AllSettled, IsReturn};
+ghost use Rattle.std.specs.Prelude.{IfOk};
 ghost use Rattle.path_tables.specs.Asked.{AreAnswers};
 ghost use Rattle.path_tables.specs.Worlds.{IsWorld};
-ghost use Rattle.path_values.specs.Scenes.{SceneStands};
+ghost use Rattle.path_refusals.specs.invariants.SideRules.{ResultRefuses};
 
 use crate::moment::{Moment, Refusal};
 use crate::views::{convert as convert_rule, read_converted};
@@ -30,7 +26,7 @@ pub(crate) fn result(
     requires world { IsWorld moment.now.world }
     requires answers { AreAnswers moment.now.world.h.now answers.old }
     ensures answers { AreAnswers moment.now.world.h.now answers.new }
-    ensures is { IfOk result (λ rule. (s : Sight) (w : Wanted) → SceneStands moment.now.world.h.now moment.now.heap.now scene.now s → AllSettled moment.now.world.h.now s.objects → w.found ≡ found.now → w.target ≡ target.now → IsReturn moment.now.world.h.now s w (Some a.now) → rule ≡ refused moment.now.world.h.now s.objects (return_uses s w (Some a.now))) }
+    ensures is { IfOk result (ResultRefuses moment.now.world.h.now moment.now.heap.now scene.now a.now found.now target.now) }
 {
     let v = value(scene, &a.operand);
     match read_converted(moment, answers, v, &a.conversion)? {

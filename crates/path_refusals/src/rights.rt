@@ -1,20 +1,9 @@
 //! What is asked of what stands to the right of `=`.
 
-ghost use Rattle.std.specs.Prelude.{◌≡◌, None, IfOk};
-ghost use Rattle.cxx_hierarchy.specs.declared.records.ClassId.{ClassId};
-ghost use Rattle.cxx_hierarchy.specs.declared.records.ValueType.{ValueType};
-ghost use Rattle.cxx_hierarchy.specs.declared.records.ValueType.TheVariants.{Pointer as PointerType};
-ghost use Rattle.cxx_hierarchy.specs.declared.records.FieldType.TheVariants.{Value as ValueField, Object};
-ghost use Rattle.cxx_program.specs.declared.statement.TypedRight.TheVariants.{Read, Address, Cast};
-ghost use Rattle.cxx_program.specs.Typed.{Scope, HasType, IsPlace, Casts, HasRight};
-ghost use Rattle.path_model.specs.Values.{Value as ValueOf, Sight};
-ghost use Rattle.path_model.specs.Places.{leaf_value, address_value};
-ghost use Rattle.path_model.specs.Uses.{right_uses};
-ghost use Rattle.path_model.specs.Rules.{refused, is_clear};
-ghost use Rattle.path_heap.specs.Stands.{Means};
+ghost use Rattle.std.specs.Prelude.{IfOk};
 ghost use Rattle.path_tables.specs.Asked.{AreAnswers};
 ghost use Rattle.path_tables.specs.Worlds.{IsWorld};
-ghost use Rattle.path_refusals.specs.invariants.Pieces.{Stands, IsValueOf, way_uses};
+ghost use Rattle.path_refusals.specs.invariants.SideRules.{IsLeafReached, IsAddressReached, ReadRefuses, AddressRefuses, CastedRefuses, RightRefuses};
 
 use crate::calls::call;
 use crate::casts::{cast_converted, cast_rule};
@@ -30,7 +19,7 @@ use path_values::{Scene, address_number, leaf_number, value};
 /// The value of the leaf to which a place leads that breaks no rule, by the value of its pointer.
 fn leaf_of(moment: &Moment, v: Value, place: &TypedPlace) -> Value
     requires world { IsWorld moment.now.world }
-    ensures { (e : Scope) (s : Sight) (x : ValueOf) (t : ValueType ClassId) → IsValueOf moment.now.world.h.now moment.now.heap.now s.objects v x place.now.class → IsPlace moment.now.world.h.now e place.now (ValueField t) → None ≡ refused moment.now.world.h.now s.objects (way_uses place.now x) → Means moment.now.world.h.now s.objects.classes result (leaf_value s place.now x) }
+    ensures { IsLeafReached moment.now.world.h.now moment.now.heap.now v place.now result }
 {
     match v {
         Value::Unset => Value::Unset,
@@ -45,7 +34,7 @@ fn leaf_of(moment: &Moment, v: Value, place: &TypedPlace) -> Value
 /// A pointer to the class member to which a place leads that breaks no rule, by the value of its pointer.
 fn address_of(moment: &Moment, v: Value, place: &TypedPlace) -> Value
     requires world { IsWorld moment.now.world }
-    ensures { (e : Scope) (s : Sight) (x : ValueOf) (d : ClassId) → IsValueOf moment.now.world.h.now moment.now.heap.now s.objects v x place.now.class → IsPlace moment.now.world.h.now e place.now (Object d) → None ≡ refused moment.now.world.h.now s.objects (way_uses place.now x) → Means moment.now.world.h.now s.objects.classes result (address_value place.now d x) }
+    ensures { IsAddressReached moment.now.world.h.now moment.now.heap.now v place.now result }
 {
     match v {
         Value::Unset => Value::Unset,
@@ -68,7 +57,7 @@ fn loaded(
     requires world { IsWorld moment.now.world }
     requires answers { AreAnswers moment.now.world.h.now answers.old }
     ensures answers { AreAnswers moment.now.world.h.now answers.new }
-    ensures is { IfOk result (λ rule. (e : Scope) (s : Sight) (t : ValueType ClassId) → Stands moment.now.world.h.now moment.now.heap.now scene.now e s → IsPlace moment.now.world.h.now e from.now (ValueField t) → rule ≡ refused moment.now.world.h.now s.objects (right_uses moment.now.world.h.now (is_clear moment.now.world.h.now s.objects) s (Read from.now) c.now)) }
+    ensures is { IfOk result (ReadRefuses moment.now.world.h.now moment.now.heap.now scene.now from.now c.now) }
 {
     let v = value(scene, &from.pointer);
     match place(moment, answers, v, from)? {
@@ -93,7 +82,7 @@ fn addressed(
     requires world { IsWorld moment.now.world }
     requires answers { AreAnswers moment.now.world.h.now answers.old }
     ensures answers { AreAnswers moment.now.world.h.now answers.new }
-    ensures is { IfOk result (λ rule. (e : Scope) (s : Sight) (d : ClassId) → Stands moment.now.world.h.now moment.now.heap.now scene.now e s → IsPlace moment.now.world.h.now e of.now (Object d) → rule ≡ refused moment.now.world.h.now s.objects (right_uses moment.now.world.h.now (is_clear moment.now.world.h.now s.objects) s (Address of.now d) c.now)) }
+    ensures is { IfOk result (AddressRefuses moment.now.world.h.now moment.now.heap.now scene.now of.now c.now) }
 {
     let v = value(scene, &of.pointer);
     match place(moment, answers, v, of)? {
@@ -119,7 +108,7 @@ fn casted(
     requires world { IsWorld moment.now.world }
     requires answers { AreAnswers moment.now.world.h.now answers.old }
     ensures answers { AreAnswers moment.now.world.h.now answers.new }
-    ensures is { IfOk result (λ rule. (e : Scope) (s : Sight) (from to : ClassId) → Stands moment.now.world.h.now moment.now.heap.now scene.now e s → HasType e x.now (PointerType from) → Casts moment.now.world.h.now from how.now to → rule ≡ refused moment.now.world.h.now s.objects (right_uses moment.now.world.h.now (is_clear moment.now.world.h.now s.objects) s (Cast how.now x.now) c.now)) }
+    ensures is { IfOk result (CastedRefuses moment.now.world.h.now moment.now.heap.now scene.now how.now x.now c.now) }
 {
     let v = value(scene, x);
     match cast_rule(moment, answers, v, how)? {
@@ -141,7 +130,7 @@ pub(crate) fn right(
     requires world { IsWorld moment.now.world }
     requires answers { AreAnswers moment.now.world.h.now answers.old }
     ensures answers { AreAnswers moment.now.world.h.now answers.new }
-    ensures is { IfOk result (λ rule. (e : Scope) (s : Sight) (t : ValueType ClassId) → Stands moment.now.world.h.now moment.now.heap.now scene.now e s → HasRight moment.now.world.h.now e right.now t → rule ≡ refused moment.now.world.h.now s.objects (right_uses moment.now.world.h.now (is_clear moment.now.world.h.now s.objects) s right.now c.now)) }
+    ensures is { IfOk result (RightRefuses moment.now.world.h.now moment.now.heap.now scene.now right.now c.now) }
 {
     match right {
         TypedRight::Operand(x) => {

@@ -5,7 +5,7 @@ ghost use Rattle.cxx_hierarchy.specs.declared.records.ClassId.{ClassId};
 ghost use Rattle.cxx_hierarchy.specs.declared.records.ValueType.{ValueType};
 ghost use Rattle.cxx_hierarchy.specs.declared.records.ValueType.TheVariants.{Pointer as PointerType};
 ghost use Rattle.cxx_hierarchy.specs.declared.records.FieldType.TheVariants.{Value as ValueField};
-ghost use Rattle.cxx_program.specs.declared.statement.TypedKind.TheVariants.{Declare, Write, Copy, Return};
+ghost use Rattle.cxx_program.specs.declared.statement.TypedKind.TheVariants.{Declare, Write, Copy};
 ghost use Rattle.cxx_program.specs.Typed.{Scope, HasType, IsPlace};
 ghost use Rattle.path_model.specs.Values.{Sight};
 ghost use Rattle.path_model.specs.Uses.{Wanted};
@@ -15,6 +15,7 @@ ghost use Rattle.path_tables.specs.Worlds.{IsWorld};
 ghost use Rattle.path_values.specs.Scenes.{SceneStands};
 ghost use Rattle.path_values.specs.Given.{IsGiven};
 ghost use Rattle.path_refusals.specs.invariants.Pieces.{Stands};
+ghost use Rattle.path_refusals.specs.invariants.SideRules.{ReturnRefuses};
 
 use crate::calls::call;
 use crate::copies::{has_virtual_base, side};
@@ -110,7 +111,7 @@ fn returned(
     requires world { IsWorld moment.now.world }
     requires answers { AreAnswers moment.now.world.h.now answers.old }
     ensures answers { AreAnswers moment.now.world.h.now answers.new }
-    ensures is { IfOk result (λ rule. (e : Scope) (s : Sight) (w : Wanted) → SceneStands moment.now.world.h.now moment.now.heap.now scene.now s → IsGiven moment.now.world.h.now e s w (Return from.now) → w.found ≡ found.now → w.target ≡ target.now → rule ≡ refusal moment.now.world.h.now s w (Return from.now)) }
+    ensures is { IfOk result (ReturnRefuses moment.now.world.h.now moment.now.heap.now scene.now from.now found.now target.now) }
 {
     match from {
         Some(a) => result(moment, answers, scene, a, found, target),

@@ -2,3 +2,4 @@ pub mod Scenes
 pub mod Given
 pub mod Conversions
 pub mod Open
+pub mod Landings

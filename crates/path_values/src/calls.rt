@@ -1,11 +1,11 @@
 //! The subobject that a call is for (ISO C++03 5.2.2).
 
-ghost use Rattle.path_model.specs.Values.{Value as ValueOf, Objects, Sight, value};
-ghost use Rattle.path_model.specs.Uses.{goes_to, receiver};
+ghost use Rattle.path_model.specs.Values.{Value as ValueOf, Objects};
+ghost use Rattle.path_model.specs.Uses.{goes_to};
 ghost use Rattle.path_heap.specs.Stands.{HeapStands, Means};
 ghost use Rattle.path_tables.specs.Worlds.{IsWorld};
-ghost use Rattle.path_values.specs.Scenes.{SceneStands};
-ghost use Rattle.path_values.specs.Conversions.{CanReach, CanGo};
+ghost use Rattle.path_values.specs.Conversions.{CanGo};
+ghost use Rattle.path_values.specs.Landings.{IsCallReceiver};
 
 use crate::conversions::to_base;
 use crate::operands::value;
@@ -29,8 +29,7 @@ pub fn goes_to(world: &World, heap: &Heap, v: Value, qualifier: &Option<Subobjec
 /// A pointer to the subobject of the class in which a call's function was found.
 pub fn receiver(world: &World, heap: &Heap, scene: &Scene, call: &TypedCall) -> Value
     requires world { IsWorld world.now }
-    ensures { (s : Sight) → SceneStands world.now.h.now heap.now scene.now s → CanGo world.now.h.now s.objects (value s call.now.pointer) call.now.qualifier
-        → CanReach world.now.h.now s.objects (goes_to call.now.qualifier (value s call.now.pointer)) call.now.base → Means world.now.h.now s.objects.classes result (receiver s call.now) }
+    ensures { IsCallReceiver world.now.h.now heap.now scene.now call.now result }
 {
     let from = goes_to(world, heap, value(scene, &call.pointer), &call.qualifier);
     to_base(world, heap, from, &call.base)

@@ -3,3 +3,4 @@ pub mod RawDumps
 pub mod RawTexts
 pub mod Reads
 pub mod invariants
+pub mod TextLaws

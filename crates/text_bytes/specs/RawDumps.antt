@@ -119,6 +119,10 @@ row_item h memory objects start row = row_by_type h memory objects start row (wi
 abbrev pub raw_items : Classes → Places → ImageBytes → Store → List Opened → ℕ → ClassId → List Item
 raw_items h l image memory objects start c = map (led_item h image memory start) (pointers_of h l c) ++ map (row_item h memory objects start) (leaf_rows h l c)
 
+-- its lines by place, with the gaps
+abbrev pub contents_lines : Classes → Places → ImageBytes → Store → List Opened → ℕ → ClassId → List ℕ
+contents_lines h l image memory objects start c = lines_from (l.size c) 0 (by_place (l.size c) (raw_items h l image memory objects start c))
+
 abbrev pub class_of_object : Opened → ClassId
 class_of_object object = record { 0 = object.class }
 

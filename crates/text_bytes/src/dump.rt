@@ -4,8 +4,7 @@ ghost use Rattle.std.specs.Prelude.{◌≡◌, ◌++◌, ◌<◌, IfOk, OnOk, le
 ghost use Rattle.abi_sound.specs.Places.{places_of};
 ghost use Rattle.byte_machine.specs.Heap.{object_at};
 ghost use Rattle.byte_machine.specs.MachineState.{image_of, state_of};
-ghost use Rattle.text_told.specs.Dumps.{by_place, lines_from};
-ghost use Rattle.text_bytes.specs.RawDumps.{object_text, raw_dump, raw_items};
+ghost use Rattle.text_bytes.specs.RawDumps.{object_text, raw_dump, raw_items, contents_lines};
 ghost use Rattle.text_bytes.specs.RawTexts.{IsKnown};
 
 use crate::items::push_rows;
@@ -56,7 +55,7 @@ fn append_contents<M: Memory, L: SoundLayout>(
 ) -> Result<(), NoMemory>
     requires layout { L.lays_out layout.now h.now }
     requires known { c.0 < length h.now }
-    ensures { OnOk result (text.new.items ≡ text.old.items ++ lines_from ((places_of h.now (L.rows layout.now)).size c) 0 (by_place ((places_of h.now (L.rows layout.now)).size c) (raw_items h.now (places_of h.now (L.rows layout.now)) (image_of machine.now) (state_of machine.now).memory (state_of machine.now).objects start c))) }
+    ensures { OnOk result (text.new.items ≡ text.old.items ++ contents_lines h.now (places_of h.now (L.rows layout.now)) (image_of machine.now) (state_of machine.now).memory (state_of machine.now).objects start c) }
 {
     h.keeps();
     let size = layout.layout(c).size;

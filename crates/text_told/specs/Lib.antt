@@ -5,3 +5,4 @@ pub mod OutTexts
 pub mod invariants
 pub mod Told
 pub mod Layouts
+pub mod ToldLaws

@@ -1,5 +1,5 @@
 -- The finished row of one class, by what is known of the classes before it (Itanium C++ ABI 2.4).
-use Rattle.std.specs.Prelude.{◌≡◌, ℕ, ◌<◌, Bool, false, Option, Some, List, [], ◌∷◌, ◌++◌, Contains, filter, length, map}
+use Rattle.std.specs.Prelude.{◌≡◌, ℕ, ◌<◌, Bool, false, Option, Some, None, List, [], ◌∷◌, ◌++◌, Contains, filter, get_or, length, map, slice_get, slice_set}
 use Rattle.cxx_hierarchy.specs.declared.records.ClassId.{ClassId}
 use Rattle.cxx_hierarchy.specs.declared.stop.Stop.{Stop}
 use Rattle.cxx_hierarchy.specs.Classes.{Class, Classes}
@@ -10,6 +10,10 @@ use Rattle.abi_primary.specs.declared.Primary.TheVariants.{Virtual}
 use Rattle.abi_primary.specs.Holder.{holder_of}
 use Rattle.abi_sound.specs.declared.class_layout.ClassLayout.{ClassLayout}
 use Rattle.abi_layout.specs.declared.known.Known.{Known}
+use Rattle.abi_layout.specs.declared.component.Component.{Component}
+use Rattle.abi_layout.specs.declared.arrangement.Arrangement.{Arrangement}
+use Rattle.abi_layout.specs.declared.scene.Scene.{Scene}
+use Rattle.abi_layout.specs.declared.virtual_places.VirtualScene.{VirtualScene}
 use Rattle.abi_layout.specs.declared.placed_bases.PlacedBase.{PlacedBase}
 use Rattle.abi_layout.specs.declared.laid_row.ClassFacts.{ClassFacts}
 use Rattle.cxx_hierarchy.specs.Declarations.{is_plain_base}
@@ -21,7 +25,8 @@ use Rattle.cxx_subobject.specs.VirtualBases.{virtual_bases}
 use Rattle.abi_layout.specs.PlacedBases.{free_bases}
 use Rattle.abi_layout.specs.invariants.OwnPlaces.{own_places}
 use Rattle.abi_layout.specs.Repeats.{SomeRepeats}
-use Rattle.abi_layout.specs.invariants.Arrangements.{IsRefusal, components_by}
+use Rattle.abi_layout.specs.invariants.Settled.{AreVirtualPlaces, free_table, held_at}
+use Rattle.abi_layout.specs.invariants.Arrangements.{IsArranged, IsRefusal, components_by}
 use Rattle.abi_layout.specs.Layouts.{place_of, placed_place, virtual_place, primary_of, fronts, start_stage, IsLayoutBy}
 
 -- the row with these virtual bases, their places, and what holds each
@@ -62,6 +67,23 @@ abbrev pub IsRefusedWith : Classes → ClassId → List ClassLayout → List Kno
 IsRefusedWith h c before known primaries class front free has_pointer is_pod stop =
     IsRefusal (start_stage c has_pointer) (components_by h before known primaries c front) (members_by before known class) (components_by h before known primaries c free) is_pod class.at stop
 
+-- the components that these bases of the class of a scene are
+abbrev pub components_in : Scene → List PlacedBase → List Component
+components_in x bases = components_by x.h.now x.rows.now x.known.now x.primaries.now x.c bases
+
+-- the virtual bases of that class which no subobject holds
+abbrev pub frees_in : Scene → List PlacedBase
+frees_in x = free_bases x.h.now x.primaries.now x.c
+
+-- that class, which has these bases before its members and these virtual bases behind them, is arranged so
+abbrev pub IsArrangedIn : Scene → Class → (has_pointer : Bool) → (front free : List PlacedBase) → (is_pod : Bool) → Arrangement → Type 0
+IsArrangedIn x class has_pointer front free is_pod a =
+    IsArranged (start_stage x.c has_pointer) (components_in x front) (members_by x.rows.now x.known.now class) (components_in x free) is_pod a
+
+-- what an error tells of that class, which has these bases before its members and these virtual bases behind them
+abbrev pub IsRefusedIn : Scene → Class → (has_pointer : Bool) → (front free : List PlacedBase) → (is_pod : Bool) → Stop → Type 0
+IsRefusedIn x class has_pointer front free is_pod stop = IsRefusedWith x.h.now x.c x.rows.now x.known.now x.primaries.now class front free has_pointer is_pod stop
+
 -- what an error tells of class c
 abbrev pub IsRefusedBy : Classes → ClassId → List ClassLayout → List Known → List Primary → Class → Bool → Stop → Type 0
 IsRefusedBy h c before known primaries class has_pointer stop = IsRefusedWith h c before known primaries class (fronts primaries c class) (free_bases h primaries c) has_pointer (pod_kind (pods_in known) class) stop
@@ -79,3 +101,12 @@ pub record IsRowAdded (h : Classes) (c : ClassId) (before : List ClassLayout) (k
   pub within : AreWithin row.nvsize facts.members
   pub fronts_apart : SomeRepeats (components_by h before known primaries c (fronts primaries c class)) → ⊥
   pub frees_apart : SomeRepeats (components_by h before known primaries c (free_bases h primaries c)) → ⊥
+
+-- the places of these virtual bases, where a scene tells which subobjects hold any, and where the others lie
+abbrev pub AreVirtualPlacesIn : VirtualScene → List ClassLayout → (virtuals : List ClassId) → (places : List ℕ) → Type 0
+AreVirtualPlacesIn x rows virtuals places = AreVirtualPlaces x.h.now rows x.list.now x.holders.now (free_table x.c.0 x.free.now x.free_places.now) virtuals places
+
+-- the row of the class of the scene gets these virtual bases and places, and what holds each
+abbrev pub FillsRow : VirtualScene → (virtuals : List ClassId) → (places : List ℕ) → (old new : List ClassLayout) → Type 0
+FillsRow x virtuals places old new = (row : ClassLayout) → slice_get old x.c.0 ≡ Some row →
+    new ≡ slice_set old x.c.0 (filled_row row virtuals places (map (λ (v : ClassId). held_at x.list.now (get_or x.holders.now v.0 None)) virtuals))

@@ -16,6 +16,8 @@ use Rattle.code_statements.specs.invariants.Fits.{routine_of}
 use Rattle.code_blocks.specs.Items.{Item}
 use Rattle.code_blocks.specs.Blocks.{Place, items, statement_ops, closing_ops}
 use Rattle.code_blocks.specs.Lowered.{own_block}
+use Rattle.code_blocks.specs.invariants.ItemCodes.{form_of}
+use Rattle.code_plans.specs.declared.plan_sites.ClassPlan.{ClassPlan}
 use Rattle.abi_lower.specs.invariants.Numbers.{plan_routines, routines, number_of}
 
 -- the blocks of the own events of what is left of a plan
@@ -35,6 +37,18 @@ end_block x at r body = record { ops = closing_ops x at r; line = body.close_lin
 abbrev pub statement_blocks : Setup → (Place → ℕ) → Routine → TypedBody → ℕ → List TypedStatement → List Block
 statement_blocks x at r body n [] = end_block x at r body ∷ []
 statement_blocks x at r body n (s ∷ list) = record { ops = statement_ops x at r body n s; line = s.line } ∷ statement_blocks x at r body (n + 1) list
+
+-- the block of the first of these items of a plan, if it has one
+abbrev pub item_blocks : Setup → ClassPlan → List Item → List Block
+item_blocks x plan items = option_to_list (own_block x (number_of x) plan.course (form_of plan.form) plan.class items)
+
+-- the blocks of all statements of a body, and of its end
+abbrev pub run_of_body : Setup → Routine → TypedBody → List Block
+run_of_body x r body = statement_blocks x (number_of x) r body 0 body.statements
+
+-- the block of the end of a body
+abbrev pub last_block : Setup → Routine → TypedBody → Block
+last_block x r body = end_block x (number_of x) r body
 
 abbrev pub blocks_of_body : Setup → (Place → ℕ) → Routine → Option TypedBody → List Block
 blocks_of_body x at r None = []

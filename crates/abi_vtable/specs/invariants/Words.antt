@@ -18,10 +18,12 @@ use Rattle.abi_slots.specs.declared.words.Offset.TheVariants.{ToBase, ToOverride
 use Rattle.cxx_overrider.specs.Virtuals.{same_name, own}
 use Rattle.abi_slots.specs.Listing.{is_name, entries, offsets}
 use Rattle.abi_slots.specs.Slots.{IsVirtualBase}
-use Rattle.abi_slots.specs.Views.{View, next, walk}
+use Rattle.abi_slots.specs.Views.{View, first_in, next, walk}
 use Rattle.abi_slots.specs.Groups.{named_in, declares_at}
 use Rattle.abi_vtable.specs.declared.view.Part.{Part}
+use Rattle.abi_vtable.specs.declared.view.ViewParts.{ViewParts}
 use Rattle.abi_vtable.specs.declared.words.Declarer.{Declarer}
+use Rattle.abi_vtable.specs.invariants.Parts.{view_in}
 
 -- the function of an offset is a virtual one of the subobject that the path names
 abbrev pub IsNamed : Classes → ClassId → Offset → Type 0
@@ -62,3 +64,7 @@ pub data IsDeclaredBy (h : Classes) (l : Places) (x : View) (parts : List Part) 
 pub record GoAlongTo {A : Type 0} {B : Type 0} (R : A → B → Type 0) (xs : List A) (i : ℕ) (ys : List B) : Type 0 where
   pub size : length ys ≡ i
   pub each : (j : ℕ) (a : A) (b : B) → slice_get xs j ≡ Some a → slice_get ys j ≡ Some b → R a b
+
+-- the first from s on, so many steps down its chain, whose class declares a function at the entry
+abbrev pub IsFirstDeclarer : Classes → Places → ViewParts → EntryKey → (steps : ℕ) → Option Subobject → Option Declarer → Type 0
+IsFirstDeclarer h l x k steps s found = IsDeclaredBy h l (view_in x) x.parts k (first_in (declares_at h l k) (next l (view_in x)) steps s) found

@@ -7,10 +7,12 @@ use Rattle.cxx_syntax.specs.declared.source_text.SourceText.{SourceText}
 use Rattle.cxx_program.specs.declared.program.TypedProgram.{TypedProgram}
 use Rattle.abi_sound.specs.declared.class_layout.ClassLayout.{ClassLayout}
 use Rattle.cxxabi_cmd.specs.declared.reply.Reply.{Reply}
+use Rattle.cxxabi_cmd.specs.declared.verdict.Accepted.{Accepted}
 use Rattle.cxxabi_words.specs.declared.command.Command.{Command}
+use Rattle.cxxabi_words.specs.declared.command.Command.TheVariants.{Foreign}
 use Rattle.cxxabi_cmd.specs.Commands.{IsOnBytes, RunsMain}
 use Rattle.cxxabi_cmd.specs.Divided.{IsLayoutOf}
-use Rattle.cxxabi_cmd.specs.Output.{Answer, source_limit}
+use Rattle.cxxabi_cmd.specs.Output.{Answer, Yields, source_limit}
 use Rattle.cxxabi_cmd.specs.Handed.{Seen, seen_of, IsMachineOf}
 
 -- what was read of a source is all of it, or passes the limit as the source does
@@ -41,3 +43,7 @@ pub record IsRunBy (command : Command) (front : List ℕ) (source : SourceText) 
 abbrev pub HandsBy : Command → List ℕ → SourceText → Classes → TypedProgram → Option Seen → Type 0
 HandsBy command front source h program None = (trace : Bool) (steps : ℕ) (tree : BodyTree) (rows : List ClassLayout) → RunsMain command steps trace → IsOnBytes command → source.main ≡ Some tree → IsLayoutOf command front h rows → ⊥
 HandsBy command front source h program (Some machine) = IsRunBy command front source h program machine
+
+-- the reply is one that `foreign` gives to this listing and an accepted source
+abbrev pub YieldsForeign : Accepted → List ℕ → (size steps : ℕ) → Reply → Type 0
+YieldsForeign accepted listing size steps reply = Yields listing size accepted.source accepted.hierarchy accepted.program (Foreign steps) (answer_of reply)

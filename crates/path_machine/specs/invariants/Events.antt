@@ -12,7 +12,7 @@ use Rattle.path_machine.specs.declared.telling.Telling.{Telling}
 use Rattle.path_machine.specs.Tellings.{TellsMore}
 use Rattle.path_model.specs.Values.{Pointer}
 use Rattle.path_model.specs.States.{Planned, Frame, State, with_objects}
-use Rattle.path_model.specs.Steps.{objects_after, event_outs, resumed}
+use Rattle.path_model.specs.Steps.{objects_after, event_outs, resumed, event_step}
 use Rattle.path_heap.specs.declared.state.Part.{Part}
 use Rattle.path_heap.specs.Points.{IsPart}
 use Rattle.path_events.specs.declared.plan.PlanEvent.{PlanEvent}
@@ -23,7 +23,7 @@ use Rattle.path_frames.specs.declared.machine.Machine.{Machine}
 use Rattle.path_frames.specs.Machines.{MachineStands}
 use Rattle.path_machine.specs.declared.next.Next.{Next as NextCode}
 use Rattle.path_machine.specs.invariants.Steps.{StepAgrees, CanGive}
-use Rattle.path_machine.specs.invariants.Setups.{IsPlanTaken}
+use Rattle.path_machine.specs.invariants.Setups.{IsPlanTaken, IsPlanNext}
 
 -- the part whose body is next
 abbrev pub body_part : PlanEvent → Option Part
@@ -63,3 +63,8 @@ Resumes h program old new frame next = (sizes : ClassId → ℕ) (s : State) (f 
 abbrev pub Enters : Classes → TypedProgram → (old new : Machine) → PlanFrame → Part → NextCode → Type 0
 Enters h program old new frame part next = (sizes : ClassId → ℕ) (s : State) (f : Planned) (p : ObjectPart) (events : List Event) (below : List Frame) (outs : List Out) (before after : Telling) →
     IsPlanTaken h sizes program old frame s (with_events f (Body p ∷ events)) below → IsPart h s.objects.classes part p → TellsMore before after outs → StepAgrees h sizes program (resumed program s f below outs (Body p ∷ events)) new before after next
+
+-- the plan on top, which was taken, makes its next step
+abbrev pub StepsPlan : Classes → TypedProgram → (old new : Machine) → PlanFrame → (before after : Telling) → NextCode → Type 0
+StepsPlan h program old new frame before after next = (sizes : ClassId → ℕ) (s : State) (f : Planned) (below : List Frame) →
+    IsPlanTaken h sizes program old frame s f below → IsPlanNext h s f frame.whole.class → StepAgrees h sizes program (event_step program s f below f.events) new before after next
