@@ -44,6 +44,9 @@ impl Width {
         ensures value { result ≡ word % 256 ^ self.bytes }
         ensures fits { result < 256 ^ self.bytes }
     {
+        if self.bytes == 8 {
+            return word;
+        }
         word & self.greatest()
     }
 
@@ -70,6 +73,9 @@ impl Width {
         requires fits { low < 256 ^ self.bytes }
         ensures { result ≡ extended self low }
     {
+        if self.bytes == 8 {
+            return low;
+        }
         let greatest = self.greatest();
         if self.signed && low > greatest / 2 {
             low + (u64::MAX - greatest)

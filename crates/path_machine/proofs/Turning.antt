@@ -31,7 +31,7 @@ use Rattle.path_machine.specs.Tellings.{TellsMore}
 
 -- the machine after a step that is not counted yet
 abbrev pub moved : PathState → Machine → Answers → PathState
-moved before machine answers = record { machine = machine; answers = answers; taken = before.taken; budget = before.budget; end = before.end }
+moved before machine answers = record { machine = machine; answers = answers; taken = before.taken; budget = before.budget; end = before.end; failed = before.failed }
 
 steps_by : (h : Classes) (sizes : ClassId → ℕ) (program : TypedProgram) (before : PathState) (machine : Machine) (answers : Answers) (told telling : Telling) (m : Move) → move h sizes program (state_at h sizes program before.taken) ≡ m → (m ≡ IsWrong → ⊥) →
     IsAtStep h sizes program before → before.taken < before.budget → AreAnswers h answers → MoveAgrees h sizes program m machine told telling GoesCode → Steps h sizes program before (moved before machine answers) told telling

@@ -1,5 +1,5 @@
 -- When the machine is at a step of a run, and what a turn has to be.
-use Rattle.std.specs.Prelude.{◌≡◌, ◌≤◌, ℕ, ◌+◌, Option, Some, None}
+use Rattle.std.specs.Prelude.{◌≡◌, ◌≤◌, ℕ, ◌+◌, Bool, Option, Some, None}
 use Rattle.cxx_hierarchy.specs.declared.records.ClassId.{ClassId}
 use Rattle.cxx_hierarchy.specs.Classes.{Classes}
 use Rattle.cxx_program.specs.declared.program.TypedProgram.{TypedProgram}
@@ -21,6 +21,10 @@ budget_of state = state.budget
 
 abbrev pub ended_with : PathState → Option Turn
 ended_with state = state.end
+
+-- an earlier step answered NoMemory
+abbrev pub lacked_memory : PathState → Bool
+lacked_memory state = state.failed
 
 -- the ending that an answer says; a step that was taken ends nothing
 abbrev pub ending_of : Turn → Ending

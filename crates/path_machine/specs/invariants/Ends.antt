@@ -15,7 +15,7 @@ use Rattle.path_machine.specs.Turns.{IsAtStep, ending_of}
 
 -- one step more is counted
 abbrev pub counted : PathState → PathState
-counted state = record { machine = state.machine; answers = state.answers; taken = state.taken + 1; budget = state.budget; end = state.end }
+counted state = record { machine = state.machine; answers = state.answers; taken = state.taken + 1; budget = state.budget; end = state.end; failed = state.failed }
 
 -- a step was taken: once it is counted the machine is at the next one, and what the step tells is told
 pub record Steps (h : Classes) (sizes : ClassId → ℕ) (program : TypedProgram) (before after : PathState) (told telling : Telling) : Type 0 where
@@ -40,9 +40,10 @@ pub record HasMoved (h : Classes) (sizes : ClassId → ℕ) (program : TypedProg
   pub taken : after.taken ≡ before.taken
   pub budget : after.budget ≡ before.budget
   pub end : after.end ≡ before.end
+  pub failed : after.failed ≡ before.failed
   pub leaves : Leaves h sizes program before after told telling next
 
 -- the answer is kept, and nothing else has changed
 pub record IsFinished (before after : PathState) (turn result : Turn) : Type 0 where
-  pub is : after ≡ record { machine = before.machine; answers = before.answers; taken = before.taken; budget = before.budget; end = Some turn }
+  pub is : after ≡ record { machine = before.machine; answers = before.answers; taken = before.taken; budget = before.budget; end = Some turn; failed = before.failed }
   pub answer : result ≡ turn

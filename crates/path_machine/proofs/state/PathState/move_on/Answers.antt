@@ -26,5 +26,6 @@ returns c =
       taken = refl;
       budget = refl;
       end = refl;
+      failed = refl;
       leaves = leaves h sizes program before c.move_on.new.machine c.move_on.new.answers c.args.outs.now c.move_on.new.outs c.in_ok-next.next right goes c.requires.at c.requires.room c.in_ok-next.ensures.answers agrees;
     }
