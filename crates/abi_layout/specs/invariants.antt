@@ -4,5 +4,6 @@ pub mod ClassRows
 pub mod Known
 pub mod LaidSoFar
 pub mod OwnPlaces
+pub mod Ranks
 pub mod Scenes
 pub mod Settled

@@ -9,6 +9,7 @@ use Rattle.std.proofs.lemmas.Option.{slice_get_read}
 use Rattle.abi_emptybase.specs.declared.Part.{Part}
 use Rattle.abi_emptybase.specs.Table.{same_part, holds, moved, Adds}
 use Rattle.abi_layout.specs.Repeats.{HasRepeat}
+use Rattle.abi_layout.specs.invariants.Ranks.{rank}
 use Rattle.abi_layout.proofs.rules.Parts.{split, opposed, holds_more}
 use Rattle.abi_layout.proofs.rules.PlacedLemmas.{moved_none}
 
@@ -101,24 +102,24 @@ none_twice parts table i le single twice =
     let lt = get_below parts twice.second twice.part twice.at_second in
     single.once twice.first twice.second twice.part twice.ordered (omega arith) twice.at_first twice.at_second
 
--- the classes of the first i parts fall, and none is below the bound
+-- the ranks of the first i parts fall, and none is below the bound
 pub record AreFalling (parts : List Part) (i bound : ℕ) : Type 0 where
-  pub above : (j : ℕ) (part : Part) → j < i → slice_get parts j ≡ Some part → bound ≤ part.class
+  pub above : (j : ℕ) (part : Part) → j < i → slice_get parts j ≡ Some part → bound ≤ rank part
   pub once : (j k : ℕ) (part : Part) → j < k → k < i → slice_get parts j ≡ Some part → slice_get parts k ≡ Some part → ⊥
 
 pub none_falls : (parts : List Part) (bound : ℕ) → AreFalling parts 0 bound
 none_falls parts bound = record { above = λ j part lt e. absurd (omega arith); once = λ j k part less lt a b. absurd (omega arith) }
 
-pub falls_more : (parts : List Part) (i bound : ℕ) (part : Part) → i < length parts → part ≡ get_or parts i part → AreFalling parts i bound → part.class < bound → AreFalling parts (i + 1) part.class
+pub falls_more : (parts : List Part) (i bound : ℕ) (part : Part) → i < length parts → part ≡ get_or parts i part → AreFalling parts i bound → rank part < bound → AreFalling parts (i + 1) (rank part)
 falls_more parts i bound part lt is falling low = record {
   above = λ j x less e. ⊎_elim
-      (λ same. let one = here x (subst (λ n. slice_get parts n ≡ Some x) same e) in let c : x.class ≡ part.class = ap (λ (y : Part). y.class) one in omega arith)
+      (λ same. let one = here x (subst (λ n. slice_get parts n ≡ Some x) same e) in let c : rank x ≡ rank part = ap rank one in omega arith)
       (λ o. ⊎_elim (λ l. let high = falling.above j x l e in omega (arith, high, low)) (λ g. absurd (omega arith)) o)
       (cases_order j i);
   once = λ j k x less below a b. ⊎_elim
       (λ same.
       let one = here x (subst (λ n. slice_get parts n ≡ Some x) same b) in
-      let c : x.class ≡ part.class = ap (λ (y : Part). y.class) one in
+      let c : rank x ≡ rank part = ap rank one in
       let before : j < i = omega arith in
       let high = falling.above j x before a in absurd (omega (arith, high, low, c)))
       (λ o. ⊎_elim (λ l. falling.once j k x less l a b) (λ g. absurd (omega arith)) o)
