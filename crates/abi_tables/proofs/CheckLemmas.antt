@@ -1,10 +1,12 @@
 -- The words of all classes, step by step.
-use Rattle.std.proofs.Common.{◌≡◌, ℕ, suc, ◌+◌, ◌<◌, zero, true, List, [], ◌∷◌, length, get_or, ap, subst, sym, arith, add-one}
-use Rattle.std.specs.Prelude.{All}
+use Rattle.std.proofs.Common.{◌≡◌, ℕ, suc, ◌+◌, ◌<◌, ◌≤◌, zero, true, List, [], ◌∷◌, length, get_or, ap, subst, sym, arith, add-one}
+use Rattle.std.specs.Prelude.{All, min}
+use Rattle.std.specs.List.{sum_by}
 use Rattle.cxx_hierarchy.specs.declared.records.ClassId.{ClassId}
 use Rattle.cxx_hierarchy.specs.Classes.{Classes}
 use Rattle.cxx_hierarchy.specs.Hierarchies.{IsHierarchy}
-use Rattle.cxx_subobject.specs.Subobjects.{IsSubobject, whole, whole_of}
+use Rattle.cxx_subobject.specs.declared.Subobject.{Subobject}
+use Rattle.cxx_subobject.specs.Subobjects.{IsSubobject, class_of, whole, whole_of}
 use Rattle.cxx_subobject.specs.VirtualBases.{virtual_bases}
 use Rattle.cxx_subobject.proofs.VirtualBaseLemmas.{virtual_has}
 use Rattle.abi_primary.specs.Kinds.{IsDynamic}
@@ -14,7 +16,7 @@ use Rattle.abi_slots.specs.Views.{is_dynamic}
 use Rattle.abi_slots.proofs.Chains.{same_some}
 use Rattle.abi_slots.proofs.Heads.{test_dynamic}
 use Rattle.abi_vtt.specs.Vtts.{has_virtual, HasDynamicClass}
-use Rattle.abi_tables.specs.Counts.{class_words, words_to}
+use Rattle.abi_tables.specs.Counts.{class_words, group_views, most_words, vtt_words, words_of_view, words_to}
 use Rattle.abi_tables.specs.invariants.Weights.{cut}
 use Rattle.abi_tables.proofs.VttSums.{first_of}
 
@@ -37,3 +39,14 @@ all_at P xs i x all lt is = subst P (sym is) (all i x lt)
 
 pub one_class_more : (h : Classes) (l : Places) (n : ℕ) → cut (words_to h l n + class_words h l (record { 0 = n })) ≡ cut (words_to h l (n + 1))
 one_class_more h l n = ap (λ k. cut (words_to h l k)) (sym (add-one n))
+
+-- the VTTs of one class more have no more words than all that it has
+pub vtt_within : (h : Classes) (l : Places) (n sum len new : ℕ) → sum ≤ words_to h l n → len ≡ min (vtt_words h l (record { 0 = n })) (most_words + 1) → new ≡ cut (sum + len) → new ≤ words_to h l (n + 1)
+vtt_within h l n sum len new before is made =
+    let c : ClassId = record { 0 = n } in
+    let here : vtt_words h l c ≤ class_words h l c = at_end (sum_by (λ (x : Subobject). words_of_view h l c x (class_of x)) (group_views h c)) (vtt_words h l c) in
+    let more : words_to h l (n + 1) ≡ words_to h l n + class_words h l c = ap (words_to h l) (add-one n) in
+    omega (arith, before, is, made, here, more)
+  where
+    at_end : (a b : ℕ) → b ≤ a + b
+    at_end a b = omega arith

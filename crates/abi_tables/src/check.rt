@@ -2,7 +2,7 @@
 
 ghost use Rattle.std.specs.Prelude.{◌≡◌, ◌+◌, ◌≤◌, ◌<◌, ◌⊎◌, ℕ, IfErr, IfOk, OnOk, length};
 ghost use Rattle.cxx_subobject.specs.Subobjects.{IsSubobject, class_of};
-ghost use Rattle.abi_sound.specs.Places.{places_of};
+ghost use Rattle.abi_sound.specs.Places.{Places, places_of};
 ghost use Rattle.abi_slots.specs.Slots.{AreSlots};
 ghost use Rattle.abi_vtt.specs.Vtts.{HasDynamicClass};
 ghost use Rattle.abi_tables.specs.Counts.{AreVttLengths, all_words, class_words, most_words, words_of_view};
@@ -117,6 +117,32 @@ fn all_words<L: SoundLayout>(
         sum = with_class(alloc, h, layout, slots, &sides, &lengths, ClassId(n), sum)?;
     }
     Ok(sum)
+}
+
+/// The words of the VTTs of all classes, as far as the limit.
+fn vtt_words(h: &Hierarchy, lengths: &VttLengths) -> u32
+    ensures { (l : Places) → AreVttLengths h.now l lengths.now.lengths → result ≤ all_words h.now l }
+{
+    let mut sum = 0;
+    for n in 0..h.len() {
+        sum = capped(sum, lengths.vtt_len(ClassId(n)));
+    }
+    sum
+}
+
+/// Whether the words of the VTTs alone are within the limit on all words. It asks for nothing that classes list, so that a
+/// hierarchy which passes the limit by far is refused at little cost.
+///
+/// Errors: the limit L7, only where the words of all groups and VTTs are more than 1,048,576; want of memory.
+pub fn check_vtts<L: SoundLayout>(alloc: Global, h: &Hierarchy, layout: &L) -> Result<(), Stop>
+    requires { L.lays_out layout.now h.now }
+    ensures { IfErr result (λ stop. (stop ≡ Stop.NoMemory) ⊎ ((stop ≡ Stop.Limit LimitNo.L7) × (most_words < all_words h.now (places_of h.now (L.rows layout.now))))) }
+{
+    let lengths = VttLengths::new(alloc, h, layout)?;
+    if vtt_words(h, &lengths) > MOST_WORDS {
+        return Err(Stop::Limit(LimitNo::L7));
+    }
+    Ok(())
 }
 
 /// Whether the words of all groups and VTTs are within the limit.

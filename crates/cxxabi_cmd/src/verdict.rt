@@ -12,7 +12,7 @@ ghost use Rattle.cxxabi_cmd.specs.Verdict.{Verdict, Stops, Accepts, IsFirstFault
 
 use abi_layout::{AbiLayout, lay_out, lay_out_first};
 use abi_slots::Slots;
-use abi_tables::check_words;
+use abi_tables::{check_vtts, check_words};
 use cxx_decl_parser::parse_source;
 use cxx_hierarchy::{Hierarchy, LimitNo, Stop, build};
 use cxx_overrider::{ClassStop, Overriders, check_by_class};
@@ -90,6 +90,8 @@ fn check_tables(
     ensures slots { IfOk result (AreSlots h.now (places_of h.now layout.now)) }
     ensures err { IfErr result (λ stop. (stop ≡ Stop.NoMemory) ⊎ ((stop ≡ Stop.Limit LimitNo.L7) × HasManyWords h.now)) }
 {
+    // What the classes list may take far more memory than the lengths of their VTTs, which alone can pass the limit.
+    check_vtts(alloc, h, layout)?;
     let slots = Slots::new(alloc, h, overriders, layout)?;
     check_words(alloc, h, layout, &slots)?;
     Ok(slots)
