@@ -1,6 +1,7 @@
 pub mod OneGroup
 pub mod Lists
 pub mod Parts
+pub mod Marks
 pub mod HeadNumbers
 pub mod Over
 pub mod Declaring

@@ -1,6 +1,6 @@
 -- The parts of a view, as code keeps them: a subobject is a number in their list.
-use Rattle.std.specs.Prelude.{◌≡◌, ℕ, ◌<◌, ◌≤◌, ◌↔◌, get_or, Bool, false, IsTrue, nat_eq, Option, Some, None, List, ◌++◌, map, filter, slice_get, drop}
-use Rattle.std.specs.List.{flat_map, filter_map}
+use Rattle.std.specs.Prelude.{◌≡◌, ℕ, ◌<◌, ◌≤◌, ◌↔◌, get_or, Bool, false, IsTrue, nat_eq, Option, Some, None, List, ◌++◌, map, filter, length, slice_get, take, drop}
+use Rattle.std.specs.List.{flat_map, filter_map, list_any}
 use Rattle.cxx_hierarchy.specs.Classes.{Classes}
 use Rattle.cxx_hierarchy.specs.Hierarchies.{IsHierarchy}
 use Rattle.cxx_subobject.specs.declared.Root.{Root}
@@ -63,6 +63,11 @@ pub record IsSomeView (h : Classes) (v : ViewParts) : Type 0 where
 abbrev pub leads_to : ℕ → Option ℕ → Bool
 leads_to n None = false
 leads_to n (Some m) = nat_eq m n
+
+-- the marks say by number which parts are the next of one of the first i
+pub record AreNextMarks (parts : List Part) (i : ℕ) (marks : List Bool) : Type 0 where
+  pub size : length marks ≡ length parts
+  pub each : (n : ℕ) → n < length parts → get_or marks n false ≡ list_any (λ (part : Part). leads_to n part.next) (take i parts)
 
 -- the subobjects of some numbers
 abbrev pub numbered : List Subobject → List ℕ → List (Option Subobject)
