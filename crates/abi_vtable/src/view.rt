@@ -1,10 +1,10 @@
 //! The subobjects of a view: where they lie, and the next of each one's chain.
 
-ghost use Rattle.std.specs.Prelude.{◌≡◌, ◌<◌, ◌≤◌, ◌↔◌, ◌++◌, [], ℕ, IsTrue, IfOk, IfSome, MatchOption, Some, None, length, slice_get, slice_index_or};
+ghost use Rattle.std.specs.Prelude.{◌≡◌, ◌<◌, ◌≤◌, ◌↔◌, ◌++◌, ◌∷◌, [], ℕ, IsTrue, IfOk, IfSome, MatchOption, Some, None, length, slice_get, slice_index_or};
 ghost use Rattle.cxx_hierarchy.specs.declared.records.ClassId.{ClassId};
 ghost use Rattle.cxx_hierarchy.specs.Classes.{Classes};
 ghost use Rattle.cxx_subobject.specs.declared.Subobject.{Subobject};
-ghost use Rattle.cxx_subobject.specs.Subobjects.{IsSubobject, shared_base, class_of};
+ghost use Rattle.cxx_subobject.specs.Subobjects.{IsSubobject, subobject, same_path, same_subobject, shared_base, class_of};
 ghost use Rattle.cxx_subobject.specs.Preorder.{preorder};
 ghost use Rattle.abi_primary.specs.Kinds.{IsDynamic};
 ghost use Rattle.abi_sound.specs.Places.{places_of};
@@ -16,7 +16,9 @@ use abi_slots::GroupName;
 use abi_sound::SoundLayout;
 use cxx_hierarchy::{ClassId, Hierarchy};
 use cxx_subobject::listing::longer_path;
-use cxx_subobject::{Root, Subobject, class_of, is_same, join, list_subobjects, subobject_below};
+use cxx_subobject::{
+    Root, Subobject, class_of, is_same, is_same_root, join, list_subobjects, subobject_below,
+};
 use foundation::{NoMemory, Sequence};
 use std::alloc::Global;
 
@@ -68,6 +70,54 @@ fn number_of(list: &[Subobject], target: &Subobject, near: usize) -> Option<usiz
     match number_from(list, target, near) {
         Some(n) => Some(n),
         None => number_from(list, target, 0),
+    }
+}
+
+/// Whether one path is another with a class behind it.
+fn is_path_below(path: &[ClassId], front: &[ClassId], last: ClassId) -> bool
+    ensures { result ≡ same_path path.now (front.now ++ last ∷ []) }
+{
+    match front {
+        [] => match path {
+            [] => false,
+            [c, rest @ ..] => c.0 == last.0 && rest.is_empty(),
+        },
+        [d, front @ ..] => match path {
+            [] => false,
+            [c, path @ ..] => c.0 == d.0 && is_path_below(path, front, last),
+        },
+    }
+}
+
+/// Whether a subobject is the base of a class that another one has for its own. It takes no memory.
+fn is_below(t: &Subobject, s: &Subobject, b: ClassId) -> bool
+    ensures { result ≡ same_subobject t.now (subobject s.now.root (s.now.path ++ b ∷ [])) }
+{
+    if !is_same_root(t.root, s.root) {
+        return false;
+    }
+    is_path_below(t.path.as_slice(), s.path.as_slice(), b)
+}
+
+/// The number of the base of a class that a subobject has for its own, in a list, from a number on.
+fn below_from(list: &[Subobject], s: &Subobject, b: ClassId, from: usize) -> Option<usize>
+    ensures { MatchOption result ((i : ℕ) → from ≤ i → slice_get list.now i ≡ Some (subobject s.now.root (s.now.path ++ b ∷ [])) → ⊥) (λ i. slice_get list.now i ≡ Some (subobject s.now.root (s.now.path ++ b ∷ []))) }
+{
+    for n in from..list.len() {
+        if is_below(&list[n], s, b) {
+            return Some(n);
+        }
+    }
+    None
+}
+
+/// The number of the base of a class that a subobject has for its own, in a list. It is looked for from a number on first.
+fn number_below(list: &[Subobject], s: &Subobject, b: ClassId, near: usize) -> Option<usize>
+    ensures { MatchOption result ((i : ℕ) → slice_get list.now i ≡ Some (subobject s.now.root (s.now.path ++ b ∷ [])) → ⊥) (λ i. slice_get list.now i ≡ Some (subobject s.now.root (s.now.path ++ b ∷ []))) }
+{
+    match below_from(list, s, b, near) {
+        Some(n) => Some(n),
+        None => below_from(list, s, b, 0),
     }
 }
 
@@ -136,8 +186,8 @@ fn next_of<L: SoundLayout>(
     match layout.layout(part.class).primary {
         Primary::None => Ok(None),
         Primary::Direct(b) => {
-            let below = subobject_below(alloc, &part.at, &[b])?;
-            Ok(number_of(list, &below, number))
+            // A first base stands next to the subobject.
+            Ok(number_below(list, &part.at, b, number.saturating_add(1)))
         }
         Primary::Virtual(v) => {
             if !is_holder(layout, h, x.complete, v, &part.seen) {
