@@ -23,6 +23,7 @@ use Rattle.path_frames.specs.declared.frames.Frame.TheVariants.{Body, Plan}
 use Rattle.path_frames.specs.declared.machine.Machine.{Machine}
 use Rattle.path_frames.specs.Frames.{target_of, BodyStands, FrameStands, FramesStand}
 use Rattle.path_frames.specs.Machines.{MachineStands, stack}
+use Rattle.path_frames.specs.invariants.Changes.{IsSameBut}
 
 -- values
 
@@ -40,15 +41,6 @@ zip_more R S f [] [] a = a
 zip_more R S f [] (w ∷ ys) a = absurd a
 zip_more R S f (v ∷ xs) [] a = absurd a
 zip_more R S f (v ∷ xs) (w ∷ ys) a = (f v w a.0, zip_more R S f xs ys a.1)
-
--- only the locals of a body differ
-pub record IsSameBut (code new : BodyFrame) : Type 0 where
-  pub owner : new.owner ≡ code.owner
-  pub this : new.this ≡ code.this
-  pub next : new.next ≡ code.next
-  pub found : new.found ≡ code.found
-  pub target : new.target ≡ code.target
-  pub depth : new.depth ≡ code.depth
 
 -- the local of a body
 pub local_set : (h : Classes) (classes : List ClassId) (code new : BodyFrame) (f : Running) (n : ℕ) (value : ValueCode) (v : Value) →

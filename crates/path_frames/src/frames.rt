@@ -3,6 +3,7 @@
 ghost use Rattle.std.specs.Prelude.{◌≡◌};
 ghost use Rattle.path_frames.specs.Frames.{depth_in};
 
+use crate::boxes::{BodyBox, PlanBox};
 use cxx_program::{Conversion, Owner, Variable};
 use path_events::Plan;
 use path_heap::{Part, Value};
@@ -44,8 +45,8 @@ pub struct PlanFrame {
 /// A frame of a body or of a plan.
 #[derive(Drop)]
 pub enum Frame {
-    Body(BodyFrame),
-    Plan(PlanFrame),
+    Body(BodyBox),
+    Plan(PlanBox),
 }
 
 impl Frame {
@@ -54,8 +55,8 @@ impl Frame {
         ensures { result ≡ depth_in self.now }
     {
         match self {
-            Frame::Body(frame) => frame.depth,
-            Frame::Plan(frame) => frame.depth,
+            Frame::Body(frame) => frame.get().depth,
+            Frame::Plan(frame) => frame.get().depth,
         }
     }
 }

@@ -8,11 +8,13 @@
 //! every state that it stood for. Only what puts something behind a list takes memory.
 #![tactic(auto)]
 
+pub mod boxes;
 pub mod frames;
 pub mod heap_bytes;
 pub mod lists;
 pub mod machine;
 
+pub use crate::boxes::{BodyBox, PlanBox};
 pub use crate::frames::{BodyFrame, Frame, PlanFrame, Target};
 pub use crate::heap_bytes::rounded;
 pub use crate::lists::set;

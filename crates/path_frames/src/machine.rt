@@ -76,7 +76,7 @@ impl Machine {
         ensures { (h : Classes) (sizes : ClassId → ℕ) (program : TypedProgram) (s : State) (v : ValueOf) → MachineStands h sizes program self.old s → Means h s.objects.classes value v → MachineStands h sizes program self.new (with_frames s (with_local_in s.frames n v)) }
     {
         if let Some(Frame::Body(frame)) = &mut self.top {
-            set(&mut frame.locals, n, value);
+            frame.put_local(n, value);
         }
     }
 

@@ -27,7 +27,8 @@ use Rattle.path_frames.specs.declared.frames.Frame.{Frame as FrameCode}
 use Rattle.path_frames.specs.declared.frames.Frame.TheVariants.{Body, Plan}
 use Rattle.path_frames.specs.declared.machine.Machine.{Machine}
 use Rattle.path_frames.specs.invariants.Changes.{Pops}
-use Rattle.path_frames.proofs.Changing.{IsSameBut, local_set}
+use Rattle.path_frames.specs.invariants.Changes.{IsSameBut}
+use Rattle.path_frames.proofs.Changing.{local_set}
 use Rattle.path_machine.specs.declared.next.Next.{Next as NextCode}
 use Rattle.path_machine.specs.invariants.Steps.{IsTaken, StepAgrees, MoveAgrees}
 use Rattle.path_machine.specs.invariants.Setups.{IsPlanTaken, IsPlanNext, IsBelowNext, IsBodyNext}

@@ -39,6 +39,7 @@ use Rattle.path_frames.specs.declared.frames.PlanFrame.{PlanFrame}
 use Rattle.path_frames.specs.declared.frames.Frame.{Frame as FrameCode}
 use Rattle.path_frames.specs.declared.frames.Frame.TheVariants.{Body as BodyFrameCode, Plan as PlanFrameCode}
 use Rattle.path_frames.specs.declared.machine.Machine.{Machine}
+use Rattle.path_frames.specs.invariants.Changes.{with_plan}
 use Rattle.path_frames.specs.Frames.{target_of, BodyStands, IsLastOf, PlanFrameStands, FrameStands, depth_in}
 use Rattle.path_frames.specs.Machines.{MachineStands}
 use Rattle.path_machine.specs.declared.next.Next.{Next as NextCode}
@@ -52,10 +53,6 @@ use Rattle.path_machine.specs.declared.telling.Telling.{Telling}
 use Rattle.path_machine.specs.Tellings.{TellsMore}
 
 -- frames
-
--- the frame with its plan at another event
-abbrev pub moved : PlanFrame → PlanCode → PlanFrame
-moved frame plan = record { whole = frame.whole; is_building = frame.is_building; plan = plan; target = frame.target; depth = frame.depth }
 
 -- the plan goes on behind its first event
 abbrev pub Advances : Classes → TypedProgram → (old new : PlanCode) → Type 0
@@ -73,7 +70,7 @@ last_behind : (p : ObjectPart) (e : Event) (events : List Event) → IsLastOf p 
 last_behind p e [] a = tt
 last_behind p e (x ∷ events) a = a
 
-plan_moved : (h : Classes) (program : TypedProgram) (classes : List ClassId) (frame : PlanFrame) (plan : PlanCode) (f : Planned) (e : Event) (events : List Event) → Advances h program frame.plan plan → PlanFrameStands h program classes frame (with_events f (e ∷ events)) → PlanFrameStands h program classes (moved frame plan) (with_events f events)
+plan_moved : (h : Classes) (program : TypedProgram) (classes : List ClassId) (frame : PlanFrame) (plan : PlanCode) (f : Planned) (e : Event) (events : List Event) → Advances h program frame.plan plan → PlanFrameStands h program classes frame (with_events f (e ∷ events)) → PlanFrameStands h program classes (with_plan frame plan) (with_events f events)
 plan_moved h program classes frame plan f e events advances a = record {
   plan_stands = advances classes e events a.plan_stands;
   same_kind = a.same_kind;
@@ -127,7 +124,7 @@ start_stands h classes code body part depth p is named = record {
 }
 
 pub enters_body : (h : Classes) (program : TypedProgram) → IsTypedProgram h program → (old mid new : Machine) (frame : PlanFrame) (part : Part) (plan : PlanCode) (code : BodyFrame) (body : TypedBody) → Some body ≡ body_of program (body_owner frame.is_building part.class)
-    → IsStart code body part frame.depth → Advances h program frame.plan plan → Pushes h program old mid (PlanFrameCode (moved frame plan)) → Pushes h program mid new (BodyFrameCode code) → Enters h program old new frame part GoesCode
+    → IsStart code body part frame.depth → Advances h program frame.plan plan → Pushes h program old mid (PlanFrameCode (with_plan frame plan)) → Pushes h program mid new (BodyFrameCode code) → Enters h program old new frame part GoesCode
 enters_body h program typed old mid new frame part plan code body found is advances pushes enters sizes s f p events below outs before after t named e =
     let owner = owner_named frame.is_building f.is_building p part.class t.plan_stands.same_kind (part_class h s.objects.classes part p named) in
     let there : body_of program (body_owner f.is_building (class_of_part p)) ≡ Some body = sym (found ∙ ap (body_of program) owner) in
@@ -248,19 +245,19 @@ Steps h program old new frame before after next events = (sizes : ClassId → �
     IsPlanTaken h sizes program old frame s (with_events f events) below → IsPlanNext h s (with_events f events) frame.whole.class → StepAgrees h sizes program (event_step program s f below events) new before after next
 
 steps_by : (h : Classes) (program : TypedProgram) (old mid new : Machine) (frame : PlanFrame) (plan : PlanCode) (code : PlanEvent) (before after : Telling) (next : NextCode) → Upcoming h program frame.plan (Some code) → Tells h program old code before after → Happens h program old mid code
-    → Advances h program frame.plan plan → Resumes h program mid new (moved frame plan) next → (events : List Event) → Steps h program old new frame before after next events
+    → Advances h program frame.plan plan → Resumes h program mid new (with_plan frame plan) next → (events : List Event) → Steps h program old new frame before after next events
 steps_by h program old mid new frame plan code before after next means tells happens advances resumes [] sizes s f below t n = tt
 steps_by h program old mid new frame plan code before after next means tells happens advances resumes (e ∷ events) sizes s f below t n =
     let is = means s.objects.classes (e ∷ events) t.plan_stands.plan_stands in
     let told = tells sizes (with_frames s below) e t.machine_stands is in
     let stands = happens sizes (with_frames s below) e t.machine_stands is (n.fits e events refl) in
     let x = with_objects s (objects_after program s.objects e) in
-    let taken : IsPlanTaken h sizes program mid (moved frame plan) x (with_events f events) below = record { machine_stands = stands; plan_stands = plan_moved h program s.objects.classes frame plan f e events advances t.plan_stands; counts = t.counts } in
+    let taken : IsPlanTaken h sizes program mid (with_plan frame plan) x (with_events f events) below = record { machine_stands = stands; plan_stands = plan_moved h program s.objects.classes frame plan f e events advances t.plan_stands; counts = t.counts } in
     event_is h sizes program s f below e events new before after next
     (resumes sizes x f events below (event_outs s.objects e) before after taken (can_end h program s f e events frame.whole.class t.plan_stands.ends_whole n) told)
 
 pub steps : (h : Classes) (program : TypedProgram) (old mid new : Machine) (frame : PlanFrame) (plan : PlanCode) (code : PlanEvent) (before after : Telling) (next : NextCode) → Upcoming h program frame.plan (Some code) → Tells h program old code before after → Happens h program old mid code
-    → Advances h program frame.plan plan → Resumes h program mid new (moved frame plan) next → (sizes : ClassId → ℕ) (s : State) (f : Planned) (below : List Frame) → IsPlanTaken h sizes program old frame s f below → IsPlanNext h s f frame.whole.class → StepAgrees h sizes program (event_step program s f below f.events) new before after next
+    → Advances h program frame.plan plan → Resumes h program mid new (with_plan frame plan) next → (sizes : ClassId → ℕ) (s : State) (f : Planned) (below : List Frame) → IsPlanTaken h sizes program old frame s f below → IsPlanNext h s f frame.whole.class → StepAgrees h sizes program (event_step program s f below f.events) new before after next
 steps h program old mid new frame plan code before after next means tells happens advances resumes sizes s f below t n = steps_by h program old mid new frame plan code before after next means tells happens advances resumes f.events sizes s f below t n
 
 -- a plan without events takes no step

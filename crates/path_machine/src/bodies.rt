@@ -40,7 +40,7 @@ use cxx_program::{
     Conversion, Converted, Owner, TypedBody, TypedKind, TypedOperand, TypedStatement, Variable,
 };
 use foundation::NoMemory;
-use path_frames::{BodyFrame, Frame, Machine, PlanFrame, Target, set};
+use path_frames::{BodyBox, Frame, Machine, PlanBox, Target};
 use path_heap::Value;
 use path_model::refusal_is_least;
 use path_refusals::{Moment, refusal};
@@ -57,7 +57,7 @@ fn block_at(n: usize, end: usize, behind: usize) -> usize
 /// The condition of an `if`, of number `after` - 1.
 fn choose(
     machine: &mut Machine,
-    frame: BodyFrame,
+    frame: BodyBox,
     after: usize,
     next: usize,
     x: &TypedOperand,
@@ -76,7 +76,7 @@ fn choose(
 /// The condition of a `while`, of number n.
 fn repeat(
     machine: &mut Machine,
-    frame: BodyFrame,
+    frame: BodyBox,
     after: usize,
     next: usize,
     x: &TypedOperand,
@@ -97,7 +97,7 @@ fn declare(
     machine: &mut Machine,
     answers: &mut Answers,
     outs: &mut Telling,
-    frame: BodyFrame,
+    frame: BodyBox,
     next: usize,
     n: usize,
     x: &Option<Converted>,
@@ -134,7 +134,7 @@ fn effect(
     machine: &mut Machine,
     answers: &mut Answers,
     outs: &mut Telling,
-    frame: BodyFrame,
+    frame: BodyBox,
     after: usize,
     statement: &TypedStatement,
 ) -> Result<Next, NoMemory>
@@ -144,7 +144,7 @@ fn effect(
     ensures agrees { IfOk result (DoesEffect run.now machine.old machine.new frame after statement.now outs.old outs.new) }
 {
     let next = statement.next;
-    let n = frame.next;
+    let n = frame.get().next;
     match &statement.kind {
         TypedKind::Declare(m, x) => {
             let done = declare(run, machine, answers, outs, frame, next, *m, x)?;
@@ -202,13 +202,13 @@ fn effect(
 }
 
 /// A declaration makes its variable unset before its right side is read (ISO C++03 3.3.1).
-fn before_kind(frame: BodyFrame, kind: &TypedKind) -> BodyFrame
+fn before_kind(frame: BodyBox, kind: &TypedKind) -> BodyBox
     ensures { (h : Classes) (sizes : ClassId → ℕ) (program : TypedProgram) (machine : MachineOf) (s : State) (f : Running) (below : List FrameOf) → IsTaken h sizes program machine frame s f below → IsTaken h sizes program machine result s (before_kind f kind.now) below }
 {
     let mut frame = frame;
     match kind {
         TypedKind::Declare(n, _) => {
-            set(&mut frame.locals, *n, Value::Unset);
+            frame.put_local(*n, Value::Unset);
             frame
         }
         _ => frame,
@@ -231,7 +231,7 @@ fn refused(
     run: &Run,
     machine: &Machine,
     answers: &mut Answers,
-    frame: &BodyFrame,
+    frame: &BodyBox,
     kind: &TypedKind,
 ) -> Result<Option<Undefined>, NoMemory>
     requires setup { IsSetup run.now }
@@ -242,13 +242,14 @@ fn refused(
 {
     let same = Conversion::Same;
     let scene = scene_of(machine, frame);
-    let target = wanted_by(&frame.target, &same);
+    let body = frame.get();
+    let target = wanted_by(&body.target, &same);
     let moment = Moment {
         alloc: run.alloc,
         world: run.world,
         heap: &machine.heap,
     };
-    let rule = refusal(&moment, answers, &scene, &frame.found, target, kind)?;
+    let rule = refusal(&moment, answers, &scene, &body.found, target, kind)?;
     Ok(rule)
 }
 
@@ -258,7 +259,7 @@ fn statement_step(
     machine: &mut Machine,
     answers: &mut Answers,
     outs: &mut Telling,
-    frame: BodyFrame,
+    frame: BodyBox,
     after: usize,
     statement: &TypedStatement,
 ) -> Result<Next, NoMemory>
@@ -306,7 +307,7 @@ fn close_function(h: &Hierarchy, g: FunctionId, line: u32) -> Next
 }
 
 /// A frame that may be there, where it is that of a plan.
-fn plan_in(frame: Option<Frame>) -> Option<PlanFrame>
+fn plan_in(frame: Option<Frame>) -> Option<PlanBox>
     ensures { result ≡ plan_in frame }
 {
     match frame {
@@ -371,22 +372,23 @@ pub(crate) fn body_step(
     machine: &mut Machine,
     answers: &mut Answers,
     outs: &mut Telling,
-    frame: BodyFrame,
+    frame: BodyBox,
 ) -> Result<Next, NoMemory>
     requires setup { IsSetup run.now }
     requires answers { AreAnswers run.now.world.h.now answers.old }
     ensures answers { AreAnswers run.now.world.h.now answers.new }
     ensures agrees { IfOk result (StepsBody run.now machine.old machine.new frame outs.old outs.new) }
 {
-    match run.index.body(run.program, frame.owner) {
+    let here = frame.get();
+    match run.index.body(run.program, here.owner) {
         None => Ok(Next::Wrong),
-        Some(body) => match statement_at(body, frame.next) {
+        Some(body) => match statement_at(body, here.next) {
             None => {
-                let done = close(run, machine, outs, frame.owner, body.close_line)?;
+                let done = close(run, machine, outs, here.owner, body.close_line)?;
                 Ok(done)
             }
             Some(statement) => {
-                let after = frame.next + 1;
+                let after = here.next + 1;
                 let begun = before_kind(frame, &statement.kind);
                 let done = statement_step(run, machine, answers, outs, begun, after, statement)?;
                 Ok(done)

@@ -18,7 +18,7 @@ use cxx_program::{TypedCall, TypedOperand};
 use foundation::NoMemory;
 use path_effects::deleted;
 use path_events::Plan;
-use path_frames::{BodyFrame, Frame, Machine, PlanFrame, Target};
+use path_frames::{BodyBox, Frame, Machine, PlanBox, PlanFrame, Target};
 use path_heap::{Part, whole_at};
 use path_tables::Answers;
 
@@ -43,7 +43,7 @@ pub(crate) fn call_body(
     machine: &mut Machine,
     answers: &mut Answers,
     outs: &mut Telling,
-    frame: BodyFrame,
+    frame: BodyBox,
     next: usize,
     call: &TypedCall,
     target: Option<Target>,
@@ -53,10 +53,11 @@ pub(crate) fn call_body(
     ensures answers { AreAnswers run.now.world.h.now answers.new }
     ensures agrees { IfOk result (OpensBody run.now machine.old machine.new frame next call.now (target_of target) outs.old outs.new) }
 {
-    if frame.depth >= MOST_OPEN {
+    let open = frame.get().depth;
+    if open >= MOST_OPEN {
         return Ok(Next::Limited(LimitNo::L10));
     }
-    let depth = frame.depth + 1;
+    let depth = open + 1;
     let scene = scene_of(machine, &frame);
     match open_call(
         run,
@@ -70,8 +71,9 @@ pub(crate) fn call_body(
     )? {
         None => Ok(Next::Wrong),
         Some(opened) => {
+            let entered = BodyBox::new(run.alloc, opened)?;
             go_on(machine, frame, next)?;
-            machine.push(Frame::Body(opened))?;
+            machine.push(Frame::Body(entered))?;
             Ok(Next::Goes)
         }
     }
@@ -83,7 +85,7 @@ pub(crate) fn call_body(
 pub(crate) fn new_object(
     run: &Run,
     machine: &mut Machine,
-    frame: BodyFrame,
+    frame: BodyBox,
     next: usize,
     class: ClassId,
     target: Option<Target>,
@@ -98,10 +100,11 @@ pub(crate) fn new_object(
     if machine.is_full(size) {
         return Ok(Next::Limited(LimitNo::L8));
     }
-    if frame.depth >= MOST_OPEN {
+    let open = frame.get().depth;
+    if open >= MOST_OPEN {
         return Ok(Next::Limited(LimitNo::L10));
     }
-    let depth = frame.depth + 1;
+    let depth = open + 1;
     let number = machine.make(run.world.numbers, class, size)?;
     go_on(machine, frame, next)?;
     begin_plan(run, machine, whole_at(number, class), true, target, depth)?;
@@ -114,7 +117,7 @@ pub(crate) fn new_object(
 pub(crate) fn delete_object(
     run: &Run,
     machine: &mut Machine,
-    frame: BodyFrame,
+    frame: BodyBox,
     next: usize,
     pointer: &TypedOperand,
 ) -> Result<Next, NoMemory>
@@ -137,17 +140,18 @@ pub(crate) fn delete_object(
 fn end_object(
     run: &Run,
     machine: &mut Machine,
-    frame: BodyFrame,
+    frame: BodyBox,
     next: usize,
     whole: Part,
 ) -> Result<Next, NoMemory>
     requires setup { IsSetup run.now }
     ensures { IfOk result (EndsWhole run.now machine.old machine.new frame next whole) }
 {
-    if frame.depth >= MOST_OPEN {
+    let open = frame.get().depth;
+    if open >= MOST_OPEN {
         return Ok(Next::Limited(LimitNo::L10));
     }
-    let depth = frame.depth + 1;
+    let depth = open + 1;
     go_on(machine, frame, next)?;
     begin_plan(run, machine, whole, false, None, depth)?;
     Ok(Next::Goes)
@@ -168,12 +172,14 @@ fn begin_plan(
     ensures { IfOk result (λ _. BeginsPlan run.now machine.old machine.new whole is_building (target_of target) depth) }
 {
     let plan = Plan::new(run.alloc, run.world.h, whole, is_building)?;
-    machine.push(Frame::Plan(PlanFrame {
+    let frame = PlanFrame {
         whole,
         is_building,
         plan,
         target,
         depth,
-    }))?;
+    };
+    let boxed = PlanBox::new(run.alloc, frame)?;
+    machine.push(Frame::Plan(boxed))?;
     Ok(())
 }

@@ -12,17 +12,17 @@ ghost use Rattle.path_machine.specs.invariants.StatementSteps.{BranchesOn, Tells
 use crate::next::Next;
 use crate::telling::Telling;
 use foundation::NoMemory;
-use path_frames::{BodyFrame, Frame, Machine};
+use path_frames::{BodyBox, Frame, Machine};
 use path_heap::Value;
 use path_model::Out;
 use path_values::is_zero;
 
 /// Puts the frame back, with control at a statement.
-pub(crate) fn go_on(machine: &mut Machine, frame: BodyFrame, next: usize) -> Result<(), NoMemory>
+pub(crate) fn go_on(machine: &mut Machine, frame: BodyBox, next: usize) -> Result<(), NoMemory>
     ensures { IfOk result (λ _. (h : Classes) (sizes : ClassId → ℕ) (program : TypedProgram) (s : State) (f : Running) (below : List FrameOf) → IsTaken h sizes program machine.old frame s f below → MachineStands h sizes program machine.new (gone_on s f next below)) }
 {
     let mut frame = frame;
-    frame.next = next;
+    frame.go_to(next);
     machine.push(Frame::Body(frame))?;
     Ok(())
 }
@@ -30,7 +30,7 @@ pub(crate) fn go_on(machine: &mut Machine, frame: BodyFrame, next: usize) -> Res
 /// A condition: control goes on at one of two statements.
 pub(crate) fn branch(
     machine: &mut Machine,
-    frame: BodyFrame,
+    frame: BodyBox,
     condition: Value,
     yes: usize,
     no: usize,
@@ -46,7 +46,7 @@ pub(crate) fn branch(
 pub(crate) fn tell(
     machine: &mut Machine,
     outs: &mut Telling,
-    frame: BodyFrame,
+    frame: BodyBox,
     next: usize,
     out: Option<Out>,
 ) -> Result<Next, NoMemory>

@@ -19,7 +19,7 @@ use cxx_program::{Conversion, Owner, TypedBody};
 use foundation::NoMemory;
 use path_effects::{built_told, ending_told};
 use path_events::PlanEvent;
-use path_frames::{BodyFrame, Frame, Machine, PlanFrame};
+use path_frames::{BodyBox, BodyFrame, Frame, Machine, PlanBox};
 use path_heap::{Part, Value};
 use path_values::{constant, convert};
 
@@ -149,24 +149,23 @@ fn no_values(run: &Run, body: &TypedBody) -> Result<Vec<Value>, NoMemory>
 fn enter_body(
     run: &Run,
     machine: &mut Machine,
-    frame: PlanFrame,
+    frame: PlanBox,
     part: Part,
 ) -> Result<Next, NoMemory>
     requires setup { IsSetup run.now }
     ensures { IfOk result (Enters run.now.world.h.now run.now.program.now machine.old machine.new frame part) }
 {
     let mut frame = frame;
-    let owner = body_owner(frame.is_building, part);
-    let depth = frame.depth;
+    let begun = frame.get();
+    let owner = body_owner(begun.is_building, part);
+    let depth = begun.depth;
     match run.index.body(run.program, owner) {
         None => Ok(Next::Wrong),
         Some(body) => {
             let locals = no_values(run, body)?;
-            frame
-                .plan
-                .advance(run.world.h, run.world.numbers, run.index)?;
+            frame.advance(run.world.h, run.world.numbers, run.index)?;
             machine.push(Frame::Plan(frame))?;
-            machine.push(Frame::Body(BodyFrame {
+            let entered = BodyFrame {
                 owner: body.owner,
                 this: Value::Pointer(part.number),
                 locals,
@@ -174,7 +173,9 @@ fn enter_body(
                 found: Conversion::Same,
                 target: None,
                 depth,
-            }))?;
+            };
+            let boxed = BodyBox::new(run.alloc, entered)?;
+            machine.push(Frame::Body(boxed))?;
             Ok(Next::Goes)
         }
     }
@@ -184,17 +185,18 @@ fn enter_body(
 /// object comes to who waits for it.
 ///
 /// Errors: want of memory.
-fn resume(run: &Run, machine: &mut Machine, frame: PlanFrame) -> Result<Next, NoMemory>
+fn resume(run: &Run, machine: &mut Machine, frame: PlanBox) -> Result<Next, NoMemory>
     requires setup { IsSetup run.now }
     ensures { IfOk result (Resumes run.now.world.h.now run.now.program.now machine.old machine.new frame) }
 {
-    match frame.plan.upcoming() {
+    let begun = frame.get();
+    match begun.plan.upcoming() {
         None => {
             give(
                 &run.world,
                 machine,
-                Value::Pointer(frame.whole.number),
-                &frame.target,
+                Value::Pointer(begun.whole.number),
+                &begun.target,
             );
             Ok(Next::Goes)
         }
@@ -218,20 +220,19 @@ pub(crate) fn event_step(
     run: &Run,
     machine: &mut Machine,
     outs: &mut Telling,
-    frame: PlanFrame,
+    frame: PlanBox,
 ) -> Result<Next, NoMemory>
     requires setup { IsSetup run.now }
     ensures { IfOk result (StepsPlan run.now.world.h.now run.now.program.now machine.old machine.new frame outs.old outs.new) }
 {
     let mut frame = frame;
-    match frame.plan.upcoming() {
+    let begun = frame.get();
+    match begun.plan.upcoming() {
         None => Ok(Next::Wrong),
         Some(event) => {
             tell_event(run, machine, outs, event)?;
             happen(run, machine, event)?;
-            frame
-                .plan
-                .advance(run.world.h, run.world.numbers, run.index)?;
+            frame.advance(run.world.h, run.world.numbers, run.index)?;
             let next = resume(run, machine, frame)?;
             Ok(next)
         }

@@ -8,16 +8,17 @@ ghost use Rattle.path_model.specs.States.{Running, Frame as FrameOf, State, sigh
 ghost use Rattle.path_values.specs.Scenes.{SceneStands};
 ghost use Rattle.path_machine.specs.invariants.Steps.{IsTaken};
 
-use path_frames::{BodyFrame, Machine};
+use path_frames::{BodyBox, Machine};
 use path_values::Scene;
 
 /// The globals, and `this` and the locals of a frame.
-pub(crate) fn scene_of<'a>(machine: &'a Machine, frame: &'a BodyFrame) -> Scene<'a>
+pub(crate) fn scene_of<'a>(machine: &'a Machine, frame: &'a BodyBox) -> Scene<'a>
     ensures { (h : Classes) (sizes : ClassId → ℕ) (program : TypedProgram) (s : State) (f : Running) (below : List FrameOf) → IsTaken h sizes program machine.now frame.now s f below → SceneStands h machine.now.heap result (sight s f) }
 {
+    let body = frame.get();
     Scene {
         globals: machine.globals.as_slice(),
-        this: frame.this,
-        locals: frame.locals.as_slice(),
+        this: body.this,
+        locals: body.locals.as_slice(),
     }
 }

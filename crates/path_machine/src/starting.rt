@@ -13,7 +13,7 @@ ghost use Rattle.path_machine.specs.invariants.Starts.{first_code};
 use cxx_hierarchy::{ClassId, ValueType};
 use cxx_program::{Conversion, TypedBody, TypedProgram};
 use foundation::NoMemory;
-use path_frames::{BodyFrame, Frame, Machine};
+use path_frames::{BodyBox, BodyFrame, Frame, Machine};
 use path_heap::{Heap, Value};
 use std::alloc::Global;
 
@@ -66,10 +66,11 @@ pub(crate) fn started(
         target: None,
         depth: 0,
     };
+    let boxed = BodyBox::new(alloc, frame)?;
     Ok(Machine {
         heap: Heap::new(alloc),
         globals,
-        top: Some(Frame::Body(frame)),
+        top: Some(Frame::Body(boxed)),
         below: Vec::new(alloc),
         bytes: 0,
     })

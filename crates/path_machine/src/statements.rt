@@ -22,7 +22,7 @@ use cxx_hierarchy::ClassId;
 use cxx_program::{Argument, Owner, TypedOperand, TypedPlace};
 use foundation::NoMemory;
 use path_effects::{argument_value, copy, dump_told, type_told, value_told, view_told, write};
-use path_frames::{BodyFrame, Machine};
+use path_frames::{BodyBox, Machine};
 use path_heap::Value;
 use path_values::{Scene, convert, value};
 
@@ -32,7 +32,7 @@ use path_values::{Scene, convert, value};
 pub(crate) fn write_place(
     run: &Run,
     machine: &mut Machine,
-    frame: BodyFrame,
+    frame: BodyBox,
     next: usize,
     place: &TypedPlace,
     x: &Argument,
@@ -40,10 +40,11 @@ pub(crate) fn write_place(
     requires setup { IsSetup run.now }
     ensures { IfOk result (WritesPlace run.now machine.old machine.new frame next place.now x.now) }
 {
+    let body = frame.get();
     let scene = Scene {
         globals: machine.globals.as_slice(),
-        this: frame.this,
-        locals: frame.locals.as_slice(),
+        this: body.this,
+        locals: body.locals.as_slice(),
     };
     write(&run.world, &mut machine.heap, &scene, place, x)?;
     go_on(machine, frame, next)?;
@@ -56,7 +57,7 @@ pub(crate) fn write_place(
 pub(crate) fn copy_object(
     run: &Run,
     machine: &mut Machine,
-    frame: BodyFrame,
+    frame: BodyBox,
     next: usize,
     to: &TypedOperand,
     from: &TypedOperand,
@@ -65,10 +66,11 @@ pub(crate) fn copy_object(
     requires setup { IsSetup run.now }
     ensures { IfOk result (CopiesObject run.now machine.old machine.new frame next to.now from.now class) }
 {
+    let body = frame.get();
     let scene = Scene {
         globals: machine.globals.as_slice(),
-        this: frame.this,
-        locals: frame.locals.as_slice(),
+        this: body.this,
+        locals: body.locals.as_slice(),
     };
     copy(
         run.alloc,
@@ -84,27 +86,28 @@ pub(crate) fn copy_object(
 }
 
 /// A result comes to the variable that waits for it.
-fn give_result(run: &Run, machine: &mut Machine, frame: &BodyFrame, a: &Argument)
+fn give_result(run: &Run, machine: &mut Machine, frame: &BodyBox, a: &Argument)
     requires setup { IsSetup run.now }
     ensures { GivesResult run.now machine.old machine.new frame.now a.now }
 {
     let scene = scene_of(machine, frame);
     let result = argument_value(&run.world, &machine.heap, &scene, a);
-    let found = convert(&run.world, &machine.heap, result, &frame.found);
-    give(&run.world, machine, found, &frame.target);
+    let body = frame.get();
+    let found = convert(&run.world, &machine.heap, result, &body.found);
+    give(&run.world, machine, found, &body.target);
 }
 
 /// A `return` leaves the body; that of `main` ends the run (ISO C++03 6.6.3, 3.6.1).
 pub(crate) fn leave(
     run: &Run,
     machine: &mut Machine,
-    frame: BodyFrame,
+    frame: BodyBox,
     x: &Option<Argument>,
 ) -> Next
     requires setup { IsSetup run.now }
     ensures { LeavesBody run.now machine.old machine.new frame x.now result }
 {
-    match frame.owner {
+    match frame.get().owner {
         Owner::Main => Next::Ends,
         Owner::Function(_) => leave_function(run, machine, &frame, x),
         Owner::Constructor(_) | Owner::Destructor(_) => Next::Wrong,
@@ -112,7 +115,7 @@ pub(crate) fn leave(
 }
 
 /// A `return` of a function: the frame below takes the result, if there is one.
-fn leave_function(run: &Run, machine: &mut Machine, frame: &BodyFrame, x: &Option<Argument>) -> Next
+fn leave_function(run: &Run, machine: &mut Machine, frame: &BodyBox, x: &Option<Argument>) -> Next
     requires setup { IsSetup run.now }
     ensures { LeavesFunction run.now machine.old machine.new frame.now x.now result }
 {
@@ -124,7 +127,7 @@ fn leave_function(run: &Run, machine: &mut Machine, frame: &BodyFrame, x: &Optio
 }
 
 /// The value of an operand.
-pub(crate) fn operand(machine: &Machine, frame: &BodyFrame, x: &TypedOperand) -> Value
+pub(crate) fn operand(machine: &Machine, frame: &BodyBox, x: &TypedOperand) -> Value
     ensures { (h : Classes) (sizes : ClassId → ℕ) (program : TypedProgram) (s : State) (f : Running) (below : List FrameOf) → IsTaken h sizes program machine.now frame.now s f below → Means h s.objects.classes result (value (sight s f) x.now) }
 {
     let scene = scene_of(machine, frame);
@@ -138,7 +141,7 @@ pub(crate) fn print_value(
     run: &Run,
     machine: &mut Machine,
     outs: &mut Telling,
-    frame: BodyFrame,
+    frame: BodyBox,
     next: usize,
     x: &TypedOperand,
 ) -> Result<Next, NoMemory>
@@ -159,7 +162,7 @@ pub(crate) fn print_type(
     run: &Run,
     machine: &mut Machine,
     outs: &mut Telling,
-    frame: BodyFrame,
+    frame: BodyBox,
     next: usize,
     x: &TypedOperand,
 ) -> Result<Next, NoMemory>
@@ -178,7 +181,7 @@ pub(crate) fn print_view(
     run: &Run,
     machine: &mut Machine,
     outs: &mut Telling,
-    frame: BodyFrame,
+    frame: BodyBox,
     next: usize,
     x: &TypedOperand,
 ) -> Result<Next, NoMemory>
@@ -197,7 +200,7 @@ pub(crate) fn print_dump(
     run: &Run,
     machine: &mut Machine,
     outs: &mut Telling,
-    frame: BodyFrame,
+    frame: BodyBox,
     next: usize,
     x: &TypedOperand,
 ) -> Result<Next, NoMemory>

@@ -17,7 +17,7 @@ use cxx_program::{Conversion, Converted, TypedRight, Variable};
 use cxx_subobject::subobject_below;
 use foundation::NoMemory;
 use path_effects::right_value;
-use path_frames::{BodyFrame, Machine, Target};
+use path_frames::{BodyBox, Machine, Target};
 use path_tables::Answers;
 use std::alloc::Global;
 
@@ -51,7 +51,7 @@ fn take_value(
     run: &Run,
     machine: &mut Machine,
     answers: &mut Answers,
-    frame: BodyFrame,
+    frame: BodyBox,
     next: usize,
     variable: Variable,
     x: &Converted,
@@ -76,7 +76,7 @@ pub(crate) fn take(
     machine: &mut Machine,
     answers: &mut Answers,
     outs: &mut Telling,
-    frame: BodyFrame,
+    frame: BodyBox,
     next: usize,
     variable: Variable,
     x: &Converted,

@@ -1,8 +1,9 @@
-use Rattle.std.proofs.Common.{refl, subst}
+use Rattle.std.proofs.Common.{refl, subst, ap, ◌∙◌}
 use Rattle.cxx_program.specs.declared.statement.TypedKind.TheVariants.{Declare, Assign, Write, Copy, Call, Delete, If, While, Return, PrintType, PrintView}
 use Rattle.path_model.specs.Values.{value}
 use Rattle.path_model.specs.States.{sight}
 use Rattle.path_model.specs.Effects.{branched, block_at}
+use Rattle.path_frames.specs.declared.frames.BodyFrame.{BodyFrame}
 use Rattle.path_machine.specs.invariants.Steps.{size_in, StepAgrees}
 use Rattle.path_machine.proofs.Stating.{gone_on, declaring, assigning, calling, deleting, does_by, does_plain}
 use Rattle.path_machine.proofs.bodies.effect.Goals as goal
@@ -85,7 +86,7 @@ returns-in_ok-done-in-While-clause-agrees c = λ e s f below t clear behind.
     let next = c.args.statement.now.next in
     let kind = c.args.statement.now.kind in
     let outs = c.args.outs.now in
-    does_plain h sizes program e s f below f.next next c.repeat.new.machine outs outs c.in_ok-done-in-While.done kind (While c.in-While.x c.in-While.behind) c.in-While.is clear refl (λ within. subst (λ n. StepAgrees h sizes program (branched (gone_on s f below next) (value (sight s f) c.in-While.x) (block_at n c.in-While.behind f.next) next) c.repeat.new.machine outs outs c.in_ok-done-in-While.done) behind (subst (λ n. StepAgrees h sizes program (branched (gone_on s f below next) (value (sight s f) c.in-While.x) (block_at c.args.after c.in-While.behind n) next) c.repeat.new.machine outs outs c.in_ok-done-in-While.done) t.body_stands.same_next (c.in_ok-done-in-While.ensures h sizes program s f below outs t)))
+    does_plain h sizes program e s f below f.next next c.repeat.new.machine outs outs c.in_ok-done-in-While.done kind (While c.in-While.x c.in-While.behind) c.in-While.is clear refl (λ within. subst (λ n. StepAgrees h sizes program (branched (gone_on s f below next) (value (sight s f) c.in-While.x) (block_at n c.in-While.behind f.next) next) c.repeat.new.machine outs outs c.in_ok-done-in-While.done) behind (subst (λ n. StepAgrees h sizes program (branched (gone_on s f below next) (value (sight s f) c.in-While.x) (block_at c.args.after c.in-While.behind n) next) c.repeat.new.machine outs outs c.in_ok-done-in-While.done) (ap (λ (x : BodyFrame). x.next) c.get.ensures ∙ t.body_stands.same_next) (c.in_ok-done-in-While.ensures h sizes program s f below outs t)))
 
 pub returns-in-Return-clause-agrees : goal.returns-in-Return-clause-agrees
 returns-in-Return-clause-agrees c = λ e s f below t clear behind.

@@ -1,4 +1,4 @@
-use Rattle.std.proofs.Common.{◌∷◌, length, refl, sym, ◌∙◌}
+use Rattle.std.proofs.Common.{◌∷◌, length, refl, sym, ◌∙◌, ap}
 use Rattle.foundation.proofs.Places.{get_last}
 use Rattle.path_model.specs.States.{InBody, at_statement, with_frames, with_objects}
 use Rattle.path_model.specs.Effects.{made, building}
@@ -6,6 +6,7 @@ use Rattle.path_model.specs.Runs.{limit_of, asks_object}
 use Rattle.path_frames.specs.declared.frames.Frame.TheVariants.{Body}
 use Rattle.path_frames.specs.Frames.{target_of}
 use Rattle.path_frames.proofs.Changing.{frame_grown}
+use Rattle.path_frames.specs.declared.frames.BodyFrame.{BodyFrame}
 use Rattle.path_machine.specs.invariants.Steps.{size_in, IsTaken}
 use Rattle.path_machine.proofs.Moves.{counts_more, open_limited, open_free, heap_limited, heap_free, limited, moved_silent}
 use Rattle.path_machine.proofs.calls.new_object.Goals as goal
@@ -17,18 +18,20 @@ returns-then-is_full c = λ s f below outs taken known.
     let program = c.args.run.now.program.now in
     let sizes = size_in c.args.run.now.sizes.now in
     let at = with_frames s (InBody f ∷ below) in
+    let counts = ap (λ (x : BodyFrame). x.depth) c.get.ensures ∙ taken.counts in
     limited h sizes program c.args.machine.now outs _ _ (limit_of sizes at (asks_object c.args.class)) _
     (heap_limited sizes at c.args.class c.size_of-size.result c.is_full.result c.size_of-size.ensures (c.is_full.ensures.is h sizes program (with_frames s below) taken.machine_stands) c.if-is_full.true)
 
-pub returns-then-frame-ge-MOST_OPEN : goal.returns-then-frame-ge-MOST_OPEN
-returns-then-frame-ge-MOST_OPEN c = λ s f below outs taken known.
+pub returns-then-open-ge-MOST_OPEN : goal.returns-then-open-ge-MOST_OPEN
+returns-then-open-ge-MOST_OPEN c = λ s f below outs taken known.
     let h = c.args.run.now.world.h.now in
     let program = c.args.run.now.program.now in
     let sizes = size_in c.args.run.now.sizes.now in
     let at = with_frames s (InBody f ∷ below) in
+    let counts = ap (λ (x : BodyFrame). x.depth) c.get.ensures ∙ taken.counts in
     limited h sizes program c.args.machine.now outs _ _ (limit_of sizes at (asks_object c.args.class)) _
     (heap_free sizes at c.args.class c.size_of-size.result c.is_full.result c.size_of-size.ensures (c.is_full.ensures.is h sizes program (with_frames s below) taken.machine_stands) c.if-is_full.false
-    ∙ open_limited at c.args.frame.depth taken.counts c.if-frame-ge-MOST_OPEN.true)
+    ∙ open_limited at c.get.result.now.depth counts c.if-open-ge-MOST_OPEN.true)
 
 -- src/calls.rt:91:1
 pub returns : goal.returns
@@ -39,6 +42,7 @@ returns c = λ s f below outs taken known.
     let world = c.requires.setup.world in
     let d = c.args.class in
     let at = with_frames s (InBody f ∷ below) in
+    let counts = ap (λ (x : BodyFrame). x.depth) c.get.ensures ∙ taken.counts in
     let before = s.objects.classes in
     let after = with_objects s (made s.objects d) in
     let frames = InBody (at_statement f c.args.next) ∷ below in
@@ -54,7 +58,7 @@ returns c = λ s f below outs taken known.
     let listed = get_last before d in
     moved_silent h sizes program c.begin_plan.new.machine outs (with_frames after (plan ∷ frames)) (limit_of sizes at (asks_object d))
     (heap_free sizes at d c.size_of-size.result c.is_full.result c.size_of-size.ensures (c.is_full.ensures.is h sizes program (with_frames s below) taken.machine_stands) c.if-is_full.false
-    ∙ open_free at c.args.frame.depth taken.counts c.if-frame-ge-MOST_OPEN.false)
+    ∙ open_free at c.get.result.now.depth counts c.if-open-ge-MOST_OPEN.false)
     (c.in_ok-begin_plan.ensures sizes (with_frames after frames) (length before) d (c.in_ok-go_on.ensures h sizes program after f below now) listed
     (c.whole_at.ensures h (made s.objects d).classes (length before) world.hierarchy listed points)
-    (counts_more plan frames c.args.frame.depth taken.counts refl))
+    (counts_more plan frames c.get.result.now.depth counts refl))

@@ -4,4 +4,4 @@ use Rattle.path_frames.proofs.machine.Machine.set_local.Goals as goal
 
 -- src/machine.rt:69:5
 pub returns-in-Some-Body : goal.returns-in-Some-Body
-returns-in-Some-Body c = λ h sizes program s v a m. machine_local_set h sizes program c.args.self.now _ c.in-Some-Body.frame _ s c.args.n c.args.value v a m (search rules) refl (record { owner = refl; this = refl; next = refl; found = refl; target = refl; depth = refl }) c.set.ensures refl refl refl refl
+returns-in-Some-Body c = λ h sizes program s v a m. machine_local_set h sizes program c.args.self.now _ c.in-Some-Body.frame _ s c.args.n c.args.value v a m (search rules) refl c.put_local.ensures.same c.put_local.ensures.locals refl refl refl refl
